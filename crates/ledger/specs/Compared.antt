@@ -1,0 +1,58 @@
+-- Document 01, "The ledger and the endless heap": what is compared of a ledger, for a record with its stores to be read against.
+use Prim.Native.Nat.{ℕ, _%_}
+use mathlib.Core.List.{List, map, List·Permᴰ}
+use mathlib.Core.Path.{_≡_}
+use Rattle.ledger.specs.Limits.{counterRange}
+use Rattle.ledger.specs.Tasks.{Task, Clocks}
+use Rattle.ledger.specs.Expirations.{Due, byLocal, byGlobal, Expiration, remaining}
+use Rattle.ledger.specs.Objects.{Object, Memory}
+use Rattle.ledger.specs.Ledger.{Ledger}
+
+-- "a clock and the common time by the remainder on division by 4,294,967,296"
+abbrev pub wrapped : ℕ → ℕ
+wrapped n = n % counterRange
+
+abbrev pub wrappedTask : Task → Task
+wrappedTask t = record { state = t .state; ticked = t .ticked; clock = wrapped (t .clock) }
+
+-- "a date by its kind, the setter of an own one, and the units left"
+pub data Left : Type 0 where
+  localLeft : (setter units : ℕ) → Left
+  globalLeft : (units : ℕ) → Left
+
+pub record Shown : Type 0 where
+  pub handle : ℕ
+  pub left : Left
+
+unfoldable pub leftOf : Clocks → Due → Left
+leftOf clocks (byLocal setter at) = localLeft setter (remaining clocks (byLocal setter at))
+leftOf clocks (byGlobal at) = globalLeft (remaining clocks (byGlobal at))
+
+abbrev pub shown : Clocks → Expiration → Shown
+shown clocks x = record { handle = x .handle; left = leftOf clocks (x .due) }
+
+pub record View : Type 0 where
+  pub tasks : List Task
+  pub global : ℕ
+  pub given : ℕ
+  pub objects : List Object
+  pub expirations : List Shown
+
+unfoldable pub viewOf : Ledger → View
+viewOf L =
+    let m = L .memory in
+    record {
+      tasks = map wrappedTask (m .clocks .tasks);
+      global = wrapped (m .clocks .global);
+      given = m .given;
+      objects = m .objects;
+      expirations = map (shown (m .clocks)) (L .expirations);
+    }
+
+-- "The place of a block or date is not compared, nor the order of an object's dates"
+pub record Alike (v w : View) : Type 0 where
+  pub tasks : v .tasks ≡ w .tasks
+  pub global : v .global ≡ w .global
+  pub given : v .given ≡ w .given
+  pub objects : v .objects ≡ w .objects
+  pub expirations : List·Permᴰ (v .expirations) (w .expirations)

@@ -1,0 +1,51 @@
+-- Document 01, "Dates": expirations (01: dates), local (01: own) and global (01: common), when they are due and what ends them.
+use Prim.Native.Nat.{ℕ, _+_, _-_}
+use mathlib.Core.Bool.{Bool, true, false, not}
+use mathlib.Core.List.{List}
+use lib.Dec.{eqb, ltb}
+use Rattle.lists.specs.Tests.{filter}
+use Rattle.ledger.specs.Tasks.{Task, Clocks, taskAt}
+use Rattle.ledger.specs.declared.Kind.{Kind}
+use Rattle.ledger.specs.declared.Kind.the-variants.{Local, Global}
+use Rattle.ledger.specs.declared.Event.{Event}
+use Rattle.ledger.specs.declared.Event.the-variants.{Join, Leave, Block, Resume, Tick}
+
+-- when an expiration is due: by the clock of the task that set it, or by the global time
+pub data Due : Type 0 where
+  byLocal : (setter at : ℕ) → Due
+  byGlobal : (at : ℕ) → Due
+
+-- "A date belongs to one object"
+pub record Expiration : Type 0 where
+  pub handle : ℕ
+  pub due : Due
+
+-- "Own, set at own clock c: due when that clock is c + e + 1. Common, set at common time g: due when common time is g + e + 2"
+unfoldable pub dueAfter : Clocks → ℕ → Kind → ℕ → Due
+dueAfter clocks task Local extension = byLocal task (taskAt clocks task .clock + extension + 1)
+dueAfter clocks task Global extension = byGlobal (clocks .global + extension + 2)
+
+-- 01: units left
+unfoldable pub remaining : Clocks → Due → ℕ
+remaining clocks (byLocal setter at) = at - taskAt clocks setter .clock
+remaining clocks (byGlobal at) = at - clocks .global
+
+-- not due yet
+abbrev pub isLive : Clocks → Expiration → Bool
+isLive clocks x = ltb 0 (remaining clocks (x .due))
+
+abbrev pub isSetBy : ℕ → Due → Bool
+isSetBy task (byLocal setter at) = eqb setter task
+isSetBy task (byGlobal at) = false
+
+-- the expirations that an event leaves, by the clocks after it
+unfoldable pub lasting : Event → ℕ → Clocks → List Expiration → List Expiration
+lasting Join task clocks xs = xs
+lasting Block task clocks xs = filter (isLive clocks) xs
+lasting Resume task clocks xs = xs
+lasting Leave task clocks xs = filter (isLive clocks) (filter (λ (x : Expiration). not (isSetBy task (x .due))) xs)
+lasting Tick task clocks xs = filter (isLive clocks) xs
+
+-- the expiration is one of the object with this handle
+abbrev pub isOf : ℕ → Expiration → Bool
+isOf handle x = eqb (x .handle) handle

@@ -1,0 +1,75 @@
+-- Document 01, "The ledger and the endless heap", second half: the unbounded heap (01: endless heap), the expiration book (01: date book), "in time and
+-- in bounds", and demand 3.
+use Prim.Native.Nat.{ℕ}
+use mathlib.Core.Bool.{Bool, true, false, not, _&&_, _||_}
+use mathlib.Core.List.{List, [], _∷_, map}
+use mathlib.Core.Logic.{_↔_}
+use mathlib.Core.Option.{Option, none, some}
+use mathlib.Core.Path.{_≡_}
+use lib.Dec.{T, eqb, ltb}
+use lib.ListN.{length}
+use Rattle.ledger.specs.Numbers.{numberOf}
+use Rattle.ledger.specs.Limits.{Limits, limits, blocksFor}
+use Rattle.ledger.specs.Expirations.{Expiration}
+use Rattle.ledger.specs.Objects.{Memory, Reply, freshMemory, stands, standing, inStoreOf, replyTo, memoryAfter, expirationsAfter}
+use Rattle.ledger.specs.Refusals.{testsOf, heapVerdict}
+use Rattle.ledger.specs.Ledger.{Sent, fresh, replies, replyBy, afterBy}
+use Rattle.ledger.specs.declared.Request.the-variants.{Use}
+use Rattle.ledger.specs.declared.Call.{Call}
+use Rattle.ledger.specs.declared.Call.the-variants.{Schedule, Make, Refresh, Read, Write}
+use Rattle.ledger.specs.declared.Refusal.{Refusal}
+
+-- The heap is a memory that never takes an object back.
+abbrev pub heapVerdictOn : Memory → Call → List ℕ → Option Refusal
+heapVerdictOn m call new = heapVerdict m (testsOf call new)
+
+unfoldable pub heapReply : Memory → Call → List ℕ → Reply
+heapReply m call new = replyBy (heapVerdictOn m call new) (replyTo call m)
+
+unfoldable pub heapNext : Memory → Call → List ℕ → Memory
+heapNext m call new = afterBy (heapVerdictOn m call new) (memoryAfter call new m) m
+
+-- one of the nine calls on its way
+pub record Used : Type 0 where
+  pub call : Call
+  pub bytes : List ℕ
+
+unfoldable pub heapReplies : Memory → List Used → List Reply
+heapReplies m [] = []
+heapReplies m (u ∷ us) = heapReply m (u .call) (u .bytes) ∷ heapReplies (heapNext m (u .call) (u .bytes)) us
+
+-- The book is the expirations standing by the heap's clocks; the lengths that it has are the heap's.
+-- "A call that the heap refuses changes nothing"
+unfoldable pub bookNext : Memory → List Expiration → Call → List ℕ → List Expiration
+bookNext m book call new = afterBy (heapVerdictOn m call new) (expirationsAfter call m book) book
+
+-- what a use asks of the book when the call comes: its object stands, and a block and an expiration are free
+unfoldable pub isInTimeAndBounds : Memory → List Expiration → Call → Bool
+isInTimeAndBounds m book (Schedule event task) = true
+isInTimeAndBounds m book (Make task kind extension size) =
+    ltb (inStoreOf size (standing book (m .objects))) (blocksFor size) && ltb (length book) (limits .expirations)
+isInTimeAndBounds m book (Refresh task kind extension handle) =
+    stands book handle && ltb (length book) (limits .expirations)
+isInTimeAndBounds m book (Read task handle) = stands book handle
+isInTimeAndBounds m book (Write task handle offset) = stands book handle
+
+-- a call that the heap refuses is left aside, but "A write that the heap refuses with 13 is counted as a use"
+abbrev pub isLeftAside : Option Refusal → Bool
+isLeftAside none = false
+isLeftAside (some r) = not (eqb (numberOf r) 13)
+
+-- all use of the list was in time and in bounds
+unfoldable pub allInTimeAndBounds : Memory → List Expiration → List Used → Bool
+allInTimeAndBounds m book [] = true
+allInTimeAndBounds m book (u ∷ us) =
+    (isLeftAside (heapVerdictOn m (u .call) (u .bytes)) || isInTimeAndBounds m book (u .call))
+    && allInTimeAndBounds (heapNext m (u .call) (u .bytes)) (bookNext m book (u .call) (u .bytes)) us
+
+-- the same call as the ledger gets it
+abbrev pub sent : Used → Sent
+sent u = record { request = Use (u .call); bytes = u .bytes }
+
+-- Demand 3: for every list of the nine calls, ledger and heap answer alike exactly when all use was in time and in bounds.
+abbrev pub Demand3 : Type 0
+Demand3 =
+    (us : List Used) → (replies fresh (map sent us) ≡ heapReplies freshMemory us) ↔ T (allInTimeAndBounds freshMemory [] us)

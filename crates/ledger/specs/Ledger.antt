@@ -1,0 +1,74 @@
+-- Document 01, "The ledger and the endless heap", first half: the ledger, its answer to each call and its next state.
+use Prim.Native.Nat.{ℕ}
+use mathlib.Core.List.{List, [], _∷_}
+use mathlib.Core.Option.{Option, none, some}
+use Rattle.ledger.specs.Expirations.{Expiration}
+use Rattle.ledger.specs.Objects.{Memory, Reply, freshMemory, plain, standing, replyTo, memoryAfter, expirationsAfter, usage}
+use Rattle.ledger.specs.Refusals.{testsOf, verdict}
+use Rattle.ledger.specs.declared.Answer.{Answer}
+use Rattle.ledger.specs.declared.Answer.the-variants.{Refused, Counted}
+use Rattle.ledger.specs.declared.Call.{Call}
+use Rattle.ledger.specs.declared.Refusal.{Refusal}
+use Rattle.ledger.specs.declared.Request.{Request}
+use Rattle.ledger.specs.declared.Request.the-variants.{Use, Report}
+
+-- "tasks, common time, count of numbers given, standing objects in order of number with length, bytes and dates"
+pub record Ledger : Type 0 where
+  pub memory : Memory
+  pub expirations : List Expiration
+
+-- a memory with these expirations, of which only standing objects are left
+abbrev pub settled : Memory → List Expiration → Ledger
+settled m xs =
+    record {
+      memory = record { clocks = m .clocks; given = m .given; objects = standing xs (m .objects) };
+      expirations = xs;
+    }
+
+unfoldable pub fresh : Ledger
+fresh = record { memory = freshMemory; expirations = [] }
+
+-- a refused call is answered with its refusal
+abbrev pub replyBy : Option Refusal → Reply → Reply
+replyBy none reply = reply
+replyBy (some r) reply = plain (Refused r)
+
+-- "All refusals change nothing"
+abbrev pub afterBy {ℓ} : {A : Type ℓ} → Option Refusal → A → A → A
+afterBy none next now = next
+afterBy (some r) next now = now
+
+abbrev pub verdictOn : Ledger → Call → List ℕ → Option Refusal
+verdictOn L call new = verdict (L .memory) (L .expirations) (testsOf call new)
+
+unfoldable pub reply : Ledger → Call → List ℕ → Reply
+reply L call new = replyBy (verdictOn L call new) (replyTo call (L .memory))
+
+unfoldable pub next : Ledger → Call → List ℕ → Ledger
+next L call new =
+    afterBy (verdictOn L call new)
+    (settled (memoryAfter call new (L .memory)) (expirationsAfter call (L .memory) (L .expirations)))
+    L
+
+-- all ten calls: report answers its figures and changes nothing
+abbrev pub replyToRequest : Ledger → Request → List ℕ → Reply
+replyToRequest L (Use call) new = reply L call new
+replyToRequest L Report new = plain (Counted (usage (L .memory) (L .expirations)))
+
+abbrev pub afterRequest : Ledger → Request → List ℕ → Ledger
+afterRequest L (Use call) new = next L call new
+afterRequest L Report new = L
+
+-- a call on its way: a write brings its bytes
+pub record Sent : Type 0 where
+  pub request : Request
+  pub bytes : List ℕ
+
+-- the answers to a list of calls, and the ledger that they leave
+unfoldable pub replies : Ledger → List Sent → List Reply
+replies L [] = []
+replies L (s ∷ ss) = replyToRequest L (s .request) (s .bytes) ∷ replies (afterRequest L (s .request) (s .bytes)) ss
+
+unfoldable pub afterAll : Ledger → List Sent → Ledger
+afterAll L [] = L
+afterAll L (s ∷ ss) = afterAll (afterRequest L (s .request) (s .bytes)) ss

@@ -1,0 +1,10 @@
+pub mod Numbers
+pub mod Limits
+pub mod Tasks
+pub mod Expirations
+pub mod Objects
+pub mod Refusals
+pub mod Ledger
+pub mod Heap
+pub mod Compared
+pub mod Kept

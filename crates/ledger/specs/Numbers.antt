@@ -1,0 +1,49 @@
+-- Document 01's number for each refusal, and the number and values of each answer.
+use Prim.Native.Nat.{ℕ}
+use mathlib.Core.Bool.{Bool, true, false, cond}
+use mathlib.Core.List.{List, [], _∷_}
+use Rattle.ledger.specs.declared.Usage.{Usage}
+use Rattle.ledger.specs.declared.Refusal.{Refusal}
+use Rattle.ledger.specs.declared.Refusal.the-variants.{NoSuchTask, TaskPresent, TaskAbsent, TaskWaiting, TaskRunning, ExtensionTooLong, LengthOutOfRange, HandlesSpent, NoFreeBlock, NoFreeExpiration, HandleNotGiven, ObjectGone, OutsideObject, WrongStoreLength, NotWellFormed, NotHexadecimal, UnknownOperation, WrongFrameLength, UnknownKind}
+use Rattle.ledger.specs.declared.Answer.{Answer}
+use Rattle.ledger.specs.declared.Answer.the-variants.{Refused, Done, Advanced, Handle, Bytes, Counted}
+
+-- 01: "When a call is refused", "Call frames"
+abbrev pub numberOf : Refusal → ℕ
+numberOf NoSuchTask = 1
+numberOf TaskPresent = 2
+numberOf TaskAbsent = 3
+numberOf TaskWaiting = 4
+numberOf TaskRunning = 5
+numberOf ExtensionTooLong = 6
+numberOf LengthOutOfRange = 7
+numberOf HandlesSpent = 8
+numberOf NoFreeBlock = 9
+numberOf NoFreeExpiration = 10
+numberOf HandleNotGiven = 11
+numberOf ObjectGone = 12
+numberOf OutsideObject = 13
+numberOf WrongStoreLength = 14
+numberOf NotWellFormed = 15
+numberOf NotHexadecimal = 16
+numberOf UnknownOperation = 17
+numberOf WrongFrameLength = 18
+numberOf UnknownKind = 19
+
+-- the number of an answer: 0 where the call was carried out
+abbrev pub answerNumber : Answer → ℕ
+answerNumber (Refused r) = numberOf r
+answerNumber Done = 0
+answerNumber (Advanced b) = 0
+answerNumber (Handle h) = 0
+answerNumber Bytes = 0
+answerNumber (Counted u) = 0
+
+-- its values, but for the bytes of a read, which stand beside it
+abbrev pub answerValues : Answer → List ℕ
+answerValues (Refused r) = []
+answerValues Done = []
+answerValues (Advanced b) = cond b 1 0 ∷ []
+answerValues (Handle h) = h ∷ []
+answerValues Bytes = []
+answerValues (Counted u) = u .small ∷ u .large ∷ u .expirations ∷ u .given ∷ []

@@ -1,0 +1,115 @@
+-- Document 01, "Objects and stores": objects, and what each call answers and changes once it is carried out.
+use Prim.Native.Nat.{ℕ, _+_}
+use mathlib.Core.Bool.{Bool, cond, not}
+use mathlib.Core.List.{List, [], _∷_, _++_, map}
+use lib.Dec.{eqb}
+use lib.ListN.{length, take, drop, replicate}
+use Rattle.lists.specs.Tests.{any, filter, count}
+use Rattle.ledger.specs.Limits.{isSmall}
+use Rattle.ledger.specs.Tasks.{Clocks, freshClocks, isTested, advances, clocksAfter}
+use Rattle.ledger.specs.Expirations.{Expiration, isOf, dueAfter, lasting}
+use Rattle.ledger.specs.declared.Usage.{Usage}
+use Rattle.ledger.specs.declared.Answer.{Answer}
+use Rattle.ledger.specs.declared.Answer.the-variants.{Done, Advanced, Handle, Bytes, Counted}
+use Rattle.ledger.specs.declared.Call.{Call}
+use Rattle.ledger.specs.declared.Call.the-variants.{Schedule, Make, Refresh, Read, Write}
+
+-- 01: an object; its handle is its number
+pub record Object : Type 0 where
+  pub handle : ℕ
+  pub size : ℕ
+  pub bytes : List ℕ
+
+-- what the ledger and the unbounded heap both keep
+pub record Memory : Type 0 where
+  pub clocks : Clocks
+  pub given : ℕ
+  pub objects : List Object
+
+-- "no object, no date, no number given"
+unfoldable pub freshMemory : Memory
+freshMemory = record { clocks = freshClocks; given = 0; objects = [] }
+
+-- 01: an answer, with the bytes that a read hands back
+pub record Reply : Type 0 where
+  pub answer : Answer
+  pub bytes : List ℕ
+
+abbrev pub plain : Answer → Reply
+plain answer = record { answer = answer; bytes = [] }
+
+-- a new object has "as many zero bytes as its length"
+abbrev pub zeroed : ℕ → ℕ → Object
+zeroed handle size = record { handle = handle; size = size; bytes = replicate size 0 }
+
+-- the object with this handle
+unfoldable pub objectAt : ℕ → List Object → Object
+objectAt handle [] = zeroed 0 0
+objectAt handle (o ∷ os) = cond (eqb (o .handle) handle) o (objectAt handle os)
+
+-- "replaces those bytes and no other byte": from the offset on, in the object with this handle
+unfoldable pub written : ℕ → ℕ → List ℕ → Object → Object
+written handle offset new o =
+    let old = o .bytes in
+    record {
+      handle = o .handle;
+      size = o .size;
+      bytes = cond (eqb (o .handle) handle) (take offset old ++ new ++ drop (offset + length new) old) old;
+    }
+
+-- "An object stands while it has a date"
+abbrev pub stands : List Expiration → ℕ → Bool
+stands xs handle = any (isOf handle) xs
+
+abbrev pub standing : List Expiration → List Object → List Object
+standing xs os = filter (λ (o : Object). stands xs (o .handle)) os
+
+-- the objects of either store
+abbrev pub smallOnes : List Object → ℕ
+smallOnes os = count (λ (o : Object). isSmall (o .size)) os
+
+abbrev pub largeOnes : List Object → ℕ
+largeOnes os = count (λ (o : Object). not (isSmall (o .size))) os
+
+-- the objects in the store to which a size goes
+abbrev pub inStoreOf : ℕ → List Object → ℕ
+inStoreOf size os = cond (isSmall size) (smallOnes os) (largeOnes os)
+
+-- what each of the nine calls answers when it is carried out
+unfoldable pub replyTo : Call → Memory → Reply
+replyTo (Schedule event task) m = plain (cond (isTested event) (Advanced (advances event task (m .clocks))) Done)
+replyTo (Make task kind extension size) m = plain (Handle (m .given + 1))
+replyTo (Refresh task kind extension handle) m = plain Done
+replyTo (Read task handle) m = record { answer = Bytes; bytes = objectAt handle (m .objects) .bytes }
+replyTo (Write task handle offset) m = plain Done
+
+-- what it makes of tasks, times, handles given and bytes; the list is that of a write
+unfoldable pub memoryAfter : Call → List ℕ → Memory → Memory
+memoryAfter (Schedule event task) new m =
+    record { clocks = clocksAfter event task (m .clocks); given = m .given; objects = m .objects }
+memoryAfter (Make task kind extension size) new m =
+    record { clocks = m .clocks; given = m .given + 1; objects = m .objects ++ (zeroed (m .given + 1) size ∷ []) }
+memoryAfter (Refresh task kind extension handle) new m = m
+memoryAfter (Read task handle) new m = m
+memoryAfter (Write task handle offset) new m =
+    record { clocks = m .clocks; given = m .given; objects = map (written handle offset new) (m .objects) }
+
+-- and what it makes of the expirations: "Make and refresh set a date; dates go at ticks, leaves and advances"
+unfoldable pub expirationsAfter : Call → Memory → List Expiration → List Expiration
+expirationsAfter (Schedule event task) m xs = lasting event task (clocksAfter event task (m .clocks)) xs
+expirationsAfter (Make task kind extension size) m xs =
+    record { handle = m .given + 1; due = dueAfter (m .clocks) task kind extension } ∷ xs
+expirationsAfter (Refresh task kind extension handle) m xs =
+    record { handle = handle; due = dueAfter (m .clocks) task kind extension } ∷ xs
+expirationsAfter (Read task handle) m xs = xs
+expirationsAfter (Write task handle offset) m xs = xs
+
+-- report: "standing small objects (1), large (1), dates (2), numbers given (4)"
+unfoldable pub usage : Memory → List Expiration → Usage
+usage m xs =
+    record {
+      small = smallOnes (m .objects);
+      large = largeOnes (m .objects);
+      expirations = length xs;
+      given = m .given;
+    }

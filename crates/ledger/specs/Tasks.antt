@@ -1,0 +1,90 @@
+-- Document 01, "Tasks and the two times": the sixteen tasks, their local times, the global time, and what moves them.
+use Prim.Native.Nat.{ℕ, _+_}
+use mathlib.Core.Bool.{Bool, true, false, cond, not, _&&_, _||_}
+use mathlib.Core.List.{List, map}
+use lib.ListN.{getD, set, replicate}
+use Rattle.lists.specs.Tests.{any, all}
+use Rattle.ledger.specs.Limits.{taskCount}
+use Rattle.ledger.specs.declared.State.{State}
+use Rattle.ledger.specs.declared.State.the-variants.{Absent, Running, Waiting}
+use Rattle.ledger.specs.declared.Event.{Event}
+use Rattle.ledger.specs.declared.Event.the-variants.{Join, Leave, Block, Resume, Tick}
+
+-- 01: a task entry. `ticked` is its mark, `clock` its own clock (local time), a whole number here
+pub record Task : Type 0 where
+  pub state : State
+  pub ticked : Bool
+  pub clock : ℕ
+
+-- the tasks in their order, and the global time (01: common time)
+pub record Clocks : Type 0 where
+  pub tasks : List Task
+  pub global : ℕ
+
+abbrev pub absentTask : Task
+absentTask = record { state = Absent; ticked = false; clock = 0 }
+
+-- "all tasks absent, clocks and common time 0"
+unfoldable pub freshClocks : Clocks
+freshClocks = record { tasks = replicate taskCount absentTask; global = 0 }
+
+abbrev pub taskAt : Clocks → ℕ → Task
+taskAt clocks task = getD (clocks .tasks) task absentTask
+
+abbrev pub isAbsent : State → Bool
+isAbsent Absent = true
+isAbsent Running = false
+isAbsent Waiting = false
+
+abbrev pub isRunning : State → Bool
+isRunning Absent = false
+isRunning Running = true
+isRunning Waiting = false
+
+abbrev pub isWaiting : State → Bool
+isWaiting Absent = false
+isWaiting Running = false
+isWaiting Waiting = true
+
+-- 01's list of the five: what each makes of its task
+unfoldable pub moved : Event → Task → Task
+moved Join task = record { state = Running; ticked = false; clock = 0 }
+moved Block task = record { state = Waiting; ticked = false; clock = task .clock }
+moved Resume task = record { state = Running; ticked = false; clock = task .clock }
+moved Leave task = absentTask
+moved Tick task = record { state = task .state; ticked = true; clock = task .clock + 1 }
+
+-- "After a tick, block or leave comes the advance test"
+unfoldable pub isTested : Event → Bool
+isTested Join = false
+isTested Block = true
+isTested Resume = false
+isTested Leave = true
+isTested Tick = true
+
+-- "at least one task is running and every running task has its mark"
+unfoldable pub allTicked : List Task → Bool
+allTicked tasks =
+    any (λ (t : Task). isRunning (t .state)) tasks && all (λ (t : Task). not (isRunning (t .state)) || t .ticked) tasks
+
+-- the mark cleared
+abbrev pub unticked : Task → Task
+unticked task = record { state = task .state; ticked = false; clock = task .clock }
+
+-- the tasks after an event of one of them, before the advance test
+unfoldable pub tasksAfter : Event → ℕ → Clocks → List Task
+tasksAfter event task clocks = set (clocks .tasks) task (moved event (taskAt clocks task))
+
+-- whether the event makes the global time advance
+unfoldable pub advances : Event → ℕ → Clocks → Bool
+advances event task clocks = isTested event && allTicked (tasksAfter event task clocks)
+
+-- the clocks after an event: at an advance "common time goes up by 1, all marks are cleared"
+unfoldable pub clocksAfter : Event → ℕ → Clocks → Clocks
+clocksAfter event task clocks =
+    let tasks = tasksAfter event task clocks in
+    let advanced = advances event task clocks in
+    record {
+      tasks = cond advanced (map unticked tasks) tasks;
+      global = cond advanced (clocks .global + 1) (clocks .global);
+    }

@@ -1,0 +1,99 @@
+// What code and specifications share: the calls of document 01, their answers, and the refusals with their numbers.
+
+// 01: the state of a task.
+pub enum State {
+    Absent,
+    Running,
+    Waiting,
+}
+
+// 01: the kind of a date; Local is own, Global is common.
+pub enum Kind {
+    Local,
+    Global,
+}
+
+// The five calls that change a task's state or clock and name nothing but the task.
+pub enum Event {
+    Join,
+    Leave,
+    Block,
+    Resume,
+    Tick,
+}
+
+// The nine calls that are compared with the unbounded heap. The bytes of a write stand beside it.
+pub enum Call {
+    Schedule {
+        event: Event,
+        task: u8,
+    },
+    Make {
+        task: u8,
+        kind: Kind,
+        extension: u8,
+        length: u16,
+    },
+    Refresh {
+        task: u8,
+        kind: Kind,
+        extension: u8,
+        handle: u32,
+    },
+    Read {
+        task: u8,
+        handle: u32,
+    },
+    Write {
+        task: u8,
+        handle: u32,
+        offset: u8,
+    },
+}
+
+// All ten calls.
+pub enum Request {
+    Use(Call),
+    Report,
+}
+
+// What report counts: standing objects of either store, expirations (01: dates), handles (01: numbers) given.
+pub struct Usage {
+    pub small: u8,
+    pub large: u8,
+    pub expirations: u16,
+    pub given: u32,
+}
+
+// 01: "When a call is refused" (1 to 15) and "Call frames" (16 to 19), in the order of their numbers.
+pub enum Refusal {
+    NoSuchTask,
+    TaskPresent,
+    TaskAbsent,
+    TaskWaiting,
+    TaskRunning,
+    ExtensionTooLong,
+    LengthOutOfRange,
+    HandlesSpent,
+    NoFreeBlock,
+    NoFreeExpiration,
+    HandleNotGiven,
+    ObjectGone,
+    OutsideObject,
+    WrongStoreLength,
+    NotWellFormed,
+    NotHexadecimal,
+    UnknownOperation,
+    WrongFrameLength,
+    UnknownKind,
+}
+
+// 01: an answer. The bytes of a read stand beside it.
+pub enum Answer {
+    Refused(Refusal),
+    Done,
+    Advanced(bool),
+    Handle(u32),
+    Bytes,
+    Counted(Usage),
+}
