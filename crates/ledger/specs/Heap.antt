@@ -6,7 +6,7 @@ use mathlib.Core.List.{List, [], _∷_, map}
 use mathlib.Core.Logic.{_↔_}
 use mathlib.Core.Option.{Option, none, some}
 use mathlib.Core.Path.{_≡_}
-use lib.Dec.{T, eqb, ltb}
+use lib.Dec.{eqb, ltb}
 use lib.ListN.{length}
 use Rattle.ledger.specs.Numbers.{numberOf}
 use Rattle.ledger.specs.Limits.{Limits, limits, blocksFor}
@@ -72,4 +72,4 @@ sent u = record { request = Use (u .call); bytes = u .bytes }
 -- Demand 3: for every list of the nine calls, ledger and heap answer alike exactly when all use was in time and in bounds.
 abbrev pub Demand3 : Type 0
 Demand3 =
-    (us : List Used) → (replies fresh (map sent us) ≡ heapReplies freshMemory us) ↔ T (allInTimeAndBounds freshMemory [] us)
+    (us : List Used) → (replies fresh (map sent us) ≡ heapReplies freshMemory us) ↔ (allInTimeAndBounds freshMemory [] us ≡ true)

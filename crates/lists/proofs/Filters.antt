@@ -1,9 +1,32 @@
--- Laws of filters.
-use mathlib.Core.Bool.{Bool, true, false, cond}
-use mathlib.Core.List.{List, [], _∷_, _++_, map}
-use mathlib.Core.Path.{_≡_, refl, ap}
+-- Laws of filters, for any element type.
+use mathlib.Core.Bool.{Bool, true, false, true≢false, cond}
+use mathlib.Core.List.{List, [], _∷_, _++_, map, map-id}
+use mathlib.Core.Path.{_≡_, refl, ap, sym, _∙_}
 use Rattle.lists.specs.Tests.{any, filter, All}
+use Rattle.lists.proofs.Cases.{by-test, refuted}
 
 module _ {ℓ} {A : Type ℓ} where
-  pub any-nil : (p : A → Bool) → any p [] ≡ false
-  any-nil p = refl
+  pub filter-append : (p : A → Bool) (xs ys : List A) → filter p (xs ++ ys) ≡ filter p xs ++ filter p ys
+  filter-append p [] ys = refl
+  filter-append p (x ∷ xs) ys = by-test (p x) (λ e. rw (e, filter-append p xs ys)) (λ e. rw (e, filter-append p xs ys))
+
+  -- where every element whose image passes p passes q, a filter by q before the map changes nothing
+  pub filter-map-filter : (p q : A → Bool) (f : A → A) (xs : List A) → All (λ (x : A). p (f x) ≡ true → q x ≡ true) xs
+      → filter p (map f (filter q xs)) ≡ filter p (map f xs)
+  filter-map-filter p q f [] h = refl
+  filter-map-filter p q f (x ∷ xs) (h, hs) =
+      by-test (q x)
+      (λ e. rw (e, filter-map-filter p q f xs hs))
+      (λ e. rw (e, refuted (p (f x)) (λ d. true≢false (sym (h d) ∙ e))) (filter-map-filter p q f xs hs))
+
+  pub filter-filter : (p q : A → Bool) (xs : List A) → All (λ (x : A). p x ≡ true → q x ≡ true) xs
+      → filter p (filter q xs) ≡ filter p xs
+  filter-filter p q xs h = simp map-id at (filter-map-filter p q (λ x. x) xs h)
+
+  -- what some element of a filtered list passes, some element of the list passes
+  pub any-filter : (p q : A → Bool) (xs : List A) → any p (filter q xs) ≡ true → any p xs ≡ true
+  any-filter p q [] e = e
+  any-filter p q (x ∷ xs) e =
+      by-test (p x)
+      (λ d. rw d)
+      (λ d. rw d (any-filter p q xs (by-test (q x) (λ c. rw (c, d) at e) (λ c. rw c at e))))

@@ -1,0 +1,237 @@
+-- Demand 3 of the ledger. While all use is in time and in bounds, the ledger is the heap with the book's expirations, swept of what does not stand.
+use Prim.Native.Nat.{ℕ, _+_, _≤_, _<_}
+use native.Mathlib.Omega.{arith}
+use mathlib.Core.Bool.{Bool, true, false, true≢false, false≢true, not, cond, _&&_, _||_, and-eq-true-iff, and-true, Bool·not-not}
+use mathlib.Core.List.{List, [], _∷_, _++_, map, tail}
+use mathlib.Core.Logic.{_↔_}
+use mathlib.Core.Option.{Option, none, some}
+use mathlib.Core.Path.{_≡_, refl, sym, ap, _∙_}
+use borrow.Author.Tests.{not-true, not-false, eqb-true, leb-true, leb-false, lt-ltb, le-ltb, eqb-false, ne-eqb}
+use lib.Dec.{eqb, leb, ltb}
+use lib.ListN.{length}
+use Rattle.lists.specs.Tests.{any, filter, All}
+use Rattle.lists.proofs.Cases.{by-test, refuted, not-leb, or-second}
+use Rattle.lists.proofs.All.{all-every, all-imp, all-append, all-map}
+use Rattle.lists.proofs.Filters.{filter-append, filter-map-filter, filter-filter, any-filter}
+use Rattle.ledger.specs.Limits.{Limits, limits, blocksFor}
+use Rattle.ledger.specs.Tasks.{Clocks, isTested, clocksAfter}
+use Rattle.ledger.specs.Expirations.{Expiration, lasting, dueAfter, isLive, isOf, isSetBy}
+use Rattle.ledger.specs.Objects.{Object, Memory, Reply, freshMemory, objectAt, written, stands, standing, inStoreOf, replyTo, memoryAfter, expirationsAfter}
+use Rattle.ledger.specs.Refusals.{testsOf, verdict, heapVerdict}
+use Rattle.ledger.specs.Ledger.{Ledger, settled, fresh, Sent, verdictOn, replyBy, afterBy, reply, next, replies, replyToRequest, afterRequest}
+use Rattle.ledger.specs.Heap.{heapVerdictOn, heapReply, heapNext, heapReplies, bookNext, isInTimeAndBounds, isLeftAside, allInTimeAndBounds, Used, sent, Demand3}
+use Rattle.ledger.specs.declared.Refusal.{Refusal}
+use Rattle.ledger.specs.declared.Answer.{Answer}
+use Rattle.ledger.specs.declared.Answer.the-variants.{Refused, Done, Advanced, Handle, Bytes, Counted}
+use Rattle.ledger.specs.declared.Call.{Call}
+use Rattle.ledger.specs.declared.Call.the-variants.{Schedule, Make, Refresh, Read, Write}
+use Rattle.ledger.specs.declared.Event.{Event}
+use Rattle.ledger.specs.declared.Event.the-variants.{Join, Leave, Block, Resume, Tick}
+use Rattle.ledger.proofs.Verdicts.{isOwn, isOwnVerdict, isClear, isOrdered, Agree, Compared, alike, apart, compared, heap-not-own}
+
+-- the memory of the ledger that stands beside this heap and book
+abbrev swept : List Expiration → Memory → Memory
+swept xs m = settled m xs .memory
+
+-- an object that stands is the same object among the standing ones
+at-standing : (xs : List Expiration) (handle : ℕ) (os : List Object) → stands xs handle ≡ true
+    → objectAt handle (standing xs os) ≡ objectAt handle os
+unfolding objectAt
+at-standing xs handle [] s = refl
+at-standing xs handle (o ∷ os) s =
+    by-test (eqb (o .handle) handle)
+    (λ e. let d : stands xs (o .handle) ≡ true = rw (eqb-true (o .handle) handle e) s in rw (d, e))
+    (λ e. by-test (stands xs (o .handle)) (λ d. rw (d, e) (at-standing xs handle os s)) (λ d. rw (d, e) (at-standing xs handle os s)))
+
+-- every call's tests are in an order that keeps demand 3
+ordered : (call : Call) (new : List ℕ) → isOrdered (testsOf call new) ≡ true
+unfolding testsOf
+ordered (Schedule Join task) new = refl
+ordered (Schedule Leave task) new = refl
+ordered (Schedule Block task) new = refl
+ordered (Schedule Resume task) new = refl
+ordered (Schedule Tick task) new = refl
+ordered (Make task kind extension size) new = refl
+ordered (Refresh task kind extension handle) new = refl
+ordered (Read task handle) new = refl
+ordered (Write task handle offset) new = refl
+
+-- the shared tests come out the same of ledger and heap: but for 13, they look at no object
+agreed : (m : Memory) (xs : List Expiration) (call : Call) (new : List ℕ) → Agree (swept xs m) xs m (testsOf call new)
+unfolding testsOf
+agreed m xs (Schedule Join task) new = search
+agreed m xs (Schedule Leave task) new = search
+agreed m xs (Schedule Block task) new = search
+agreed m xs (Schedule Resume task) new = search
+agreed m xs (Schedule Tick task) new = search
+agreed m xs (Make task kind extension size) new = (refl, (refl, (refl, (refl, (refl, (refl, λ b e. tt))))))
+agreed m xs (Refresh task kind extension handle) new = (refl, (refl, (refl, (refl, (refl, λ g e. tt)))))
+agreed m xs (Read task handle) new = (refl, (refl, (refl, (refl, λ g. tt))))
+agreed m xs (Write task handle offset) new =
+    (refl, (refl, (refl, (refl, λ g. (rw (at-standing xs handle (m .objects) (not-false _ g)), tt)))))
+
+-- no test of the pool's own holds exactly when the book finds the use in time and in bounds
+clear : (m : Memory) (xs : List Expiration) (call : Call) (new : List ℕ)
+    → isClear (swept xs m) xs (testsOf call new) ≡ isInTimeAndBounds m xs call
+unfolding testsOf isInTimeAndBounds
+clear m xs (Schedule Join task) new = refl
+clear m xs (Schedule Leave task) new = refl
+clear m xs (Schedule Block task) new = refl
+clear m xs (Schedule Resume task) new = refl
+clear m xs (Schedule Tick task) new = refl
+clear m xs (Make task kind extension size) new = simp (not-leb, and-true)
+clear m xs (Refresh task kind extension handle) new = simp (Bool·not-not, not-leb, and-true)
+clear m xs (Read task handle) new = simp (Bool·not-not, and-true)
+clear m xs (Write task handle offset) new = simp (Bool·not-not, and-true)
+
+-- what a call answers depends on nothing that is swept away
+same-reply : (m : Memory) (xs : List Expiration) (call : Call) → isInTimeAndBounds m xs call ≡ true
+    → replyTo call (swept xs m) ≡ replyTo call m
+unfolding replyTo isInTimeAndBounds
+same-reply m xs (Schedule event task) e = refl
+same-reply m xs (Make task kind extension size) e = refl
+same-reply m xs (Refresh task kind extension handle) e = refl
+same-reply m xs (Read task handle) e = rw (at-standing xs handle (m .objects) e)
+same-reply m xs (Write task handle offset) e = refl
+
+-- the handles of the heap's objects are given
+Numbered : Memory → Type 0
+Numbered m = All (λ (o : Object). o .handle ≤ m .given) (m .objects)
+
+-- an event sets no expiration
+lasting-stands : (event : Event) (task : ℕ) (clocks : Clocks) (xs : List Expiration) (handle : ℕ)
+    → stands (lasting event task clocks xs) handle ≡ true → stands xs handle ≡ true
+unfolding lasting
+lasting-stands Join task clocks xs handle s = s
+lasting-stands Leave task clocks xs handle s =
+    let others : List Expiration = filter (λ (x : Expiration). not (isSetBy task (x .due))) xs in
+    any-filter (isOf handle) (λ (x : Expiration). not (isSetBy task (x .due))) xs (any-filter (isOf handle) (isLive clocks) others s)
+lasting-stands Block task clocks xs handle s = any-filter _ _ xs s
+lasting-stands Resume task clocks xs handle s = s
+lasting-stands Tick task clocks xs handle s = any-filter _ _ xs s
+
+-- a sweep changes nothing before one that leaves no more
+swept-twice : (xs ys : List Expiration) (os : List Object)
+    → All (λ (o : Object). stands ys (o .handle) ≡ true → stands xs (o .handle) ≡ true) os
+    → standing ys (standing xs os) ≡ standing ys os
+swept-twice xs ys os h = filter-filter _ _ os h
+
+-- what the ledger sweeps away, the call's own sweep would have taken
+same-sweep : (m : Memory) (xs : List Expiration) (call : Call) (new : List ℕ) → Numbered m → isInTimeAndBounds m xs call ≡ true
+    → settled (memoryAfter call new (swept xs m)) (expirationsAfter call (swept xs m) xs)
+    ≡ settled (memoryAfter call new m) (expirationsAfter call m xs)
+unfolding memoryAfter expirationsAfter isInTimeAndBounds Numbered written
+same-sweep m xs (Schedule event task) new k e =
+    rw (swept-twice xs _ (m .objects) (all-every _ (λ o. lasting-stands event task _ xs (o .handle)) (m .objects)))
+same-sweep m xs (Make task kind extension size) new k e =
+    rw (filter-append, filter-append,
+    swept-twice xs (expirationsAfter (Make task kind extension size) m xs) (m .objects)
+    (all-imp (λ o h. or-second (eqb (m .given + 1) (o .handle)) (λ a. absurd (omega (arith, eqb-true (m .given + 1) (o .handle) a)))) (m .objects) k))
+same-sweep m xs (Refresh task kind extension handle) new k e =
+    let s : stands xs handle ≡ true = and-eq-true-iff _ _ .0 e .0 in
+    rw
+    (swept-twice xs (expirationsAfter (Refresh task kind extension handle) m xs) (m .objects)
+    (all-every _ (λ (o : Object). or-second (eqb handle (o .handle)) (λ a. rw (sym (eqb-true handle (o .handle) a)) s)) (m .objects)))
+same-sweep m xs (Read task handle) new k e = rw (swept-twice xs xs (m .objects) (all-every _ (λ o s. s) (m .objects)))
+same-sweep m xs (Write task handle offset) new k e =
+    rw (filter-map-filter _ _ (written handle offset new) (m .objects) (all-every _ (λ o s. s) (m .objects)))
+
+-- the heap's handles stay given
+numbered-after : (m : Memory) (call : Call) (new : List ℕ) → Numbered m → Numbered (memoryAfter call new m)
+unfolding Numbered memoryAfter written
+numbered-after m (Schedule event task) new k = k
+numbered-after m (Make task kind extension size) new k =
+    all-append _ (m .objects) _ (all-imp (λ o h. omega arith) (m .objects) k) (omega arith, tt)
+numbered-after m (Refresh task kind extension handle) new k = k
+numbered-after m (Read task handle) new k = k
+numbered-after m (Write task handle offset) new k = all-map _ (written handle offset new) (m .objects) k
+
+numbered : (m : Memory) (call : Call) (new : List ℕ) → Numbered m → Numbered (heapNext m call new)
+unfolding heapNext
+numbered m call new k = by (heapVerdictOn m call new)
+  where
+    by : (v : Option Refusal) → Numbered (afterBy v (memoryAfter call new m) m)
+    by none = numbered-after m call new k
+    by (some r) = k
+
+-- a reply that only the pool gives is one with a refusal of its own
+isOwnAnswer : Answer → Bool
+isOwnAnswer (Refused r) = isOwn r
+isOwnAnswer Done = false
+isOwnAnswer (Advanced b) = false
+isOwnAnswer (Handle h) = false
+isOwnAnswer Bytes = false
+isOwnAnswer (Counted u) = false
+
+own-reply : (v : Option Refusal) (call : Call) (m : Memory) → isOwnAnswer (replyBy v (replyTo call m) .answer) ≡ isOwnVerdict v
+unfolding isOwnAnswer replyTo
+own-reply (some r) call m = refl
+own-reply none (Schedule event task) m = by-test (isTested event) (λ e. rw e) (λ e. rw e)
+own-reply none (Make task kind extension size) m = refl
+own-reply none (Refresh task kind extension handle) m = refl
+own-reply none (Read task handle) m = refl
+own-reply none (Write task handle offset) m = refl
+
+-- a refusal of the pool's own is no answer of the heap's
+differ : (m : Memory) (xs : List Expiration) (call : Call) (new : List ℕ) → isOwnVerdict (verdictOn (settled m xs) call new) ≡ true
+    → reply (settled m xs) call new ≡ heapReply m call new → ⊥
+unfolding reply heapReply
+differ m xs call new o q =
+    let v = verdictOn (settled m xs) call new in
+    let h = heapVerdictOn m call new in
+    true≢false
+    (sym o ∙ sym (own-reply v call (swept xs m)) ∙ ap (λ (r : Reply). isOwnAnswer (r .answer)) q ∙ own-reply h call m
+    ∙ heap-not-own m (testsOf call new) (ordered call new))
+
+-- One call: ledger and heap answer alike and stay together, or the use was out of time or bounds and the answers differ.
+module _ (m : Memory) (xs : List Expiration) (call : Call) (new : List ℕ) where
+  isFine : Bool
+  isFine = isLeftAside (heapVerdictOn m call new) || isInTimeAndBounds m xs call
+
+  data Step : Type 0 where
+    together : isFine ≡ true → reply (settled m xs) call new ≡ heapReply m call new
+        → next (settled m xs) call new ≡ settled (heapNext m call new) (bookNext m xs call new) → Step
+    parted : isFine ≡ false → (reply (settled m xs) call new ≡ heapReply m call new → ⊥) → Step
+
+  step : Numbered m → Step
+  unfolding isFine reply next heapReply heapNext bookNext
+  step k = by (compared (swept xs m) xs m (testsOf call new) (ordered call new) (agreed m xs call new))
+    where
+      by-reply : (v : Option Refusal) → (isLeftAside v || isInTimeAndBounds m xs call) ≡ true
+          → replyBy v (replyTo call (swept xs m)) ≡ replyBy v (replyTo call m)
+      by-reply none f = same-reply m xs call f
+      by-reply (some r) f = refl
+
+      by-next : (v : Option Refusal) → (isLeftAside v || isInTimeAndBounds m xs call) ≡ true
+          → afterBy v (settled (memoryAfter call new (swept xs m)) (expirationsAfter call (swept xs m) xs)) (settled m xs)
+          ≡ settled (afterBy v (memoryAfter call new m) m) (afterBy v (expirationsAfter call m xs) xs)
+      by-next none f = same-sweep m xs call new k f
+      by-next (some r) f = refl
+
+      by : Compared (isLeftAside (heapVerdictOn m call new) || isClear (swept xs m) xs (testsOf call new))
+          (verdictOn (settled m xs) call new) (heapVerdictOn m call new) → Step
+      by (alike f e) =
+          let g : isFine ≡ true = rw (clear m xs call new) at f in
+          together g (rw e (by-reply (heapVerdictOn m call new) g)) (rw e (by-next (heapVerdictOn m call new) g))
+      by (apart f o) = parted (rw (clear m xs call new) at f) (differ m xs call new o)
+
+-- the whole list, by what its first call comes to
+demand3-from : (us : List Used) (m : Memory) (xs : List Expiration) → Numbered m
+    → (replies (settled m xs) (map sent us) ≡ heapReplies m us) ↔ (allInTimeAndBounds m xs us ≡ true)
+unfolding replies heapReplies allInTimeAndBounds isFine
+demand3-from [] m xs k = (λ e. refl, λ e. refl)
+demand3-from (u ∷ us) m xs k =
+    by (step m xs (u .call) (u .bytes) k)
+    (demand3-from us (heapNext m (u .call) (u .bytes)) (bookNext m xs (u .call) (u .bytes)) (numbered m (u .call) (u .bytes) k))
+  where
+    by : Step m xs (u .call) (u .bytes)
+        → (replies (settled (heapNext m (u .call) (u .bytes)) (bookNext m xs (u .call) (u .bytes))) (map sent us)
+        ≡ heapReplies (heapNext m (u .call) (u .bytes)) us)
+        ↔ (allInTimeAndBounds (heapNext m (u .call) (u .bytes)) (bookNext m xs (u .call) (u .bytes)) us ≡ true)
+        → (replies (settled m xs) (map sent (u ∷ us)) ≡ heapReplies m (u ∷ us)) ↔ (allInTimeAndBounds m xs (u ∷ us) ≡ true)
+    by (together f r n) rest = rw (f, r, n) (λ e. rest .0 (ap tail e), λ a. ap (λ l. heapReply m (u .call) (u .bytes) ∷ l) (rest .1 a))
+    by (parted f d) rest = rw f (λ e. absurd (d (cc)), λ a. absurd (false≢true a))
+
+pub demand3 : Demand3
+unfolding fresh freshMemory Numbered
+demand3 us = demand3-from us freshMemory [] tt

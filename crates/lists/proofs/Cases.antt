@@ -1,0 +1,34 @@
+-- Reasoning by the two values of a test.
+use Prim.Native.Nat.{ℕ}
+use mathlib.Core.Bool.{Bool, true, false, false≢true, not, _&&_, _||_}
+use mathlib.Core.Path.{_≡_, refl}
+use borrow.Author.Tests.{leb-true, leb-false, le-ltb, lt-ltb}
+use lib.Dec.{leb, ltb}
+
+-- what follows from either value of a test holds
+pub by-test {ℓ} : {C : Type ℓ} (b : Bool) → (b ≡ true → C) → (b ≡ false → C) → C
+by-test true f g = f refl
+by-test false f g = g refl
+
+-- a test that cannot hold is false
+pub refuted : (b : Bool) → (b ≡ true → ⊥) → b ≡ false
+refuted true f = absurd (f refl)
+refuted false f = refl
+
+-- the three parts of a test that holds
+pub and₃ : (a b c : Bool) → (a && b && c) ≡ true → (a ≡ true) × (b ≡ true) × (c ≡ true)
+and₃ true true c e = (refl, refl, e)
+and₃ true false c e = absurd (false≢true e)
+and₃ false b c e = absurd (false≢true e)
+
+pub or-map : (a : Bool) {b c : Bool} → (b ≡ true → c ≡ true) → (a || b) ≡ true → (a || c) ≡ true
+or-map true f e = refl
+or-map false f e = f e
+
+pub not-leb : (a b : ℕ) → not (leb a b) ≡ ltb b a
+not-leb a b = by-test (leb a b) (λ e. rw (e, le-ltb b a (leb-true a b e))) (λ e. rw (e, lt-ltb b a (leb-false a b e)))
+
+-- where the first test implies the second, one of the two is the second
+pub or-second : (a : Bool) {b : Bool} → (a ≡ true → b ≡ true) → (a || b) ≡ true → b ≡ true
+or-second true f e = f refl
+or-second false f e = e
