@@ -124,9 +124,12 @@ unfolding memoryAfter expirationsAfter isInTimeAndBounds Numbered written
 same-sweep m xs (Schedule event task) new k e =
     rw (swept-twice xs _ (m .objects) (all-every _ (λ o. lasting-stands event task _ xs (o .handle)) (m .objects)))
 same-sweep m xs (Make task kind extension size) new k e =
-    rw (filter-append, filter-append,
-    swept-twice xs (expirationsAfter (Make task kind extension size) m xs) (m .objects)
-    (all-imp (λ o h. or-second (eqb (m .given + 1) (o .handle)) (λ a. absurd (omega (arith, eqb-true (m .given + 1) (o .handle) a)))) (m .objects) k))
+    rw (
+      filter-append,
+      filter-append,
+      swept-twice xs (expirationsAfter (Make task kind extension size) m xs) (m .objects)
+          (all-imp (λ o h. or-second (eqb (m .given + 1) (o .handle)) (λ a. absurd (omega (arith, eqb-true (m .given + 1) (o .handle) a)))) (m .objects) k),
+    )
 same-sweep m xs (Refresh task kind extension handle) new k e =
     let s : stands xs handle ≡ true = and-eq-true-iff _ _ .0 e .0 in
     rw

@@ -1,2 +1,3 @@
 pub mod Verdicts
 pub mod Demand3
+pub mod Edges

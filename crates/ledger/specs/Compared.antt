@@ -1,6 +1,7 @@
 -- Document 01, "The ledger and the endless heap": what is compared of a ledger, for a record with its stores to be read against.
 use Prim.Native.Nat.{ℕ, _%_}
-use mathlib.Core.List.{List, map, List·Permᴰ}
+use mathlib.Core.Bool.{Bool, cond}
+use mathlib.Core.List.{List, [], map, List·Permᴰ}
 use mathlib.Core.Path.{_≡_}
 use Rattle.ledger.specs.Limits.{counterRange}
 use Rattle.ledger.specs.Tasks.{Task, Clocks}
@@ -31,6 +32,10 @@ leftOf clocks (byGlobal at) = globalLeft (remaining clocks (byGlobal at))
 abbrev pub shown : Clocks → Expiration → Shown
 shown clocks x = record { handle = x .handle; left = leftOf clocks (x .due) }
 
+-- "nor bytes, where a store has another length": isWhole says of a size whether its store has 01's length
+abbrev pub shownObject : (ℕ → Bool) → Object → Object
+shownObject isWhole o = record { handle = o .handle; size = o .size; bytes = cond (isWhole (o .size)) (o .bytes) [] }
+
 pub record View : Type 0 where
   pub tasks : List Task
   pub global : ℕ
@@ -38,14 +43,14 @@ pub record View : Type 0 where
   pub objects : List Object
   pub expirations : List Shown
 
-unfoldable pub viewOf : Ledger → View
-viewOf L =
+unfoldable pub viewOf : (ℕ → Bool) → Ledger → View
+viewOf isWhole L =
     let m = L .memory in
     record {
       tasks = map wrappedTask (m .clocks .tasks);
       global = wrapped (m .clocks .global);
       given = m .given;
-      objects = m .objects;
+      objects = map (shownObject isWhole) (m .objects);
       expirations = map (shown (m .clocks)) (L .expirations);
     }
 
@@ -54,5 +59,5 @@ pub record Alike (v w : View) : Type 0 where
   pub tasks : v .tasks ≡ w .tasks
   pub global : v .global ≡ w .global
   pub given : v .given ≡ w .given
-  pub objects : v .objects ≡ w .objects
+  pub objects : List·Permᴰ (v .objects) (w .objects)
   pub expirations : List·Permᴰ (v .expirations) (w .expirations)

@@ -8,3 +8,4 @@ pub mod Ledger
 pub mod Heap
 pub mod Compared
 pub mod Kept
+pub mod Edges

@@ -1,3 +1,5 @@
 pub mod Cases
 pub mod All
 pub mod Filters
+pub mod Loops
+pub mod Tests

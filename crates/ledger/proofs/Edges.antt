@@ -1,0 +1,36 @@
+-- The thirteen edges hold: the checker computes one test over the whole table, and what passes it holds.
+use mathlib.Core.Bool.{Bool, _&&_}
+use lib.Dec.{T, eqb, eqb→eq}
+use Rattle.lists.specs.Tests.{all}
+use Rattle.lists.proofs.Tests.{both, sameBy, sameBy→eq, all→All}
+use Rattle.ledger.specs.Limits.{counterRange, limits, taskCount, smallSize, largeSize, lastHandle}
+use Rattle.ledger.specs.Tasks.{freshClocks, moved, isTested, allTicked, tasksAfter, advances, clocksAfter}
+use Rattle.ledger.specs.Expirations.{dueAfter, remaining, lasting}
+use Rattle.ledger.specs.Objects.{freshMemory, objectAt, written, replyTo, memoryAfter, expirationsAfter, usage}
+use Rattle.ledger.specs.Refusals.{testsOf, verdict}
+use Rattle.ledger.specs.Ledger.{fresh, reply, next, replies, afterAll}
+use Rattle.ledger.specs.Edges.{Row, answered, expected, clockAfter, RowHolds, edges, EdgesHold}
+
+-- a row's two equations as a test
+passes : Row → Bool
+passes row = sameBy (sameBy eqb) (answered row) (expected row) && eqb (clockAfter row) (row .clock)
+
+passing-holds : (row : Row) → T (passes row) → RowHolds row
+unfolding passes
+passing-holds row t =
+    let (answers, clock) = both (sameBy (sameBy eqb) (answered row) (expected row)) (eqb (clockAfter row) (row .clock)) t in
+    record {
+      answers = sameBy→eq (sameBy eqb) (sameBy→eq eqb eqb→eq) (answered row) (expected row) answers;
+      clock = eqb→eq (clockAfter row) (row .clock) clock;
+    }
+
+-- the checker runs all calls of the table
+all-pass : T (all passes edges)
+unfolding passes edges fresh reply next replies afterAll testsOf verdict
+    freshMemory objectAt written replyTo memoryAfter expirationsAfter usage dueAfter remaining lasting
+    freshClocks moved isTested allTicked tasksAfter advances clocksAfter
+    limits taskCount smallSize largeSize lastHandle counterRange
+all-pass = tt
+
+pub edges-hold : EdgesHold
+edges-hold = all→All passes passing-holds edges all-pass

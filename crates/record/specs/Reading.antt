@@ -1,0 +1,73 @@
+-- How a record with two stores reads as a ledger.
+use Prim.Native.Nat.{ℕ, _-_, _*_}
+use mathlib.Core.Bool.{Bool, true, false, cond}
+use mathlib.Core.List.{List, [], _∷_, map}
+use lib.Dec.{eqb, ltb}
+use lib.ListN.{length, getD, take, drop}
+use Rattle.lists.specs.Tables.{readBy, readFrom}
+use Rattle.ledger.specs.Limits.{Limits, limits, smallSize, largeSize, isSmall}
+use Rattle.ledger.specs.Objects.{Object}
+use Rattle.ledger.specs.Compared.{Shown, localLeft, globalLeft, View, viewOf, Alike}
+use Rattle.ledger.specs.Kept.{Ascending}
+use Rattle.ledger.specs.Ledger.{Ledger}
+use Rattle.record.specs.Codes.{taskOf, dueOf, leftAt, absentEntry, freeBlock}
+use Rattle.record.specs.declared.TaskEntry.{TaskEntry}
+use Rattle.record.specs.declared.BlockEntry.{BlockEntry}
+use Rattle.record.specs.declared.ExpirationEntry.{ExpirationEntry}
+use Rattle.record.specs.declared.GlobalTime.{GlobalTime}
+use Rattle.record.specs.declared.Pool.{Pool}
+use Rattle.record.specs.declared.Due.{Due}
+use Rattle.record.specs.declared.Due.the-variants.{Free, Local, Global, Unknown}
+
+-- blocks 0 to 63 are the small store's, 64 to 95 the large one's
+abbrev pub isSmallBlock : ℕ → Bool
+isSmallBlock block = ltb block (limits .smallBlocks)
+
+-- what an entry shows: the handle of the block that it names, and the units left by its own clock
+unfoldable pub shownDue : List TaskEntry → GlobalTime → ℕ → Due → List Shown
+shownDue tasks global handle Free = []
+shownDue tasks global handle (Local setter at) =
+    record { handle = handle; left = localLeft setter (leftAt (at .0) (getD tasks setter absentEntry .clock .0)) } ∷ []
+shownDue tasks global handle (Global at) = record { handle = handle; left = globalLeft (leftAt (at .0) (global .0)) } ∷ []
+shownDue tasks global handle Unknown = []
+
+abbrev pub shownEntry : List TaskEntry → GlobalTime → List BlockEntry → ExpirationEntry → List Shown
+shownEntry tasks global blocks e = shownDue tasks global (getD blocks (e .block) freeBlock .handle) (dueOf e)
+
+-- "nor bytes, where a store has another length"
+abbrev pub isWholeSmall : List ℕ → Bool
+isWholeSmall small = eqb (length small) (limits .smallBlocks * smallSize)
+
+abbrev pub isWholeLarge : List ℕ → Bool
+isWholeLarge large = eqb (length large) (limits .largeBlocks * largeSize)
+
+abbrev pub isWhole : List ℕ → List ℕ → ℕ → Bool
+isWhole small large size = cond (isSmall size) (isWholeSmall small) (isWholeLarge large)
+
+-- the first bytes of a block, where its store has 01's length
+unfoldable pub blockBytes : List ℕ → List ℕ → ℕ → ℕ → List ℕ
+blockBytes small large block size =
+    cond (isSmallBlock block) (cond (isWholeSmall small) (take size (drop (block * smallSize) small)) [])
+    (cond (isWholeLarge large) (take size (drop ((block - limits .smallBlocks) * largeSize) large)) [])
+
+-- the object in a block
+unfoldable pub objectIn : List ℕ → List ℕ → ℕ → BlockEntry → List Object
+objectIn small large block b =
+    cond (eqb (b .handle) 0) []
+    (record { handle = b .handle; size = b .length; bytes = blockBytes small large block (b .length) } ∷ [])
+
+unfoldable pub recordView : Pool → List ℕ → List ℕ → View
+recordView p small large =
+    record {
+      tasks = map taskOf (p .tasks);
+      global = p .global .0;
+      given = p .given;
+      objects = readFrom 0 (objectIn small large) (p .blocks);
+      expirations = readBy (shownEntry (p .tasks) (p .global) (p .blocks)) (p .expirations);
+    }
+
+-- The record with these stores reads as this ledger.
+pub record Reads (p : Pool) (small large : List ℕ) (L : Ledger) : Type 0 where
+  pub alike : Alike (recordView p small large) (viewOf (isWhole small large) L)
+  -- "standing objects in order of number"
+  pub ascending : Ascending (L .memory .objects)

@@ -1,0 +1,50 @@
+// The pool's record by value: sixteen task entries, two counters, block entries and expiration entries. It holds nothing but numbers, so every bit
+// pattern of it is a value, which the test of well-formedness (01: a fit record) judges.
+
+// 01: own ticks, a task's own clock.
+pub struct LocalTime(pub u32);
+
+// 01: the common time.
+pub struct GlobalTime(pub u32);
+
+// 01: a task entry. State 0 is absent, 1 running, 2 waiting; ticked (01: mark) is 0 or 1.
+#[repr(C)]
+pub struct TaskEntry {
+    pub state: u16,
+    pub ticked: u16,
+    pub clock: LocalTime,
+}
+
+// A block of a store and the object in it. Handle (01: number) 0 is a free block.
+#[repr(C)]
+pub struct BlockEntry {
+    pub handle: u32,
+    pub length: u32,
+}
+
+// 01: a date. Kind 0 is a free entry, 1 local (01: own), 2 global (01: common); due is a local or a global time by it. Blocks 0 to 63 are the small
+// store's, 64 to 95 the large one's.
+#[repr(C)]
+pub struct ExpirationEntry {
+    pub kind: u8,
+    pub block: u8,
+    pub setter: u16,
+    pub due: u32,
+}
+
+#[repr(C)]
+pub struct Pool {
+    pub tasks: [TaskEntry; 16],
+    pub global: GlobalTime,
+    pub given: u32,
+    pub blocks: [BlockEntry; 96],
+    pub expirations: [ExpirationEntry; 256],
+}
+
+// When an entry's expiration is due: a time by one clock cannot be tested against the other.
+pub enum Due {
+    Free,
+    Local { setter: u16, at: LocalTime },
+    Global(GlobalTime),
+    Unknown,
+}
