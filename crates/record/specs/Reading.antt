@@ -3,14 +3,14 @@ use Prim.Native.Nat.{ℕ, _-_, _*_}
 use mathlib.Core.Bool.{Bool, true, false, cond}
 use mathlib.Core.List.{List, [], _∷_, map}
 use lib.Dec.{eqb, ltb}
-use lib.ListN.{length, getD, take, drop}
+use lib.ListN.{length, getD, take, drop, replicate}
 use Rattle.lists.specs.Tables.{readBy, readFrom}
 use Rattle.ledger.specs.Limits.{Limits, limits, smallSize, largeSize, isSmall}
 use Rattle.ledger.specs.Objects.{Object}
 use Rattle.ledger.specs.Compared.{Shown, localLeft, globalLeft, View, viewOf, Alike}
 use Rattle.ledger.specs.Kept.{Ascending}
 use Rattle.ledger.specs.Ledger.{Ledger}
-use Rattle.record.specs.Codes.{taskOf, dueOf, leftAt, absentEntry, freeBlock}
+use Rattle.record.specs.Codes.{taskOf, dueOf, leftAt, absentEntry, freeBlock, freeEntry}
 use Rattle.record.specs.declared.TaskEntry.{TaskEntry}
 use Rattle.record.specs.declared.BlockEntry.{BlockEntry}
 use Rattle.record.specs.declared.ExpirationEntry.{ExpirationEntry}
@@ -71,3 +71,14 @@ pub record Reads (p : Pool) (small large : List ℕ) (L : Ledger) : Type 0 where
   pub alike : Alike (recordView p small large) (viewOf (isWhole small large) L)
   -- "standing objects in order of number"
   pub ascending : Ascending (L .memory .objects)
+
+-- 01: a fresh pool
+unfoldable pub freshPool : Pool
+freshPool =
+    record {
+      tasks = replicate 16 absentEntry;
+      global = record { 0 = 0 };
+      given = 0;
+      blocks = replicate 96 freeBlock;
+      expirations = replicate 256 freeEntry;
+    }

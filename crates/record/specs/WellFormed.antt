@@ -18,7 +18,7 @@ use Rattle.record.specs.declared.Pool.{Pool}
 use Rattle.record.specs.declared.Due.{Due}
 use Rattle.record.specs.declared.Due.the-variants.{Free, Local, Global, Unknown}
 
--- the block is one of the record's and has an object
+-- the block has an object
 abbrev pub isUsed : BlockEntry → Bool
 isUsed b = not (eqb (b .handle) 0)
 
@@ -32,18 +32,19 @@ isFitTask e =
 abbrev pub isAhead : ℕ → ℕ → Bool
 isAhead most left = leb 1 left && leb left most
 
--- An expiration of the task entry `setter`, on the block entry `named`: "each date in use names a block in use"; "own dates are 1 to 31 ticks
--- ahead, ..., and their task is not absent; common dates are 1 to 32 ahead". A code that means nothing is not fit.
-unfoldable pub isFitDue : TaskEntry → GlobalTime → BlockEntry → Due → Bool
-isFitDue setter global named Free = true
-isFitDue setter global named (Local task at) =
-    isUsed named && not (isAbsent (stateOf (setter .state))) && isAhead (limits .extension + 1) (leftAt (at .0) (setter .clock .0))
-isFitDue setter global named (Global at) = isUsed named && isAhead (limits .extension + 2) (leftAt (at .0) (global .0))
-isFitDue setter global named Unknown = false
+-- An expiration, with the entry of its setter and whether it names a block in use: "each date in use names a block in use"; "own dates are 1 to 31
+-- ticks ahead, ..., and their task is not absent; common dates are 1 to 32 ahead". A code that means nothing is not fit.
+unfoldable pub isFitDue : TaskEntry → GlobalTime → Bool → Due → Bool
+isFitDue setter global used Free = true
+isFitDue setter global used (Local task at) =
+    used && ltb task taskCount && not (isAbsent (stateOf (setter .state)))
+    && isAhead (limits .extension + 1) (leftAt (at .0) (setter .clock .0))
+isFitDue setter global used (Global at) = used && isAhead (limits .extension + 2) (leftAt (at .0) (global .0))
+isFitDue setter global used Unknown = false
 
 abbrev pub isFitEntry : List TaskEntry → GlobalTime → List BlockEntry → ExpirationEntry → Bool
 isFitEntry tasks global blocks e =
-    isFitDue (getD tasks (setterOf (dueOf e)) absentEntry) global (getD blocks (e .block) freeBlock) (dueOf e)
+    isFitDue (getD tasks (setterOf (dueOf e)) absentEntry) global (isUsed (getD blocks (e .block) freeBlock)) (dueOf e)
 
 -- some expiration names the block
 abbrev pub isNaming : ℕ → ExpirationEntry → Bool

@@ -1,5 +1,6 @@
 // The pool's record by value: sixteen task entries, two counters, block entries and expiration entries. It holds nothing but numbers, so every bit
 // pattern of it is a value, which the test of well-formedness (01: a fit record) judges.
+use ledger::Answer;
 
 // 01: own ticks, a task's own clock.
 pub struct LocalTime(pub u32);
@@ -47,4 +48,10 @@ pub enum Due {
     Local { setter: u16, at: LocalTime },
     Global(GlobalTime),
     Unknown,
+}
+
+// What a call gives back: its answer, and the record that it leaves.
+pub struct Outcome {
+    pub answer: Answer,
+    pub pool: Pool,
 }
