@@ -1,24 +1,22 @@
 -- Demand 3 of the ledger. While all use is in time and in bounds, the ledger is the heap with the book's expirations, swept of what does not stand.
-use Prim.Native.Nat.{ℕ, _+_, _≤_, _<_}
+use Prim.Native.Nat.{ℕ, _+_, _≤_}
 use native.Mathlib.Omega.{arith}
-use mathlib.Core.Bool.{Bool, true, false, true≢false, false≢true, not, cond, _&&_, _||_, and-eq-true-iff, and-true, Bool·not-not}
-use mathlib.Core.List.{List, [], _∷_, _++_, map, tail}
+use mathlib.Core.Bool.{Bool, true, false, true≢false, false≢true, not, _||_, and-eq-true-iff, and-true, Bool·not-not}
+use mathlib.Core.List.{List, [], _∷_, map, tail}
 use mathlib.Core.Logic.{_↔_}
 use mathlib.Core.Option.{Option, none, some}
 use mathlib.Core.Path.{_≡_, refl, sym, ap, _∙_}
-use borrow.Author.Tests.{not-true, not-false, eqb-true, leb-true, leb-false, lt-ltb, le-ltb, eqb-false, ne-eqb}
-use lib.Dec.{eqb, leb, ltb}
-use lib.ListN.{length}
-use Rattle.lists.specs.Tests.{any, filter, All}
-use Rattle.lists.proofs.Cases.{by-test, refuted, not-leb, or-second}
+use borrow.Author.Tests.{not-false, eqb-true}
+use lib.Dec.{eqb}
+use Rattle.lists.specs.Tests.{filter, All}
+use Rattle.lists.proofs.Cases.{by-test, not-leb, or-second}
 use Rattle.lists.proofs.All.{all-every, all-imp, all-append, all-map}
-use Rattle.lists.proofs.Filters.{filter-append, filter-map-filter, filter-filter, any-filter}
-use Rattle.ledger.specs.Limits.{Limits, limits, blocksFor}
-use Rattle.ledger.specs.Tasks.{Clocks, isTested, clocksAfter}
-use Rattle.ledger.specs.Expirations.{Expiration, lasting, dueAfter, isLive, isOf, isSetBy}
-use Rattle.ledger.specs.Objects.{Object, Memory, Reply, freshMemory, objectAt, written, stands, standing, inStoreOf, replyTo, memoryAfter, expirationsAfter}
-use Rattle.ledger.specs.Refusals.{testsOf, verdict, heapVerdict}
-use Rattle.ledger.specs.Ledger.{Ledger, settled, fresh, Sent, verdictOn, replyBy, afterBy, reply, next, replies, replyToRequest, afterRequest}
+use Rattle.lists.proofs.Filters.{filter-map-filter, filter-filter, filter-filter-append, any-filter}
+use Rattle.ledger.specs.Tasks.{Clocks, isTested}
+use Rattle.ledger.specs.Expirations.{Expiration, lasting, isLive, isOf, isSetBy}
+use Rattle.ledger.specs.Objects.{Object, Memory, Reply, freshMemory, objectAt, written, stands, standing, replyTo, memoryAfter, expirationsAfter}
+use Rattle.ledger.specs.Refusals.{testsOf}
+use Rattle.ledger.specs.Ledger.{settled, fresh, verdictOn, replyBy, afterBy, reply, next, replies}
 use Rattle.ledger.specs.Heap.{heapVerdictOn, heapReply, heapNext, heapReplies, bookNext, isInTimeAndBounds, isLeftAside, allInTimeAndBounds, Used, sent, Demand3}
 use Rattle.ledger.specs.declared.Refusal.{Refusal}
 use Rattle.ledger.specs.declared.Answer.{Answer}
@@ -124,12 +122,10 @@ unfolding memoryAfter expirationsAfter isInTimeAndBounds Numbered written
 same-sweep m xs (Schedule event task) new k e =
     rw (swept-twice xs _ (m .objects) (all-every _ (λ o. lasting-stands event task _ xs (o .handle)) (m .objects)))
 same-sweep m xs (Make task kind extension size) new k e =
-    rw (
-      filter-append,
-      filter-append,
-      swept-twice xs (expirationsAfter (Make task kind extension size) m xs) (m .objects)
-          (all-imp (λ o h. or-second (eqb (m .given + 1) (o .handle)) (λ a. absurd (omega (arith, eqb-true (m .given + 1) (o .handle) a)))) (m .objects) k),
-    )
+    rw
+    (filter-filter-append _ _ (m .objects) _
+    (all-imp (λ o h. or-second (eqb (m .given + 1) (o .handle)) (λ a. absurd (omega (arith, eqb-true (m .given + 1) (o .handle) a))))
+    (m .objects) k))
 same-sweep m xs (Refresh task kind extension handle) new k e =
     let s : stands xs handle ≡ true = and-eq-true-iff _ _ .0 e .0 in
     rw

@@ -1,9 +1,8 @@
 -- When the pool and the heap come to one verdict: laws over any list of tests.
-use Prim.Native.Nat.{ℕ}
-use mathlib.Core.Bool.{Bool, true, false, false≢true, not, cond, _&&_, _||_, and-eq-true-iff}
+use mathlib.Core.Bool.{Bool, true, false, false≢true, not, _&&_, _||_, and-eq-true-iff}
 use mathlib.Core.List.{List, [], _∷_}
 use mathlib.Core.Option.{Option, none, some}
-use mathlib.Core.Path.{_≡_, refl, sym, _∙_}
+use mathlib.Core.Path.{_≡_, refl}
 use borrow.Author.Tests.{not-true}
 use lib.Dec.{eqb}
 use Rattle.lists.proofs.Cases.{by-test, and₃, or-map}

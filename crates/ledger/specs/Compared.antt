@@ -6,7 +6,7 @@ use mathlib.Core.Path.{_≡_}
 use Rattle.ledger.specs.Limits.{counterRange}
 use Rattle.ledger.specs.Tasks.{Task, Clocks}
 use Rattle.ledger.specs.Expirations.{Due, byLocal, byGlobal, Expiration, remaining}
-use Rattle.ledger.specs.Objects.{Object, Memory}
+use Rattle.ledger.specs.Objects.{Object}
 use Rattle.ledger.specs.Ledger.{Ledger}
 
 -- "a clock and the common time by the remainder on division by 4,294,967,296"

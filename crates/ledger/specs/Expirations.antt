@@ -1,10 +1,10 @@
 -- Document 01, "Dates": expirations (01: dates), local (01: own) and global (01: common), when they are due and what ends them.
 use Prim.Native.Nat.{ℕ, _+_, _-_}
-use mathlib.Core.Bool.{Bool, true, false, not}
+use mathlib.Core.Bool.{Bool, false, not}
 use mathlib.Core.List.{List}
 use lib.Dec.{eqb, ltb}
 use Rattle.lists.specs.Tests.{filter}
-use Rattle.ledger.specs.Tasks.{Task, Clocks, taskAt}
+use Rattle.ledger.specs.Tasks.{Clocks, taskAt}
 use Rattle.ledger.specs.declared.Kind.{Kind}
 use Rattle.ledger.specs.declared.Kind.the-variants.{Local, Global}
 use Rattle.ledger.specs.declared.Event.{Event}

@@ -9,7 +9,7 @@ use mathlib.Core.Path.{_≡_}
 use lib.Dec.{eqb, ltb}
 use lib.ListN.{length}
 use Rattle.ledger.specs.Numbers.{numberOf}
-use Rattle.ledger.specs.Limits.{Limits, limits, blocksFor}
+use Rattle.ledger.specs.Limits.{limits, blocksFor}
 use Rattle.ledger.specs.Expirations.{Expiration}
 use Rattle.ledger.specs.Objects.{Memory, Reply, freshMemory, stands, standing, inStoreOf, replyTo, memoryAfter, expirationsAfter}
 use Rattle.ledger.specs.Refusals.{testsOf, heapVerdict}

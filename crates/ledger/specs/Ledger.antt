@@ -5,7 +5,6 @@ use mathlib.Core.Option.{Option, none, some}
 use Rattle.ledger.specs.Expirations.{Expiration}
 use Rattle.ledger.specs.Objects.{Memory, Reply, freshMemory, plain, standing, replyTo, memoryAfter, expirationsAfter, usage}
 use Rattle.ledger.specs.Refusals.{testsOf, verdict}
-use Rattle.ledger.specs.declared.Answer.{Answer}
 use Rattle.ledger.specs.declared.Answer.the-variants.{Refused, Counted}
 use Rattle.ledger.specs.declared.Call.{Call}
 use Rattle.ledger.specs.declared.Refusal.{Refusal}

@@ -10,7 +10,7 @@ use Rattle.ledger.specs.Tasks.{Clocks, freshClocks, isTested, advances, 
 use Rattle.ledger.specs.Expirations.{Expiration, isOf, dueAfter, lasting}
 use Rattle.ledger.specs.declared.Usage.{Usage}
 use Rattle.ledger.specs.declared.Answer.{Answer}
-use Rattle.ledger.specs.declared.Answer.the-variants.{Done, Advanced, Handle, Bytes, Counted}
+use Rattle.ledger.specs.declared.Answer.the-variants.{Done, Advanced, Handle, Bytes}
 use Rattle.ledger.specs.declared.Call.{Call}
 use Rattle.ledger.specs.declared.Call.the-variants.{Schedule, Make, Refresh, Read, Write}
 

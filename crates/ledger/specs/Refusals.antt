@@ -5,11 +5,10 @@ use mathlib.Core.List.{List, [], _∷_}
 use mathlib.Core.Option.{Option, none, some}
 use lib.Dec.{eqb, leb, ltb}
 use lib.ListN.{length}
-use Rattle.ledger.specs.Limits.{Limits, limits, taskCount, largeSize, lastHandle, blocksFor}
+use Rattle.ledger.specs.Limits.{limits, taskCount, largeSize, lastHandle, blocksFor}
 use Rattle.ledger.specs.Tasks.{taskAt, isAbsent, isRunning, isWaiting}
 use Rattle.ledger.specs.Expirations.{Expiration}
 use Rattle.ledger.specs.Objects.{Memory, objectAt, stands, inStoreOf}
-use Rattle.ledger.specs.declared.Event.{Event}
 use Rattle.ledger.specs.declared.Event.the-variants.{Join, Leave, Block, Resume, Tick}
 use Rattle.ledger.specs.declared.Call.{Call}
 use Rattle.ledger.specs.declared.Call.the-variants.{Schedule, Make, Refresh, Read, Write}

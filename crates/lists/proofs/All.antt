@@ -1,6 +1,11 @@
 -- Laws of a fact of every element, for any element type.
+use Prim.Native.Nat.{ℕ, zero, suc}
+use mathlib.Core.Bool.{Bool, true, false≢true, or-true}
 use mathlib.Core.List.{List, [], _∷_, _++_, map}
-use Rattle.lists.specs.Tests.{All}
+use mathlib.Core.Path.{_≡_, refl, ap}
+use lib.ListN.{getD, set, replicate}
+use Rattle.lists.specs.Tests.{any, filter, All}
+use Rattle.lists.proofs.Cases.{by-test}
 
 module _ {ℓ κ} {A : Type ℓ} where
   pub all-every : (P : A → Type κ) → ((x : A) → P x) → (xs : List A) → All P xs
@@ -11,6 +16,17 @@ module _ {ℓ κ} {A : Type ℓ} where
   all-imp f [] h = tt
   all-imp f (x ∷ xs) (h, hs) = (f x h, all-imp f xs hs)
 
+  pub all-both : {P Q R : A → Type κ} → ((x : A) → P x → Q x → R x) → (xs : List A) → All P xs → All Q xs → All R xs
+  all-both f [] h k = tt
+  all-both f (x ∷ xs) (h, hs) (k, ks) = (f x h k, all-both f xs hs ks)
+
+  -- what a filter leaves passes its test
+  pub all-filter : {P Q : A → Type κ} (p : A → Bool) → ((x : A) → p x ≡ true → P x → Q x) → (xs : List A) → All P xs
+      → All Q (filter p xs)
+  all-filter p f [] h = tt
+  all-filter p f (x ∷ xs) (h, hs) =
+      by-test (p x) (λ e. rw e (f x e h, all-filter p f xs hs)) (λ e. rw e (all-filter p f xs hs))
+
   pub all-append : (P : A → Type κ) (xs ys : List A) → All P xs → All P ys → All P (xs ++ ys)
   all-append P [] ys h k = k
   all-append P (x ∷ xs) ys (h, hs) k = (h, all-append P xs ys hs k)
@@ -18,3 +34,34 @@ module _ {ℓ κ} {A : Type ℓ} where
   pub all-map : (P : A → Type κ) (f : A → A) (xs : List A) → All (λ (x : A). P (f x)) xs → All P (map f xs)
   all-map P f [] h = tt
   all-map P f (x ∷ xs) (h, hs) = (h, all-map P f xs hs)
+
+  pub all-replicate : (P : A → Type κ) (n : ℕ) {a : A} → P a → All P (replicate n a)
+  all-replicate P zero h = tt
+  all-replicate P (suc n) h = (h, all-replicate P n h)
+
+  pub all-set : (P : A → Type κ) (xs : List A) (i : ℕ) {a : A} → All P xs → P a → All P (set xs i a)
+  all-set P [] i h k = tt
+  all-set P (x ∷ xs) zero (h, hs) k = (k, hs)
+  all-set P (x ∷ xs) (suc i) (h, hs) k = (h, all-set P xs i hs k)
+
+  -- the element at a place after one is set
+  pub at-set : (P : A → Type κ) (xs : List A) (i j : ℕ) {a : A} (d : A) → (j ≡ i → P a) → P (getD xs j d)
+      → P (getD (set xs i a) j d)
+  at-set P [] i j d f h = h
+  at-set P (x ∷ xs) zero zero d f h = f refl
+  at-set P (x ∷ xs) zero (suc j) d f h = h
+  at-set P (x ∷ xs) (suc i) zero d f h = h
+  at-set P (x ∷ xs) (suc i) (suc j) d f h = at-set P xs i j d (λ e. f (ap suc e)) h
+
+  -- the element that a test finds
+  pub found {μ} : {P : A → Type κ} {C : Type μ} (p : A → Bool) → ((x : A) → p x ≡ true → P x → C)
+      → (xs : List A) → any p xs ≡ true → All P xs → C
+  found p f [] e h = absurd (false≢true e)
+  found p f (x ∷ xs) e (h, hs) = by-test (p x) (λ d. f x d h) (λ d. found p f xs (rw d at e) hs)
+
+-- by a relation that each element has to itself, each is found in its list
+pub all-any {ℓ} : {A : Type ℓ} (r : A → A → Bool) → ((x : A) → r x x ≡ true) → (xs : List A)
+    → All (λ (x : A). any (r x) xs ≡ true) xs
+all-any r f [] = tt
+all-any {A = A} r f (y ∷ xs) =
+    (rw (f y), all-imp (λ (x : A) (e : any (r x) xs ≡ true). rw e (or-true (r x y))) xs (all-any r f xs))

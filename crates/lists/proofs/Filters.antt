@@ -1,5 +1,5 @@
 -- Laws of filters, for any element type.
-use mathlib.Core.Bool.{Bool, true, false, true≢false, cond}
+use mathlib.Core.Bool.{Bool, true, true≢false}
 use mathlib.Core.List.{List, [], _∷_, _++_, map, map-id}
 use mathlib.Core.Path.{_≡_, refl, ap, sym, _∙_}
 use Rattle.lists.specs.Tests.{any, filter, All}
@@ -22,6 +22,11 @@ module _ {ℓ} {A : Type ℓ} where
   pub filter-filter : (p q : A → Bool) (xs : List A) → All (λ (x : A). p x ≡ true → q x ≡ true) xs
       → filter p (filter q xs) ≡ filter p xs
   filter-filter p q xs h = simp map-id at (filter-map-filter p q (λ x. x) xs h)
+
+  pub filter-filter-append : (p q : A → Bool) (xs ys : List A) → All (λ (x : A). p x ≡ true → q x ≡ true) xs
+      → filter p (filter q xs ++ ys) ≡ filter p (xs ++ ys)
+  filter-filter-append p q xs ys h =
+      filter-append p (filter q xs) ys ∙ ap (λ l. l ++ filter p ys) (filter-filter p q xs h) ∙ sym (filter-append p xs ys)
 
   -- what some element of a filtered list passes, some element of the list passes
   pub any-filter : (p q : A → Bool) (xs : List A) → any p (filter q xs) ≡ true → any p xs ≡ true

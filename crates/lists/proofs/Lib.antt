@@ -3,3 +3,4 @@ pub mod All
 pub mod Filters
 pub mod Loops
 pub mod Tests
+pub mod Counts

@@ -1,10 +1,10 @@
 -- Loops over an array, for any element type: one that maps each element, as the start, the turn and the end of its invariant.
-use Prim.Native.Nat.{ℕ, zero, suc, _+_, _≤_, _<_}
+use Prim.Native.Nat.{ℕ, suc, _+_, _≤_, _<_}
 use native.Mathlib.Numerals.{add-one}
 use native.Mathlib.Omega.{arith}
-use mathlib.Core.List.{List, [], _∷_, _++_, map, append-assoc, append-nil, map-append}
-use mathlib.Core.Path.{_≡_, refl, sym, ap, _∙_}
-use lib.ListN.{length, take, drop, getD, set, length-map, length-append, length-take, length-set, List·getD-append, drop-of-length-le}
+use mathlib.Core.List.{List, _++_, map, append-assoc, append-nil, map-append}
+use mathlib.Core.Path.{_≡_, refl, _∙_}
+use lib.ListN.{length, take, drop, getD, set, length-map, drop-of-length-le}
 use lib.Seq.{take-suc, drop-cons, length-take-le, set-at, getD-at, take-all}
 
 module _ {ℓ} {A : Type ℓ} where

@@ -1,12 +1,12 @@
 -- What the parts of the test of well-formedness hand to one another: which blocks are named.
 use Prim.Native.Nat.{ℕ, _<_}
-use mathlib.Core.Bool.{Bool, true, false, cond, not, _&&_, _||_}
+use mathlib.Core.Bool.{Bool, false, cond, not, _&&_, _||_}
 use mathlib.Core.List.{List}
 use mathlib.Core.Path.{_≡_}
 use lib.Dec.{leb, ltb}
 use lib.ListN.{length, getD}
 use Rattle.lists.specs.Tests.{any}
-use Rattle.record.specs.Codes.{dueOf, isDated}
+use Rattle.record.specs.Codes.{isDated}
 use Rattle.record.specs.WellFormed.{isUsed, isNaming, isSizedFor}
 use Rattle.record.specs.declared.BlockEntry.{BlockEntry}
 use Rattle.record.specs.declared.ExpirationEntry.{ExpirationEntry}

@@ -1,11 +1,11 @@
 -- How a record with two stores reads as a ledger.
 use Prim.Native.Nat.{ℕ, _-_, _*_}
-use mathlib.Core.Bool.{Bool, true, false, cond}
+use mathlib.Core.Bool.{Bool, cond}
 use mathlib.Core.List.{List, [], _∷_, map}
 use lib.Dec.{eqb, ltb}
 use lib.ListN.{length, getD, take, drop, replicate}
 use Rattle.lists.specs.Tables.{readBy, readFrom}
-use Rattle.ledger.specs.Limits.{Limits, limits, smallSize, largeSize, isSmall}
+use Rattle.ledger.specs.Limits.{limits, smallSize, largeSize, isSmall}
 use Rattle.ledger.specs.Objects.{Object}
 use Rattle.ledger.specs.Compared.{Shown, localLeft, globalLeft, View, viewOf, Alike}
 use Rattle.ledger.specs.Kept.{Ascending}

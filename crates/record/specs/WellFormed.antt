@@ -6,7 +6,7 @@ use lib.Dec.{eqb, leb, ltb}
 use lib.ListN.{getD}
 use Rattle.lists.specs.Tests.{any, all}
 use Rattle.lists.specs.Tables.{allFrom}
-use Rattle.ledger.specs.Limits.{Limits, limits, taskCount, smallSize, largeSize}
+use Rattle.ledger.specs.Limits.{limits, taskCount, smallSize, largeSize}
 use Rattle.ledger.specs.Tasks.{isAbsent, isRunning, allTicked}
 use Rattle.record.specs.Codes.{stateOf, taskOf, dueOf, isDated, setterOf, leftAt, absentEntry, freeBlock}
 use Rattle.record.specs.Reading.{isSmallBlock}

@@ -1,0 +1,140 @@
+-- The expirations stay as `ExpirationsKept` says when clocks move, when one is set, and when the objects change.
+use Prim.Native.Nat.{ℕ, _+_, _-_, _≤_}
+use native.Mathlib.Nat.{le-trans}
+use native.Mathlib.Omega.{arith}
+use mathlib.Core.Bool.{Bool, true, false, true≢false, not}
+use mathlib.Core.List.{List, _∷_}
+use mathlib.Core.Path.{_≡_, refl, sym, _∙_}
+use borrow.Author.Tests.{ltb-true, ltb-false, leb-false, eqb-true, eq-eqb, not-true, not-false}
+use lib.Dec.{leb, ltb}
+use lib.ListN.{length, getD, List·getD-map}
+use Rattle.lists.specs.Tests.{filter, All}
+use Rattle.lists.proofs.Cases.{by-test}
+use Rattle.lists.proofs.All.{all-imp, all-both, all-filter, all-any, at-set}
+use Rattle.lists.proofs.Counts.{any-left, length-filter}
+use Rattle.ledger.specs.Limits.{limits}
+use Rattle.ledger.specs.Tasks.{Task, Clocks, taskAt, absentTask, isAbsent, isTested, moved, unticked, tasksAfter, advances, clocksAfter}
+use Rattle.ledger.specs.Expirations.{Due, byLocal, byGlobal, Expiration, dueAfter, remaining, isLive, isSetBy, isOf, lasting}
+use Rattle.ledger.specs.Objects.{Object, Memory, stands, standing}
+use Rattle.ledger.specs.Refusals.{testsOf}
+use Rattle.ledger.specs.Kept.{Within, isOwned, ExpirationKept, ExpirationsKept}
+use Rattle.ledger.specs.declared.Kind.{Kind}
+use Rattle.ledger.specs.declared.Kind.the-variants.{Local, Global}
+use Rattle.ledger.specs.declared.Event.{Event}
+use Rattle.ledger.specs.declared.Event.the-variants.{Join, Leave, Block, Resume, Tick}
+use Rattle.ledger.specs.declared.Call.the-variants.{Schedule}
+use Rattle.ledger.proofs.Passed.{Passed}
+use Rattle.ledger.proofs.KeptTasks.{tasks-after}
+
+-- a local expiration is within bounds by its setter's entry
+abbrev LocalWithin : Task → ℕ → Type 0
+LocalWithin setter at = (at - setter .clock ≤ limits .extension + 1) × (isAbsent (setter .state) ≡ false)
+
+module _ (m : Memory) (xs : List Expiration) (new : List ℕ) (task : ℕ) where
+  -- the task before the event, and the clocks after it
+  abbrev before : Task
+  before = taskAt (m .clocks) task
+
+  abbrev after : Event → Clocks
+  after event = clocksAfter event task (m .clocks)
+
+  -- what is kept of an expiration after the event
+  abbrev Lasts : Event → Expiration → Type 0
+  Lasts event = ExpirationKept (after event) (m .objects)
+
+  -- the event leaves an expiration that its own task set within bounds
+  abbrev Spares : Event → Due → Type 0
+  Spares event due = isSetBy task due ≡ true → (at : ℕ) → LocalWithin before at → LocalWithin (moved event before) at
+
+  -- then it leaves all within bounds: no clock goes back
+  within-after : (event : Event) (due : Due) → Spares event due → Within (m .clocks) due → Within (after event) due
+  unfolding clocksAfter remaining
+  within-after event (byLocal setter at) f h =
+      tasks-after (λ ts. LocalWithin (getD ts setter absentTask) at) (λ ts h. rw (List·getD-map unticked ts setter absentTask) h)
+      event task (m .clocks)
+      (at-set (λ t. LocalWithin t at) (m .clocks .tasks) task setter absentTask (λ e. f (eq-eqb setter task e) at (rw e at h)) h)
+  within-after event (byGlobal at) f h = by-test (advances event task (m .clocks)) (λ e. rw e (omega arith)) (λ e. rw e h)
+
+  -- an expiration that is still ahead after the event
+  lasts : (event : Event) (x : Expiration) → Spares event (x .due) → ExpirationKept (m .clocks) (m .objects) x
+      → 1 ≤ remaining (after event) (x .due) → Lasts event x
+  lasts event x f k h = record { owned = k .owned; ahead = h; within = within-after event (x .due) f (k .within) }
+
+  -- an event with an advance test leaves only those
+  live : (event : Event) (ys : List Expiration) → length ys ≤ limits .expirations
+      → All (λ (x : Expiration). 1 ≤ remaining (after event) (x .due) → Lasts event x) ys
+      → ExpirationsKept (after event) (m .objects) (filter (isLive (after event)) ys)
+  live event ys r ks =
+      record { each = all-filter (isLive (after event)) (λ x e k. k (ltb-true 0 _ e)) ys ks; room = le-trans (length-filter _ ys) r }
+
+  -- one without moves no clock by which an expiration is due, so all are still ahead
+  abbrev Still : Event → Type 0
+  Still event =
+      (at : ℕ) → LocalWithin before at → (moved event before .clock ≡ before .clock) × (isAbsent (moved event before .state) ≡ false)
+
+  ahead-still : (event : Event) → isTested event ≡ false → Still event → (due : Due) → Within (m .clocks) due
+      → 1 ≤ remaining (m .clocks) due → 1 ≤ remaining (after event) due
+  unfolding remaining clocksAfter tasksAfter advances
+  ahead-still event e f (byLocal setter at) w h =
+      rw e (at-set (λ t. 1 ≤ at - t .clock) (m .clocks .tasks) task setter absentTask (λ q. rw (f at (rw q at w) .0, ← q) h) h)
+  ahead-still event e f (byGlobal at) w h = rw e h
+
+  still : (event : Event) → isTested event ≡ false → Still event → ExpirationsKept (m .clocks) (m .objects) xs
+      → ExpirationsKept (after event) (m .objects) xs
+  still event e f k =
+      let spared : (due : Due) → Spares event due = λ due own at h. (rw (f at h .0) (h .0), f at h .1) in
+      record {
+        each = all-imp (λ x h. lasts event x (spared (x .due)) h (ahead-still event e f (x .due) (h .within) (h .ahead))) xs (k .each);
+        room = k .room;
+      }
+
+  -- the expiration is not one that the task set
+  abbrev isOthers : Expiration → Bool
+  isOthers x = not (isSetBy task (x .due))
+
+  -- the five events
+  pub expirations-after : (event : Event) → Passed m xs (Schedule event task) new → ExpirationsKept (m .clocks) (m .objects) xs
+      → ExpirationsKept (after event) (m .objects) (lasting event task (after event) xs)
+  unfolding testsOf lasting moved isTested
+  expirations-after Join (exists, (absent, end)) k = still Join refl (λ at h. absurd (true≢false (sym (not-false _ absent) ∙ h .1))) k
+  expirations-after Resume c k = still Resume refl (λ at h. (refl, refl)) k
+  expirations-after Block c k = live Block xs (k .room) (all-imp (λ x. lasts Block x (λ own at h. (h .0, refl))) xs (k .each))
+  expirations-after Tick c k = live Tick xs (k .room) (all-imp (λ x. lasts Tick x (λ own at h. (omega arith, h .1))) xs (k .each))
+  expirations-after Leave c k =
+      live Leave (filter isOthers xs) (le-trans (length-filter isOthers xs) (k .room))
+      (all-filter isOthers (λ x e. lasts Leave x (λ own. absurd (true≢false (sym own ∙ not-true _ e)))) xs (k .each))
+
+-- the same expirations with other objects
+pub reowned : {clocks : Clocks} {os ps : List Object} {xs : List Expiration}
+    → ((x : Expiration) → stands xs (x .handle) ≡ true → isOwned os x ≡ true → isOwned ps x ≡ true)
+    → ExpirationsKept clocks os xs → ExpirationsKept clocks ps xs
+reowned {xs} f k =
+    record {
+      each =
+          all-both (λ x h e. record { owned = f x e (h .owned); ahead = h .ahead; within = h .within }) xs (k .each)
+          (all-any (λ (x y : Expiration). isOf (x .handle) y) (λ x. eq-eqb (x .handle) (x .handle) refl) xs);
+      room = k .room;
+    }
+
+-- with those that stand: the object of an expiration does
+pub expirations-settled : {clocks : Clocks} {os : List Object} {xs : List Expiration} → ExpirationsKept clocks os xs
+    → ExpirationsKept clocks (standing xs os) xs
+expirations-settled {os = os} =
+    reowned (λ x e o. any-left _ _ (λ (o : Object) d. rw (eqb-true (x .handle) (o .handle) d) at e) os ∙ o)
+
+-- a due that a call sets is ahead and within bounds
+new-due : (clocks : Clocks) (task extension : ℕ) (kind : Kind) → isAbsent (taskAt clocks task .state) ≡ false
+    → extension ≤ limits .extension
+    → (1 ≤ remaining clocks (dueAfter clocks task kind extension)) × Within clocks (dueAfter clocks task kind extension)
+unfolding dueAfter remaining
+new-due clocks task extension Local present h = (omega arith, (omega arith, present))
+new-due clocks task extension Global present h = omega arith
+
+pub expirations-set : {clocks : Clocks} {os : List Object} {xs : List Expiration} (task : ℕ) (kind : Kind) (extension handle : ℕ)
+    → isAbsent (taskAt clocks task .state) ≡ false → ltb (limits .extension) extension ≡ false
+    → leb (limits .expirations) (length xs) ≡ false
+    → isOwned os (record { handle = handle; due = dueAfter clocks task kind extension }) ≡ true → ExpirationsKept clocks os xs
+    → ExpirationsKept clocks os (record { handle = handle; due = dueAfter clocks task kind extension } ∷ xs)
+expirations-set {clocks} task kind extension handle present short room owned k =
+    let (ahead, within) = new-due clocks task extension kind present (ltb-false _ _ short) in
+    record { each = (record { owned = owned; ahead = ahead; within = within }, k .each); room = leb-false _ _ room }

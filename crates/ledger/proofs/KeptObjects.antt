@@ -1,0 +1,119 @@
+-- The objects stay as `ObjectsKept` says when one is made or written, and when those without an expiration go.
+use Prim.Native.Nat.{ℕ, _+_, _≤_, _<_}
+use native.Mathlib.Nat.{le-trans}
+use native.Mathlib.Omega.{arith}
+use mathlib.Core.Bool.{Bool, true, false, true≢false, cond, not, _||_}
+use mathlib.Core.List.{List, [], _∷_, _++_, map}
+use mathlib.Core.Path.{_≡_, sym, _∙_}
+use borrow.Author.Tests.{leb-false, ltb-false, eqb-true, eqb-false}
+use lib.Dec.{eqb, leb, ltb}
+use lib.ListN.{length, length-append, length-take, length-drop, length-replicate}
+use Rattle.lists.specs.Tests.{filter, All}
+use Rattle.lists.proofs.Cases.{by-test}
+use Rattle.lists.proofs.All.{all-imp, all-both, all-filter, all-append, all-map}
+use Rattle.lists.proofs.Counts.{count-append, count-map, count-filter}
+use Rattle.ledger.specs.Limits.{largeSize, lastHandle, isSmall, blocksFor}
+use Rattle.ledger.specs.Expirations.{Expiration}
+use Rattle.ledger.specs.Objects.{Object, zeroed, objectAt, written, stands, standing, inStoreOf}
+use Rattle.ledger.specs.Kept.{ObjectKept, Ascending, ObjectsKept}
+
+-- the order of handles stays when some go
+ascending-filter : (p : Object → Bool) (os : List Object) → Ascending os → Ascending (filter p os)
+ascending-filter p [] a = tt
+ascending-filter p (o ∷ os) (l, a) =
+    by-test (p o) (λ e. rw e (all-filter p (λ q d h. h) os l, ascending-filter p os a)) (λ e. rw e (ascending-filter p os a))
+
+-- and when one with a higher handle comes
+ascending-append : (o : Object) (os : List Object) → All (λ (p : Object). p .handle < o .handle) os → Ascending os
+    → Ascending (os ++ (o ∷ []))
+ascending-append o [] h a = (tt, tt)
+ascending-append o (p ∷ os) (h, hs) (l, a) = (all-append _ os (o ∷ []) l (h, tt), ascending-append o os hs a)
+
+-- no two objects have one handle: what holds of the object with a handle holds of each that has it
+only : (Q : Object → Type 0) (handle : ℕ) (os : List Object) → Ascending os → Q (objectAt handle os)
+    → All (λ (o : Object). eqb (o .handle) handle ≡ true → Q o) os
+unfolding objectAt
+only Q handle [] a h = tt
+only Q handle (o ∷ os) (l, a) h =
+    by-test (eqb (o .handle) handle)
+    (λ e. (
+      λ d. rw e at h,
+      all-imp (λ p g d. absurd (omega (arith, eqb-true (o .handle) handle e, eqb-true (p .handle) handle d))) os l,
+    ))
+    (λ e. (λ d. absurd (true≢false (sym d ∙ e)), only Q handle os a (rw e at h)))
+
+-- objects without an expiration go
+pub objects-settled : {given : ℕ} {os : List Object} (xs : List Expiration) → ObjectsKept given os
+    → ObjectsKept given (standing xs os)
+objects-settled {os = os} xs k =
+    record {
+      each = all-filter (λ (o : Object). stands xs (o .handle)) (λ o e h. h) os (k .each);
+      ascending = ascending-filter (λ (o : Object). stands xs (o .handle)) os (k .ascending);
+      numbers = k .numbers;
+      small = le-trans (count-filter _ _ os) (k .small);
+      large = le-trans (count-filter _ _ os) (k .large);
+    }
+
+-- the size that a make asks for is in range
+ranged : (size : ℕ) → (eqb size 0 || ltb largeSize size) ≡ false → (1 ≤ size) × (size ≤ largeSize)
+ranged size e =
+    by-test (eqb size 0)
+    (λ d. absurd (true≢false (rw d at e)))
+    (λ d. (omega (arith, eqb-false size 0 d), ltb-false largeSize size (rw d at e)))
+
+-- where the object's store has a free block, either store has room for its own
+stored : (b : Bool) (s l small large : ℕ) → s ≤ small → l ≤ large → leb (cond b small large) (cond b s l) ≡ false
+    → (s + cond b 1 0 ≤ small) × (l + cond (not b) 1 0 ≤ large)
+stored true s l small large h g e = omega (arith, leb-false small s e)
+stored false s l small large h g e = omega (arith, leb-false large l e)
+
+-- one is made
+pub objects-made : {given : ℕ} {os : List Object} (size : ℕ) → (eqb size 0 || ltb largeSize size) ≡ false
+    → leb lastHandle given ≡ false → leb (blocksFor size) (inStoreOf size os) ≡ false → ObjectsKept given os
+    → ObjectsKept (given + 1) (os ++ (zeroed (given + 1) size ∷ []))
+objects-made {given} {os} size range spent full k =
+    let room = stored (isSmall size) _ _ _ _ (k .small) (k .large) full in
+    record {
+      each =
+          all-append (ObjectKept (given + 1)) os _
+          (all-imp (λ o h. record { numbered = omega (arith, h .numbered); sized = h .sized; filled = h .filled }) os (k .each))
+          (record { numbered = omega arith; sized = ranged size range; filled = length-replicate size 0 }, tt);
+      ascending = ascending-append _ os (all-imp (λ o h. omega (arith, h .numbered)) os (k .each)) (k .ascending);
+      numbers = omega (arith, leb-false lastHandle given spent);
+      small = rw count-append (room .0);
+      large = rw count-append (room .1);
+    }
+
+module _ (handle offset : ℕ) (new : List ℕ) where
+  -- a write within an object leaves as many bytes
+  written-kept : (given : ℕ) (o : Object) → ObjectKept given o → (eqb (o .handle) handle ≡ true → offset + length new ≤ o .size)
+      → ObjectKept given (written handle offset new o)
+  unfolding written
+  written-kept given o k f =
+      record {
+        numbered = k .numbered;
+        sized = k .sized;
+        filled =
+            by-test (eqb (o .handle) handle)
+            (λ e. rw e (simp (length-append, length-take, length-drop) (omega (arith, f e, k .filled))))
+            (λ e. rw e (k .filled));
+      }
+
+  -- and the order of handles
+  ascending-written : (os : List Object) → Ascending os → Ascending (map (written handle offset new) os)
+  unfolding written
+  ascending-written [] a = tt
+  ascending-written (o ∷ os) (l, a) = (all-map _ (written handle offset new) os l, ascending-written os a)
+
+  pub objects-written : {given : ℕ} {os : List Object} → ltb (objectAt handle os .size) (offset + length new) ≡ false
+      → ObjectsKept given os → ObjectsKept given (map (written handle offset new) os)
+  unfolding written
+  objects-written {given} {os} e k =
+      let fits = only (λ o. offset + length new ≤ o .size) handle os (k .ascending) (ltb-false _ _ e) in
+      record {
+        each = all-map (ObjectKept given) (written handle offset new) os (all-both (written-kept given) os (k .each) fits);
+        ascending = ascending-written os (k .ascending);
+        numbers = k .numbers;
+        small = rw count-map (k .small);
+        large = rw count-map (k .large);
+      }

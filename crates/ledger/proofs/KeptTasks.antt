@@ -1,0 +1,94 @@
+-- The task entries stay as `ClocksKept` says.
+use Prim.Native.Nat.{ℕ, _<_}
+use mathlib.Core.Bool.{true, false, cond, not, _||_, and-false}
+use mathlib.Core.List.{List, [], _∷_, map}
+use mathlib.Core.Path.{_≡_, refl, sym, _∙_}
+use borrow.Author.Tests.{leb-false}
+use lib.Dec.{leb}
+use lib.ListN.{length, set, length-set, length-map}
+use Rattle.lists.specs.Tests.{All}
+use Rattle.lists.proofs.Cases.{by-test}
+use Rattle.lists.proofs.All.{all-imp, all-map, all-set}
+use Rattle.lists.proofs.Counts.{all-false}
+use Rattle.ledger.specs.Limits.{taskCount}
+use Rattle.ledger.specs.Tasks.{Task, Clocks, taskAt, absentTask, isAbsent, isRunning, isWaiting, isTested, moved, allTicked, unticked, tasksAfter, advances, clocksAfter}
+use Rattle.ledger.specs.Expirations.{Expiration}
+use Rattle.ledger.specs.Objects.{Memory}
+use Rattle.ledger.specs.Refusals.{testsOf}
+use Rattle.ledger.specs.Kept.{TaskKept, ClocksKept}
+use Rattle.ledger.specs.declared.State.{State}
+use Rattle.ledger.specs.declared.State.the-variants.{Absent, Running, Waiting}
+use Rattle.ledger.specs.declared.Event.{Event}
+use Rattle.ledger.specs.declared.Event.the-variants.{Join, Leave, Block, Resume, Tick}
+use Rattle.ledger.specs.declared.Call.the-variants.{Schedule}
+use Rattle.ledger.proofs.Passed.{Passed}
+
+-- what is true before the advance test, and stays so when the marks are cleared, is true after it
+pub tasks-after : (P : List Task → Type 0) → ((ts : List Task) → P ts → P (map unticked ts))
+    → (event : Event) (task : ℕ) (clocks : Clocks)
+    → P (set (clocks .tasks) task (moved event (taskAt clocks task))) → P (clocksAfter event task clocks .tasks)
+unfolding clocksAfter tasksAfter
+tasks-after P f event task clocks h = by-test (advances event task clocks) (λ e. rw e (f _ h)) (λ e. rw e h)
+
+-- once the marks are cleared, not every running task is ticked
+cleared : (ts : List Task) → allTicked (map unticked ts) ≡ false
+unfolding allTicked
+cleared [] = refl
+cleared (t ∷ ts) = by-test (isRunning (t .state)) (λ e. rw e) (λ e. rw e (cleared ts))
+
+-- so none of the events with an advance test leaves every running task ticked
+tested : (ts : List Task) → allTicked (cond (allTicked ts) (map unticked ts) ts) ≡ false
+tested ts = by-test (allTicked ts) (λ e. rw e (cleared ts)) (λ e. rw e e)
+
+-- nor one that leaves its own task running and unticked
+started : (ts : List Task) (task : ℕ) (t : Task) → length ts ≡ taskCount → leb taskCount task ≡ false
+    → (not (isRunning (t .state)) || t .ticked) ≡ false → allTicked (set ts task t) ≡ false
+unfolding allTicked
+started ts task t n h e = let l : task < length ts = rw n (leb-false taskCount task h) in rw (all-false, and-false)
+
+-- a task neither absent nor waiting is running
+running : (s : State) → isAbsent s ≡ false → isWaiting s ≡ false → isRunning s ≡ true
+running Absent a w = sym a
+running Running a w = refl
+running Waiting a w = sym w
+
+pub absent-kept : TaskKept absentTask
+absent-kept = record { ticked = λ e. cc; clock = λ e. refl }
+
+-- an entry stays as it should be when its mark is cleared
+cleared-kept : (t : Task) → TaskKept t → TaskKept (unticked t)
+cleared-kept t k = record { ticked = λ e. cc; clock = k .clock }
+
+module _ (m : Memory) (xs : List Expiration) (new : List ℕ) (task : ℕ) where
+  -- and when an event moves it
+  moved-kept : (event : Event) → Passed m xs (Schedule event task) new → TaskKept (moved event (taskAt (m .clocks) task))
+  unfolding testsOf moved
+  moved-kept Join c = record { ticked = λ e. cc; clock = λ e. refl }
+  moved-kept Leave c = absent-kept
+  moved-kept Block c = record { ticked = λ e. cc; clock = λ e. cc }
+  moved-kept Resume c = record { ticked = λ e. cc; clock = λ e. cc }
+  moved-kept Tick (exists, (present, (active, end))) =
+      record { ticked = λ e. running (taskAt (m .clocks) task .state) present active; clock = λ e. cc }
+
+  -- after every event some running task is unticked, if any runs
+  unticked-after : (event : Event) → length (m .clocks .tasks) ≡ taskCount → Passed m xs (Schedule event task) new
+      → allTicked (clocksAfter event task (m .clocks) .tasks) ≡ false
+  unfolding testsOf moved clocksAfter advances isTested tasksAfter
+  unticked-after Join n c = started (m .clocks .tasks) task _ n (c .0) refl
+  unticked-after Leave n c = tested _
+  unticked-after Block n c = tested _
+  unticked-after Resume n c = started (m .clocks .tasks) task _ n (c .0) refl
+  unticked-after Tick n c = tested _
+
+  pub clocks-after : (event : Event) → Passed m xs (Schedule event task) new → ClocksKept (m .clocks)
+      → ClocksKept (clocksAfter event task (m .clocks))
+  clocks-after event c k =
+      record {
+        sixteen =
+            tasks-after (λ ts. length ts ≡ taskCount) (λ ts n. length-map ts unticked ∙ n) event task (m .clocks)
+            (rw length-set (k .sixteen));
+        tasks =
+            tasks-after (All TaskKept) (λ ts h. all-map TaskKept unticked ts (all-imp cleared-kept ts h)) event task (m .clocks)
+            (all-set TaskKept (m .clocks .tasks) task (k .tasks) (moved-kept event c));
+        unticked = unticked-after event (k .sixteen) c;
+      }

@@ -1,0 +1,52 @@
+-- Laws of any, all, count and length over the list's operations, for any element type.
+use Prim.Native.Nat.{ℕ, zero, suc, _+_, _≤_, _<_}
+use native.Mathlib.Nat.{le-refl, not-suc-le-zero, le-of-suc-le-suc}
+use native.Mathlib.Omega.{arith}
+use mathlib.Core.Bool.{Bool, true, false, true≢false, _||_, and-false, or-assoc}
+use mathlib.Core.List.{List, [], _∷_, _++_, map}
+use mathlib.Core.Path.{_≡_, refl, sym, _∙_}
+use lib.ListN.{length, set}
+use Rattle.lists.specs.Tests.{any, all, filter, count}
+use Rattle.lists.proofs.Cases.{by-test, refuted}
+
+module _ {ℓ} {A : Type ℓ} (p : A → Bool) where
+  pub any-append : (xs ys : List A) → any p (xs ++ ys) ≡ (any p xs || any p ys)
+  any-append [] ys = refl
+  any-append (x ∷ xs) ys = rw (any-append xs ys) (sym (or-assoc (p x) (any p xs) (any p ys)))
+
+  pub any-map {κ} : {B : Type κ} (f : B → A) (xs : List B) → any p (map f xs) ≡ any (λ (x : B). p (f x)) xs
+  any-map f [] = refl
+  any-map f (x ∷ xs) = rw (any-map f xs)
+
+  -- a filter that leaves all that p finds
+  pub any-left : (q : A → Bool) → ((x : A) → p x ≡ true → q x ≡ true) → (xs : List A) → any p (filter q xs) ≡ any p xs
+  any-left q f [] = refl
+  any-left q f (x ∷ xs) =
+      by-test (q x)
+      (λ e. rw (e, any-left q f xs))
+      (λ e. rw (e, refuted (p x) (λ d. true≢false (sym (f x d) ∙ e))) (any-left q f xs))
+
+  pub all-false : (xs : List A) (i : ℕ) (a : A) → i < length xs → p a ≡ false → all p (set xs i a) ≡ false
+  all-false [] i a h e = absurd (not-suc-le-zero h)
+  all-false (x ∷ xs) zero a h e = rw e
+  all-false (x ∷ xs) (suc i) a h e = rw (all-false xs i a (le-of-suc-le-suc h) e) (and-false (p x))
+
+  pub count-append : (xs ys : List A) → count p (xs ++ ys) ≡ count p xs + count p ys
+  count-append [] ys = omega arith
+  count-append (x ∷ xs) ys = by-test (p x) (λ e. rw (e, count-append xs ys) (omega arith)) (λ e. rw (e, count-append xs ys))
+
+  pub count-map {κ} : {B : Type κ} (f : B → A) (xs : List B) → count p (map f xs) ≡ count (λ (x : B). p (f x)) xs
+  count-map f [] = refl
+  count-map f (x ∷ xs) = rw (count-map f xs)
+
+  pub count-filter : (q : A → Bool) (xs : List A) → count p (filter q xs) ≤ count p xs
+  count-filter q [] = le-refl zero
+  count-filter q (x ∷ xs) =
+      let h = count-filter q xs in
+      by-test (q x)
+      (λ e. by-test (p x) (λ d. rw (e, d) (omega arith)) (λ d. rw (e, d) h))
+      (λ e. by-test (p x) (λ d. rw (e, d) (omega arith)) (λ d. rw (e, d) h))
+
+  pub length-filter : (xs : List A) → length (filter p xs) ≤ length xs
+  length-filter [] = le-refl zero
+  length-filter (x ∷ xs) = let h = length-filter xs in by-test (p x) (λ e. rw e (omega arith)) (λ e. rw e (omega arith))
