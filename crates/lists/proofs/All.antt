@@ -1,18 +1,18 @@
 -- Laws of a fact of every element, for any element type.
 use Prim.Native.Nat.{ℕ, zero, suc}
-use mathlib.Core.Bool.{Bool, true, false≢true, or-true}
+use mathlib.Core.Bool.{Bool, true, false, false≢true}
 use mathlib.Core.List.{List, [], _∷_, _++_, map}
-use mathlib.Core.Path.{_≡_, refl, ap}
+use mathlib.Core.Path.{_≡_, refl, ap, ap₂}
 use lib.ListN.{getD, set, replicate}
 use Rattle.lists.specs.Tests.{any, filter, All}
-use Rattle.lists.proofs.Cases.{by-test}
+use Rattle.lists.proofs.Cases.{by-test, or-right, or-false-parts}
 
 module _ {ℓ κ} {A : Type ℓ} where
   pub all-every : (P : A → Type κ) → ((x : A) → P x) → (xs : List A) → All P xs
   all-every P f [] = tt
   all-every P f (x ∷ xs) = (f x, all-every P f xs)
 
-  pub all-imp : {P Q : A → Type κ} → ((x : A) → P x → Q x) → (xs : List A) → All P xs → All Q xs
+  pub all-imp {μ} : {P : A → Type κ} {Q : A → Type μ} → ((x : A) → P x → Q x) → (xs : List A) → All P xs → All Q xs
   all-imp f [] h = tt
   all-imp f (x ∷ xs) (h, hs) = (f x h, all-imp f xs hs)
 
@@ -59,9 +59,30 @@ module _ {ℓ κ} {A : Type ℓ} where
   found p f [] e h = absurd (false≢true e)
   found p f (x ∷ xs) e (h, hs) = by-test (p x) (λ d. f x d h) (λ d. found p f xs (rw d at e) hs)
 
+  -- what holds of every element and of the default holds at every index
+  pub all-getD : (P : A → Type κ) (d : A) → P d → (xs : List A) → All P xs → (i : ℕ) → P (getD xs i d)
+  all-getD P d k [] h i = k
+  all-getD P d k (x ∷ xs) (h, hs) zero = h
+  all-getD P d k (x ∷ xs) (h, hs) (suc i) = all-getD P d k xs hs i
+
+module _ {ℓ} {A : Type ℓ} where
+  -- a test that no element passes fails on every element
+  pub none→All : (p : A → Bool) (xs : List A) → any p xs ≡ false → All (λ (x : A). p x ≡ false) xs
+  none→All p [] e = tt
+  none→All p (x ∷ xs) e = let (head, tail) = or-false-parts (p x) (any p xs) e in (head, none→All p xs tail)
+
+  -- what an element of a list passes, some element of the list passes
+  pub all-members : (xs : List A) → All (λ (x : A). (p : A → Bool) → p x ≡ true → any p xs ≡ true) xs
+  all-members [] = tt
+  all-members (x ∷ xs) =
+      (λ p e. rw e, all-imp (λ y h p e. or-right (p x) (h p e)) xs (all-members xs))
+
+module _ {ℓ κ} {A : Type ℓ} {B : Type κ} where
+  pub map-same : (f g : A → B) (xs : List A) → All (λ (x : A). f x ≡ g x) xs → map f xs ≡ map g xs
+  map-same f g [] h = refl
+  map-same f g (x ∷ xs) (h, hs) = ap₂ _∷_ h (map-same f g xs hs)
+
 -- by a relation that each element has to itself, each is found in its list
 pub all-any {ℓ} : {A : Type ℓ} (r : A → A → Bool) → ((x : A) → r x x ≡ true) → (xs : List A)
     → All (λ (x : A). any (r x) xs ≡ true) xs
-all-any r f [] = tt
-all-any {A = A} r f (y ∷ xs) =
-    (rw (f y), all-imp (λ (x : A) (e : any (r x) xs ≡ true). rw e (or-true (r x y))) xs (all-any r f xs))
+all-any {A = A} r f xs = all-imp {Q = λ (x : A). any (r x) xs ≡ true} (λ x h. h (r x) (f x)) xs (all-members xs)

@@ -1,6 +1,6 @@
 -- Reasoning by the two values of a test.
 use Prim.Native.Nat.{ℕ}
-use mathlib.Core.Bool.{Bool, true, false, false≢true, not, _&&_, _||_}
+use mathlib.Core.Bool.{Bool, true, false, true≢false, false≢true, cond, not, _&&_, _||_}
 use mathlib.Core.Path.{_≡_, refl}
 use borrow.Author.Tests.{leb-true, leb-false, le-ltb, lt-ltb}
 use lib.Dec.{leb, ltb}
@@ -32,3 +32,28 @@ not-leb a b = by-test (leb a b) (λ e. rw (e, le-ltb b a (leb-true a b e))) (λ 
 pub or-second : (a : Bool) {b : Bool} → (a ≡ true → b ≡ true) → (a || b) ≡ true → b ≡ true
 or-second true f e = f refl
 or-second false f e = e
+
+pub or-right : (a : Bool) {b : Bool} → b ≡ true → (a || b) ≡ true
+or-right true e = refl
+or-right false e = e
+
+pub or-swap : (a b c : Bool) → (a || (b || c)) ≡ (b || (a || c))
+or-swap true true c = refl
+or-swap true false c = refl
+or-swap false true c = refl
+or-swap false false c = refl
+
+-- the two parts of a choice that fails
+pub or-false-parts : (a b : Bool) → (a || b) ≡ false → (a ≡ false) × (b ≡ false)
+or-false-parts true b e = absurd (true≢false e)
+or-false-parts false b e = (refl, e)
+
+module _ {ℓ} {A : Type ℓ} where
+  pub cond-same : (b : Bool) (x : A) → cond b x x ≡ x
+  cond-same true x = refl
+  cond-same false x = refl
+
+  -- one test, made twice
+  pub cond-twice : (b : Bool) (x y : A) → cond b (cond b x y) y ≡ cond b x y
+  cond-twice true x y = refl
+  cond-twice false x y = refl

@@ -35,3 +35,8 @@ module _ {ℓ} {A : Type ℓ} where
       by-test (p x)
       (λ d. rw d)
       (λ d. rw d (any-filter p q xs (by-test (q x) (λ c. rw (c, d) at e) (λ c. rw c at e))))
+
+module _ {ℓ κ} {A : Type ℓ} {B : Type κ} where
+  pub filter-map : (p : B → Bool) (f : A → B) (xs : List A) → filter p (map f xs) ≡ map f (filter (λ (x : A). p (f x)) xs)
+  filter-map p f [] = refl
+  filter-map p f (x ∷ xs) = by-test (p (f x)) (λ e. rw (e, filter-map p f xs)) (λ e. rw (e, filter-map p f xs))

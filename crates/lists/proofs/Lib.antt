@@ -1,6 +1,10 @@
 pub mod Cases
 pub mod All
-pub mod Filters
-pub mod Loops
-pub mod Tests
 pub mod Counts
+pub mod Filters
+pub mod Tests
+pub mod Pairwise
+pub mod Permutations
+pub mod Sorting
+pub mod Tables
+pub mod Loops

@@ -1,1 +1,4 @@
 pub mod Facts
+pub mod Distinct
+pub mod Exists
+pub mod FreshReads

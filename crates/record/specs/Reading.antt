@@ -1,11 +1,12 @@
 -- How a record with two stores reads as a ledger.
-use Prim.Native.Nat.{ℕ, _-_, _*_}
-use mathlib.Core.Bool.{Bool, cond}
+use Prim.Native.Nat.{ℕ, _-_, _*_, _<_}
+use mathlib.Core.Bool.{Bool, true, false, cond}
 use mathlib.Core.List.{List, [], _∷_, map}
 use lib.Dec.{eqb, ltb}
 use lib.ListN.{length, getD, take, drop, replicate}
+use Rattle.lists.specs.Tests.{All}
 use Rattle.lists.specs.Tables.{readBy, readFrom}
-use Rattle.ledger.specs.Limits.{limits, smallSize, largeSize, isSmall}
+use Rattle.ledger.specs.Limits.{Limits, limits, counterRange, smallSize, largeSize, isSmall}
 use Rattle.ledger.specs.Objects.{Object}
 use Rattle.ledger.specs.Compared.{Shown, localLeft, globalLeft, View, viewOf, Alike}
 use Rattle.ledger.specs.Kept.{Ascending}
@@ -65,6 +66,11 @@ recordView p small large =
       objects = readFrom 0 (objectIn small large) (p .blocks);
       expirations = readBy (shownEntry (p .tasks) (p .global) (p .blocks)) (p .expirations);
     }
+
+-- "In the record each counter is kept in 32 bits": what the type of the record gives
+pub record InRange (p : Pool) : Type 0 where
+  pub clocks : All (λ (e : TaskEntry). e .clock .0 < counterRange) (p .tasks)
+  pub global : p .global .0 < counterRange
 
 -- The record with these stores reads as this ledger.
 pub record Reads (p : Pool) (small large : List ℕ) (L : Ledger) : Type 0 where

@@ -1,0 +1,140 @@
+-- Every well-formed record, with any stores, reads as some ledger.
+use Prim.Native.Nat.{ℕ, suc, _+_, _<_}
+use native.Mathlib.Nat.{add-sub-cancel-left, mod-eq-of-lt}
+use native.Mathlib.Omega.{arith}
+use mathlib.Core.Bool.{Bool, true, cond, and-eq-true-iff}
+use mathlib.Core.List.{List, [], _∷_, map, map-id, map-map, Permᴰ·refl}
+use mathlib.Core.Logic.{_≢_}
+use mathlib.Core.Path.{_≡_, refl, sym, _∙_}
+use borrow.Author.Tests.{eqb-false, leb-true, lt-leb}
+use lib.Dec.{eqb, leb}
+use Rattle.lists.specs.Tests.{any, All}
+use Rattle.lists.specs.Tables.{readFrom}
+use Rattle.lists.proofs.Cases.{by-test, and₃, cond-twice}
+use Rattle.lists.proofs.All.{all-imp, map-same}
+use Rattle.lists.proofs.Pairwise.{Pairwise}
+use Rattle.lists.proofs.Permutations.{map-perm}
+use Rattle.lists.proofs.Tables.{all-readFrom}
+use Rattle.lists.proofs.Sorting.{sortBy, sort-perm, sort-ascending}
+use Rattle.ledger.specs.Limits.{smallSize, largeSize, counterRange, isSmall}
+use Rattle.ledger.specs.Tasks.{Clocks, taskAt}
+use Rattle.ledger.specs.Expirations.{Due, byLocal, byGlobal, remaining}
+use Rattle.ledger.specs.Objects.{Object}
+use Rattle.ledger.specs.Compared.{wrapped, wrappedTask, Left, localLeft, globalLeft, Shown, leftOf, shownObject, View, viewOf, Alike}
+use Rattle.ledger.specs.Ledger.{Ledger}
+use Rattle.record.specs.Codes.{taskOf}
+use Rattle.record.specs.Reading.{isSmallBlock, isWholeSmall, isWholeLarge, isWhole, blockBytes, objectIn, recordView, InRange, Reads}
+use Rattle.record.specs.WellFormed.{isNaming, isSizedFor, isFitBlock, isWellFormed}
+use Rattle.record.specs.declared.TaskEntry.{TaskEntry}
+use Rattle.record.specs.declared.BlockEntry.{BlockEntry}
+use Rattle.record.specs.declared.ExpirationEntry.{ExpirationEntry}
+use Rattle.record.specs.declared.Pool.{Pool}
+use Rattle.record.proofs.Facts.{fit-parts}
+use Rattle.record.proofs.Distinct.{Apart, apart-blocks}
+
+-- due with these units left
+dueBy : Clocks → Left → Due
+dueBy clocks (localLeft setter units) = byLocal setter (taskAt clocks setter .clock + units)
+dueBy clocks (globalLeft units) = byGlobal (clocks .global + units)
+
+left-due : (clocks : Clocks) (left : Left) → leftOf clocks (dueBy clocks left) ≡ left
+unfolding dueBy leftOf remaining
+left-due clocks (localLeft setter units) = rw add-sub-cancel-left
+left-due clocks (globalLeft units) = rw add-sub-cancel-left
+
+abbrev handleOfObject : Object → ℕ
+handleOfObject o = o .handle
+
+-- a ledger that shows what a view shows
+ledgerOf : View → Ledger
+ledgerOf v =
+    let clocks : Clocks = record { tasks = v .tasks; global = v .global } in
+    record {
+      memory = record { clocks = clocks; given = v .given; objects = sortBy handleOfObject (v .objects) };
+      expirations = map (λ (s : Shown). record { handle = s .handle; due = dueBy clocks (s .left) }) (v .expirations);
+    }
+
+-- it does, where the view holds nothing that a ledger does not show: no counter past its range, no bytes of a store that is not whole
+ledger-alike : (isWhole : ℕ → Bool) (v : View) → map wrappedTask (v .tasks) ≡ v .tasks → wrapped (v .global) ≡ v .global
+    → map (shownObject isWhole) (v .objects) ≡ v .objects → Alike v (viewOf isWhole (ledgerOf v))
+unfolding ledgerOf viewOf
+ledger-alike isWhole v tasks global objects =
+    record {
+      tasks = sym tasks;
+      global = sym global;
+      given = refl;
+      objects = rw objects at (map-perm (shownObject isWhole) (sort-perm handleOfObject (v .objects)));
+      expirations = simp (map-map, left-due, map-id) (Permᴰ·refl (v .expirations));
+    }
+
+-- a clock within its range shows as it is
+task-shown : (e : TaskEntry) → e .clock .0 < counterRange → wrappedTask (taskOf e) ≡ taskOf e
+task-shown e h = rw (mod-eq-of-lt h)
+
+-- a length of its store's range says which store that is
+sized-small : (block size : ℕ) → isSizedFor block size ≡ true → isSmall size ≡ isSmallBlock block
+sized-small block size e =
+    by-test (isSmallBlock block)
+    (λ s. rw s (and-eq-true-iff (leb 1 size) (leb size smallSize) .0 (rw s at e) .1))
+    (λ s.
+    let (above, _) = and-eq-true-iff (leb (smallSize + 1) size) (leb size largeSize) .0 (rw s at e) in
+    rw s (lt-leb size smallSize (omega (arith, leb-true (smallSize + 1) size above))))
+
+module _ (small large : List ℕ) where
+  -- a store that is not whole has no bytes to leave out
+  bytes-shown : (block size : ℕ) → isSmall size ≡ isSmallBlock block
+      → cond (isWhole small large size) (blockBytes small large block size) [] ≡ blockBytes small large block size
+  unfolding blockBytes
+  bytes-shown block size e =
+      rw e
+      (by-test (isSmallBlock block)
+      (λ s. rw s (cond-twice (isWholeSmall small) _ []))
+      (λ s. rw s (cond-twice (isWholeLarge large) _ [])))
+
+  -- the object in a well-formed block shows as it is
+  object-shown : (given : ℕ) (xs : List ExpirationEntry) (block : ℕ) (b : BlockEntry) → isFitBlock given xs block b ≡ true
+      → All (λ (o : Object). shownObject (isWhole small large) o ≡ o) (objectIn small large block b)
+  unfolding objectIn isFitBlock
+  object-shown given xs block b e =
+      by-test (eqb (b .handle) 0)
+      (λ z. rw z tt)
+      (λ z.
+      let (_, sized, _) = and₃ (any (isNaming block) xs) (isSizedFor block (b .length)) (leb (b .handle) given) (rw z at e) in
+      rw z (rw (bytes-shown block (b .length) (sized-small block (b .length) sized)), tt))
+
+  -- what holds of the blocks' handles holds of the objects'
+  handles-read : (P : ℕ → Type 0) (i : ℕ) (bs : List BlockEntry) → All (λ (b : BlockEntry). P (b .handle)) bs
+      → All (λ (o : Object). P (o .handle)) (readFrom i (objectIn small large) bs)
+  unfolding objectIn
+  handles-read P i [] h = tt
+  handles-read P i (b ∷ bs) (h, hs) =
+      by-test (eqb (b .handle) 0) (λ z. rw z (handles-read P (suc i) bs hs)) (λ z. rw z (h, handles-read P (suc i) bs hs))
+
+  -- no two objects have one handle
+  objects-apart : (i : ℕ) (bs : List BlockEntry) → Pairwise Apart bs
+      → Pairwise (λ (o p : Object). o .handle ≢ p .handle) (readFrom i (objectIn small large) bs)
+  unfolding objectIn
+  objects-apart i [] d = tt
+  objects-apart i (b ∷ bs) (d, ds) =
+      by-test (eqb (b .handle) 0)
+      (λ z. rw z (objects-apart (suc i) bs ds))
+      (λ z.
+      let others = all-imp (λ c a. a (eqb-false (b .handle) 0 z)) bs d in
+      rw z (handles-read (λ (h : ℕ). b .handle ≢ h) (suc i) bs others, objects-apart (suc i) bs ds))
+
+pub every-fit-record-reads : (p : Pool) → InRange p → isWellFormed p ≡ true → (small large : List ℕ)
+    → (L : Ledger) × Reads p small large L
+unfolding recordView ledgerOf
+every-fit-record-reads p range e small large =
+    let fit = fit-parts p e in
+    let v = recordView p small large in
+    let tasks = map-map wrappedTask taskOf (p .tasks) ∙ map-same _ _ (p .tasks) (all-imp task-shown (p .tasks) (range .clocks)) in
+    let shows = object-shown small large (p .given) (p .expirations) in
+    let objects = map-same _ _ (v .objects) (all-readFrom _ (objectIn small large) _ shows 0 (p .blocks) (fit .blocks)) ∙ map-id (v .objects) in
+    let apart = objects-apart small large 0 (p .blocks) (apart-blocks (p .blocks) (fit .distinct)) in (
+      ledgerOf v,
+      record {
+        alike = ledger-alike (isWhole small large) v tasks (mod-eq-of-lt (range .global)) objects;
+        ascending = sort-ascending handleOfObject (v .objects) apart;
+      },
+    )

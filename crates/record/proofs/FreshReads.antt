@@ -1,0 +1,25 @@
+-- A fresh record is well-formed and reads as the fresh ledger.
+use Prim.Native.Nat.{ℕ}
+use mathlib.Core.Bool.{true}
+use mathlib.Core.List.{List, List·Permᴰ·nil}
+use mathlib.Core.Path.{_≡_, refl}
+use Rattle.ledger.specs.Limits.{taskCount, counterRange}
+use Rattle.ledger.specs.Tasks.{freshClocks, allTicked}
+use Rattle.ledger.specs.Objects.{freshMemory}
+use Rattle.ledger.specs.Ledger.{fresh}
+use Rattle.ledger.specs.Compared.{viewOf}
+use Rattle.record.specs.Codes.{dueOf}
+use Rattle.record.specs.Reading.{shownDue, objectIn, recordView, Reads, freshPool}
+use Rattle.record.specs.WellFormed.{isFitTask, isFitDue, isFitBlock, isWellFormed}
+
+pub fresh-reads : (small large : List ℕ) → Reads freshPool small large fresh
+unfolding freshPool recordView objectIn shownDue dueOf viewOf fresh freshMemory freshClocks taskCount counterRange
+fresh-reads small large =
+    record {
+      alike = record { tasks = refl; global = refl; given = refl; objects = List·Permᴰ·nil; expirations = List·Permᴰ·nil };
+      ascending = tt;
+    }
+
+pub fresh-well-formed : isWellFormed freshPool ≡ true
+unfolding freshPool isWellFormed isFitTask allTicked isFitDue dueOf isFitBlock
+fresh-well-formed = refl
