@@ -21,10 +21,6 @@ and₃ true true c e = (refl, refl, e)
 and₃ true false c e = absurd (false≢true e)
 and₃ false b c e = absurd (false≢true e)
 
-pub or-map : (a : Bool) {b c : Bool} → (b ≡ true → c ≡ true) → (a || b) ≡ true → (a || c) ≡ true
-or-map true f e = refl
-or-map false f e = f e
-
 pub not-leb : (a b : ℕ) → not (leb a b) ≡ ltb b a
 not-leb a b = by-test (leb a b) (λ e. rw (e, le-ltb b a (leb-true a b e))) (λ e. rw (e, lt-ltb b a (leb-false a b e)))
 
@@ -57,3 +53,17 @@ module _ {ℓ} {A : Type ℓ} where
   pub cond-twice : (b : Bool) (x y : A) → cond b (cond b x y) y ≡ cond b x y
   cond-twice true x y = refl
   cond-twice false x y = refl
+
+-- where the first of two tests fails, the second may be exchanged
+pub or-else : (a : Bool) {b c : Bool} → (a ≡ false → b ≡ true → c ≡ true) → (a || b) ≡ true → (a || c) ≡ true
+or-else true f e = refl
+or-else false f e = f refl e
+
+-- a test that implies one that fails, fails
+pub not-map : {a b : Bool} → (b ≡ true → a ≡ true) → not a ≡ true → not b ≡ true
+not-map {a = true} {b} f e = absurd (false≢true e)
+not-map {a = false} {b = true} f e = f refl
+not-map {a = false} {b = false} f e = refl
+
+pub or-map : (a : Bool) {b c : Bool} → (b ≡ true → c ≡ true) → (a || b) ≡ true → (a || c) ≡ true
+or-map a f = or-else a (λ d. f)

@@ -63,3 +63,10 @@ module _ {ℓ} {A : Type ℓ} where
   getD-mapFrom d f h (x ∷ xs) zero = refl
   getD-mapFrom d f h (x ∷ xs) (suc i) =
       rw (mapFrom-suc 0 f xs) (getD-mapFrom d (λ j. f (suc j)) (λ j. h (suc j)) xs i)
+
+  -- what each entry passes after f if it passed p, all pass
+  pub allFrom-mapFrom : (p q : ℕ → A → Bool) (f : ℕ → A → A) → ((i : ℕ) (x : A) → p i x ≡ true → q i (f i x) ≡ true)
+      → (i : ℕ) (xs : List A) → allFrom i p xs ≡ true → allFrom i q (mapFrom i f xs) ≡ true
+  allFrom-mapFrom p q f h i [] e = refl
+  allFrom-mapFrom p q f h i (x ∷ xs) e =
+      let (head, tail) = and-eq-true-iff _ _ .0 e in rw (h i x head) (allFrom-mapFrom p q f h (suc i) xs tail)

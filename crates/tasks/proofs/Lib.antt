@@ -1,1 +1,5 @@
+pub mod KeptBlocks
 pub mod ReadObjects
+pub mod FitTasks
+pub mod FitSwept
+pub mod FitAfter

@@ -8,13 +8,13 @@ use borrow.Author.Tests.{eqb-false, eq-eqb}
 use lib.Dec.{eqb}
 use Rattle.lists.specs.Tests.{any, filter}
 use Rattle.lists.specs.Tables.{readBy, readFrom, mapFrom}
-use Rattle.lists.proofs.Cases.{by-test, cond-same}
+use Rattle.lists.proofs.Cases.{by-test}
 use Rattle.lists.proofs.All.{all-imp, all-members}
 use Rattle.lists.proofs.Counts.{any-map}
 use Rattle.lists.proofs.Pairwise.{pairwise-filter}
 use Rattle.lists.proofs.Filters.{filter-map}
 use Rattle.lists.proofs.Permutations.{any-perm, filter-perm}
-use Rattle.lists.proofs.Tables.{readBy-same, any-readBy, readFrom-same, readFrom-mapFrom, filter-readFrom, getD-mapFrom}
+use Rattle.lists.proofs.Tables.{readBy-same, any-readBy, readFrom-same, readFrom-mapFrom, filter-readFrom}
 use Rattle.ledger.specs.Tasks.{Clocks}
 use Rattle.ledger.specs.Expirations.{Expiration}
 use Rattle.ledger.specs.Objects.{Object, stands, standing}
@@ -30,6 +30,7 @@ use Rattle.record.specs.declared.GlobalTime.{GlobalTime}
 use Rattle.record.specs.declared.Due.{Due}
 use Rattle.record.specs.declared.Due.the-variants.{Free, Local, Global, Unknown}
 use Rattle.record.proofs.Distinct.{handleAt, same-handle}
+use Rattle.tasks.proofs.KeptBlocks.{kept-block}
 use Rattle.tasks.specs.Steps.{keptBlock}
 
 -- an expiration of the object with this handle
@@ -58,19 +59,13 @@ same-shown tasks global g h Unknown e = refl
 names-own : (e : ExpirationEntry) → isDated (dueOf e) ≡ true → isNaming (e .block) e ≡ true
 names-own e dated = rw (dated, eq-eqb (e .block) (e .block) refl)
 
--- a block that an entry names is kept, and its handle with it
-handle-kept : (xs : List ExpirationEntry) (blocks : List BlockEntry) (i : ℕ) → any (isNaming i) xs ≡ true
-    → handleAt (mapFrom 0 (keptBlock xs) blocks) i ≡ handleAt blocks i
-handle-kept xs blocks i named =
-    ap handleOf (getD-mapFrom freeBlock (keptBlock xs) (λ j. cond-same (any (isNaming j) xs) freeBlock) blocks i) ∙ rw named
-
 -- the entries show what they showed: those in use name blocks that are kept
 pub freed-shown : (tasks : List TaskEntry) (global : GlobalTime) (blocks : List BlockEntry) (xs : List ExpirationEntry)
     → readBy (shownEntry tasks global (mapFrom 0 (keptBlock xs) blocks)) xs ≡ readBy (shownEntry tasks global blocks) xs
 freed-shown tasks global blocks xs =
     readBy-same _ _ xs
     (all-imp
-    (λ e some. same-shown tasks global _ _ (dueOf e) (λ dated. handle-kept xs blocks (e .block) (some (isNaming (e .block)) (names-own e dated))))
+    (λ e some. same-shown tasks global _ _ (dueOf e) (λ dated. ap handleOf (kept-block xs blocks (e .block) (some (isNaming (e .block)) (names-own e dated)))))
     xs (all-members xs))
 
 -- a block keeps its object, if that passes what decides on the block
