@@ -23,7 +23,7 @@ use Rattle.ledger.specs.Objects.{Object}
 use Rattle.ledger.specs.Compared.{wrapped, wrappedTask, Left, localLeft, globalLeft, Shown, leftOf, shownObject, View, viewOf, Alike}
 use Rattle.ledger.specs.Ledger.{Ledger}
 use Rattle.record.specs.Codes.{taskOf}
-use Rattle.record.specs.Reading.{isSmallBlock, isWholeSmall, isWholeLarge, isWhole, blockBytes, objectIn, recordView, InRange, Reads}
+use Rattle.record.specs.Reading.{isSmallBlock, isWholeSmall, isWholeLarge, isWhole, blockBytes, objectIn, recordView, Typed, Reads}
 use Rattle.record.specs.WellFormed.{isNaming, isSizedFor, isFitBlock, isWellFormed}
 use Rattle.record.specs.declared.TaskEntry.{TaskEntry}
 use Rattle.record.specs.declared.BlockEntry.{BlockEntry}
@@ -122,7 +122,7 @@ module _ (small large : List ℕ) where
       let others = all-imp (λ c a. a (eqb-false (b .handle) 0 z)) bs d in
       rw z (handles-read (λ (h : ℕ). b .handle ≢ h) (suc i) bs others, objects-apart (suc i) bs ds))
 
-pub every-fit-record-reads : (p : Pool) → InRange p → isWellFormed p ≡ true → (small large : List ℕ)
+pub every-fit-record-reads : (p : Pool) → Typed p → isWellFormed p ≡ true → (small large : List ℕ)
     → (L : Ledger) × Reads p small large L
 unfolding recordView ledgerOf
 every-fit-record-reads p range e small large =

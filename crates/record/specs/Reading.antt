@@ -1,12 +1,13 @@
 -- How a record with two stores reads as a ledger.
 use Prim.Native.Nat.{ℕ, _-_, _*_, _<_}
-use mathlib.Core.Bool.{Bool, true, false, cond}
+use mathlib.Core.Bool.{Bool, cond}
 use mathlib.Core.List.{List, [], _∷_, map}
+use mathlib.Core.Path.{_≡_}
 use lib.Dec.{eqb, ltb}
 use lib.ListN.{length, getD, take, drop, replicate}
 use Rattle.lists.specs.Tests.{All}
 use Rattle.lists.specs.Tables.{readBy, readFrom}
-use Rattle.ledger.specs.Limits.{Limits, limits, counterRange, smallSize, largeSize, isSmall}
+use Rattle.ledger.specs.Limits.{limits, counterRange, smallSize, largeSize, isSmall}
 use Rattle.ledger.specs.Objects.{Object}
 use Rattle.ledger.specs.Compared.{Shown, localLeft, globalLeft, View, viewOf, Alike}
 use Rattle.ledger.specs.Kept.{Ascending}
@@ -67,10 +68,14 @@ recordView p small large =
       expirations = readBy (shownEntry (p .tasks) (p .global) (p .blocks)) (p .expirations);
     }
 
--- "In the record each counter is kept in 32 bits": what the type of the record gives
-pub record InRange (p : Pool) : Type 0 where
+-- What the record's type gives of every value: "sixteen task entries" and the other tables, "each counter is kept in 32 bits".
+pub record Typed (p : Pool) : Type 0 where
+  pub tasks : length (p .tasks) ≡ 16
+  pub blocks : length (p .blocks) ≡ 96
+  pub expirations : length (p .expirations) ≡ 256
   pub clocks : All (λ (e : TaskEntry). e .clock .0 < counterRange) (p .tasks)
   pub global : p .global .0 < counterRange
+  pub given : p .given < counterRange
 
 -- The record with these stores reads as this ledger.
 pub record Reads (p : Pool) (small large : List ℕ) (L : Ledger) : Type 0 where

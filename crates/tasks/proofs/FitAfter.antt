@@ -16,7 +16,7 @@ use Rattle.ledger.specs.declared.State.the-variants.{Running}
 use Rattle.ledger.specs.declared.Event.{Event}
 use Rattle.ledger.specs.declared.Event.the-variants.{Join, Leave, Block, Resume, Tick}
 use Rattle.record.specs.Codes.{stateOf, taskOf, dueOf, absentEntry}
-use Rattle.record.specs.Reading.{InRange}
+use Rattle.record.specs.Reading.{Typed}
 use Rattle.record.specs.WellFormed.{isFitTask, isFitDue, isWellFormed}
 use Rattle.record.specs.declared.TaskEntry.{TaskEntry}
 use Rattle.record.specs.declared.GlobalTime.{GlobalTime}
@@ -57,7 +57,7 @@ module _ (p : Pool) (f : Fit p) (task : ℕ) (e : TaskEntry) (fits : isFitTask e
   set-fits = passes-set isFitTask (p .tasks) task e (f .tasks) fits
 
   -- by an event with the advance test
-  fit-tested : InRange p → (leaver : ℕ) → (eqb task leaver ≡ false → Follows Later (getD (p .tasks) task absentEntry) e)
+  fit-tested : Typed p → (leaver : ℕ) → (eqb task leaver ≡ false → Follows Later (getD (p .tasks) task absentEntry) e)
       → let tasks = set (p .tasks) task e in
       let advanced = allTicked (map taskOf tasks) in
       Fit (swept leaver (advancedTasks advanced tasks) (advancedTime advanced (p .global)) p)
@@ -82,7 +82,7 @@ module _ (p : Pool) (f : Fit p) (task : ℕ) (e : TaskEntry) (fits : isFitTask e
       }
 
 -- the five events
-fit-moved : (event : Event) (task : ℕ) (p : Pool) → Fit p → InRange p
+fit-moved : (event : Event) (task : ℕ) (p : Pool) → Fit p → Typed p
     → verdictOf event (stateOf (getD (p .tasks) task absentEntry .state)) ≡ Accepted → Fit (poolAfter event task p)
 unfolding poolAfter isTested movedEntry isFitTask counterRange
 fit-moved Join task p f r a =
@@ -98,7 +98,7 @@ fit-moved Tick task p f r a =
     fit-tested p f task _ (ticked-fits entry (tick-running _ a) fits) r taskCount (λ other present. (present, later-next _ range))
 
 -- "Lists from a fresh pool meet only fit records": the step of an event
-pub fit-after : (event : Event) (task : ℕ) (p : Pool) → isWellFormed p ≡ true → InRange p
+pub fit-after : (event : Event) (task : ℕ) (p : Pool) → isWellFormed p ≡ true → Typed p
     → verdictOf event (stateOf (getD (p .tasks) task absentEntry .state)) ≡ Accepted
     → isWellFormed (poolAfter event task p) ≡ true
 fit-after event task p w r a = fit-whole _ (fit-moved event task p (fit-parts p w) r a)
