@@ -1,10 +1,10 @@
 -- Laws of a fact of every element, for any element type.
 use Prim.Native.Nat.{ℕ, zero, suc}
-use mathlib.Core.Bool.{Bool, true, false, false≢true}
+use mathlib.Core.Bool.{Bool, true, false, false≢true, and-eq-true-iff}
 use mathlib.Core.List.{List, [], _∷_, _++_, map}
 use mathlib.Core.Path.{_≡_, refl, ap, ap₂}
 use lib.ListN.{getD, set, replicate}
-use Rattle.lists.specs.Tests.{any, filter, All}
+use Rattle.lists.specs.Tests.{any, all, filter, All}
 use Rattle.lists.proofs.Cases.{by-test, or-right, or-false-parts}
 
 module _ {ℓ κ} {A : Type ℓ} where
@@ -30,10 +30,6 @@ module _ {ℓ κ} {A : Type ℓ} where
   pub all-append : (P : A → Type κ) (xs ys : List A) → All P xs → All P ys → All P (xs ++ ys)
   all-append P [] ys h k = k
   all-append P (x ∷ xs) ys (h, hs) k = (h, all-append P xs ys hs k)
-
-  pub all-map : (P : A → Type κ) (f : A → A) (xs : List A) → All (λ (x : A). P (f x)) xs → All P (map f xs)
-  all-map P f [] h = tt
-  all-map P f (x ∷ xs) (h, hs) = (h, all-map P f xs hs)
 
   pub all-replicate : (P : A → Type κ) (n : ℕ) {a : A} → P a → All P (replicate n a)
   all-replicate P zero h = tt
@@ -66,6 +62,11 @@ module _ {ℓ κ} {A : Type ℓ} where
   all-getD P d k (x ∷ xs) (h, hs) (suc i) = all-getD P d k xs hs i
 
 module _ {ℓ} {A : Type ℓ} where
+  -- what `all` tests holds of every element
+  pub all-true : (p : A → Bool) (xs : List A) → all p xs ≡ true → All (λ (x : A). p x ≡ true) xs
+  all-true p [] e = tt
+  all-true p (x ∷ xs) e = let (h, hs) = and-eq-true-iff (p x) (all p xs) .0 e in (h, all-true p xs hs)
+
   -- a test that no element passes fails on every element
   pub none→All : (p : A → Bool) (xs : List A) → any p xs ≡ false → All (λ (x : A). p x ≡ false) xs
   none→All p [] e = tt
@@ -78,6 +79,14 @@ module _ {ℓ} {A : Type ℓ} where
       (λ p e. rw e, all-imp (λ y h p e. or-right (p x) (h p e)) xs (all-members xs))
 
 module _ {ℓ κ} {A : Type ℓ} {B : Type κ} where
+  pub all-map {μ} : (P : B → Type μ) (f : A → B) (xs : List A) → All (λ (x : A). P (f x)) xs → All P (map f xs)
+  all-map P f [] h = tt
+  all-map P f (x ∷ xs) (h, hs) = (h, all-map P f xs hs)
+
+  pub map-all {μ} : (P : B → Type μ) (f : A → B) (xs : List A) → All P (map f xs) → All (λ (x : A). P (f x)) xs
+  map-all P f [] h = tt
+  map-all P f (x ∷ xs) (h, hs) = (h, map-all P f xs hs)
+
   pub map-same : (f g : A → B) (xs : List A) → All (λ (x : A). f x ≡ g x) xs → map f xs ≡ map g xs
   map-same f g [] h = refl
   map-same f g (x ∷ xs) (h, hs) = ap₂ _∷_ h (map-same f g xs hs)

@@ -18,6 +18,10 @@ module _ {ℓ} {A : Type ℓ} (p : A → Bool) where
   any-map f [] = refl
   any-map f (x ∷ xs) = rw (any-map f xs)
 
+  pub all-mapped {κ} : {B : Type κ} (f : B → A) (xs : List B) → all p (map f xs) ≡ all (λ (x : B). p (f x)) xs
+  all-mapped f [] = refl
+  all-mapped f (x ∷ xs) = rw (all-mapped f xs)
+
   -- a filter that leaves all that p finds
   pub any-left : (q : A → Bool) → ((x : A) → p x ≡ true → q x ≡ true) → (xs : List A) → any p (filter q xs) ≡ any p xs
   any-left q f [] = refl

@@ -1,8 +1,9 @@
 -- Laws of filters, for any element type.
-use mathlib.Core.Bool.{Bool, true, true≢false}
+use mathlib.Core.Bool.{Bool, true, true≢false, _&&_}
 use mathlib.Core.List.{List, [], _∷_, _++_, map, map-id}
 use mathlib.Core.Path.{_≡_, refl, ap, sym, _∙_}
-use Rattle.lists.specs.Tests.{any, filter, All}
+use lib.ListN.{length}
+use Rattle.lists.specs.Tests.{any, filter, count, All}
 use Rattle.lists.proofs.Cases.{by-test, refuted}
 
 module _ {ℓ} {A : Type ℓ} where
@@ -35,6 +36,15 @@ module _ {ℓ} {A : Type ℓ} where
       by-test (p x)
       (λ d. rw d)
       (λ d. rw d (any-filter p q xs (by-test (q x) (λ c. rw (c, d) at e) (λ c. rw c at e))))
+
+  -- one filter after another is the filter by both tests
+  pub filter-and : (p q : A → Bool) (xs : List A) → filter p (filter q xs) ≡ filter (λ (x : A). q x && p x) xs
+  filter-and p q [] = refl
+  filter-and p q (x ∷ xs) = by-test (q x) (λ e. rw (e, filter-and p q xs)) (λ e. rw (e, filter-and p q xs))
+
+  pub count-length : (p : A → Bool) (xs : List A) → count p xs ≡ length (filter p xs)
+  count-length p [] = refl
+  count-length p (x ∷ xs) = by-test (p x) (λ e. rw (e, count-length p xs)) (λ e. rw (e, count-length p xs))
 
 module _ {ℓ κ} {A : Type ℓ} {B : Type κ} where
   pub filter-map : (p : B → Bool) (f : A → B) (xs : List A) → filter p (map f xs) ≡ map f (filter (λ (x : A). p (f x)) xs)

@@ -1,43 +1,54 @@
 -- Laws of permutations, for any element type.
-use mathlib.Core.Bool.{Bool, true, false, cond}
-use mathlib.Core.List.{List, _∷_, map, List·Permᴰ, List·Permᴰ·nil, List·Permᴰ·cons, List·Permᴰ·swap, List·Permᴰ·trans, Permᴰ·refl}
+use Prim.Native.Nat.{suc}
+use mathlib.Core.Bool.{Bool, or-true}
+use mathlib.Core.List.{List, [], _∷_, _++_, map, List·Permᴰ, List·Permᴰ·nil, List·Permᴰ·cons, List·Permᴰ·swap, List·Permᴰ·trans, Permᴰ·refl, Permᴰ·symm, Permᴰ·append-left, Permᴰ·middle}
 use mathlib.Core.Path.{_≡_, refl, ap, subst, _∙_}
-use Rattle.lists.specs.Tests.{any, filter, All}
-use Rattle.lists.proofs.Cases.{by-test, or-swap}
+use lib.ListN.{length}
+use Rattle.lists.specs.Tests.{any, filter, count, All}
+use Rattle.lists.specs.Tables.{readBy}
+use Rattle.lists.proofs.Cases.{by-test}
+use Rattle.lists.proofs.Filters.{count-length}
+use Rattle.lists.proofs.Tables.{map-as-read, filter-as-read}
 
 module _ {ℓ} {A : Type ℓ} where
-  -- what some element passes does not go by the order
+  -- two parts change places
+  pub exchange-perm : (xs ys zs : List A) → List·Permᴰ (xs ++ (ys ++ zs)) (ys ++ (xs ++ zs))
+  exchange-perm [] ys zs = Permᴰ·refl (ys ++ zs)
+  exchange-perm (x ∷ xs) ys zs =
+      List·Permᴰ·trans (List·Permᴰ·cons refl (exchange-perm xs ys zs)) (Permᴰ·symm (Permᴰ·middle x ys (xs ++ zs)))
+
+  pub length-perm : {xs ys : List A} → List·Permᴰ xs ys → length xs ≡ length ys
+  length-perm List·Permᴰ·nil = refl
+  length-perm (List·Permᴰ·cons e d) = ap suc (length-perm d)
+  length-perm (List·Permᴰ·swap e₁ e₂) = refl
+  length-perm (List·Permᴰ·trans d₁ d₂) = length-perm d₁ ∙ length-perm d₂
+
+  -- what holds of every element, in whatever order
+  pub all-perm {κ} : (P : A → Type κ) {xs ys : List A} → List·Permᴰ xs ys → All P xs → All P ys
+  all-perm P List·Permᴰ·nil h = h
+  all-perm P (List·Permᴰ·cons e d) (h, hs) = (subst P e h, all-perm P d hs)
+  all-perm P (List·Permᴰ·swap e₁ e₂) (h, (k, hs)) = (subst P e₂ k, (subst P e₁ h, hs))
+  all-perm P (List·Permᴰ·trans d₁ d₂) h = all-perm P d₂ (all-perm P d₁ h)
+
   pub any-perm : (p : A → Bool) {xs ys : List A} → List·Permᴰ xs ys → any p xs ≡ any p ys
   any-perm p List·Permᴰ·nil = refl
   any-perm p (List·Permᴰ·cons e d) = rw (e, any-perm p d)
-  any-perm p (List·Permᴰ·swap {a} {b} {l} e f) = rw (← e, ← f) (or-swap (p a) (p b) (any p l))
-  any-perm p (List·Permᴰ·trans d e) = any-perm p d ∙ any-perm p e
-
-  -- what holds of every element does not go by the order
-  pub all-perm {κ} : (P : A → Type κ) {xs ys : List A} → List·Permᴰ xs ys → All P xs → All P ys
-  all-perm P List·Permᴰ·nil h = tt
-  all-perm P (List·Permᴰ·cons e d) (h, hs) = (subst P e h, all-perm P d hs)
-  all-perm P (List·Permᴰ·swap e f) (h, (k, hs)) = (subst P f k, (subst P e h, hs))
-  all-perm P (List·Permᴰ·trans d e) h = all-perm P e (all-perm P d h)
-
-  -- two elements change places, where a test keeps them
-  swap-kept : (s t : Bool) (a b : A) (l : List A)
-      → List·Permᴰ (cond s (a ∷ cond t (b ∷ l) l) (cond t (b ∷ l) l)) (cond t (b ∷ cond s (a ∷ l) l) (cond s (a ∷ l) l))
-  swap-kept true true a b l = List·Permᴰ·swap refl refl
-  swap-kept true false a b l = Permᴰ·refl (a ∷ l)
-  swap-kept false true a b l = Permᴰ·refl (b ∷ l)
-  swap-kept false false a b l = Permᴰ·refl l
-
-  pub filter-perm : (p : A → Bool) {xs ys : List A} → List·Permᴰ xs ys → List·Permᴰ (filter p xs) (filter p ys)
-  filter-perm p List·Permᴰ·nil = List·Permᴰ·nil
-  filter-perm p (List·Permᴰ·cons {b = b} e d) =
-      rw e (by-test (p b) (λ c. rw c (List·Permᴰ·cons refl (filter-perm p d))) (λ c. rw c (filter-perm p d)))
-  filter-perm p (List·Permᴰ·swap {a} {b} {l} e f) = rw (← e, ← f) (swap-kept (p a) (p b) a b (filter p l))
-  filter-perm p (List·Permᴰ·trans d e) = List·Permᴰ·trans (filter-perm p d) (filter-perm p e)
+  any-perm p (List·Permᴰ·swap {a′ = a} {b′ = b} e₁ e₂) = rw (e₁, e₂) (by-test (p b) (λ h. rw (h, or-true)) (λ h. rw h))
+  any-perm p (List·Permᴰ·trans d₁ d₂) = any-perm p d₁ ∙ any-perm p d₂
 
 module _ {ℓ κ} {A : Type ℓ} {B : Type κ} where
+  pub readBy-perm : (f : A → List B) {xs ys : List A} → List·Permᴰ xs ys → List·Permᴰ (readBy f xs) (readBy f ys)
+  readBy-perm f List·Permᴰ·nil = List·Permᴰ·nil
+  readBy-perm f (List·Permᴰ·cons {b = b} e d) = rw e (Permᴰ·append-left (f b) (readBy-perm f d))
+  readBy-perm f (List·Permᴰ·swap {a′ = a} {b′ = b} {l = l} e₁ e₂) = rw (e₁, e₂) (exchange-perm (f b) (f a) (readBy f l))
+  readBy-perm f (List·Permᴰ·trans d₁ d₂) = List·Permᴰ·trans (readBy-perm f d₁) (readBy-perm f d₂)
+
   pub map-perm : (f : A → B) {xs ys : List A} → List·Permᴰ xs ys → List·Permᴰ (map f xs) (map f ys)
-  map-perm f List·Permᴰ·nil = List·Permᴰ·nil
-  map-perm f (List·Permᴰ·cons e d) = List·Permᴰ·cons (ap f e) (map-perm f d)
-  map-perm f (List·Permᴰ·swap e g) = List·Permᴰ·swap (ap f e) (ap f g)
-  map-perm f (List·Permᴰ·trans d e) = List·Permᴰ·trans (map-perm f d) (map-perm f e)
+  map-perm f {xs} {ys} d = rw (map-as-read f xs, map-as-read f ys) (readBy-perm _ d)
+
+module _ {ℓ} {A : Type ℓ} where
+  pub filter-perm : (p : A → Bool) {xs ys : List A} → List·Permᴰ xs ys → List·Permᴰ (filter p xs) (filter p ys)
+  filter-perm p {xs} {ys} d = rw (filter-as-read p xs, filter-as-read p ys) (readBy-perm _ d)
+
+  pub count-perm : (p : A → Bool) {xs ys : List A} → List·Permᴰ xs ys → count p xs ≡ count p ys
+  count-perm p {xs} {ys} d = rw (count-length p xs, count-length p ys) (length-perm (filter-perm p d))

@@ -1,14 +1,18 @@
--- Laws of tables read as lists, for any entries.
+-- Laws of tables read as lists, and of entries set, for any element type.
 use Prim.Native.Nat.{ℕ, zero, suc}
-use mathlib.Core.Bool.{Bool, true, and-eq-true-iff}
-use mathlib.Core.List.{List, [], _∷_, _++_}
-use mathlib.Core.Path.{_≡_, refl, ap₂}
-use lib.ListN.{getD}
-use Rattle.lists.specs.Tests.{any, filter, All}
-use Rattle.lists.specs.Tables.{readBy, readFrom, allFrom, mapFrom}
+use mathlib.Core.Bool.{Bool, true, and-eq-true-iff, cond, _&&_}
+use mathlib.Core.List.{List, [], _∷_, _++_, map, append-assoc, map-id}
+use mathlib.Core.Path.{_≡_, refl, ap₂, sym, _∙_}
+use borrow.Author.Tests.{eqb-true, eqb-false, ltb-true, ltb-false}
+use lib.Dec.{eqb, ltb}
+use lib.ListN.{getD, length, set}
+use lib.Seq.{getD-set-same, getD-set-other, set-out}
 use Rattle.lists.proofs.All.{all-append}
+use Rattle.lists.proofs.Cases.{by-test}
 use Rattle.lists.proofs.Counts.{any-append}
 use Rattle.lists.proofs.Filters.{filter-append}
+use Rattle.lists.specs.Tables.{readBy, readFrom, allFrom, mapFrom}
+use Rattle.lists.specs.Tests.{any, filter, All}
 
 module _ {ℓ κ} {A : Type ℓ} {B : Type κ} where
   -- entries that stand for the same
@@ -70,3 +74,49 @@ module _ {ℓ} {A : Type ℓ} where
   allFrom-mapFrom p q f h i [] e = refl
   allFrom-mapFrom p q f h i (x ∷ xs) e =
       let (head, tail) = and-eq-true-iff _ _ .0 e in rw (h i x head) (allFrom-mapFrom p q f h (suc i) xs tail)
+
+module _ {ℓ κ} {A : Type ℓ} {B : Type κ} where
+  pub readBy-append : (f : A → List B) (xs ys : List A) → readBy f (xs ++ ys) ≡ readBy f xs ++ readBy f ys
+  readBy-append f [] ys = refl
+  readBy-append f (x ∷ xs) ys = rw (readBy-append f xs ys, append-assoc)
+
+  -- maps and filters are readings
+  pub map-as-read : (f : A → B) (xs : List A) → map f xs ≡ readBy (λ (x : A). f x ∷ []) xs
+  map-as-read f [] = refl
+  map-as-read f (x ∷ xs) = rw (map-as-read f xs)
+
+  pub map-filter-as-read : (f : A → B) (p : A → Bool) (xs : List A) → map f (filter p xs) ≡ readBy (λ (x : A). cond (p x) (f x ∷ []) []) xs
+  map-filter-as-read f p [] = refl
+  map-filter-as-read f p (x ∷ xs) = by-test (p x) (λ e. rw (e, map-filter-as-read f p xs)) (λ e. rw (e, map-filter-as-read f p xs))
+
+  -- what holds of all that the entries stand for
+  pub all-readBy {μ} : (P : B → Type μ) (f : A → List B) (xs : List A) → All (λ (x : A). All P (f x)) xs → All P (readBy f xs)
+  all-readBy P f [] h = tt
+  all-readBy P f (x ∷ xs) (h, hs) = all-append P (f x) (readBy f xs) h (all-readBy P f xs hs)
+
+  -- an entry set and then mapped
+  pub map-set : (f : A → B) (xs : List A) (i : ℕ) (v : A) → map f (set xs i v) ≡ set (map f xs) i (f v)
+  map-set f [] i v = refl
+  map-set f (x ∷ xs) zero v = refl
+  map-set f (x ∷ xs) (suc i) v = rw (map-set f xs i v)
+
+module _ {ℓ κ μ} {A : Type ℓ} {B : Type κ} {C : Type μ} where
+  pub readBy-map : (f : B → List C) (g : A → B) (xs : List A) → readBy f (map g xs) ≡ readBy (λ (x : A). f (g x)) xs
+  readBy-map f g [] = refl
+  readBy-map f g (x ∷ xs) = rw (readBy-map f g xs)
+
+  pub readBy-readBy : (f : B → List C) (g : A → List B) (xs : List A) → readBy f (readBy g xs) ≡ readBy (λ (x : A). readBy f (g x)) xs
+  readBy-readBy f g [] = refl
+  readBy-readBy f g (x ∷ xs) = rw (readBy-append f (g x), readBy-readBy f g xs)
+
+module _ {ℓ} {A : Type ℓ} where
+  pub filter-as-read : (p : A → Bool) (xs : List A) → filter p xs ≡ readBy (λ (x : A). cond (p x) (x ∷ []) []) xs
+  filter-as-read p xs = sym (map-id (filter p xs)) ∙ map-filter-as-read (λ x. x) p xs
+
+  -- an entry after another was set, or the same one
+  pub getD-set : (xs : List A) (i j : ℕ) (v d : A) → getD (set xs i v) j d ≡ cond (eqb j i && ltb i (length xs)) v (getD xs j d)
+  getD-set xs i j v d =
+      by-test (eqb j i)
+      (λ e. rw (e, eqb-true j i e)
+      (by-test (ltb i (length xs)) (λ h. rw (h, getD-set-same xs i v d (ltb-true i (length xs) h))) (λ h. rw (h, set-out xs i v (ltb-false i (length xs) h)))))
+      (λ e. rw (e, getD-set-other xs i j v d (eqb-false j i e)))

@@ -1,13 +1,19 @@
 -- What a well-formed record has, part by part.
-use mathlib.Core.Bool.{true, false, and-eq-true-iff}
+use Prim.Native.Nat.{ℕ, _+_, _≤_, _<_}
+use mathlib.Core.Bool.{Bool, true, false, and-eq-true-iff}
 use mathlib.Core.List.{map}
 use mathlib.Core.Path.{_≡_}
-use borrow.Author.Tests.{not-true}
+use borrow.Author.Tests.{not-true, leb-true, ltb-true}
 use Rattle.lists.specs.Tests.{all}
 use Rattle.lists.specs.Tables.{allFrom}
-use Rattle.ledger.specs.Tasks.{allTicked}
-use Rattle.record.specs.Codes.{taskOf}
-use Rattle.record.specs.WellFormed.{isFitTask, isFitEntry, isFitBlock, isDistinct, handleOf, isWellFormed}
+use Rattle.ledger.specs.Limits.{limits, taskCount}
+use Rattle.ledger.specs.Tasks.{isAbsent, allTicked}
+use Rattle.record.specs.Codes.{stateOf, taskOf, leftAt}
+use Rattle.record.specs.WellFormed.{isFitTask, isFitDue, isFitEntry, isFitBlock, isDistinct, handleOf, isWellFormed}
+use Rattle.record.specs.declared.TaskEntry.{TaskEntry}
+use Rattle.record.specs.declared.LocalTime.{LocalTime}
+use Rattle.record.specs.declared.GlobalTime.{GlobalTime}
+use Rattle.record.specs.declared.Due.the-variants.{Local, Global}
 use Rattle.record.specs.declared.Pool.{Pool}
 
 pub record Fit (p : Pool) : Type 0 where
@@ -29,3 +35,41 @@ fit-parts p e =
 pub fit-whole : (p : Pool) → Fit p → isWellFormed p ≡ true
 unfolding isWellFormed
 fit-whole p f = rw (f .tasks, f .unticked, f .entries, f .blocks, f .distinct)
+
+-- what a fit local expiration has, by its setter's entry and whether it names a block in use
+pub record FitLocal (setter : TaskEntry) (used : Bool) (task left : ℕ) : Type 0 where
+  pub naming : used ≡ true
+  pub known : task < taskCount
+  pub present : isAbsent (stateOf (setter .state)) ≡ false
+  pub ahead : 1 ≤ left
+  pub within : left ≤ limits .extension + 1
+
+pub fit-local : (setter : TaskEntry) (global : GlobalTime) (used : Bool) (task : ℕ) (at : LocalTime)
+    → isFitDue setter global used (Local task at) ≡ true → FitLocal setter used task (leftAt (at .0) (setter .clock .0))
+unfolding isFitDue
+fit-local setter global used task at e =
+    let (abc, d) = and-eq-true-iff _ _ .0 e in
+    let (ab, present) = and-eq-true-iff _ _ .0 abc in
+    let (naming, known) = and-eq-true-iff _ _ .0 ab in
+    let (ahead, within) = and-eq-true-iff _ _ .0 d in
+    record {
+      naming = naming;
+      known = ltb-true _ _ known;
+      present = not-true _ present;
+      ahead = leb-true _ _ ahead;
+      within = leb-true _ _ within;
+    }
+
+-- and a fit global one
+pub record FitGlobal (used : Bool) (left : ℕ) : Type 0 where
+  pub naming : used ≡ true
+  pub ahead : 1 ≤ left
+  pub within : left ≤ limits .extension + 2
+
+pub fit-global : (setter : TaskEntry) (global : GlobalTime) (used : Bool) (at : GlobalTime) → isFitDue setter global used (Global at) ≡ true
+    → FitGlobal used (leftAt (at .0) (global .0))
+unfolding isFitDue
+fit-global setter global used at e =
+    let (naming, d) = and-eq-true-iff _ _ .0 e in
+    let (ahead, within) = and-eq-true-iff _ _ .0 d in
+    record { naming = naming; ahead = leb-true _ _ ahead; within = leb-true _ _ within }

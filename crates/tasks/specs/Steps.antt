@@ -1,7 +1,8 @@
 -- What an event makes of a record: the steps that the code takes, as functions of the record's entries.
 use Prim.Native.Nat.{ℕ, _+_, _%_}
-use mathlib.Core.Bool.{Bool, true, cond, not, _&&_}
+use mathlib.Core.Bool.{Bool, true, false, cond, not, _&&_}
 use mathlib.Core.List.{List, map}
+use mathlib.Core.Option.{Option, none, some}
 use lib.Dec.{eqb, leb, ltb}
 use lib.ListN.{getD, set}
 use Rattle.lists.specs.Tests.{any}
@@ -15,6 +16,7 @@ use Rattle.ledger.specs.declared.Event.the-variants.{Join, Leave, Block, Resume
 use Rattle.ledger.specs.declared.Answer.{Answer}
 use Rattle.ledger.specs.declared.Answer.the-variants.{Done, Advanced}
 use Rattle.ledger.specs.declared.Answer.the-variants.{Refused as RefusedAnswer}
+use Rattle.ledger.specs.declared.Refusal.{Refusal}
 use Rattle.ledger.specs.declared.Refusal.the-variants.{NoSuchTask, TaskPresent, TaskAbsent, TaskWaiting, TaskRunning}
 use Rattle.record.specs.Codes.{stateOf, taskOf, dueOf, setterOf, leftAt, absentEntry, freeBlock, freeEntry}
 use Rattle.record.specs.WellFormed.{isNaming}
@@ -46,6 +48,11 @@ verdictOf Resume Waiting = Accepted
 verdictOf Tick Absent = Refused TaskAbsent
 verdictOf Tick Running = Accepted
 verdictOf Tick Waiting = Refused TaskWaiting
+
+-- a verdict as the ledger has it
+abbrev pub asRefusal : Verdict → Option Refusal
+asRefusal Accepted = none
+asRefusal (Refused r) = some r
 
 -- a counter's next value: "goes on from 4,294,967,295 to 0"
 abbrev pub nextTime : ℕ → ℕ
