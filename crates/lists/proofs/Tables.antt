@@ -36,6 +36,13 @@ module _ {ℓ κ} {A : Type ℓ} {B : Type κ} where
   readFrom-same d f g (x ∷ xs) h =
       rw (h 0, readFrom-suc 0 f xs, readFrom-suc 0 g xs, readFrom-same d (λ i. f (suc i)) (λ i. g (suc i)) xs (λ i. h (suc i)))
 
+  -- entries that stand for the same where they pass a test with their place
+  pub readFrom-alike : (f g : ℕ → A → List B) (test : ℕ → A → Bool) → ((i : ℕ) (x : A) → test i x ≡ true → f i x ≡ g i x)
+      → (i : ℕ) (xs : List A) → allFrom i test xs ≡ true → readFrom i f xs ≡ readFrom i g xs
+  readFrom-alike f g test h i [] e = refl
+  readFrom-alike f g test h i (x ∷ xs) e =
+      let (head, tail) = and-eq-true-iff _ _ .0 e in ap₂ _++_ (h i x head) (readFrom-alike f g test h (suc i) xs tail)
+
   pub readFrom-mapFrom : (i : ℕ) (f : ℕ → A → List B) (g : ℕ → A → A) (xs : List A)
       → readFrom i f (mapFrom i g xs) ≡ readFrom i (λ j x. f j (g j x)) xs
   readFrom-mapFrom i f g [] = refl

@@ -6,3 +6,4 @@ pub mod ReadTasks
 pub mod Aging
 pub mod ReadExpirations
 pub mod ReadObjects
+pub mod Follow

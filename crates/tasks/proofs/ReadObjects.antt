@@ -7,14 +7,14 @@ use mathlib.Core.Path.{_≡_, refl, sym, ap, fun-ext, _∙_}
 use borrow.Author.Tests.{eqb-false, eq-eqb}
 use lib.Dec.{eqb}
 use Rattle.lists.specs.Tests.{any, filter}
-use Rattle.lists.specs.Tables.{readBy, readFrom, mapFrom}
-use Rattle.lists.proofs.Cases.{by-test}
+use Rattle.lists.specs.Tables.{readBy, readFrom, mapFrom, allFrom}
+use Rattle.lists.proofs.Cases.{by-test, and₃}
 use Rattle.lists.proofs.All.{all-imp, all-members}
 use Rattle.lists.proofs.Counts.{any-map}
 use Rattle.lists.proofs.Pairwise.{pairwise-filter}
 use Rattle.lists.proofs.Filters.{filter-map}
 use Rattle.lists.proofs.Permutations.{any-perm, filter-perm}
-use Rattle.lists.proofs.Tables.{readBy-same, any-readBy, readFrom-same, readFrom-mapFrom, filter-readFrom}
+use Rattle.lists.proofs.Tables.{readBy-same, any-readBy, readFrom-same, readFrom-alike, readFrom-mapFrom, filter-readFrom}
 use Rattle.ledger.specs.Tasks.{Clocks}
 use Rattle.ledger.specs.Expirations.{Expiration}
 use Rattle.ledger.specs.Objects.{Object, stands, standing}
@@ -22,7 +22,7 @@ use Rattle.ledger.specs.Compared.{Shown, shown, shownObject}
 use Rattle.ledger.specs.Kept.{Ascending}
 use Rattle.record.specs.Codes.{dueOf, isDated, freeBlock}
 use Rattle.record.specs.Reading.{shownDue, shownEntry, objectIn}
-use Rattle.record.specs.WellFormed.{isNaming, isDistinct, handleOf}
+use Rattle.record.specs.WellFormed.{isNaming, isFitBlock, isDistinct, handleOf}
 use Rattle.record.specs.declared.TaskEntry.{TaskEntry}
 use Rattle.record.specs.declared.BlockEntry.{BlockEntry}
 use Rattle.record.specs.declared.ExpirationEntry.{ExpirationEntry}
@@ -113,3 +113,19 @@ module _ (tasks : List TaskEntry) (global : GlobalTime) (blocks : List BlockEntr
 -- the objects that stand are in order still
 pub standing-ascending : (ys : List Expiration) (os : List Object) → Ascending os → Ascending (standing ys os)
 standing-ascending ys os h = pairwise-filter (λ (o p : Object). o .handle < p .handle) (isStanding ys) os h
+
+-- in a well-formed record every object stands: no block is freed
+pub none-freed : (small large : List ℕ) (given : ℕ) (xs : List ExpirationEntry) (blocks : List BlockEntry)
+    → allFrom 0 (isFitBlock given xs) blocks ≡ true
+    → readFrom 0 (objectIn small large) (mapFrom 0 (keptBlock xs) blocks) ≡ readFrom 0 (objectIn small large) blocks
+unfolding isFitBlock objectIn
+none-freed small large given xs blocks fit =
+    readFrom-mapFrom 0 (objectIn small large) (keptBlock xs) blocks
+    ∙ readFrom-alike _ (objectIn small large) (isFitBlock given xs) same 0 blocks fit
+  where
+    same : (i : ℕ) (b : BlockEntry) → isFitBlock given xs i b ≡ true
+        → objectIn small large i (keptBlock xs i b) ≡ objectIn small large i b
+    same i b e =
+        by-test (eqb (b .handle) 0)
+        (λ z. by-test (any (isNaming i) xs) (λ n. rw n) (λ n. rw (n, z)))
+        (λ z. let (named, sized, numbered) = and₃ (any (isNaming i) xs) _ _ (rw z at e) in rw named)
