@@ -12,6 +12,8 @@ use Rattle.ledger.specs.Objects.{Memory, objectAt, stands, inStoreOf}
 use Rattle.ledger.specs.declared.Event.the-variants.{Join, Leave, Block, Resume, Tick}
 use Rattle.ledger.specs.declared.Call.{Call}
 use Rattle.ledger.specs.declared.Call.the-variants.{Schedule, Make, Refresh, Read, Write}
+use Rattle.ledger.specs.declared.Verdict.{Verdict}
+use Rattle.ledger.specs.declared.Verdict.the-variants.{Accepted, Refused}
 use Rattle.ledger.specs.declared.Refusal.{Refusal}
 use Rattle.ledger.specs.declared.Refusal.the-variants.{NoSuchTask, TaskPresent, TaskAbsent, TaskWaiting, TaskRunning, ExtensionTooLong, LengthOutOfRange, HandlesSpent, NoFreeBlock, NoFreeExpiration, HandleNotGiven, ObjectGone, OutsideObject}
 
@@ -103,3 +105,8 @@ unfoldable pub heapVerdict : Memory → List Test → Option Refusal
 heapVerdict m [] = none
 heapVerdict m (shared r holds ∷ ts) = cond (holds m) (some r) (heapVerdict m ts)
 heapVerdict m (own r holds ∷ ts) = heapVerdict m ts
+
+-- a verdict of code as the ledger has it
+abbrev pub asRefusal : Verdict → Option Refusal
+asRefusal Accepted = none
+asRefusal (Refused r) = some r

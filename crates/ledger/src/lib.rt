@@ -88,6 +88,12 @@ pub enum Refusal {
     UnknownKind,
 }
 
+// Whether a call is carried out.
+pub enum Verdict {
+    Accepted,
+    Refused(Refusal),
+}
+
 // 01: an answer. The bytes of a read stand beside it.
 pub enum Answer {
     Refused(Refusal),

@@ -25,7 +25,7 @@ use Rattle.record.specs.declared.Due.{Due}
 use Rattle.record.specs.declared.Due.the-variants.{Free, Local, Global, Unknown}
 use Rattle.record.proofs.Facts.{Fit, fit-parts, fit-whole}
 use Rattle.tasks.specs.Steps.{verdictOf, movedEntry, untickedEntry, advancedTasks, advancedTime, swept, withTasks, poolAfter}
-use Rattle.tasks.specs.declared.Verdict.the-variants.{Accepted}
+use Rattle.ledger.specs.declared.Verdict.the-variants.{Accepted}
 use Rattle.tasks.proofs.FitTasks.{Later, later-same, later-next, Follows, AllFollow, set-follows, join-absent, tick-running, ticked-fits, unticked-fits, advanced-unticked, running-unticked}
 use Rattle.tasks.proofs.FitSwept.{local-fits, fit-swept}
 

@@ -20,7 +20,7 @@ use Rattle.record.specs.Codes.{stateOf, taskOf, leftAt, absentEntry}
 use Rattle.record.specs.WellFormed.{isFitTask}
 use Rattle.record.specs.declared.TaskEntry.{TaskEntry}
 use Rattle.tasks.specs.Steps.{verdictOf, nextTime, movedEntry, untickedEntry, advancedTasks}
-use Rattle.tasks.specs.declared.Verdict.the-variants.{Accepted}
+use Rattle.ledger.specs.declared.Verdict.the-variants.{Accepted}
 
 -- What is due at some time ahead of the one is no further ahead of the other.
 abbrev pub Later : ℕ → ℕ → Type 0

@@ -11,6 +11,7 @@ use Rattle.lists.proofs.Cases.{by-test}
 use Rattle.ledger.specs.Limits.{taskCount}
 use Rattle.ledger.specs.Tasks.{Clocks, isTested, allTicked}
 use Rattle.ledger.specs.Objects.{replyTo, memoryAfter, expirationsAfter}
+use Rattle.ledger.specs.Refusals.{asRefusal}
 use Rattle.ledger.specs.Ledger.{Ledger, settled, replyBy, afterBy, reply, next}
 use Rattle.ledger.specs.Compared.{shown, viewOf}
 use Rattle.ledger.specs.declared.Event.{Event}
@@ -26,9 +27,9 @@ use Rattle.record.specs.declared.ExpirationEntry.{ExpirationEntry}
 use Rattle.record.specs.declared.GlobalTime.{GlobalTime}
 use Rattle.record.specs.declared.Pool.{Pool}
 use Rattle.record.proofs.Facts.{Fit, fit-parts}
-use Rattle.tasks.specs.Steps.{verdictOf, movedTasks, advancedTasks, advancedTime, leaverOf, keptEntry, keptBlock, swept, poolAfter, answerAfter, outcomeBy, scheduled, asRefusal}
-use Rattle.tasks.specs.declared.Verdict.{Verdict}
-use Rattle.tasks.specs.declared.Verdict.the-variants.{Accepted, Refused}
+use Rattle.tasks.specs.Steps.{verdictOf, movedTasks, advancedTasks, advancedTime, leaverOf, keptEntry, keptBlock, swept, poolAfter, answerAfter, outcomeBy, scheduled}
+use Rattle.ledger.specs.declared.Verdict.{Verdict}
+use Rattle.ledger.specs.declared.Verdict.the-variants.{Accepted, Refused}
 use Rattle.tasks.proofs.FitAfter.{fit-after}
 use Rattle.tasks.proofs.ReadTasks.{ClocksAlike, verdict-alike, advances-alike, clocks-alike, untested-clocks-alike}
 use Rattle.tasks.proofs.ReadExpirations.{expirations-alike, untested-expirations-alike}

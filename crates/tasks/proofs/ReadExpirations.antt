@@ -31,7 +31,7 @@ use Rattle.record.specs.declared.GlobalTime.{GlobalTime}
 use Rattle.record.specs.declared.Due.{Due}
 use Rattle.record.specs.declared.Due.the-variants.{Free, Local, Global, Unknown}
 use Rattle.tasks.specs.Steps.{verdictOf, leaverOf, keptEntry}
-use Rattle.tasks.specs.declared.Verdict.the-variants.{Accepted}
+use Rattle.ledger.specs.declared.Verdict.the-variants.{Accepted}
 use Rattle.tasks.proofs.ReadTasks.{ClocksAlike, state-alike, clock-alike}
 use Rattle.tasks.proofs.Aging.{aged, clock-after, ledger-ages, record-ages}
 

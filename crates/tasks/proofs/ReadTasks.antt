@@ -14,7 +14,7 @@ use Rattle.ledger.specs.Limits.{taskCount, counterRange}
 use Rattle.ledger.specs.Tasks.{Task, Clocks, absentTask, taskAt, moved, isTested, allTicked, unticked, tasksAfter, advances, clocksAfter}
 use Rattle.ledger.specs.Expirations.{Expiration}
 use Rattle.ledger.specs.Objects.{Memory}
-use Rattle.ledger.specs.Refusals.{testsOf, verdict}
+use Rattle.ledger.specs.Refusals.{asRefusal, testsOf, verdict}
 use Rattle.ledger.specs.Compared.{wrapped, wrappedTask}
 use Rattle.ledger.specs.declared.State.{State}
 use Rattle.ledger.specs.declared.State.the-variants.{Absent, Running, Waiting}
@@ -25,8 +25,8 @@ use Rattle.ledger.specs.declared.Refusal.the-variants.{NoSuchTask}
 use Rattle.record.specs.Codes.{stateOf, taskOf, absentEntry}
 use Rattle.record.specs.declared.TaskEntry.{TaskEntry}
 use Rattle.record.specs.declared.GlobalTime.{GlobalTime}
-use Rattle.tasks.specs.Steps.{verdictOf, asRefusal, nextTime, movedEntry, untickedEntry, movedTasks, advancedTasks, advancedTime}
-use Rattle.tasks.specs.declared.Verdict.the-variants.{Refused}
+use Rattle.tasks.specs.Steps.{verdictOf, nextTime, movedEntry, untickedEntry, movedTasks, advancedTasks, advancedTime}
+use Rattle.ledger.specs.declared.Verdict.the-variants.{Refused}
 
 -- the record's tasks read as the ledger's, one by one
 module _ (tasks : List TaskEntry) (c : Clocks) (same : map taskOf tasks ≡ map wrappedTask (c .tasks)) (i : ℕ) where

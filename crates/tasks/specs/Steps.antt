@@ -1,8 +1,7 @@
 -- What an event makes of a record: the steps that the code takes, as functions of the record's entries.
 use Prim.Native.Nat.{ℕ, _+_, _%_}
-use mathlib.Core.Bool.{Bool, true, false, cond, not, _&&_}
+use mathlib.Core.Bool.{Bool, true, cond, not, _&&_}
 use mathlib.Core.List.{List, map}
-use mathlib.Core.Option.{Option, none, some}
 use lib.Dec.{eqb, leb, ltb}
 use lib.ListN.{getD, set}
 use Rattle.lists.specs.Tests.{any}
@@ -16,7 +15,6 @@ use Rattle.ledger.specs.declared.Event.the-variants.{Join, Leave, Block, Resume
 use Rattle.ledger.specs.declared.Answer.{Answer}
 use Rattle.ledger.specs.declared.Answer.the-variants.{Done, Advanced}
 use Rattle.ledger.specs.declared.Answer.the-variants.{Refused as RefusedAnswer}
-use Rattle.ledger.specs.declared.Refusal.{Refusal}
 use Rattle.ledger.specs.declared.Refusal.the-variants.{NoSuchTask, TaskPresent, TaskAbsent, TaskWaiting, TaskRunning}
 use Rattle.record.specs.Codes.{stateOf, taskOf, dueOf, setterOf, leftAt, absentEntry, freeBlock, freeEntry}
 use Rattle.record.specs.WellFormed.{isNaming}
@@ -28,8 +26,8 @@ use Rattle.record.specs.declared.Pool.{Pool}
 use Rattle.record.specs.declared.Outcome.{Outcome}
 use Rattle.record.specs.declared.Due.{Due}
 use Rattle.record.specs.declared.Due.the-variants.{Free, Local, Global, Unknown}
-use Rattle.tasks.specs.declared.Verdict.{Verdict}
-use Rattle.tasks.specs.declared.Verdict.the-variants.{Accepted, Refused}
+use Rattle.ledger.specs.declared.Verdict.{Verdict}
+use Rattle.ledger.specs.declared.Verdict.the-variants.{Accepted, Refused}
 
 -- 01: join 2; leave 3; block and tick 3, 4; resume 3, 5
 unfoldable pub verdictOf : Event → State → Verdict
@@ -48,11 +46,6 @@ verdictOf Resume Waiting = Accepted
 verdictOf Tick Absent = Refused TaskAbsent
 verdictOf Tick Running = Accepted
 verdictOf Tick Waiting = Refused TaskWaiting
-
--- a verdict as the ledger has it
-abbrev pub asRefusal : Verdict → Option Refusal
-asRefusal Accepted = none
-asRefusal (Refused r) = some r
 
 -- a counter's next value: "goes on from 4,294,967,295 to 0"
 abbrev pub nextTime : ℕ → ℕ

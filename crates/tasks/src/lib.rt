@@ -1,8 +1,1 @@
-// The calls of tasks on a record: join, leave, block, resume and tick.
-use ledger::Refusal;
-
-// Whether a task's state allows an event.
-pub enum Verdict {
-    Accepted,
-    Refused(Refusal),
-}
+// The calls of tasks on a record by value: join, leave, block, resume and tick, which differ only in their event.
