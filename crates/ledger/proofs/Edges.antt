@@ -4,7 +4,7 @@ use lib.Dec.{T, eqb, eqb→eq}
 use Rattle.lists.specs.Tests.{all}
 use Rattle.lists.proofs.Tests.{both, sameBy, sameBy→eq, all→All}
 use Rattle.ledger.specs.Limits.{counterRange, limits, taskCount, smallSize, largeSize, lastHandle}
-use Rattle.ledger.specs.Tasks.{freshClocks, moved, isTested, allTicked, tasksAfter, advances, clocksAfter}
+use Rattle.ledger.specs.Tasks.{freshClocks, moved, allTicked, tasksAfter, advances, clocksAfter}
 use Rattle.ledger.specs.Expirations.{dueAfter, remaining, lasting}
 use Rattle.ledger.specs.Objects.{freshMemory, objectAt, written, replyTo, memoryAfter, expirationsAfter, usage}
 use Rattle.ledger.specs.Refusals.{testsOf, verdict}
@@ -28,7 +28,7 @@ passing-holds row t =
 all-pass : T (all passes edges)
 unfolding passes edges fresh reply next replies afterAll testsOf verdict
     freshMemory objectAt written replyTo memoryAfter expirationsAfter usage dueAfter remaining lasting
-    freshClocks moved isTested allTicked tasksAfter advances clocksAfter
+    freshClocks moved allTicked tasksAfter advances clocksAfter
     limits taskCount smallSize largeSize lastHandle counterRange
 all-pass = tt
 

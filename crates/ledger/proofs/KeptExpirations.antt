@@ -95,7 +95,7 @@ module _ (m : Memory) (xs : List Expiration) (new : List ℕ) (task : ℕ) where
   -- the five events
   pub expirations-after : (event : Event) → Passed m xs (Schedule event task) new → ExpirationsKept (m .clocks) (m .objects) xs
       → ExpirationsKept (after event) (m .objects) (lasting event task (after event) xs)
-  unfolding testsOf lasting moved isTested
+  unfolding testsOf lasting moved
   expirations-after Join (exists, (absent, end)) k = still Join refl (λ at h. absurd (true≢false (sym (not-false _ absent) ∙ h .1))) k
   expirations-after Resume c k = still Resume refl (λ at h. (refl, refl)) k
   expirations-after Block c k = live Block xs (k .room) (all-imp (λ x. lasts Block x (λ own at h. (h .0, refl))) xs (k .each))

@@ -11,7 +11,7 @@ use Rattle.lists.proofs.Cases.{by-test}
 use Rattle.lists.proofs.All.{all-imp, all-map, all-set}
 use Rattle.lists.proofs.Counts.{all-false}
 use Rattle.ledger.specs.Limits.{taskCount}
-use Rattle.ledger.specs.Tasks.{Task, Clocks, taskAt, absentTask, isAbsent, isRunning, isWaiting, isTested, moved, allTicked, unticked, tasksAfter, advances, clocksAfter}
+use Rattle.ledger.specs.Tasks.{Task, Clocks, taskAt, absentTask, isAbsent, isRunning, isWaiting, moved, allTicked, unticked, tasksAfter, advances, clocksAfter}
 use Rattle.ledger.specs.Expirations.{Expiration}
 use Rattle.ledger.specs.Objects.{Memory}
 use Rattle.ledger.specs.Refusals.{testsOf}
@@ -73,7 +73,7 @@ module _ (m : Memory) (xs : List Expiration) (new : List ℕ) (task : ℕ) where
   -- after every event some running task is unticked, if any runs
   unticked-after : (event : Event) → length (m .clocks .tasks) ≡ taskCount → Passed m xs (Schedule event task) new
       → allTicked (clocksAfter event task (m .clocks) .tasks) ≡ false
-  unfolding testsOf moved clocksAfter advances isTested tasksAfter
+  unfolding testsOf moved clocksAfter advances tasksAfter
   unticked-after Join n c = started (m .clocks .tasks) task _ n (c .0) refl
   unticked-after Leave n c = tested _
   unticked-after Block n c = tested _

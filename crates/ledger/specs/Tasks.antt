@@ -55,7 +55,7 @@ moved Leave task = absentTask
 moved Tick task = record { state = task .state; ticked = true; clock = task .clock + 1 }
 
 -- "After a tick, block or leave comes the advance test"
-unfoldable pub isTested : Event → Bool
+abbrev pub isTested : Event → Bool
 isTested Join = false
 isTested Block = true
 isTested Resume = false

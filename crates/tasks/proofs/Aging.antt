@@ -91,7 +91,7 @@ setter-ages : (units : ℕ → ℕ) (t : Task) → OneOff units (t .clock) → (
     → (own : Bool) (handle : ℕ) (kind : ℕ → Left)
     → ifLeft (isEnding event && own) handle kind (units (cond own (moved event t .clock) (t .clock)))
     ≡ ifLeft false handle kind (cond own (unitsAfter event (units (t .clock))) (units (t .clock)))
-unfolding isTested moved
+unfolding moved
 setter-ages units t step event tested false handle kind = rw and-false
 setter-ages units t step Join tested true handle kind = absurd (false≢true tested)
 setter-ages units t step Leave tested true handle kind = refl
@@ -102,7 +102,7 @@ setter-ages units t step Tick tested true handle kind = rw step
 -- what lasts in the ledger: what the event does not end and what is not due
 lasting-filter : (event : Event) (task : ℕ) (c : Clocks) (xs : List Expiration) → isTested event ≡ true
     → lasting event task c xs ≡ filter (λ (x : Expiration). not (isEnding event && isSetBy task (x .due)) && isLive c x) xs
-unfolding lasting isTested
+unfolding lasting
 lasting-filter Join task c xs tested = absurd (false≢true tested)
 lasting-filter Leave task c xs tested = filter-and (isLive c) (λ (x : Expiration). not (isSetBy task (x .due))) xs
 lasting-filter Block task c xs tested = refl
@@ -168,7 +168,7 @@ module _ (event : Event) (task : ℕ) {tasks entries : List TaskEntry} {global t
   record-due : (used : Bool) (handle : ℕ) (d : Due) → isFitDue (getD tasks (setterOf d) absentEntry) global used d ≡ true
       → cond (isLasting (leaverOf event task) (getD entries (setterOf d) absentEntry) time d) (shownDue entries time handle d) []
       ≡ readBy (aged event task (advances event task c)) (shownDue tasks global handle d)
-  unfolding isLasting shownDue
+  unfolding shownDue
   record-due used handle Free fit = refl
   record-due used handle (Local setter at) fit =
       let f = fit-local (getD tasks setter absentEntry) global used setter at fit in

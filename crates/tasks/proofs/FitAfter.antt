@@ -11,7 +11,7 @@ use Rattle.lists.specs.Tests.{all}
 use Rattle.lists.proofs.All.{all-getD}
 use Rattle.lists.proofs.Tests.{passes-imp, passes-map, passes-set, passes-at}
 use Rattle.ledger.specs.Limits.{taskCount, counterRange}
-use Rattle.ledger.specs.Tasks.{isTested, allTicked}
+use Rattle.ledger.specs.Tasks.{allTicked}
 use Rattle.ledger.specs.declared.State.the-variants.{Running}
 use Rattle.ledger.specs.declared.Event.{Event}
 use Rattle.ledger.specs.declared.Event.the-variants.{Join, Leave, Block, Resume, Tick}
@@ -24,7 +24,7 @@ use Rattle.record.specs.declared.Pool.{Pool}
 use Rattle.record.specs.declared.Due.{Due}
 use Rattle.record.specs.declared.Due.the-variants.{Free, Local, Global, Unknown}
 use Rattle.record.proofs.Facts.{Fit, fit-parts, fit-whole}
-use Rattle.tasks.specs.Steps.{verdictOf, movedEntry, untickedEntry, advancedTasks, advancedTime, swept, withTasks, poolAfter}
+use Rattle.tasks.specs.Steps.{verdictOf, untickedEntry, advancedTasks, advancedTime, swept, withTasks, poolAfter}
 use Rattle.ledger.specs.declared.Verdict.the-variants.{Accepted}
 use Rattle.tasks.proofs.FitTasks.{Later, later-same, later-next, Follows, AllFollow, set-follows, join-absent, tick-running, ticked-fits, unticked-fits, advanced-unticked, running-unticked}
 use Rattle.tasks.proofs.FitSwept.{local-fits, fit-swept}
@@ -84,9 +84,9 @@ module _ (p : Pool) (f : Fit p) (task : ℕ) (e : TaskEntry) (fits : isFitTask e
 -- the five events
 fit-moved : (event : Event) (task : ℕ) (p : Pool) → Fit p → Typed p
     → verdictOf event (stateOf (getD (p .tasks) task absentEntry .state)) ≡ Accepted → Fit (poolAfter event task p)
-unfolding poolAfter isTested movedEntry isFitTask counterRange
+unfolding poolAfter isFitTask counterRange
 fit-moved Join task p f r a =
-    fit-running p f task _ refl refl refl (λ present. absurd (true≢false (rw (join-absent _ a) at present)))
+    fit-running p f task _ refl refl refl (λ present. absurd (true≢false (rw (join-absent (stateOf (getD (p .tasks) task absentEntry .state)) a) at present)))
 fit-moved Leave task p f r a =
     fit-tested p f task _ refl r task (λ other. absurd (eqb-false task task other refl))
 fit-moved Block task p f r a = fit-tested p f task _ refl r taskCount (λ other present. (refl, later-same _))
@@ -95,7 +95,7 @@ fit-moved Tick task p f r a =
     let entry = getD (p .tasks) task absentEntry in
     let fits = passes-at isFitTask (p .tasks) task absentEntry (f .tasks) refl in
     let range = all-getD _ absentEntry (omega arith) (p .tasks) (r .clocks) task in
-    fit-tested p f task _ (ticked-fits entry (tick-running _ a) fits) r taskCount (λ other present. (present, later-next _ range))
+    fit-tested p f task _ (ticked-fits entry (tick-running (stateOf (entry .state)) a) fits) r taskCount (λ other present. (present, later-next _ range))
 
 -- "Lists from a fresh pool meet only fit records": the step of an event
 pub fit-after : (event : Event) (task : ℕ) (p : Pool) → isWellFormed p ≡ true → Typed p

@@ -54,7 +54,7 @@ local-fits before after global later used setter at f e =
 lasting-fits : (leaver : ℕ) (before after : TaskEntry) (global later : GlobalTime) (used : Bool) (due : Due)
     → (eqb (setterOf due) leaver ≡ false → Follows Later before after) → Later (global .0) (later .0)
     → isFitDue before global used due ≡ true → isLasting leaver after later due ≡ true → isFitDue after later used due ≡ true
-unfolding isFitDue isLasting
+unfolding isFitDue
 lasting-fits leaver before after global later used Free f l e k = refl
 lasting-fits leaver before after global later used (Local setter at) f l e k =
     let (other, left) = and-eq-true-iff _ _ .0 k in

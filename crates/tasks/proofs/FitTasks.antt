@@ -55,13 +55,11 @@ set-follows moves same tasks task e any f =
 
 -- the state of a task that may join, and of one that may tick
 pub join-absent : (s : State) → verdictOf Join s ≡ Accepted → s ≡ Absent
-unfolding verdictOf
 join-absent Absent a = refl
 join-absent Running a = cc
 join-absent Waiting a = cc
 
 pub tick-running : (s : State) → verdictOf Tick s ≡ Accepted → s ≡ Running
-unfolding verdictOf
 tick-running Absent a = cc
 tick-running Running a = refl
 tick-running Waiting a = cc
@@ -76,7 +74,7 @@ fit-entry e h =
 
 -- a running task's entry stays fit when it ticks, and any entry when it is unticked
 pub ticked-fits : (e : TaskEntry) → stateOf (e .state) ≡ Running → isFitTask e ≡ true → isFitTask (movedEntry Tick e) ≡ true
-unfolding isFitTask movedEntry
+unfolding isFitTask
 ticked-fits e r h = rw (fit-entry e h .0, r)
 
 pub unticked-fits : (e : TaskEntry) → isFitTask e ≡ true → isFitTask (untickedEntry e) ≡ true

@@ -37,7 +37,6 @@ use Rattle.tasks.proofs.Aging.{aged, clock-after, ledger-ages, record-a
 
 -- an event with an advance test is refused to an absent task
 tested-present : (event : Event) (s : State) → isTested event ≡ true → verdictOf event s ≡ Accepted → isAbsent s ≡ false
-unfolding isTested verdictOf
 tested-present Join Absent tested accepted = absurd (false≢true tested)
 tested-present Leave Absent tested accepted = cc
 tested-present Block Absent tested accepted = cc
@@ -56,7 +55,7 @@ accepted-listed event task c tested accepted =
 
 -- an event with no advance test ends nothing
 lasting-all : (event : Event) (task : ℕ) (c : Clocks) (xs : List Expiration) → isTested event ≡ false → lasting event task c xs ≡ xs
-unfolding lasting isTested
+unfolding lasting
 lasting-all Join task c xs untested = refl
 lasting-all Leave task c xs untested = absurd (true≢false untested)
 lasting-all Block task c xs untested = absurd (true≢false untested)
@@ -66,7 +65,7 @@ lasting-all Tick task c xs untested = absurd (true≢false untested)
 -- and leaves its task's clock, unless the task was absent
 moved-stays : (event : Event) (t : Task) (s : State) → isTested event ≡ false → verdictOf event s ≡ Accepted → isAbsent s ≡ false
     → moved event t .clock ≡ t .clock
-unfolding moved isTested verdictOf
+unfolding moved
 moved-stays Join t Absent untested accepted present = absurd (true≢false present)
 moved-stays Join t Running untested accepted present = cc
 moved-stays Join t Waiting untested accepted present = cc

@@ -51,7 +51,7 @@ by-state Waiting f g h = h refl
 tests-alike : (m : Memory) (xs : List Expiration) (event : Event) (task : ℕ) (new : List ℕ)
     → verdict m xs (testsOf (Schedule event task) new)
     ≡ cond (leb taskCount task) (some NoSuchTask) (asRefusal (verdictOf event (taskAt (m .clocks) task .state)))
-unfolding verdict testsOf verdictOf
+unfolding verdict testsOf
 tests-alike m xs Join task new = by-state (taskAt (m .clocks) task .state) (λ e. rw e) (λ e. rw e) (λ e. rw e)
 tests-alike m xs Leave task new = by-state (taskAt (m .clocks) task .state) (λ e. rw e) (λ e. rw e) (λ e. rw e)
 tests-alike m xs Block task new = by-state (taskAt (m .clocks) task .state) (λ e. rw e) (λ e. rw e) (λ e. rw e)
@@ -69,7 +69,7 @@ verdict-alike m xs event task new tasks same =
 
 -- one task's entry
 entry-moved : (event : Event) (e : TaskEntry) (t : Task) → taskOf e ≡ wrappedTask t → taskOf (movedEntry event e) ≡ wrappedTask (moved event t)
-unfolding movedEntry moved counterRange
+unfolding moved counterRange
 entry-moved Join e t same = refl
 entry-moved Leave e t same = refl
 entry-moved Block e t same = rw (ap (λ (u : Task). u .clock) same)

@@ -30,7 +30,7 @@ use Rattle.ledger.specs.declared.Verdict.{Verdict}
 use Rattle.ledger.specs.declared.Verdict.the-variants.{Accepted, Refused}
 
 -- 01: join 2; leave 3; block and tick 3, 4; resume 3, 5
-unfoldable pub verdictOf : Event → State → Verdict
+abbrev pub verdictOf : Event → State → Verdict
 verdictOf Join Absent = Accepted
 verdictOf Join Running = Refused TaskPresent
 verdictOf Join Waiting = Refused TaskPresent
@@ -51,7 +51,7 @@ verdictOf Tick Waiting = Refused TaskWaiting
 abbrev pub nextTime : ℕ → ℕ
 nextTime n = (n + 1) % counterRange
 
-unfoldable pub movedEntry : Event → TaskEntry → TaskEntry
+abbrev pub movedEntry : Event → TaskEntry → TaskEntry
 movedEntry Join e = record { state = 1; ticked = 0; clock = record { 0 = 0 } }
 movedEntry Block e = record { state = 2; ticked = 0; clock = e .clock }
 movedEntry Resume e = record { state = 1; ticked = 0; clock = e .clock }
@@ -80,7 +80,7 @@ leaverOf Leave task = task
 leaverOf Tick task = taskCount
 
 -- whether an expiration stands on, by the entry of its setter and the global time as they are then
-unfoldable pub isLasting : ℕ → TaskEntry → GlobalTime → Due → Bool
+abbrev pub isLasting : ℕ → TaskEntry → GlobalTime → Due → Bool
 isLasting leaver setter global Free = true
 isLasting leaver setter global (Local task at) = not (eqb task leaver) && ltb 0 (leftAt (at .0) (setter .clock .0))
 isLasting leaver setter global (Global at) = ltb 0 (leftAt (at .0) (global .0))

@@ -1,0 +1,136 @@
+-- What make, refresh, read and write test and change of a record: the steps that the code takes, as functions of the record's entries.
+use Prim.Native.Nat.{ℕ, _+_, _%_}
+use mathlib.Core.Bool.{Bool, cond, _||_}
+use mathlib.Core.List.{List}
+use lib.Dec.{eqb, leb, ltb}
+use lib.ListN.{getD, set, take, drop}
+use Rattle.lists.specs.Tables.{firstFrom}
+use Rattle.ledger.specs.Limits.{limits, taskCount, largeSize, lastHandle, counterRange, isSmall}
+use Rattle.ledger.specs.declared.Kind.{Kind}
+use Rattle.ledger.specs.declared.Kind.the-variants.{Local, Global}
+use Rattle.ledger.specs.declared.State.{State}
+use Rattle.ledger.specs.declared.State.the-variants.{Absent, Running, Waiting}
+use Rattle.ledger.specs.declared.Refusal.{Refusal}
+use Rattle.ledger.specs.declared.Refusal.the-variants.{NoSuchTask, TaskAbsent, TaskWaiting, ExtensionTooLong, LengthOutOfRange, HandlesSpent, NoFreeBlock, NoFreeExpiration, HandleNotGiven, ObjectGone, OutsideObject}
+use Rattle.ledger.specs.declared.Verdict.{Verdict}
+use Rattle.ledger.specs.declared.Verdict.the-variants.{Accepted, Refused}
+use Rattle.record.specs.Codes.{stateOf, absentEntry, freeBlock}
+use Rattle.record.specs.declared.TaskEntry.{TaskEntry}
+use Rattle.record.specs.declared.BlockEntry.{BlockEntry}
+use Rattle.record.specs.declared.ExpirationEntry.{ExpirationEntry}
+use Rattle.record.specs.declared.Pool.{Pool}
+
+-- all blocks of both stores
+abbrev pub blockCount : ℕ
+blockCount = limits .smallBlocks + limits .largeBlocks
+
+-- the block of the object with this handle, or blockCount
+abbrev pub placeOf : ℕ → List BlockEntry → ℕ
+placeOf handle blocks = firstFrom 0 (λ (b : BlockEntry). eqb (b .handle) handle) blocks
+
+abbrev pub isFreeBlock : BlockEntry → Bool
+isFreeBlock b = eqb (b .handle) 0
+
+-- where the blocks of a size's store end
+abbrev pub endFor : ℕ → ℕ
+endFor size = cond (isSmall size) (limits .smallBlocks) blockCount
+
+-- the first free block of a size's store, or its end
+unfoldable pub freePlace : ℕ → List BlockEntry → ℕ
+freePlace size blocks =
+    cond (isSmall size) (firstFrom 0 isFreeBlock (take (limits .smallBlocks) blocks))
+    (firstFrom (limits .smallBlocks) isFreeBlock (drop (limits .smallBlocks) blocks))
+
+-- the first free expiration entry, or their count
+abbrev pub isFreeEntry : ExpirationEntry → Bool
+isFreeEntry e = eqb (e .kind) 0
+
+abbrev pub freeSlot : List ExpirationEntry → ℕ
+freeSlot xs = firstFrom 0 isFreeEntry xs
+
+-- one verdict, and where it accepts, the next
+abbrev pub andThen : Verdict → Verdict → Verdict
+andThen Accepted v = v
+andThen (Refused r) v = Refused r
+
+abbrev pub refuseIf : Bool → Refusal → Verdict
+refuseIf holds r = cond holds (Refused r) Accepted
+
+-- 1, 3, 4
+abbrev pub byState : State → Verdict
+byState Absent = Refused TaskAbsent
+byState Running = Accepted
+byState Waiting = Refused TaskWaiting
+
+abbrev pub taskVerdict : ℕ → List TaskEntry → Verdict
+taskVerdict task tasks = andThen (refuseIf (leb taskCount task) NoSuchTask) (byState (stateOf (getD tasks task absentEntry .state)))
+
+-- 6
+abbrev pub extensionVerdict : ℕ → Verdict
+extensionVerdict extension = refuseIf (ltb (limits .extension) extension) ExtensionTooLong
+
+-- 11, 12
+abbrev pub handleVerdict : ℕ → Pool → Verdict
+handleVerdict handle p =
+    andThen (refuseIf (eqb handle 0 || ltb (p .given) handle) HandleNotGiven)
+    (refuseIf (leb blockCount (placeOf handle (p .blocks))) ObjectGone)
+
+-- 10
+abbrev pub slotVerdict : List ExpirationEntry → Verdict
+slotVerdict xs = refuseIf (leb (limits .expirations) (freeSlot xs)) NoFreeExpiration
+
+-- 01's lists for the four
+unfoldable pub makeVerdict : ℕ → ℕ → ℕ → Pool → Verdict
+makeVerdict task extension size p =
+    andThen (taskVerdict task (p .tasks))
+    (andThen (extensionVerdict extension)
+    (andThen (refuseIf (eqb size 0 || ltb largeSize size) LengthOutOfRange)
+    (andThen (refuseIf (leb lastHandle (p .given)) HandlesSpent)
+    (andThen (refuseIf (leb (endFor size) (freePlace size (p .blocks))) NoFreeBlock) (slotVerdict (p .expirations))))))
+
+unfoldable pub refreshVerdict : ℕ → ℕ → ℕ → Pool → Verdict
+refreshVerdict task extension handle p =
+    andThen (taskVerdict task (p .tasks))
+    (andThen (extensionVerdict extension) (andThen (handleVerdict handle p) (slotVerdict (p .expirations))))
+
+unfoldable pub readVerdict : ℕ → ℕ → Pool → Verdict
+readVerdict task handle p = andThen (taskVerdict task (p .tasks)) (handleVerdict handle p)
+
+unfoldable pub writeVerdict : ℕ → ℕ → ℕ → ℕ → Pool → Verdict
+writeVerdict task handle offset count p =
+    andThen (readVerdict task handle p)
+    (refuseIf (ltb (getD (p .blocks) (placeOf handle (p .blocks)) freeBlock .length) (offset + count)) OutsideObject)
+
+-- the entry of an expiration that a task sets on a block: "c + e + 1", "g + e + 2", by counters that wrap
+unfoldable pub entryFor : Kind → ℕ → ℕ → ℕ → Pool → ExpirationEntry
+entryFor Local task extension block p =
+    record { kind = 1; block = block; setter = task; due = (getD (p .tasks) task absentEntry .clock .0 + (extension + 1)) % counterRange }
+entryFor Global task extension block p =
+    record { kind = 2; block = block; setter = task; due = (p .global .0 + (extension + 2)) % counterRange }
+
+-- one expiration more, in an entry that was free
+abbrev pub withEntry : ℕ → ExpirationEntry → Pool → Pool
+withEntry slot e p =
+    record { tasks = p .tasks; global = p .global; given = p .given; blocks = p .blocks; expirations = set (p .expirations) slot e }
+
+-- the next handle, in a block that was free
+abbrev pub withObject : ℕ → ℕ → Pool → Pool
+withObject place size p =
+    record {
+      tasks = p .tasks;
+      global = p .global;
+      given = p .given + 1;
+      blocks = set (p .blocks) place (record { handle = p .given + 1; length = size });
+      expirations = p .expirations;
+    }
+
+-- the record after a make that is accepted, in the first free block and the first free entry
+unfoldable pub madePool : ℕ → Kind → ℕ → ℕ → Pool → Pool
+madePool task kind extension size p =
+    let place = freePlace size (p .blocks) in
+    withEntry (freeSlot (p .expirations)) (entryFor kind task extension place p) (withObject place size p)
+
+-- and after a refresh
+unfoldable pub refreshedPool : ℕ → Kind → ℕ → ℕ → Pool → Pool
+refreshedPool task kind extension handle p =
+    withEntry (freeSlot (p .expirations)) (entryFor kind task extension (placeOf handle (p .blocks)) p) p
