@@ -1,6 +1,7 @@
 -- The thirteen edges hold: the checker computes one test over the whole table, and what passes it holds.
 use mathlib.Core.Bool.{Bool, _&&_}
 use lib.Dec.{T, eqb, eqb→eq}
+use Rattle.lists.specs.Blocks.{overwritten}
 use Rattle.lists.specs.Tests.{all}
 use Rattle.lists.proofs.Tests.{both, sameBy, sameBy→eq, all→All}
 use Rattle.ledger.specs.Limits.{counterRange, limits, taskCount, smallSize, largeSize, lastHandle}
@@ -27,7 +28,7 @@ passing-holds row t =
 -- the checker runs all calls of the table
 all-pass : T (all passes edges)
 unfolding passes edges fresh reply next replies afterAll testsOf verdict
-    freshMemory objectAt written replyTo memoryAfter expirationsAfter usage dueAfter remaining lasting
+    freshMemory objectAt written overwritten replyTo memoryAfter expirationsAfter usage dueAfter remaining lasting
     freshClocks moved allTicked tasksAfter advances clocksAfter
     limits taskCount smallSize largeSize lastHandle counterRange
 all-pass = tt

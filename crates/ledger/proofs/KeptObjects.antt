@@ -8,6 +8,7 @@ use mathlib.Core.Path.{_≡_, sym, _∙_}
 use borrow.Author.Tests.{leb-false, ltb-false, eqb-true, eqb-false}
 use lib.Dec.{eqb, leb, ltb}
 use lib.ListN.{length, length-append, length-take, length-drop, length-replicate}
+use Rattle.lists.specs.Blocks.{overwritten}
 use Rattle.lists.specs.Tests.{filter, All}
 use Rattle.lists.proofs.Cases.{by-test}
 use Rattle.lists.proofs.All.{all-imp, all-both, all-filter, all-append, all-map}
@@ -88,7 +89,7 @@ module _ (handle offset : ℕ) (new : List ℕ) where
   -- a write within an object leaves as many bytes
   written-kept : (given : ℕ) (o : Object) → ObjectKept given o → (eqb (o .handle) handle ≡ true → offset + length new ≤ o .size)
       → ObjectKept given (written handle offset new o)
-  unfolding written
+  unfolding written overwritten
   written-kept given o k f =
       record {
         numbered = k .numbered;

@@ -3,7 +3,8 @@ use Prim.Native.Nat.{ℕ, _+_}
 use mathlib.Core.Bool.{Bool, cond, not}
 use mathlib.Core.List.{List, [], _∷_, _++_, map}
 use lib.Dec.{eqb}
-use lib.ListN.{length, take, drop, replicate}
+use lib.ListN.{length, replicate}
+use Rattle.lists.specs.Blocks.{overwritten}
 use Rattle.lists.specs.Tests.{any, filter, count}
 use Rattle.ledger.specs.Limits.{isSmall}
 use Rattle.ledger.specs.Tasks.{Clocks, freshClocks, isTested, advances, clocksAfter}
@@ -54,7 +55,7 @@ written handle offset new o =
     record {
       handle = o .handle;
       size = o .size;
-      bytes = cond (eqb (o .handle) handle) (take offset old ++ new ++ drop (offset + length new) old) old;
+      bytes = cond (eqb (o .handle) handle) (overwritten offset new old) old;
     }
 
 -- "An object stands while it has a date"

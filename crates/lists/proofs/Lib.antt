@@ -8,3 +8,5 @@ pub mod Permutations
 pub mod Sorting
 pub mod Tables
 pub mod Loops
+pub mod Blocks
+pub mod Copies

@@ -1,0 +1,40 @@
+-- The first bytes of a block are a part of its store: for either store by one argument.
+use Prim.Native.Nat.{ℕ, _+_, _*_, _≤_, _<_}
+use native.Mathlib.Omega.{arith}
+use mathlib.Core.Bool.{cond}
+use mathlib.Core.List.{List}
+use mathlib.Core.Path.{_≡_}
+use borrow.Author.Tests.{ltb-true, ltb-false, eqb-true}
+use lib.ListN.{length, take, drop}
+use Rattle.lists.proofs.Blocks.{apart}
+use Rattle.lists.proofs.Cases.{by-test}
+use Rattle.ledger.specs.Limits.{limits}
+use Rattle.record.specs.Reading.{isSmallBlock, blockBytes}
+use Rattle.stores.specs.Places.{blockCount, storeOf, indexOf, sizeOf, startOf, InBlock}
+
+-- the blocks of the store that has the block
+abbrev pub countOf : ℕ → ℕ
+countOf block = cond (isSmallBlock block) (limits .smallBlocks) (limits .largeBlocks)
+
+module _ {small large : List ℕ} {block count : ℕ} (p : InBlock small large block count) where
+  pub index-within : indexOf block < countOf block
+  unfolding indexOf blockCount
+  index-within =
+      by-test (isSmallBlock block)
+      (λ e. rw e (ltb-true _ _ e))
+      (λ e. rw e (omega (arith, ltb-false block (limits .smallBlocks) e, p .known)))
+
+  pub store-size : length (storeOf small large block) ≡ countOf block * sizeOf block
+  unfolding sizeOf
+  store-size =
+      by-test (isSmallBlock block)
+      (λ e. rw e (eqb-true _ _ (p .small-whole)))
+      (λ e. rw e (eqb-true _ _ (p .large-whole)))
+
+  pub part-within : startOf block + count ≤ length (storeOf small large block)
+  unfolding startOf
+  part-within = omega (arith, store-size, p .within, apart (sizeOf block) (indexOf block) (countOf block) index-within)
+
+  pub part-bytes : take count (drop (startOf block) (storeOf small large block)) ≡ blockBytes small large block count
+  unfolding startOf indexOf sizeOf blockBytes
+  part-bytes = by-test (isSmallBlock block) (λ e. rw (e, p .small-whole)) (λ e. rw (e, p .large-whole))

@@ -1,0 +1,40 @@
+-- Where the blocks lie in the two stores.
+use Prim.Native.Nat.{ℕ, _+_, _-_, _*_, _≤_, _<_}
+use mathlib.Core.Bool.{true, cond}
+use mathlib.Core.List.{List}
+use mathlib.Core.Path.{_≡_}
+use Rattle.lists.specs.Blocks.{overwritten}
+use Rattle.ledger.specs.Limits.{limits, smallSize, largeSize}
+use Rattle.record.specs.Reading.{isSmallBlock, isWholeSmall, isWholeLarge}
+
+-- the blocks of both stores
+unfoldable pub blockCount : ℕ
+blockCount = limits .smallBlocks + limits .largeBlocks
+
+-- the store that has the block, the block's place among the blocks of that store, and its bytes
+abbrev pub storeOf : List ℕ → List ℕ → ℕ → List ℕ
+storeOf small large block = cond (isSmallBlock block) small large
+
+unfoldable pub indexOf : ℕ → ℕ
+indexOf block = cond (isSmallBlock block) block (block - limits .smallBlocks)
+
+unfoldable pub sizeOf : ℕ → ℕ
+sizeOf block = cond (isSmallBlock block) smallSize largeSize
+
+-- where the block starts in its store
+unfoldable pub startOf : ℕ → ℕ
+startOf block = indexOf block * sizeOf block
+
+-- The first bytes of a block lie in its store: the stores have 01's lengths, and the block is long enough.
+pub record InBlock (small large : List ℕ) (block count : ℕ) : Type 0 where
+  pub known : block < blockCount
+  pub small-whole : isWholeSmall small ≡ true
+  pub large-whole : isWholeLarge large ≡ true
+  pub within : count ≤ sizeOf block
+
+-- Either store after new bytes at an offset in a block: the store that has the block changes there, and the other one stays.
+unfoldable pub smallAfter : ℕ → ℕ → List ℕ → List ℕ → List ℕ
+smallAfter block offset new small = cond (isSmallBlock block) (overwritten (startOf block + offset) new small) small
+
+unfoldable pub largeAfter : ℕ → ℕ → List ℕ → List ℕ → List ℕ
+largeAfter block offset new large = cond (isSmallBlock block) large (overwritten (startOf block + offset) new large)

@@ -1,0 +1,93 @@
+// A block's part of a lent store: cleared, written, or handed back.
+ghost use mathlib.Core.Path.{_≡_};
+ghost use mathlib.Core.List.{[]};
+ghost use Prim.Native.Nat.{_+_, _≤_, _<_};
+ghost use lib.ListN.{length, take, drop, replicate};
+ghost use Rattle.lists.specs.Blocks.{overwritten};
+ghost use Rattle.record.specs.Reading.{blockBytes};
+ghost use Rattle.stores.specs.Places.{blockCount, startOf, InBlock};
+
+// 01's figures: the blocks of the small store, the bytes of a small and of a large block.
+const SMALL_BLOCKS: usize = 64;
+
+const SMALL_SIZE: usize = 32;
+
+const LARGE_SIZE: usize = 256;
+
+// All bytes zero.
+fn clear(part: &mut [u8])
+    ensures { λ _. ⌜ now (part .exit) ≡ replicate (length (now (part .entry))) 0 ⌝ }
+{
+    for i in 0..part.len() {
+        part[i] = 0;
+    }
+}
+
+// The bytes over a part of as many.
+fn copy(part: &mut [u8], bytes: &[u8])
+    requires { ⌜ length (now part) ≡ length (now bytes) ⌝ }
+    ensures { λ _. ⌜ now (part .exit) ≡ now (bytes .entry) ⌝ }
+{
+    for i in 0..bytes.len() {
+        part[i] = bytes[i];
+    }
+}
+
+// "clears the block inside its store to zero and changes no other byte"
+pub fn clear_block(store: &mut [u8], at: usize, size: usize)
+    requires { ⌜ at + size ≤ length (now store) ⌝ }
+    ensures { λ _. ⌜ now (store .exit) ≡ overwritten at (replicate size 0) (now (store .entry)) ⌝ }
+{
+    let end = at + size;
+    clear(&mut store[at..end]);
+}
+
+// "replaces those bytes and no other byte"
+pub fn write_block(store: &mut [u8], at: usize, bytes: &[u8])
+    requires { ⌜ at + length (now bytes) ≤ length (now store) ⌝ }
+    ensures { λ _. ⌜ now (store .exit) ≡ overwritten at (now (bytes .entry)) (now (store .entry)) ⌝ }
+{
+    let end = at + bytes.len();
+    copy(&mut store[at..end], bytes);
+}
+
+// Where a block starts in its store.
+pub fn block_start(block: usize) -> usize
+    requires { ⌜ block < blockCount ⌝ }
+    ensures { λ r. ⌜ r ≡ startOf block ⌝ }
+{
+    if block < SMALL_BLOCKS {
+        block * SMALL_SIZE
+    } else {
+        (block - SMALL_BLOCKS) * LARGE_SIZE
+    }
+}
+
+// As many bytes from a place on.
+fn part_of<'a>(store: &'a [u8], at: usize, count: usize) -> &'a [u8]
+    requires { ⌜ at + count ≤ length (now store) ⌝ }
+    ensures { λ r. ⌜ now r ≡ take count (drop at (now (store .entry))) ⌝ }
+{
+    let end = at + count;
+    &store[at..end]
+}
+
+// The first bytes of a block, as a part of the store that has it.
+pub fn block_part<'a>(small: &'a [u8], large: &'a [u8], block: usize, length: usize) -> &'a [u8]
+    requires { ⌜ InBlock (now small) (now large) block length ⌝ }
+    ensures { λ r. ⌜ now r ≡ blockBytes (now (small .entry)) (now (large .entry)) block length ⌝ }
+{
+    let start = block_start(block);
+    if block < SMALL_BLOCKS {
+        part_of(small, start, length)
+    } else {
+        part_of(large, start, length)
+    }
+}
+
+// A part of no bytes, for a refused read.
+pub fn no_part<'a>(small: &'a [u8]) -> &'a [u8]
+    ensures { λ r. ⌜ now r ≡ [] ⌝ }
+{
+    &small[..0]
+}
