@@ -101,7 +101,7 @@ module _ (handle offset : ℕ) (new : List ℕ) where
       }
 
   -- and the order of handles
-  ascending-written : (os : List Object) → Ascending os → Ascending (map (written handle offset new) os)
+  pub ascending-written : (os : List Object) → Ascending os → Ascending (map (written handle offset new) os)
   unfolding written
   ascending-written [] a = tt
   ascending-written (o ∷ os) (l, a) = (all-map _ (written handle offset new) os l, ascending-written os a)

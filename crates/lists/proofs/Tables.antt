@@ -1,11 +1,12 @@
 -- Laws of tables read as lists, and of entries set, for any element type.
-use Prim.Native.Nat.{ℕ, zero, suc}
+use Prim.Native.Nat.{ℕ, zero, suc, _<_}
 use mathlib.Core.Bool.{Bool, true, and-eq-true-iff, cond, _&&_}
-use mathlib.Core.List.{List, [], _∷_, _++_, map, append-assoc, map-id}
+use mathlib.Core.List.{List, [], _∷_, _++_, map, append-assoc, map-append, map-id}
+use mathlib.Core.Logic.{_≢_}
 use mathlib.Core.Path.{_≡_, refl, ap₂, sym, _∙_}
 use borrow.Author.Tests.{eqb-true, eqb-false, ltb-true, ltb-false}
 use lib.Dec.{eqb, ltb}
-use lib.ListN.{getD, length, set}
+use lib.ListN.{getD, length, set, List·getD-eq-default}
 use lib.Seq.{getD-set-same, getD-set-other, set-out}
 use Rattle.lists.proofs.All.{all-append}
 use Rattle.lists.proofs.Cases.{by-test}
@@ -53,6 +54,11 @@ module _ {ℓ κ} {A : Type ℓ} {B : Type κ} where
   filter-readFrom p i f [] = refl
   filter-readFrom p i f (x ∷ xs) = rw (filter-append p (f i x) (readFrom (suc i) f xs), filter-readFrom p (suc i) f xs)
 
+  pub map-readFrom {μ} : {C : Type μ} (g : B → C) (i : ℕ) (f : ℕ → A → List B) (xs : List A)
+      → map g (readFrom i f xs) ≡ readFrom i (λ j x. map g (f j x)) xs
+  map-readFrom g i f [] = refl
+  map-readFrom g i f (x ∷ xs) = rw (map-append, map-readFrom g (suc i) f xs)
+
   -- what the entries show of what they stand for
   pub all-readFrom {μ} : (P : B → Type μ) (f : ℕ → A → List B) (test : ℕ → A → Bool)
       → ((i : ℕ) (x : A) → test i x ≡ true → All P (f i x))
@@ -74,6 +80,18 @@ module _ {ℓ} {A : Type ℓ} where
   getD-mapFrom d f h (x ∷ xs) zero = refl
   getD-mapFrom d f h (x ∷ xs) (suc i) =
       rw (mapFrom-suc 0 f xs) (getD-mapFrom d (λ j. f (suc j)) (λ j. h (suc j)) xs i)
+
+  allFrom-suc : (i : ℕ) (p : ℕ → A → Bool) (xs : List A) → allFrom (suc i) p xs ≡ allFrom i (λ j. p (suc j)) xs
+  allFrom-suc i p [] = refl
+  allFrom-suc i p (x ∷ xs) = rw (allFrom-suc (suc i) p xs)
+
+  -- the entry at an index passes with its place, where all pass and the default does
+  pub allFrom-at : (d : A) (p : ℕ → A → Bool) → ((i : ℕ) → p i d ≡ true) → (xs : List A) → allFrom 0 p xs ≡ true → (i : ℕ)
+      → p i (getD xs i d) ≡ true
+  allFrom-at d p h [] e i = h i
+  allFrom-at d p h (x ∷ xs) e zero = and-eq-true-iff (p 0 x) _ .0 e .0
+  allFrom-at d p h (x ∷ xs) e (suc i) =
+      allFrom-at d (λ j. p (suc j)) (λ j. h (suc j)) xs (sym (allFrom-suc 0 p xs) ∙ and-eq-true-iff (p 0 x) _ .0 e .1) i
 
   -- what each entry passes after f if it passed p, all pass
   pub allFrom-mapFrom : (p q : ℕ → A → Bool) (f : ℕ → A → A) → ((i : ℕ) (x : A) → p i x ≡ true → q i (f i x) ≡ true)
@@ -119,6 +137,13 @@ module _ {ℓ κ μ} {A : Type ℓ} {B : Type κ} {C : Type μ} where
 module _ {ℓ} {A : Type ℓ} where
   pub filter-as-read : (p : A → Bool) (xs : List A) → filter p xs ≡ readBy (λ (x : A). cond (p x) (x ∷ []) []) xs
   filter-as-read p xs = sym (map-id (filter p xs)) ∙ map-filter-as-read (λ x. x) p xs
+
+  -- an entry that is not the default stands in the table
+  pub entry-within : (d : A) (xs : List A) (i : ℕ) → getD xs i d ≢ d → i < length xs
+  entry-within d xs i ne =
+      by-test (ltb i (length xs))
+      (λ e. ltb-true i (length xs) e)
+      (λ e. absurd (ne (List·getD-eq-default xs d (ltb-false i (length xs) e))))
 
   -- an entry after another was set, or the same one
   pub getD-set : (xs : List A) (i j : ℕ) (v d : A) → getD (set xs i v) j d ≡ cond (eqb j i && ltb i (length xs)) v (getD xs j d)

@@ -14,15 +14,12 @@ use Rattle.ledger.specs.declared.Refusal.{Refusal}
 use Rattle.ledger.specs.declared.Refusal.the-variants.{NoSuchTask, TaskAbsent, TaskWaiting, ExtensionTooLong, LengthOutOfRange, HandlesSpent, NoFreeBlock, NoFreeExpiration, HandleNotGiven, ObjectGone, OutsideObject}
 use Rattle.ledger.specs.declared.Verdict.{Verdict}
 use Rattle.ledger.specs.declared.Verdict.the-variants.{Accepted, Refused}
+use Rattle.stores.specs.Places.{blockCount}
 use Rattle.record.specs.Codes.{stateOf, absentEntry, freeBlock}
 use Rattle.record.specs.declared.TaskEntry.{TaskEntry}
 use Rattle.record.specs.declared.BlockEntry.{BlockEntry}
 use Rattle.record.specs.declared.ExpirationEntry.{ExpirationEntry}
 use Rattle.record.specs.declared.Pool.{Pool}
-
--- all blocks of both stores
-abbrev pub blockCount : ℕ
-blockCount = limits .smallBlocks + limits .largeBlocks
 
 -- the block of the object with this handle, or blockCount
 abbrev pub placeOf : ℕ → List BlockEntry → ℕ

@@ -1,0 +1,2 @@
+pub mod StoreBytes
+pub mod ReadWritten
