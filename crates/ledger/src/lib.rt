@@ -1,4 +1,27 @@
-// What code and specifications share: the calls of document 01, their answers, and the refusals with their numbers.
+// What code and specifications share: document 01's figures, its calls, their answers, and the refusals with their numbers.
+
+// 01's four figures that a site may come to choose.
+pub struct Limits {
+    pub small_blocks: usize,
+    pub large_blocks: usize,
+    pub expirations: usize,
+    pub extension: u32,
+}
+
+pub const LIMITS: Limits = Limits {
+    small_blocks: 64,
+    large_blocks: 32,
+    expirations: 256,
+    extension: 30,
+};
+
+// 01: tasks are 0 to 15.
+pub const TASK_COUNT: usize = 16;
+
+// The bytes of a small and of a large block.
+pub const SMALL_SIZE: u32 = 32;
+
+pub const LARGE_SIZE: u32 = 256;
 
 // 01: the state of a task.
 pub enum State {

@@ -67,3 +67,12 @@ not-map {a = false} {b = false} f e = refl
 
 pub or-map : (a : Bool) {b c : Bool} → (b ≡ true → c ≡ true) → (a || b) ≡ true → (a || c) ≡ true
 or-map a f = or-else a (λ d. f)
+
+pub not-or : (a b : Bool) → (not a && not b) ≡ not (a || b)
+not-or true b = refl
+not-or false b = refl
+
+pub not-and-not : (a b : Bool) → (not a || b) ≡ not (a && not b)
+not-and-not true true = refl
+not-and-not true false = refl
+not-and-not false b = refl

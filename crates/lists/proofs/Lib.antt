@@ -10,3 +10,4 @@ pub mod Tables
 pub mod Loops
 pub mod Blocks
 pub mod Copies
+pub mod Implied

@@ -1,11 +1,19 @@
--- Loops over an array, for any element type: one that maps each element, as the start, the turn and the end of its invariant.
+-- Loops over an array, for any element type, each as the start, the turn and the end of its invariant: one that maps each element, one that goes by
+-- what is left (a search, a test of all, a count), and one that sets a flag for each element.
 use Prim.Native.Nat.{ℕ, suc, _+_, _≤_, _<_}
 use native.Mathlib.Numerals.{add-one}
 use native.Mathlib.Omega.{arith}
-use mathlib.Core.List.{List, _++_, map, append-assoc, append-nil, map-append}
-use mathlib.Core.Path.{_≡_, refl, _∙_}
-use lib.ListN.{length, take, drop, getD, set, length-map, drop-of-length-le}
-use lib.Seq.{take-suc, drop-cons, length-take-le, set-at, getD-at, take-all}
+use mathlib.Core.Bool.{Bool, true, false, cond, not, or-true, or-false}
+use mathlib.Core.List.{List, [], _∷_, _++_, map, append-assoc, append-nil, map-append}
+use mathlib.Core.Path.{_≡_, refl, sym, _∙_}
+use lib.Dec.{eqb}
+use lib.ListN.{length, take, drop, getD, set, replicate, length-map, length-take, length-drop, length-set, length-replicate, getD-replicate, drop-of-length-le}
+use lib.Seq.{take-suc, drop-cons, length-take-le, set-at, getD-at, take-all, getD-take, getD-set-same, getD-set-other}
+use borrow.Author.Tests.{eqb-true, eqb-false, not-true, not-false}
+use Rattle.lists.specs.Tests.{any, all, count}
+use Rattle.lists.specs.Tables.{allFrom}
+use Rattle.lists.proofs.Cases.{by-test}
+use Rattle.lists.proofs.Counts.{any-append}
 
 module _ {ℓ} {A : Type ℓ} where
   -- after i turns of n: the first i elements are mapped and the others as they were
@@ -40,3 +48,109 @@ module _ {ℓ} {A : Type ℓ} where
   pub mapped-end : (f : A → A) (xs : List A) (n i : ℕ) (out : List A) → Mapped f xs n i out → n ≤ i → out ≡ map f xs
   mapped-end f xs n i out m h =
       rw (m .so, take-all i xs (omega (arith, m .size)), drop-of-length-le xs {i = i} (omega (arith, m .size)), append-nil)
+
+-- the elements from i up to n: the one at i, and the others
+left {ℓ} : {A : Type ℓ} (xs : List A) (n i : ℕ) (d : A) → n ≤ length xs → i < n
+    → drop i (take n xs) ≡ getD xs i d ∷ drop (suc i) (take n xs)
+left xs n i d k h = rw (drop-cons (take n xs) i d (simp length-take (omega arith)), getD-take n xs i d h)
+
+module _ {ℓ κ} {A : Type ℓ} {R : Type κ} where
+  -- a loop over the elements up to n, at i: the value v that is sought is w of those that are left
+  pub record Scanned (v : R) (xs : List A) (n i : ℕ) (w : List A → R) : Type (ℓ ⊔ κ) where
+    pub size : n ≤ length xs
+    pub within : i ≤ n
+    pub so : v ≡ w (drop i (take n xs))
+
+  pub scanned-start : (w : List A → R) (xs : List A) (n : ℕ) → length xs ≡ n → Scanned (w xs) xs n 0 w
+  scanned-start w xs n e = record { size = omega arith; within = omega arith; so = rw (take-all n xs (omega arith)) }
+
+  -- the same from a to n
+  pub scanned-from : (w : List A → R) (xs : List A) (n a : ℕ) → a ≤ n → n ≤ length xs → Scanned (w (drop a (take n xs))) xs n a w
+  scanned-from w xs n a h k = record { size = k; within = h; so = refl }
+
+  -- the turn that reads x makes w′ of the rest out of w of x and the rest
+  pub scanned-turn : {v : R} {xs : List A} {n i : ℕ} {w : List A → R} (w′ : List A → R) (d : A) → Scanned v xs n i w → i < n
+      → ((ys : List A) → w (getD xs i d ∷ ys) ≡ w′ ys) → Scanned v xs n (i + 1) w′
+  scanned-turn {xs = xs} {n} {i} w′ d s h e =
+      record { size = s .size; within = omega arith; so = rw (s .so, left xs n i d (s .size) h, add-one) (e (drop (suc i) (take n xs))) }
+
+  -- the turn that reads x decides
+  pub scanned-stop : {v : R} {xs : List A} {n i : ℕ} {w : List A → R} (r : R) (d : A) → Scanned v xs n i w → i < n
+      → ((ys : List A) → w (getD xs i d ∷ ys) ≡ r) → r ≡ v
+  scanned-stop {xs = xs} {n} {i} r d s h e = rw (s .so, left xs n i d (s .size) h) (sym (e (drop (suc i) (take n xs))))
+
+  pub scanned-end : {v : R} {xs : List A} {n i : ℕ} {w : List A → R} → Scanned v xs n i w → n ≤ i → w [] ≡ v
+  scanned-end {xs = xs} {n} {i} s h = rw (s .so, drop-of-length-le (take n xs) {i = i} (simp length-take (omega arith)))
+
+module _ {ℓ} {A : Type ℓ} (p : A → Bool) {xs : List A} {n i : ℕ} (d : A) where
+  -- a test of all, left at the first element that fails; r is what the test of the turn's element gave
+  pub all-turn : {v r : Bool} → Scanned v xs n i (all p) → i < n → r ≡ p (getD xs i d) → not r ≡ false → Scanned v xs n (i + 1) (all p)
+  all-turn {r = r} s h e t = scanned-turn (all p) d s h (λ ys. rw (← e, not-false r t))
+
+  pub all-stop : {v r : Bool} → Scanned v xs n i (all p) → i < n → r ≡ p (getD xs i d) → not r ≡ true → false ≡ v
+  all-stop {r = r} s h e t = scanned-stop false d s h (λ ys. rw (← e, not-true r t))
+
+  -- a search, left at the first element that passes
+  pub any-turn : {v r : Bool} → Scanned v xs n i (any p) → i < n → r ≡ p (getD xs i d) → r ≡ false → Scanned v xs n (i + 1) (any p)
+  any-turn s h e t = scanned-turn (any p) d s h (λ ys. rw (← e, t))
+
+  pub any-stop : {v r : Bool} → Scanned v xs n i (any p) → i < n → r ≡ p (getD xs i d) → r ≡ true → true ≡ v
+  any-stop s h e t = scanned-stop true d s h (λ ys. rw (← e, t))
+
+count-le {ℓ} : {A : Type ℓ} (p : A → Bool) (xs : List A) → count p xs ≤ length xs
+count-le p [] = omega arith
+count-le p (x ∷ xs) = let k = count-le p xs in by-test (p x) (λ t. rw t (omega arith)) (λ t. rw t (omega arith))
+
+module _ {ℓ} {A : Type ℓ} (p : A → Bool) {xs : List A} {n : ℕ} where
+  -- a count of the elements from a up to n, so far m, to which the turn adds r
+  pub count-from : (a : ℕ) → a ≤ n → n ≤ length xs → Scanned (count p (drop a (take n xs))) xs n a (λ ys. 0 + count p ys)
+  count-from a h k = record { size = k; within = h; so = omega arith }
+
+  pub count-turn : {i : ℕ} (d : A) {v : ℕ} (m : ℕ) {r : ℕ} → Scanned v xs n i (λ ys. m + count p ys) → i < n → r ≡ cond (p (getD xs i d)) 1 0
+      → Scanned v xs n (i + 1) (λ ys. m + r + count p ys)
+  count-turn {i} d m s h e =
+      scanned-turn _ d s h (λ ys. rw e (by-test (p (getD xs i d)) (λ t. rw t (omega arith)) (λ t. rw t (omega arith))))
+
+  -- so far there are no more than the elements
+  pub count-within : (a : ℕ) {i : ℕ} (m : ℕ) → Scanned (count p (drop a (take n xs))) xs n i (λ ys. m + count p ys) → m ≤ n
+  count-within a m s = omega (arith, s .so, count-le p (drop a (take n xs)), length-drop a (take n xs), length-take n xs)
+
+  pub count-end : {i v : ℕ} (m : ℕ) → Scanned v xs n i (λ ys. m + count p ys) → n ≤ i → m ≡ v
+  count-end m s h = omega (arith, scanned-end s h)
+
+module _ {ℓ} {A : Type ℓ} (p : ℕ → A → Bool) {xs : List A} {n i : ℕ} (d : A) where
+  -- a test of all with their places
+  pub allFrom-turn : {v r : Bool} → Scanned v xs n i (allFrom i p) → i < n → r ≡ p i (getD xs i d) → not r ≡ false
+      → Scanned v xs n (i + 1) (allFrom (i + 1) p)
+  allFrom-turn {r = r} s h e t = scanned-turn _ d s h (λ ys. rw (← e, not-false r t, add-one))
+
+  pub allFrom-stop : {v r : Bool} → Scanned v xs n i (allFrom i p) → i < n → r ≡ p i (getD xs i d) → not r ≡ true → false ≡ v
+  allFrom-stop {r = r} s h e t = scanned-stop false d s h (λ ys. rw (← e, not-true r t))
+
+module _ {ℓ} {A : Type ℓ} (p : ℕ → A → Bool) where
+  -- after i turns of n: each of the first m flags says whether p holds, at its place, of one of the first i elements
+  pub record Marked (xs : List A) (n m i : ℕ) (flags : List Bool) : Type ℓ where
+    pub size : length xs ≡ n
+    pub within : m ≤ length flags
+    pub so : (k : ℕ) → k < m → getD flags k false ≡ any (p k) (take i xs)
+
+  pub marked-start : (xs : List A) (n m l : ℕ) → length xs ≡ n → m ≤ l → Marked xs n m 0 (replicate l false)
+  marked-start xs n m l e h = record { size = e; within = rw length-replicate h; so = λ k b. getD-replicate l k false false (omega arith) }
+
+  -- the turn sets the flag at s, the only place where p holds of its element
+  pub marked-turn : {xs : List A} {n m i : ℕ} {flags : List Bool} (s : ℕ) (d : A) → Marked xs n m i flags → i < n
+      → ((k : ℕ) → k < m → p k (getD xs i d) ≡ eqb s k) → Marked xs n m (i + 1) (set flags s true)
+  marked-turn {xs} {i = i} {flags} s d r h e =
+      record {
+        size = r .size;
+        within = simp length-set (r .within);
+        so = λ k l.
+            rw (add-one, take-suc xs i d (omega (arith, r .size)), any-append, e k l, ← r .so k l)
+            (by-test (eqb s k)
+            (λ t. rw (t, eqb-true s k t, getD-set-same flags k true false (omega (arith, r .within)), or-true))
+            (λ t. rw (t, getD-set-other flags s k true false (λ f. eqb-false s k t (sym f)), or-false)));
+      }
+
+  pub marked-end : {xs : List A} {n m i : ℕ} {flags : List Bool} → Marked xs n m i flags → n ≤ i
+      → (k : ℕ) → k < m → getD flags k false ≡ any (p k) xs
+  marked-end {xs} {i = i} r h k l = rw (take-all i xs (omega (arith, r .size))) at (r .so k l)

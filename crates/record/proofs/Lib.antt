@@ -3,3 +3,7 @@ pub mod Distinct
 pub mod Exists
 pub mod FreshReads
 pub mod Types
+pub mod Entries
+pub mod Handles
+pub mod States
+pub mod Times

@@ -1,6 +1,25 @@
 // The pool's record by value: sixteen task entries, two counters, block entries and expiration entries. It holds nothing but numbers, so every bit
 // pattern of it is a value, which the test of well-formedness (01: a fit record) judges.
+ghost use mathlib.Core.Path.{_≡_};
+ghost use Rattle.record.specs.Reading.{freshPool};
+
+mod blocks;
+pub mod codes;
+mod expirations;
+pub mod fit;
+pub mod tasks;
+
+use codes::ABSENT;
+use codes::FREE;
 use ledger::Answer;
+use ledger::LIMITS;
+use ledger::TASK_COUNT;
+
+// The entries of the block table: those of the small store's blocks, then those of the large one's.
+pub const BLOCK_COUNT: usize = LIMITS.small_blocks + LIMITS.large_blocks;
+
+// The entries of the expiration table.
+pub const EXPIRATION_COUNT: usize = LIMITS.expirations;
 
 // 01: own ticks, a task's own clock.
 pub struct LocalTime(pub u32);
@@ -35,11 +54,11 @@ pub struct ExpirationEntry {
 
 #[repr(C)]
 pub struct Pool {
-    pub tasks: [TaskEntry; 16],
+    pub tasks: [TaskEntry; TASK_COUNT],
     pub global: GlobalTime,
     pub given: u32,
-    pub blocks: [BlockEntry; 96],
-    pub expirations: [ExpirationEntry; 256],
+    pub blocks: [BlockEntry; BLOCK_COUNT],
+    pub expirations: [ExpirationEntry; EXPIRATION_COUNT],
 }
 
 // When an entry's expiration is due: a time by one clock cannot be tested against the other.
@@ -54,4 +73,32 @@ pub enum Due {
 pub struct Outcome {
     pub answer: Answer,
     pub pool: Pool,
+}
+
+// 01: a fresh pool.
+pub fn fresh() -> Pool
+    ensures { λ r. ⌜ r ≡ freshPool ⌝ }
+{
+    let task = TaskEntry {
+        state: ABSENT,
+        ticked: 0,
+        clock: LocalTime(0),
+    };
+    let block = BlockEntry {
+        handle: 0,
+        length: 0,
+    };
+    let expiration = ExpirationEntry {
+        kind: FREE,
+        block: 0,
+        setter: 0,
+        due: 0,
+    };
+    Pool {
+        tasks: [task; TASK_COUNT],
+        global: GlobalTime(0),
+        given: 0,
+        blocks: [block; BLOCK_COUNT],
+        expirations: [expiration; EXPIRATION_COUNT],
+    }
 }
