@@ -67,10 +67,21 @@ module _ {ℓ} {A : Type ℓ} where
   all-true p [] e = tt
   all-true p (x ∷ xs) e = let (h, hs) = and-eq-true-iff (p x) (all p xs) .0 e in (h, all-true p xs hs)
 
+  -- what a filter leaves passes
+  pub all-left : (p : A → Bool) (xs : List A) → All (λ (x : A). p x ≡ true) (filter p xs)
+  all-left p xs = all-filter p (λ x e h. e) xs (all-every (λ (x : A). Unit) (λ x. tt) xs)
+
   -- a test that no element passes fails on every element
   pub none→All : (p : A → Bool) (xs : List A) → any p xs ≡ false → All (λ (x : A). p x ≡ false) xs
   none→All p [] e = tt
   none→All p (x ∷ xs) e = let (head, tail) = or-false-parts (p x) (any p xs) e in (head, none→All p xs tail)
+
+  pub All→none : (p : A → Bool) (xs : List A) → All (λ (x : A). p x ≡ false) xs → any p xs ≡ false
+  All→none p [] h = refl
+  All→none p (x ∷ xs) (h, hs) = rw h (All→none p xs hs)
+
+  pub none-set : (p : A → Bool) (xs : List A) (i : ℕ) (a : A) → p a ≡ false → any p xs ≡ false → any p (set xs i a) ≡ false
+  none-set p xs i a e h = All→none p (set xs i a) (all-set _ xs i (none→All p xs h) e)
 
   -- what an element of a list passes, some element of the list passes
   pub all-members : (xs : List A) → All (λ (x : A). (p : A → Bool) → p x ≡ true → any p xs ≡ true) xs

@@ -5,9 +5,9 @@ use native.Mathlib.Omega.{arith}
 use mathlib.Core.Bool.{Bool, true, false, true≢false, _||_, and-false, or-assoc}
 use mathlib.Core.List.{List, [], _∷_, _++_, map}
 use mathlib.Core.Path.{_≡_, refl, sym, _∙_}
-use lib.ListN.{length, set}
+use lib.ListN.{length, getD, set}
 use Rattle.lists.specs.Tests.{any, all, filter, count}
-use Rattle.lists.proofs.Cases.{by-test, refuted}
+use Rattle.lists.proofs.Cases.{by-test, refuted, or-right, or-map}
 
 module _ {ℓ} {A : Type ℓ} (p : A → Bool) where
   pub any-append : (xs ys : List A) → any p (xs ++ ys) ≡ (any p xs || any p ys)
@@ -29,6 +29,17 @@ module _ {ℓ} {A : Type ℓ} (p : A → Bool) where
       by-test (q x)
       (λ e. rw (e, any-left q f xs))
       (λ e. rw (e, refuted (p x) (λ d. true≢false (sym (f x d) ∙ e))) (any-left q f xs))
+
+  -- one element set: what was found is found still, if the one replaced failed; and what the new one passes is found
+  pub any-set-kept : (xs : List A) (i : ℕ) (a d : A) → p (getD xs i d) ≡ false → any p xs ≡ true → any p (set xs i a) ≡ true
+  any-set-kept [] i a d e h = h
+  any-set-kept (x ∷ xs) zero a d e h = or-right (p a) (rw e at h)
+  any-set-kept (x ∷ xs) (suc i) a d e h = or-map (p x) (any-set-kept xs i a d e) h
+
+  pub any-set-new : (xs : List A) (i : ℕ) (a : A) → i < length xs → p a ≡ true → any p (set xs i a) ≡ true
+  any-set-new [] i a h e = absurd (not-suc-le-zero h)
+  any-set-new (x ∷ xs) zero a h e = rw e
+  any-set-new (x ∷ xs) (suc i) a h e = or-right (p x) (any-set-new xs i a (le-of-suc-le-suc h) e)
 
   pub all-false : (xs : List A) (i : ℕ) (a : A) → i < length xs → p a ≡ false → all p (set xs i a) ≡ false
   all-false [] i a h e = absurd (not-suc-le-zero h)

@@ -11,6 +11,11 @@ module _ {ℓ} {A : Type ℓ} where
   filter-append p [] ys = refl
   filter-append p (x ∷ xs) ys = by-test (p x) (λ e. rw (e, filter-append p xs ys)) (λ e. rw (e, filter-append p xs ys))
 
+  -- a test that every element passes filters nothing out
+  pub filter-all : (p : A → Bool) (xs : List A) → All (λ (x : A). p x ≡ true) xs → filter p xs ≡ xs
+  filter-all p [] h = refl
+  filter-all p (x ∷ xs) (h, hs) = rw (h, filter-all p xs hs)
+
   -- where every element whose image passes p passes q, a filter by q before the map changes nothing
   pub filter-map-filter : (p q : A → Bool) (f : A → A) (xs : List A) → All (λ (x : A). p (f x) ≡ true → q x ≡ true) xs
       → filter p (map f (filter q xs)) ≡ filter p (map f xs)

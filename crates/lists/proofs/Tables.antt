@@ -25,8 +25,13 @@ module _ {ℓ κ} {A : Type ℓ} {B : Type κ} where
   any-readBy p f [] = refl
   any-readBy p f (x ∷ xs) = rw (any-append p (f x) (readBy f xs), any-readBy p f xs)
 
+  -- a reading by entries alone is one by entries with their places
+  pub readBy-as-from : (i : ℕ) (f : A → List B) (xs : List A) → readBy f xs ≡ readFrom i (λ (j : ℕ). f) xs
+  readBy-as-from i f [] = refl
+  readBy-as-from i f (x ∷ xs) = rw (readBy-as-from (suc i) f xs)
+
   -- a reading that begins one place later
-  readFrom-suc : (i : ℕ) (f : ℕ → A → List B) (xs : List A) → readFrom (suc i) f xs ≡ readFrom i (λ j. f (suc j)) xs
+  pub readFrom-suc : (i : ℕ) (f : ℕ → A → List B) (xs : List A) → readFrom (suc i) f xs ≡ readFrom i (λ j. f (suc j)) xs
   readFrom-suc i f [] = refl
   readFrom-suc i f (x ∷ xs) = rw (readFrom-suc (suc i) f xs)
 
@@ -81,17 +86,37 @@ module _ {ℓ} {A : Type ℓ} where
   getD-mapFrom d f h (x ∷ xs) (suc i) =
       rw (mapFrom-suc 0 f xs) (getD-mapFrom d (λ j. f (suc j)) (λ j. h (suc j)) xs i)
 
+  pub allFrom-imp : (p q : ℕ → A → Bool) → ((i : ℕ) (x : A) → p i x ≡ true → q i x ≡ true)
+      → (i : ℕ) (xs : List A) → allFrom i p xs ≡ true → allFrom i q xs ≡ true
+  allFrom-imp p q h i [] e = refl
+  allFrom-imp p q h i (x ∷ xs) e = let (head, tail) = and-eq-true-iff _ _ .0 e in rw (h i x head) (allFrom-imp p q h (suc i) xs tail)
+
+  -- what the test with a place shows of an entry, holds of every entry
+  pub allFrom→All {κ} : (P : A → Type κ) (p : ℕ → A → Bool) → ((i : ℕ) (x : A) → p i x ≡ true → P x)
+      → (i : ℕ) (xs : List A) → allFrom i p xs ≡ true → All P xs
+  allFrom→All P p h i [] e = tt
+  allFrom→All P p h i (x ∷ xs) e = let (head, tail) = and-eq-true-iff _ _ .0 e in (h i x head, allFrom→All P p h (suc i) xs tail)
+
+  -- a test that begins one place later
   allFrom-suc : (i : ℕ) (p : ℕ → A → Bool) (xs : List A) → allFrom (suc i) p xs ≡ allFrom i (λ j. p (suc j)) xs
   allFrom-suc i p [] = refl
   allFrom-suc i p (x ∷ xs) = rw (allFrom-suc (suc i) p xs)
 
-  -- the entry at an index passes with its place, where all pass and the default does
-  pub allFrom-at : (d : A) (p : ℕ → A → Bool) → ((i : ℕ) → p i d ≡ true) → (xs : List A) → allFrom 0 p xs ≡ true → (i : ℕ)
-      → p i (getD xs i d) ≡ true
-  allFrom-at d p h [] e i = h i
-  allFrom-at d p h (x ∷ xs) e zero = and-eq-true-iff (p 0 x) _ .0 e .0
-  allFrom-at d p h (x ∷ xs) e (suc i) =
-      allFrom-at d (λ j. p (suc j)) (λ j. h (suc j)) xs (sym (allFrom-suc 0 p xs) ∙ and-eq-true-iff (p 0 x) _ .0 e .1) i
+  -- the entry at an index passes with its place, and so do all after one is set that does
+  pub allFrom-at : (p : ℕ → A → Bool) (d : A) → ((i : ℕ) → p i d ≡ true) → (xs : List A) → allFrom 0 p xs ≡ true
+      → (i : ℕ) → p i (getD xs i d) ≡ true
+  allFrom-at p d h [] e i = h i
+  allFrom-at p d h (x ∷ xs) e zero = and-eq-true-iff (p 0 x) _ .0 e .0
+  allFrom-at p d h (x ∷ xs) e (suc i) =
+      allFrom-at (λ j. p (suc j)) d (λ j. h (suc j)) xs (rw (allFrom-suc 0 p xs) at (and-eq-true-iff (p 0 x) _ .0 e .1)) i
+
+  pub allFrom-set : (p : ℕ → A → Bool) (xs : List A) (i : ℕ) (a : A) → p i a ≡ true → allFrom 0 p xs ≡ true
+      → allFrom 0 p (set xs i a) ≡ true
+  allFrom-set p [] i a h e = refl
+  allFrom-set p (x ∷ xs) zero a h e = rw h (and-eq-true-iff (p 0 x) _ .0 e .1)
+  allFrom-set p (x ∷ xs) (suc i) a h e =
+      let (head, tail) = and-eq-true-iff (p 0 x) _ .0 e in
+      rw (head, allFrom-suc 0 p (set xs i a)) (allFrom-set (λ j. p (suc j)) xs i a h (rw (allFrom-suc 0 p xs) at tail))
 
   -- what each entry passes after f if it passed p, all pass
   pub allFrom-mapFrom : (p q : ℕ → A → Bool) (f : ℕ → A → A) → ((i : ℕ) (x : A) → p i x ≡ true → q i (f i x) ≡ true)

@@ -47,7 +47,7 @@ module _ (small large : List ℕ) (small-whole : isWholeSmall small ≡ true) (l
   unfolding isFitBlock
   used-in-block p fit j known used =
       let b = getD (p .blocks) j freeBlock in
-      let fits = allFrom-at freeBlock (isFitBlock (p .given) (p .expirations)) (λ i. refl) (p .blocks) (fit .blocks) j in
+      let fits = allFrom-at (isFitBlock (p .given) (p .expirations)) freeBlock (λ i. refl) (p .blocks) (fit .blocks) j in
       let (_, sized, _) = and₃ (any (isNaming j) (p .expirations)) (isSizedFor j (b .length)) (leb (b .handle) (p .given)) (rw used at fits) in
       in-block j known (b .length) (sized-within j (b .length) sized)
 

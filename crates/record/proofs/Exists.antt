@@ -103,7 +103,7 @@ module _ (small large : List ℕ) where
       rw z (rw (bytes-shown block (b .length) (sized-small block (b .length) sized)), tt))
 
   -- what holds of the blocks' handles holds of the objects'
-  handles-read : (P : ℕ → Type 0) (i : ℕ) (bs : List BlockEntry) → All (λ (b : BlockEntry). P (b .handle)) bs
+  pub handles-read : (P : ℕ → Type 0) (i : ℕ) (bs : List BlockEntry) → All (λ (b : BlockEntry). P (b .handle)) bs
       → All (λ (o : Object). P (o .handle)) (readFrom i (objectIn small large) bs)
   unfolding objectIn
   handles-read P i [] h = tt

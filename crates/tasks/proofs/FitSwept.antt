@@ -65,7 +65,7 @@ lasting-fits leaver before after global later used (Global at) f l e k =
 lasting-fits leaver before after global later used Unknown f l e k = e
 
 -- only an expiration in use looks at its block
-used-fits : (setter : TaskEntry) (global : GlobalTime) (before after : Bool) (due : Due) → (isDated due ≡ true → after ≡ before)
+pub used-fits : (setter : TaskEntry) (global : GlobalTime) (before after : Bool) (due : Due) → (isDated due ≡ true → after ≡ before)
     → isFitDue setter global before due ≡ true → isFitDue setter global after due ≡ true
 unfolding isFitDue
 used-fits setter global before after Free f e = refl

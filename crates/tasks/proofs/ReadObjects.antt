@@ -47,7 +47,7 @@ shown-handle tasks global g h (Global at) = or-false (eqb g h)
 shown-handle tasks global g h Unknown = refl
 
 -- so what it shows depends on that handle only where it is in use
-same-shown : (tasks : List TaskEntry) (global : GlobalTime) (g h : ℕ) (due : Due) → (isDated due ≡ true → g ≡ h)
+pub same-shown : (tasks : List TaskEntry) (global : GlobalTime) (g h : ℕ) (due : Due) → (isDated due ≡ true → g ≡ h)
     → shownDue tasks global g due ≡ shownDue tasks global h due
 unfolding shownDue
 same-shown tasks global g h Free e = refl

@@ -1,0 +1,223 @@
+-- Make and refresh do the same to the ledger that a well-formed record reads as, whichever free block and free entry they take.
+use Prim.Native.Nat.{ℕ, _+_, _-_, _≤_, _<_}
+use native.Mathlib.Omega.{arith}
+use mathlib.Core.Bool.{true, cond, and-eq-true-iff}
+use mathlib.Core.List.{List, [], _∷_, _++_, map, map-append, List·Permᴰ, List·Permᴰ·cons, List·Permᴰ·trans, Permᴰ·symm}
+use mathlib.Core.Logic.{_≢_}
+use mathlib.Core.Path.{_≡_, refl, ap, fun-ext, _∙_}
+use borrow.Author.Tests.{eqb-false, leb-true, eq-eqb, ne-eqb}
+use lib.Dec.{eqb, leb}
+use lib.ListN.{length, getD, set, replicate}
+use lib.Seq.{getD-set-same}
+use Rattle.lists.specs.Tests.{All}
+use Rattle.lists.specs.Tables.{readBy, readFrom}
+use Rattle.lists.proofs.Cases.{by-test, or-right}
+use Rattle.lists.proofs.All.{all-imp, all-left, all-true, all-map, map-all}
+use Rattle.lists.proofs.Filters.{filter-append, filter-all}
+use Rattle.lists.proofs.Pairwise.{pairwise-append}
+use Rattle.lists.proofs.Permutations.{last-perm, all-perm, readBy-set, readFrom-set}
+use Rattle.lists.proofs.Tables.{readBy-same, readFrom-same, allFrom-at}
+use Rattle.ledger.specs.Limits.{smallSize, largeSize}
+use Rattle.ledger.specs.Tasks.{Clocks, taskAt}
+use Rattle.ledger.specs.Expirations.{Expiration, isOf, dueAfter, remaining}
+use Rattle.ledger.specs.Objects.{Object, zeroed, stands, standing, memoryAfter, expirationsAfter}
+use Rattle.ledger.specs.Ledger.{Ledger, settled}
+use Rattle.ledger.specs.Compared.{leftOf, shown, shownObject, viewOf}
+use Rattle.ledger.specs.declared.Kind.{Kind}
+use Rattle.ledger.specs.declared.Kind.the-variants.{Local, Global}
+use Rattle.ledger.specs.declared.Call.the-variants.{Make, Refresh}
+use Rattle.record.specs.Codes.{dueOf, freeBlock, freeEntry}
+use Rattle.record.specs.Reading.{isSmallBlock, shownDue, shownEntry, isWhole, blockBytes, objectIn, recordView, Typed, Reads}
+use Rattle.record.specs.WellFormed.{isSizedFor, isFitBlock, handleOf}
+use Rattle.record.specs.declared.BlockEntry.{BlockEntry}
+use Rattle.record.specs.declared.Pool.{Pool}
+use Rattle.record.proofs.Facts.{Fit}
+use Rattle.record.proofs.Distinct.{handleAt}
+use Rattle.record.proofs.Exists.{handles-read}
+use Rattle.tasks.proofs.ReadObjects.{same-shown, objects-alike, none-freed}
+use Rattle.objects.specs.Steps.{entryFor, withEntry, withObject}
+use Rattle.objects.proofs.Taken.{MaySet, SlotFree, PlaceFree, newBlock, slot-due, units-set, clock-range, block-stays, fit-block, handles-given}
+
+-- the object stands by these expirations
+abbrev Stands : List Expiration → Object → Type 0
+Stands ys o = stands ys (o .handle) ≡ true
+
+module _ (p : Pool) (small large : List ℕ) (L : Ledger) (fit : Fit p) (reads : Reads p small large L) where
+  -- the record's objects are those that stand in the ledger: no block is to be freed
+  standing-read : List·Permᴰ (readFrom 0 (objectIn small large) (p .blocks))
+      (map (shownObject (isWhole small large)) (standing (L .expirations) (L .memory .objects)))
+  unfolding recordView viewOf
+  standing-read =
+      rw (none-freed small large (p .given) (p .expirations) (p .blocks) (fit .blocks)) at
+      (objects-alike (p .tasks) (p .global) (p .blocks) (p .expirations) (fit .distinct) (L .memory .clocks) (L .expirations)
+      (reads .alike .expirations) small large (isWhole small large) (L .memory .objects) (reads .alike .objects))
+
+  -- so all the ledger's objects stand
+  pub every-object-stands : standing (L .expirations) (L .memory .objects) ≡ L .memory .objects
+  unfolding recordView viewOf
+  every-object-stands =
+      let holds = Stands (L .expirations) in
+      let os = L .memory .objects in
+      let left = all-map holds (shownObject (isWhole small large)) (standing (L .expirations) os) (all-left _ os) in
+      filter-all _ os
+      (map-all holds (shownObject (isWhole small large)) os (all-perm holds (List·Permᴰ·trans (Permᴰ·symm standing-read) (reads .alike .objects)) left))
+
+-- they do with one expiration more
+standing-more : (y : Expiration) (ys : List Expiration) (os : List Object) → standing ys os ≡ os → standing (y ∷ ys) os ≡ os
+standing-more y ys os all =
+    filter-all _ os (all-imp {P = Stands ys} (λ o s. or-right (isOf (o .handle) y) s) os (rw all at (all-left (λ (o : Object). stands ys (o .handle)) os)))
+
+-- and with its object
+standing-made : (y : Expiration) (ys : List Expiration) (os : List Object) (o : Object) → isOf (o .handle) y ≡ true → standing ys os ≡ os
+    → standing (y ∷ ys) (os ++ (o ∷ [])) ≡ os ++ (o ∷ [])
+standing-made y ys os o own all = rw (filter-append, standing-more y ys os all, own)
+
+-- the expiration that the ledger sets
+abbrev newExpiration : Clocks → Kind → ℕ → ℕ → ℕ → Expiration
+newExpiration clocks kind task extension handle = record { handle = handle; due = dueAfter clocks task kind extension }
+
+-- the record's new entry shows what it does, by any clocks: the units that were set
+entry-shown : (p : Pool) → Typed p → (kind : Kind) (task extension place : ℕ) → MaySet task extension p → (blocks : List BlockEntry) (clocks : Clocks)
+    → shownEntry (p .tasks) (p .global) blocks (entryFor kind task extension place p)
+    ≡ shown clocks (newExpiration clocks kind task extension (handleAt blocks place)) ∷ []
+unfolding entryFor dueOf shownDue dueAfter leftOf remaining
+entry-shown p types Local task extension place may blocks clocks =
+    let units : taskAt clocks task .clock + extension + 1 - taskAt clocks task .clock ≡ extension + 1 = omega arith in
+    rw (units-set _ (extension + 1) (clock-range p types task) (omega (arith, may .short)), units)
+entry-shown p types Global task extension place may blocks clocks =
+    let units : clocks .global + extension + 2 - clocks .global ≡ extension + 2 = omega arith in
+    rw (units-set (p .global .0) (extension + 2) (types .global) (omega (arith, may .short)), units)
+
+-- A call that sets an expiration
+module _ (p : Pool) (small large : List ℕ) (L : Ledger) (fit : Fit p) (types : Typed p) (reads : Reads p small large L)
+    (kind : Kind) (task extension place slot : ℕ) (may : MaySet task extension p) (entry : SlotFree slot (p .expirations)) where
+  -- where the older entries show by these blocks what they showed, the new one is one more
+  expirations-set : (blocks : List BlockEntry) (handle : ℕ) → handleAt blocks place ≡ handle
+      → readBy (shownEntry (p .tasks) (p .global) blocks) (p .expirations) ≡ readBy (shownEntry (p .tasks) (p .global) (p .blocks)) (p .expirations)
+      → List·Permᴰ (readBy (shownEntry (p .tasks) (p .global) blocks) (set (p .expirations) slot (entryFor kind task extension place p)))
+      (map (shown (L .memory .clocks)) (newExpiration (L .memory .clocks) kind task extension handle ∷ L .expirations))
+  unfolding recordView viewOf shownDue
+  expirations-set blocks handle named same =
+      let shows = shownEntry (p .tasks) (p .global) blocks in
+      let new = entryFor kind task extension place p in
+      let front = readBy-set freeEntry shows (p .expirations) slot new (entry .listed) (rw (slot-due slot (p .expirations) entry)) in
+      List·Permᴰ·trans (rw (entry-shown p types kind task extension place may blocks (L .memory .clocks), named, same) at front)
+      (List·Permᴰ·cons refl (reads .alike .expirations))
+
+  -- a refresh of the object in a block
+  pub refreshed-reads : (handle : ℕ) → handleAt (p .blocks) place ≡ handle
+      → (let call = Refresh task kind extension handle in
+      Reads (withEntry slot (entryFor kind task extension place p) p) small large
+      (settled (memoryAfter call [] (L .memory)) (expirationsAfter call (L .memory) (L .expirations))))
+  unfolding recordView viewOf memoryAfter expirationsAfter
+  refreshed-reads handle named =
+      let y = newExpiration (L .memory .clocks) kind task extension handle in
+      let all = standing-more y (L .expirations) (L .memory .objects) (every-object-stands p small large L fit reads) in
+      record {
+        alike =
+            record {
+              tasks = reads .alike .tasks;
+              global = reads .alike .global;
+              given = reads .alike .given;
+              objects = rw all (reads .alike .objects);
+              expirations = expirations-set (p .blocks) handle named refl;
+            };
+        ascending = rw all (reads .ascending);
+      }
+
+-- the bytes that a block has room for
+abbrev pub blockSize : ℕ → ℕ
+blockSize block = cond (isSmallBlock block) smallSize largeSize
+
+-- "clears the block inside its store to zero and changes no other byte": the stores before and after, where the block's has 01's length
+pub record Cleared (small large small′ large′ : List ℕ) (place size : ℕ) : Type 0 where
+  pub whole : isWhole small large size ≡ true
+  pub smallLength : length small′ ≡ length small
+  pub largeLength : length large′ ≡ length large
+  pub others : (block n : ℕ) → block ≢ place → n ≤ blockSize block → blockBytes small′ large′ block n ≡ blockBytes small large block n
+  pub zeros : blockBytes small′ large′ place size ≡ replicate size 0
+
+-- a length of its store's range is one of its block's
+sized-within : (block size : ℕ) → isSizedFor block size ≡ true → size ≤ blockSize block
+sized-within block size e =
+    by-test (isSmallBlock block)
+    (λ s. rw s (leb-true size smallSize (and-eq-true-iff (leb 1 size) _ .0 (rw s at e) .1)))
+    (λ s. rw s (leb-true size largeSize (and-eq-true-iff (leb (smallSize + 1) size) _ .0 (rw s at e) .1)))
+
+-- A make
+module _ (p : Pool) (small large small′ large′ : List ℕ) (L : Ledger) (fit : Fit p) (types : Typed p) (reads : Reads p small large L)
+    (kind : Kind) (task extension size place slot : ℕ) (may : MaySet task extension p) (block : PlaceFree place size (p .blocks))
+    (entry : SlotFree slot (p .expirations)) (cleared : Cleared small large small′ large′ place size) where
+  -- the older entries show what they showed: those in use name blocks that were in use
+  expirations-stay : readBy (shownEntry (p .tasks) (p .global) (withObject place size p .blocks)) (p .expirations)
+      ≡ readBy (shownEntry (p .tasks) (p .global) (p .blocks)) (p .expirations)
+  expirations-stay =
+      readBy-same _ _ (p .expirations)
+      (all-imp
+      (λ e h.
+      let stays = block-stays (p .tasks) (p .global) (p .blocks) place (newBlock (p .given) size) (block .free) e h in
+      same-shown (p .tasks) (p .global) _ _ (dueOf e) (λ dated. ap handleOf (stays dated)))
+      (p .expirations) (all-true _ (p .expirations) (fit .entries)))
+
+  -- the older blocks have the objects that they had
+  object-stays : (i : ℕ) → objectIn small′ large′ i (getD (p .blocks) i freeBlock) ≡ objectIn small large i (getD (p .blocks) i freeBlock)
+  unfolding objectIn isFitBlock
+  object-stays i =
+      let b = getD (p .blocks) i freeBlock in
+      let fits = allFrom-at (isFitBlock (p .given) (p .expirations)) freeBlock (λ j. refl) (p .blocks) (fit .blocks) i in
+      by-test (eqb (b .handle) 0)
+      (λ z. rw z)
+      (λ z.
+      let sized = fit-block (p .given) (p .expirations) i b fits z .1 in
+      rw (z, cleared .others i (b .length) (λ at. eqb-false (b .handle) 0 z (rw at (block .free))) (sized-within i (b .length) sized)))
+
+  -- the new one has zeros
+  object-shown : objectIn small′ large′ place (newBlock (p .given) size) ≡ shownObject (isWhole small large) (zeroed (L .memory .given + 1) size) ∷ []
+  unfolding objectIn recordView viewOf
+  object-shown = rw (ne-eqb (p .given + 1) 0 (λ z. omega arith), cleared .zeros, cleared .whole, reads .alike .given)
+
+  -- the record's blocks have it in some place, the ledger at the end
+  objects-set : List·Permᴰ (readFrom 0 (objectIn small′ large′) (withObject place size p .blocks))
+      (map (shownObject (isWhole small large)) (L .memory .objects ++ (zeroed (L .memory .given + 1) size ∷ [])))
+  unfolding recordView viewOf objectIn
+  objects-set =
+      let front = readFrom-set freeBlock (objectIn small′ large′) (p .blocks) place (newBlock (p .given) size) (block .listed) (rw (block .free)) in
+      rw map-append
+      (List·Permᴰ·trans (rw (object-shown, readFrom-same freeBlock _ (objectIn small large) (p .blocks) object-stays) at front)
+      (List·Permᴰ·trans (List·Permᴰ·cons refl (reads .alike .objects)) (last-perm _ _)))
+
+  -- its handle is above all others of the ledger
+  handles-below : All (λ (o : Object). o .handle < L .memory .given + 1) (L .memory .objects)
+  unfolding recordView viewOf
+  handles-below =
+      let Below : ℕ → Type 0 = λ h. h < L .memory .given + 1 in
+      let read = handles-read small large Below 0 (p .blocks) (all-imp (λ b h. omega (arith, reads .alike .given)) (p .blocks) (handles-given p fit)) in
+      map-all _ (shownObject (isWhole small large)) (L .memory .objects) (all-perm _ (reads .alike .objects) read)
+
+  same-whole : isWhole small′ large′ ≡ isWhole small large
+  same-whole = fun-ext (λ n. rw (cleared .smallLength, cleared .largeLength))
+
+  pub made-reads : (let call = Make task kind extension size in
+      Reads (withEntry slot (entryFor kind task extension place p) (withObject place size p)) small′ large′
+      (settled (memoryAfter call [] (L .memory)) (expirationsAfter call (L .memory) (L .expirations))))
+  unfolding recordView viewOf memoryAfter expirationsAfter
+  made-reads =
+      let handle = L .memory .given + 1 in
+      let y = newExpiration (L .memory .clocks) kind task extension handle in
+      let old = every-object-stands p small large L fit reads in
+      let all = standing-made y (L .expirations) (L .memory .objects) (zeroed handle size) (eq-eqb handle handle refl) old in
+      let given = ap (λ n. n + 1) (reads .alike .given) in
+      let named = ap handleOf (getD-set-same (p .blocks) place (newBlock (p .given) size) freeBlock (block .listed)) ∙ given in
+      record {
+        alike =
+            record {
+              tasks = reads .alike .tasks;
+              global = reads .alike .global;
+              given = given;
+              objects = rw (all, same-whole) objects-set;
+              expirations =
+                  expirations-set p small large L fit types reads kind task extension place slot may entry (withObject place size p .blocks) handle named
+                  expirations-stay;
+            };
+        ascending = rw all (pairwise-append _ (zeroed handle size) (L .memory .objects) handles-below (reads .ascending));
+      }
