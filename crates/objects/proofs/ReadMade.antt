@@ -1,23 +1,22 @@
 -- Make and refresh do the same to the ledger that a well-formed record reads as, whichever free block and free entry they take.
 use Prim.Native.Nat.{ℕ, _+_, _-_, _≤_, _<_}
 use native.Mathlib.Omega.{arith}
-use mathlib.Core.Bool.{true, cond, and-eq-true-iff}
+use mathlib.Core.Bool.{true}
 use mathlib.Core.List.{List, [], _∷_, _++_, map, map-append, List·Permᴰ, List·Permᴰ·cons, List·Permᴰ·trans, Permᴰ·symm}
-use mathlib.Core.Logic.{_≢_}
 use mathlib.Core.Path.{_≡_, refl, ap, fun-ext, _∙_}
 use borrow.Author.Tests.{eqb-false, leb-true, eq-eqb, ne-eqb}
-use lib.Dec.{eqb, leb}
-use lib.ListN.{length, getD, set, replicate}
+use lib.Dec.{eqb}
+use lib.ListN.{length, getD, set}
 use lib.Seq.{getD-set-same}
 use Rattle.lists.specs.Tests.{All}
 use Rattle.lists.specs.Tables.{readBy, readFrom}
-use Rattle.lists.proofs.Cases.{by-test, or-right}
+use Rattle.lists.proofs.Cases.{by-test, or-right, cond-same}
 use Rattle.lists.proofs.All.{all-imp, all-left, all-true, all-map, map-all}
 use Rattle.lists.proofs.Filters.{filter-append, filter-all}
 use Rattle.lists.proofs.Pairwise.{pairwise-append}
 use Rattle.lists.proofs.Permutations.{last-perm, all-perm, readBy-set, readFrom-set}
-use Rattle.lists.proofs.Tables.{readBy-same, readFrom-same, allFrom-at}
-use Rattle.ledger.specs.Limits.{smallSize, largeSize}
+use Rattle.lists.proofs.Tables.{readBy-same, readFrom-same, entry-within}
+use Rattle.ledger.specs.Limits.{smallSize, largeSize, isSmall}
 use Rattle.ledger.specs.Tasks.{Clocks, taskAt}
 use Rattle.ledger.specs.Expirations.{Expiration, isOf, dueAfter, remaining}
 use Rattle.ledger.specs.Objects.{Object, zeroed, stands, standing, memoryAfter, expirationsAfter}
@@ -26,9 +25,10 @@ use Rattle.ledger.specs.Compared.{leftOf, shown, shownObject, viewOf}
 use Rattle.ledger.specs.declared.Kind.{Kind}
 use Rattle.ledger.specs.declared.Kind.the-variants.{Local, Global}
 use Rattle.ledger.specs.declared.Call.the-variants.{Make, Refresh}
+use Rattle.stores.specs.Places.{sizeOf}
 use Rattle.record.specs.Codes.{dueOf, freeBlock, freeEntry}
-use Rattle.record.specs.Reading.{isSmallBlock, shownDue, shownEntry, isWhole, blockBytes, objectIn, recordView, Typed, Reads}
-use Rattle.record.specs.WellFormed.{isSizedFor, isFitBlock, handleOf}
+use Rattle.record.specs.Reading.{isSmallBlock, shownDue, shownEntry, isWholeSmall, isWholeLarge, isWhole, objectIn, recordView, Typed, Reads}
+use Rattle.record.specs.WellFormed.{handleOf}
 use Rattle.record.specs.declared.BlockEntry.{BlockEntry}
 use Rattle.record.specs.declared.Pool.{Pool}
 use Rattle.record.proofs.Facts.{Fit}
@@ -36,7 +36,8 @@ use Rattle.record.proofs.Distinct.{handleAt}
 use Rattle.record.proofs.Exists.{handles-read}
 use Rattle.tasks.proofs.ReadObjects.{same-shown, objects-alike, none-freed}
 use Rattle.objects.specs.Steps.{entryFor, withEntry, withObject}
-use Rattle.objects.proofs.Taken.{MaySet, SlotFree, PlaceFree, newBlock, slot-due, units-set, clock-range, block-stays, fit-block, handles-given}
+use Rattle.objects.proofs.StoreBytes.{BytesCleared, used-in-block}
+use Rattle.objects.proofs.Taken.{MaySet, SlotFree, PlaceFree, newBlock, slot-due, units-set, clock-range, block-stays, handles-given}
 
 -- the object stands by these expirations
 abbrev Stands : List Expiration → Object → Type 0
@@ -125,29 +126,19 @@ module _ (p : Pool) (small large : List ℕ) (L : Ledger) (fit : Fit p) (types :
         ascending = rw all (reads .ascending);
       }
 
--- the bytes that a block has room for
-abbrev pub blockSize : ℕ → ℕ
-blockSize block = cond (isSmallBlock block) smallSize largeSize
+-- a size is no more than the blocks of its store have
+size-within : (place size : ℕ) → isSmallBlock place ≡ isSmall size → size ≤ largeSize → size ≤ sizeOf place
+unfolding sizeOf
+size-within place size store most = rw store (by-test (isSmall size) (λ s. rw s (leb-true size smallSize s)) (λ s. rw s most))
 
--- "clears the block inside its store to zero and changes no other byte": the stores before and after, where the block's has 01's length
-pub record Cleared (small large small′ large′ : List ℕ) (place size : ℕ) : Type 0 where
-  pub whole : isWhole small large size ≡ true
-  pub smallLength : length small′ ≡ length small
-  pub largeLength : length large′ ≡ length large
-  pub others : (block n : ℕ) → block ≢ place → n ≤ blockSize block → blockBytes small′ large′ block n ≡ blockBytes small large block n
-  pub zeros : blockBytes small′ large′ place size ≡ replicate size 0
-
--- a length of its store's range is one of its block's
-sized-within : (block size : ℕ) → isSizedFor block size ≡ true → size ≤ blockSize block
-sized-within block size e =
-    by-test (isSmallBlock block)
-    (λ s. rw s (leb-true size smallSize (and-eq-true-iff (leb 1 size) _ .0 (rw s at e) .1)))
-    (λ s. rw s (leb-true size largeSize (and-eq-true-iff (leb (smallSize + 1) size) _ .0 (rw s at e) .1)))
+both-whole : (small large : List ℕ) → isWholeSmall small ≡ true → isWholeLarge large ≡ true → (size : ℕ) → isWhole small large size ≡ true
+both-whole small large s l size = rw (s, l, cond-same)
 
 -- A make
 module _ (p : Pool) (small large small′ large′ : List ℕ) (L : Ledger) (fit : Fit p) (types : Typed p) (reads : Reads p small large L)
     (kind : Kind) (task extension size place slot : ℕ) (may : MaySet task extension p) (block : PlaceFree place size (p .blocks))
-    (entry : SlotFree slot (p .expirations)) (cleared : Cleared small large small′ large′ place size) where
+    (entry : SlotFree slot (p .expirations)) (small-whole : isWholeSmall small ≡ true) (large-whole : isWholeLarge large ≡ true)
+    (cleared : BytesCleared small large small′ large′ place) where
   -- the older entries show what they showed: those in use name blocks that were in use
   expirations-stay : readBy (shownEntry (p .tasks) (p .global) (withObject place size p .blocks)) (p .expirations)
       ≡ readBy (shownEntry (p .tasks) (p .global) (p .blocks)) (p .expirations)
@@ -161,20 +152,20 @@ module _ (p : Pool) (small large small′ large′ : List ℕ) (L : Ledger) (fit
 
   -- the older blocks have the objects that they had
   object-stays : (i : ℕ) → objectIn small′ large′ i (getD (p .blocks) i freeBlock) ≡ objectIn small large i (getD (p .blocks) i freeBlock)
-  unfolding objectIn isFitBlock
+  unfolding objectIn
   object-stays i =
       let b = getD (p .blocks) i freeBlock in
-      let fits = allFrom-at (isFitBlock (p .given) (p .expirations)) freeBlock (λ j. refl) (p .blocks) (fit .blocks) i in
       by-test (eqb (b .handle) 0)
       (λ z. rw z)
       (λ z.
-      let sized = fit-block (p .given) (p .expirations) i b fits z .1 in
-      rw (z, cleared .others i (b .length) (λ at. eqb-false (b .handle) 0 z (rw at (block .free))) (sized-within i (b .length) sized)))
+      let known : i < 96 = omega (arith, entry-within freeBlock (p .blocks) i (λ e. eqb-false (b .handle) 0 z (ap handleOf e)), types .blocks) in
+      let part = used-in-block small large small-whole large-whole p fit i known (rw z) in
+      rw (z, cleared .others i (λ at. eqb-false (b .handle) 0 z (rw at (block .free))) (b .length) part))
 
   -- the new one has zeros
   object-shown : objectIn small′ large′ place (newBlock (p .given) size) ≡ shownObject (isWhole small large) (zeroed (L .memory .given + 1) size) ∷ []
   unfolding objectIn recordView viewOf
-  object-shown = rw (ne-eqb (p .given + 1) 0 (λ z. omega arith), cleared .zeros, cleared .whole, reads .alike .given)
+  object-shown = rw (ne-eqb (p .given + 1) 0 (λ z. omega arith), cleared .zeros size (size-within place size (block .store) (block .most)), both-whole small large small-whole large-whole size, reads .alike .given)
 
   -- the record's blocks have it in some place, the ledger at the end
   objects-set : List·Permᴰ (readFrom 0 (objectIn small′ large′) (withObject place size p .blocks))
@@ -195,7 +186,7 @@ module _ (p : Pool) (small large small′ large′ : List ℕ) (L : Ledger) (fit
       map-all _ (shownObject (isWhole small large)) (L .memory .objects) (all-perm _ (reads .alike .objects) read)
 
   same-whole : isWhole small′ large′ ≡ isWhole small large
-  same-whole = fun-ext (λ n. rw (cleared .smallLength, cleared .largeLength))
+  same-whole = fun-ext (λ n. rw (cleared .small-size, cleared .large-size))
 
   pub made-reads : (let call = Make task kind extension size in
       Reads (withEntry slot (entryFor kind task extension place p) (withObject place size p)) small′ large′
