@@ -1,10 +1,14 @@
 -- Laws of filters, for any element type.
-use mathlib.Core.Bool.{Bool, true, true≢false, _&&_}
+use Prim.Native.Nat.{_+_}
+use native.Mathlib.Nat.{add-zero, zero-add}
+use mathlib.Core.Bool.{Bool, true, false, true≢false, not, _&&_}
 use mathlib.Core.List.{List, [], _∷_, _++_, map, map-id}
-use mathlib.Core.Path.{_≡_, refl, ap, sym, _∙_}
+use mathlib.Core.Path.{_≡_, refl, ap, ap₂, sym, _∙_}
 use lib.ListN.{length}
 use Rattle.lists.specs.Tests.{any, filter, count, All}
 use Rattle.lists.proofs.Cases.{by-test, refuted}
+use Rattle.lists.proofs.All.{all-imp}
+use Rattle.lists.proofs.Counts.{count-append, count-none}
 
 module _ {ℓ} {A : Type ℓ} where
   pub filter-append : (p : A → Bool) (xs ys : List A) → filter p (xs ++ ys) ≡ filter p xs ++ filter p ys
@@ -29,6 +33,11 @@ module _ {ℓ} {A : Type ℓ} where
   filter-filter-append p q xs ys h =
       filter-append p (filter q xs) ys ∙ ap (λ l. l ++ filter p ys) (filter-filter p q xs h) ∙ sym (filter-append p xs ys)
 
+  -- a filter that every element passes
+  pub filter-all : (p : A → Bool) (xs : List A) → All (λ (x : A). p x ≡ true) xs → filter p xs ≡ xs
+  filter-all p [] h = refl
+  filter-all p (x ∷ xs) (h, hs) = rw (h, filter-all p xs hs)
+
   -- what some element of a filtered list passes, some element of the list passes
   pub any-filter : (p q : A → Bool) (xs : List A) → any p (filter q xs) ≡ true → any p xs ≡ true
   any-filter p q [] e = e
@@ -45,6 +54,20 @@ module _ {ℓ} {A : Type ℓ} where
   pub count-length : (p : A → Bool) (xs : List A) → count p xs ≡ length (filter p xs)
   count-length p [] = refl
   count-length p (x ∷ xs) = by-test (p x) (λ e. rw (e, count-length p xs)) (λ e. rw (e, count-length p xs))
+
+  pub count-all : (p : A → Bool) (xs : List A) → All (λ (x : A). p x ≡ true) xs → count p xs ≡ length xs
+  count-all p xs h = count-length p xs ∙ ap length (filter-all p xs h)
+
+  -- of two parts, the first of which passes and the second fails
+  pub count-parts : (p : A → Bool) (xs ys : List A) → All (λ (x : A). p x ≡ true) xs → All (λ (y : A). p y ≡ false) ys
+      → (count p (xs ++ ys) ≡ length xs) × (count (λ (x : A). not (p x)) (xs ++ ys) ≡ length ys)
+  count-parts p xs ys h k =
+      let fails : A → Bool = λ x. not (p x) in (
+        count-append p xs ys ∙ ap₂ _+_ (count-all p xs h) (count-none p ys k) ∙ add-zero (length xs),
+        count-append fails xs ys
+            ∙ ap₂ _+_ (count-none fails xs (all-imp (λ x e. ap not e) xs h)) (count-all fails ys (all-imp (λ y e. ap not e) ys k))
+            ∙ zero-add (length ys),
+      )
 
 module _ {ℓ κ} {A : Type ℓ} {B : Type κ} where
   pub filter-map : (p : B → Bool) (f : A → B) (xs : List A) → filter p (map f xs) ≡ map f (filter (λ (x : A). p (f x)) xs)

@@ -7,4 +7,5 @@ pub mod Pairwise
 pub mod Permutations
 pub mod Sorting
 pub mod Tables
+pub mod First
 pub mod Loops
