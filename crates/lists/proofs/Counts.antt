@@ -6,7 +6,7 @@ use mathlib.Core.Bool.{Bool, true, false, true≢false, _||_, and-false, or-asso
 use mathlib.Core.List.{List, [], _∷_, _++_, map}
 use mathlib.Core.Path.{_≡_, refl, sym, _∙_}
 use lib.ListN.{length, getD, set}
-use Rattle.lists.specs.Tests.{any, all, filter, count}
+use Rattle.lists.specs.Tests.{any, all, filter, count, All}
 use Rattle.lists.proofs.Cases.{by-test, refuted, or-right, or-map}
 
 module _ {ℓ} {A : Type ℓ} (p : A → Bool) where
@@ -41,6 +41,17 @@ module _ {ℓ} {A : Type ℓ} (p : A → Bool) where
   any-set-new (x ∷ xs) zero a h e = rw e
   any-set-new (x ∷ xs) (suc i) a h e = or-right (p x) (any-set-new xs i a (le-of-suc-le-suc h) e)
 
+  -- what follows from every element that passes, where some does
+  pub any-shows {κ} : {C : Type κ} → ((x : A) → p x ≡ true → C) → (xs : List A) → any p xs ≡ true → C
+  any-shows f [] e = absurd (true≢false (sym e))
+  any-shows f (x ∷ xs) e = by-test (p x) (f x) (λ d. any-shows f xs (rw d at e))
+
+  -- what the entry at a place passes, where the default fails, some entry passes
+  pub any-at : (d : A) → p d ≡ false → (xs : List A) (i : ℕ) → p (getD xs i d) ≡ true → any p xs ≡ true
+  any-at d h [] i e = absurd (true≢false (sym e ∙ h))
+  any-at d h (x ∷ xs) zero e = rw e
+  any-at d h (x ∷ xs) (suc i) e = or-right (p x) (any-at d h xs i e)
+
   pub all-false : (xs : List A) (i : ℕ) (a : A) → i < length xs → p a ≡ false → all p (set xs i a) ≡ false
   all-false [] i a h e = absurd (not-suc-le-zero h)
   all-false (x ∷ xs) zero a h e = rw e
@@ -49,6 +60,14 @@ module _ {ℓ} {A : Type ℓ} (p : A → Bool) where
   pub count-append : (xs ys : List A) → count p (xs ++ ys) ≡ count p xs + count p ys
   count-append [] ys = omega arith
   count-append (x ∷ xs) ys = by-test (p x) (λ e. rw (e, count-append xs ys) (omega arith)) (λ e. rw (e, count-append xs ys))
+
+  pub count-none : (xs : List A) → All (λ (x : A). p x ≡ false) xs → count p xs ≡ 0
+  count-none [] h = refl
+  count-none (x ∷ xs) (h, hs) = rw h (count-none xs hs)
+
+  pub count-same : (q : A → Bool) (xs : List A) → All (λ (x : A). p x ≡ q x) xs → count p xs ≡ count q xs
+  count-same q [] h = refl
+  count-same q (x ∷ xs) (h, hs) = rw (h, count-same q xs hs)
 
   pub count-map {κ} : {B : Type κ} (f : B → A) (xs : List B) → count p (map f xs) ≡ count (λ (x : B). p (f x)) xs
   count-map f [] = refl

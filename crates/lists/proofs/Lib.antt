@@ -7,6 +7,7 @@ pub mod Pairwise
 pub mod Permutations
 pub mod Sorting
 pub mod Tables
+pub mod First
 pub mod Loops
 pub mod Blocks
 pub mod Copies

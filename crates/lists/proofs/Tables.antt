@@ -1,19 +1,21 @@
 -- Laws of tables read as lists, and of entries set, for any element type.
-use Prim.Native.Nat.{ℕ, zero, suc, _<_}
+use Prim.Native.Nat.{ℕ, zero, suc, _<_, _+_}
 use mathlib.Core.Bool.{Bool, true, and-eq-true-iff, cond, _&&_}
 use mathlib.Core.List.{List, [], _∷_, _++_, map, append-assoc, map-append, map-id}
 use mathlib.Core.Logic.{_≢_}
-use mathlib.Core.Path.{_≡_, refl, ap₂, sym, _∙_}
+use mathlib.Core.Path.{_≡_, refl, ap₂, sym, _∙_, ap}
 use borrow.Author.Tests.{eqb-true, eqb-false, ltb-true, ltb-false}
 use lib.Dec.{eqb, ltb}
-use lib.ListN.{getD, length, set, List·getD-eq-default}
+use lib.ListN.{getD, length, set, List·getD-eq-default, take, drop, length-append}
+use native.Mathlib.Nat.{add-zero, add-suc, suc-add}
+use native.Mathlib.Omega.{arith}
 use lib.Seq.{getD-set-same, getD-set-other, set-out}
 use Rattle.lists.proofs.All.{all-append}
 use Rattle.lists.proofs.Cases.{by-test}
 use Rattle.lists.proofs.Counts.{any-append}
 use Rattle.lists.proofs.Filters.{filter-append}
 use Rattle.lists.specs.Tables.{readBy, readFrom, allFrom, mapFrom}
-use Rattle.lists.specs.Tests.{any, filter, All}
+use Rattle.lists.specs.Tests.{any, filter, count, All}
 
 module _ {ℓ κ} {A : Type ℓ} {B : Type κ} where
   -- entries that stand for the same
@@ -63,6 +65,35 @@ module _ {ℓ κ} {A : Type ℓ} {B : Type κ} where
       → map g (readFrom i f xs) ≡ readFrom i (λ j x. map g (f j x)) xs
   map-readFrom g i f [] = refl
   map-readFrom g i f (x ∷ xs) = rw (map-append, map-readFrom g (suc i) f xs)
+
+  -- a reading in two parts
+  pub readFrom-split : (i : ℕ) (f : ℕ → A → List B) (n : ℕ) (xs : List A)
+      → readFrom i f xs ≡ readFrom i f (take n xs) ++ readFrom (i + n) f (drop n xs)
+  readFrom-split i f zero xs = rw add-zero
+  readFrom-split i f (suc n) [] = refl
+  readFrom-split i f (suc n) (x ∷ xs) = rw (readFrom-split (suc i) f n xs, append-assoc, suc-add, add-suc)
+
+  -- where each entry stands for something that passes p just if it passes q itself
+  pub any-readFrom : (p : B → Bool) (q : A → Bool) (f : ℕ → A → List B) → ((i : ℕ) (x : A) → any p (f i x) ≡ q x)
+      → (i : ℕ) (xs : List A) → any p (readFrom i f xs) ≡ any q xs
+  any-readFrom p q f h i [] = refl
+  any-readFrom p q f h i (x ∷ xs) = rw (any-append p (f i x) _, h i x, any-readFrom p q f h (suc i) xs)
+
+  -- where each entry stands for one thing if it passes q, and else for none
+  pub length-readFrom : (q : A → Bool) (f : ℕ → A → List B) → ((i : ℕ) (x : A) → length (f i x) ≡ cond (q x) 1 0)
+      → (i : ℕ) (xs : List A) → length (readFrom i f xs) ≡ count q xs
+  length-readFrom q f h i [] = refl
+  length-readFrom q f h i (x ∷ xs) =
+      rw (length-append (f i x) _, h i x, length-readFrom q f h (suc i) xs)
+      (by-test (q x) (λ e. rw e (omega arith)) (λ e. rw e (omega arith)))
+
+  -- what holds of all that stands at each place
+  pub all-places {μ} : (P : B → Type μ) (d : A) (f : ℕ → A → List B) (i : ℕ) (xs : List A)
+      → ((j : ℕ) → j < length xs → All P (f (i + j) (getD xs j d))) → All P (readFrom i f xs)
+  all-places P d f i [] h = tt
+  all-places P d f i (x ∷ xs) h =
+      all-append P (f i x) _ (rw add-zero at (h 0 (omega arith)))
+      (all-places P d f (suc i) xs (λ j l. rw (suc-add i j, ← add-suc i j) (h (suc j) (omega arith))))
 
   -- what the entries show of what they stand for
   pub all-readFrom {μ} : (P : B → Type μ) (f : ℕ → A → List B) (test : ℕ → A → Bool)
@@ -126,6 +157,15 @@ module _ {ℓ} {A : Type ℓ} where
       let (head, tail) = and-eq-true-iff _ _ .0 e in rw (h i x head) (allFrom-mapFrom p q f h (suc i) xs tail)
 
 module _ {ℓ κ} {A : Type ℓ} {B : Type κ} where
+  -- entries whose place does not matter, read from any place
+  read-anywhere : (i : ℕ) (f : A → List B) (xs : List A) → readBy f xs ≡ readFrom i (λ j. f) xs
+  read-anywhere i f [] = refl
+  read-anywhere i f (x ∷ xs) = rw (read-anywhere (suc i) f xs)
+
+  pub length-readBy : (q : A → Bool) (f : A → List B) → ((x : A) → length (f x) ≡ cond (q x) 1 0) → (xs : List A)
+      → length (readBy f xs) ≡ count q xs
+  length-readBy q f h xs = ap length (read-anywhere 0 f xs) ∙ length-readFrom q (λ i. f) (λ i. h) 0 xs
+
   pub readBy-append : (f : A → List B) (xs ys : List A) → readBy f (xs ++ ys) ≡ readBy f xs ++ readBy f ys
   readBy-append f [] ys = refl
   readBy-append f (x ∷ xs) ys = rw (readBy-append f xs ys, append-assoc)

@@ -27,7 +27,7 @@ use Rattle.record.specs.declared.Pool.{Pool}
 use Rattle.record.proofs.Facts.{Fit}
 use Rattle.tasks.proofs.FitSwept.{used-fits}
 use Rattle.objects.specs.Steps.{entryFor, withEntry, withObject}
-use Rattle.objects.proofs.Taken.{MaySet, SlotFree, PlaceFree, newBlock, slot-due, units-set, clock-range, block-stays, handles-given}
+use Rattle.objects.proofs.Taken.{MaySet, SlotFree, PlaceFree, newBlock, slot-due, units-set, clock-range, block-stays, blocks-given}
 
 -- a block that is named is named still when a free entry is set
 named-still : (slot block : ℕ) (e : ExpirationEntry) (xs : List ExpirationEntry) → SlotFree slot xs
@@ -96,7 +96,7 @@ fit-refreshed p fit types kind task extension place slot may entry used =
 next-new : (p : Pool) → Fit p → any (eqb (p .given + 1)) (map handleOf (p .blocks)) ≡ false
 next-new p fit =
     any-map _ handleOf (p .blocks)
-    ∙ All→none _ (p .blocks) (all-imp (λ b h. ne-eqb (p .given + 1) (b .handle) (λ e. omega arith)) (p .blocks) (handles-given p fit))
+    ∙ All→none _ (p .blocks) (all-imp (λ b h. ne-eqb (p .given + 1) (b .handle) (λ e. omega arith)) (p .blocks) (blocks-given p fit))
 
 -- handles stay distinct when a new one is set
 distinct-set : (hs : List ℕ) (i h : ℕ) → any (eqb h) hs ≡ false → isDistinct hs ≡ true → isDistinct (set hs i h) ≡ true

@@ -1,5 +1,8 @@
 pub mod StoreBytes
-pub mod ReadWritten
+pub mod Finding
+pub mod Rooms
+pub mod Verdicts
 pub mod Taken
 pub mod FitMade
 pub mod ReadMade
+pub mod ReadWritten

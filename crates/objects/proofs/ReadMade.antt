@@ -2,7 +2,7 @@
 use Prim.Native.Nat.{ℕ, _+_, _-_, _≤_, _<_}
 use native.Mathlib.Omega.{arith}
 use mathlib.Core.Bool.{true}
-use mathlib.Core.List.{List, [], _∷_, _++_, map, map-append, List·Permᴰ, List·Permᴰ·cons, List·Permᴰ·trans, Permᴰ·symm}
+use mathlib.Core.List.{List, [], _∷_, _++_, map, map-append, List·Permᴰ, List·Permᴰ·cons, List·Permᴰ·trans}
 use mathlib.Core.Path.{_≡_, refl, ap, fun-ext, _∙_}
 use borrow.Author.Tests.{eqb-false, leb-true, eq-eqb, ne-eqb}
 use lib.Dec.{eqb}
@@ -11,10 +11,10 @@ use lib.Seq.{getD-set-same}
 use Rattle.lists.specs.Tests.{All}
 use Rattle.lists.specs.Tables.{readBy, readFrom}
 use Rattle.lists.proofs.Cases.{by-test, or-right, cond-same}
-use Rattle.lists.proofs.All.{all-imp, all-left, all-true, all-map, map-all}
+use Rattle.lists.proofs.All.{all-imp, all-left, all-true}
 use Rattle.lists.proofs.Filters.{filter-append, filter-all}
 use Rattle.lists.proofs.Pairwise.{pairwise-append}
-use Rattle.lists.proofs.Permutations.{last-perm, all-perm, readBy-set, readFrom-set}
+use Rattle.lists.proofs.Permutations.{last-perm, readBy-set, readFrom-set}
 use Rattle.lists.proofs.Tables.{readBy-same, readFrom-same, entry-within}
 use Rattle.ledger.specs.Limits.{smallSize, largeSize, isSmall}
 use Rattle.ledger.specs.Tasks.{Clocks, taskAt}
@@ -33,37 +33,17 @@ use Rattle.record.specs.declared.BlockEntry.{BlockEntry}
 use Rattle.record.specs.declared.Pool.{Pool}
 use Rattle.record.proofs.Facts.{Fit}
 use Rattle.record.proofs.Distinct.{handleAt}
-use Rattle.record.proofs.Exists.{handles-read}
-use Rattle.tasks.proofs.ReadObjects.{same-shown, objects-alike, none-freed}
+use Rattle.tasks.proofs.ReadObjects.{same-shown}
 use Rattle.objects.specs.Steps.{entryFor, withEntry, withObject}
+use Rattle.objects.proofs.Finding.{every-object-stands, handles-given}
 use Rattle.objects.proofs.StoreBytes.{BytesCleared, used-in-block}
-use Rattle.objects.proofs.Taken.{MaySet, SlotFree, PlaceFree, newBlock, slot-due, units-set, clock-range, block-stays, handles-given}
+use Rattle.objects.proofs.Taken.{MaySet, SlotFree, PlaceFree, newBlock, slot-due, units-set, clock-range, block-stays}
 
 -- the object stands by these expirations
 abbrev Stands : List Expiration → Object → Type 0
 Stands ys o = stands ys (o .handle) ≡ true
 
-module _ (p : Pool) (small large : List ℕ) (L : Ledger) (fit : Fit p) (reads : Reads p small large L) where
-  -- the record's objects are those that stand in the ledger: no block is to be freed
-  standing-read : List·Permᴰ (readFrom 0 (objectIn small large) (p .blocks))
-      (map (shownObject (isWhole small large)) (standing (L .expirations) (L .memory .objects)))
-  unfolding recordView viewOf
-  standing-read =
-      rw (none-freed small large (p .given) (p .expirations) (p .blocks) (fit .blocks)) at
-      (objects-alike (p .tasks) (p .global) (p .blocks) (p .expirations) (fit .distinct) (L .memory .clocks) (L .expirations)
-      (reads .alike .expirations) small large (isWhole small large) (L .memory .objects) (reads .alike .objects))
-
-  -- so all the ledger's objects stand
-  pub every-object-stands : standing (L .expirations) (L .memory .objects) ≡ L .memory .objects
-  unfolding recordView viewOf
-  every-object-stands =
-      let holds = Stands (L .expirations) in
-      let os = L .memory .objects in
-      let left = all-map holds (shownObject (isWhole small large)) (standing (L .expirations) os) (all-left _ os) in
-      filter-all _ os
-      (map-all holds (shownObject (isWhole small large)) os (all-perm holds (List·Permᴰ·trans (Permᴰ·symm standing-read) (reads .alike .objects)) left))
-
--- they do with one expiration more
+-- objects that all stand do with one expiration more
 standing-more : (y : Expiration) (ys : List Expiration) (os : List Object) → standing ys os ≡ os → standing (y ∷ ys) os ≡ os
 standing-more y ys os all =
     filter-all _ os (all-imp {P = Stands ys} (λ o s. or-right (isOf (o .handle) y) s) os (rw all at (all-left (λ (o : Object). stands ys (o .handle)) os)))
@@ -113,7 +93,7 @@ module _ (p : Pool) (small large : List ℕ) (L : Ledger) (fit : Fit p) (types :
   unfolding recordView viewOf memoryAfter expirationsAfter
   refreshed-reads handle named =
       let y = newExpiration (L .memory .clocks) kind task extension handle in
-      let all = standing-more y (L .expirations) (L .memory .objects) (every-object-stands p small large L fit reads) in
+      let all = standing-more y (L .expirations) (L .memory .objects) (every-object-stands fit reads) in
       record {
         alike =
             record {
@@ -179,11 +159,7 @@ module _ (p : Pool) (small large small′ large′ : List ℕ) (L : Ledger) (fit
 
   -- its handle is above all others of the ledger
   handles-below : All (λ (o : Object). o .handle < L .memory .given + 1) (L .memory .objects)
-  unfolding recordView viewOf
-  handles-below =
-      let Below : ℕ → Type 0 = λ h. h < L .memory .given + 1 in
-      let read = handles-read small large Below 0 (p .blocks) (all-imp (λ b h. omega (arith, reads .alike .given)) (p .blocks) (handles-given p fit)) in
-      map-all _ (shownObject (isWhole small large)) (L .memory .objects) (all-perm _ (reads .alike .objects) read)
+  handles-below = all-imp (λ o h. omega arith) (L .memory .objects) (handles-given fit reads)
 
   same-whole : isWhole small′ large′ ≡ isWhole small large
   same-whole = fun-ext (λ n. rw (cleared .small-size, cleared .large-size))
@@ -195,7 +171,7 @@ module _ (p : Pool) (small large small′ large′ : List ℕ) (L : Ledger) (fit
   made-reads =
       let handle = L .memory .given + 1 in
       let y = newExpiration (L .memory .clocks) kind task extension handle in
-      let old = every-object-stands p small large L fit reads in
+      let old = every-object-stands fit reads in
       let all = standing-made y (L .expirations) (L .memory .objects) (zeroed handle size) (eq-eqb handle handle refl) old in
       let given = ap (λ n. n + 1) (reads .alike .given) in
       let named = ap handleOf (getD-set-same (p .blocks) place (newBlock (p .given) size) freeBlock (block .listed)) ∙ given in

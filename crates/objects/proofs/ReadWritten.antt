@@ -29,7 +29,8 @@ use Rattle.record.proofs.Facts.{Fit}
 use Rattle.record.proofs.Distinct.{handleAt, same-handle}
 use Rattle.stores.specs.Places.{InBlock, smallAfter, largeAfter}
 use Rattle.stores.proofs.Changes.{BytesChanged, bytes-changed}
-use Rattle.tasks.proofs.ReadObjects.{none-freed, objects-alike, standing-ascending}
+use Rattle.tasks.proofs.ReadObjects.{standing-ascending}
+use Rattle.objects.proofs.Finding.{every-object-stands}
 use Rattle.objects.proofs.StoreBytes.{used-in-block}
 
 -- an object's bytes after a write, by whether it is the one written
@@ -102,10 +103,7 @@ module _ (p : Pool) (small large : List ℕ) (L : Ledger) (fit : Fit p) (types :
   objects-stand : List·Permᴰ (readFrom 0 (objectIn small large) (p .blocks)) (standing (L .expirations) (L .memory .objects))
   unfolding recordView viewOf
   objects-stand =
-      let kept = none-freed small large (p .given) (p .expirations) (p .blocks) (fit .blocks) in
-      rw (← kept, ← all-shown small large small-whole large-whole (standing _ _))
-      (objects-alike (p .tasks) (p .global) (p .blocks) (p .expirations) (fit .distinct) (L .memory .clocks) (L .expirations)
-      (reads .alike .expirations) small large (isWhole small large) (L .memory .objects) (reads .alike .objects))
+      rw (every-object-stands fit reads, ← all-shown small large small-whole large-whole (L .memory .objects)) (reads .alike .objects)
 
   -- the record, as it was, with the new stores reads as the ledger after the write
   pub written-reads : (task : ℕ)

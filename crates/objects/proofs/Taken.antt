@@ -86,8 +86,8 @@ unfolding isFitBlock
 fit-block given xs i b fit used = and₃ (any (isNaming i) xs) _ _ (rw used at fit)
 
 -- so every handle is one that was given, or none
-pub handles-given : (p : Pool) → Fit p → All (λ (b : BlockEntry). b .handle ≤ p .given) (p .blocks)
-handles-given p fit =
+pub blocks-given : (p : Pool) → Fit p → All (λ (b : BlockEntry). b .handle ≤ p .given) (p .blocks)
+blocks-given p fit =
     allFrom→All _ _
     (λ i b fits.
     by-test (eqb (b .handle) 0)

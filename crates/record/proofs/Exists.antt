@@ -72,7 +72,7 @@ task-shown : (e : TaskEntry) → e .clock .0 < counterRange → wrappedTask (tas
 task-shown e h = rw (mod-eq-of-lt h)
 
 -- a length of its store's range says which store that is
-sized-small : (block size : ℕ) → isSizedFor block size ≡ true → isSmall size ≡ isSmallBlock block
+pub sized-small : (block size : ℕ) → isSizedFor block size ≡ true → isSmall size ≡ isSmallBlock block
 sized-small block size e =
     by-test (isSmallBlock block)
     (λ s. rw s (and-eq-true-iff (leb 1 size) (leb size smallSize) .0 (rw s at e) .1))

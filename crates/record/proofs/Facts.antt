@@ -2,14 +2,19 @@
 use Prim.Native.Nat.{ℕ, _+_, _≤_, _<_}
 use mathlib.Core.Bool.{Bool, true, false, and-eq-true-iff}
 use mathlib.Core.List.{map}
-use mathlib.Core.Path.{_≡_}
-use borrow.Author.Tests.{not-true, leb-true, ltb-true}
-use Rattle.lists.specs.Tests.{all}
+use mathlib.Core.Logic.{_≢_}
+use mathlib.Core.Path.{_≡_, refl}
+use borrow.Author.Tests.{not-true, eqb-false, leb-true, ltb-true}
+use lib.Dec.{eqb}
+use lib.ListN.{getD}
+use Rattle.lists.specs.Tests.{any, all}
 use Rattle.lists.specs.Tables.{allFrom}
+use Rattle.lists.proofs.Cases.{and₃}
+use Rattle.lists.proofs.Tables.{allFrom-at}
 use Rattle.ledger.specs.Limits.{limits, taskCount}
 use Rattle.ledger.specs.Tasks.{isAbsent, allTicked}
-use Rattle.record.specs.Codes.{stateOf, taskOf, leftAt}
-use Rattle.record.specs.WellFormed.{isFitTask, isFitDue, isFitEntry, isFitBlock, isDistinct, handleOf, isWellFormed}
+use Rattle.record.specs.Codes.{stateOf, taskOf, leftAt, freeBlock}
+use Rattle.record.specs.WellFormed.{isFitTask, isFitDue, isFitEntry, isNaming, isSizedFor, isFitBlock, isDistinct, handleOf, isWellFormed}
 use Rattle.record.specs.declared.TaskEntry.{TaskEntry}
 use Rattle.record.specs.declared.LocalTime.{LocalTime}
 use Rattle.record.specs.declared.GlobalTime.{GlobalTime}
@@ -73,3 +78,17 @@ fit-global setter global used at e =
     let (naming, d) = and-eq-true-iff _ _ .0 e in
     let (ahead, within) = and-eq-true-iff _ _ .0 d in
     record { naming = naming; ahead = leb-true _ _ ahead; within = leb-true _ _ within }
+
+-- and a block in use of a well-formed record
+pub record FitUsed (p : Pool) (block : ℕ) : Type 0 where
+  pub used : getD (p .blocks) block freeBlock .handle ≢ 0
+  pub named : any (isNaming block) (p .expirations) ≡ true
+  pub sized : isSizedFor block (getD (p .blocks) block freeBlock .length) ≡ true
+  pub numbered : getD (p .blocks) block freeBlock .handle ≤ p .given
+
+pub fit-used : {p : Pool} → Fit p → (block : ℕ) → eqb (getD (p .blocks) block freeBlock .handle) 0 ≡ false → FitUsed p block
+unfolding isFitBlock
+fit-used {p} f block used =
+    let fits = allFrom-at (isFitBlock (p .given) (p .expirations)) freeBlock (λ i. refl) (p .blocks) (f .blocks) block in
+    let (named, sized, numbered) = and₃ (any (isNaming block) (p .expirations)) _ _ (rw used at fits) in
+    record { used = eqb-false _ 0 used; named = named; sized = sized; numbered = leb-true _ _ numbered }

@@ -82,18 +82,18 @@ isStanding ys o = stands ys (o .handle)
 module _ (tasks : List TaskEntry) (global : GlobalTime) (blocks : List BlockEntry) (xs : List ExpirationEntry)
     (distinct : isDistinct (map handleOf blocks) ≡ true) (clocks : Clocks) (ys : List Expiration)
     (alike : List·Permᴰ (readBy (shownEntry tasks global blocks) xs) (map (shown clocks) ys)) where
-  -- an entry names a block in use just where it shows the block's handle
-  names-shows : (i : ℕ) → handleAt blocks i ≢ 0 → (e : ExpirationEntry)
-      → isNaming i e ≡ any (isShownOf (handleAt blocks i)) (shownEntry tasks global blocks e)
-  names-shows i used e =
-      rw (shown-handle tasks global (handleAt blocks (e .block)) (handleAt blocks i) (dueOf e), same-handle blocks distinct i (e .block) used)
+  -- an object stands just where an entry in use names a block with its handle
+  pub shown-stands : (handle : ℕ) → any (λ (e : ExpirationEntry). isDated (dueOf e) && eqb (handleAt blocks (e .block)) handle) xs ≡ stands ys handle
+  shown-stands handle =
+      let isIts = isShownOf handle in
+      ap (λ (p : ExpirationEntry → Bool). any p xs) (fun-ext (λ e. sym (shown-handle tasks global (handleAt blocks (e .block)) handle (dueOf e))))
+      ∙ sym (any-readBy isIts (shownEntry tasks global blocks) xs) ∙ any-perm isIts alike ∙ any-map isIts (shown clocks) ys
 
   -- a block in use is named just where its object stands
-  named-stands : (i : ℕ) → handleAt blocks i ≢ 0 → any (isNaming i) xs ≡ stands ys (handleAt blocks i)
+  pub named-stands : (i : ℕ) → handleAt blocks i ≢ 0 → any (isNaming i) xs ≡ stands ys (handleAt blocks i)
   named-stands i used =
-      let isIts = isShownOf (handleAt blocks i) in
-      ap (λ (p : ExpirationEntry → Bool). any p xs) (fun-ext (names-shows i used))
-      ∙ sym (any-readBy isIts (shownEntry tasks global blocks) xs) ∙ any-perm isIts alike ∙ any-map isIts (shown clocks) ys
+      ap (λ (p : ExpirationEntry → Bool). any p xs) (fun-ext (λ e. rw (same-handle blocks distinct i (e .block) used)))
+      ∙ shown-stands (handleAt blocks i)
 
   -- the objects in the blocks that are left are those that stand
   freed-objects : (small large : List ℕ)

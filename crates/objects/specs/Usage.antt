@@ -1,0 +1,19 @@
+-- What report counts of a record.
+use lib.ListN.{take, drop}
+use Rattle.lists.specs.Tests.{count}
+use Rattle.ledger.specs.Limits.{limits}
+use Rattle.ledger.specs.declared.Usage.{Usage}
+use Rattle.record.specs.Codes.{dueOf, isDated}
+use Rattle.record.specs.WellFormed.{isUsed}
+use Rattle.record.specs.declared.ExpirationEntry.{ExpirationEntry}
+use Rattle.record.specs.declared.Pool.{Pool}
+
+-- blocks in use of either store, entries in use, handles given
+unfoldable pub usageOf : Pool → Usage
+usageOf p =
+    record {
+      small = count isUsed (take (limits .smallBlocks) (p .blocks));
+      large = count isUsed (drop (limits .smallBlocks) (p .blocks));
+      expirations = count (λ (e : ExpirationEntry). isDated (dueOf e)) (p .expirations);
+      given = p .given;
+    }
