@@ -4,7 +4,7 @@ use native.Mathlib.Omega.{arith}
 use mathlib.Core.Bool.{Bool, true, false, false≢true, not}
 use mathlib.Core.List.{List, [], _∷_}
 use mathlib.Core.Path.{_≡_, refl, sym, _∙_}
-use borrow.Author.Tests.{leb-false, le-leb, lt-leb}
+use borrow.Author.Tests.{not-false, leb-false, le-leb, lt-leb}
 use lib.Dec.{leb, leb·suc-suc}
 use lib.ListN.{length, getD}
 use Rattle.lists.specs.Tests.{any, count}
@@ -18,6 +18,10 @@ module _ {ℓ} {A : Type ℓ} (p : A → Bool) where
   first-later : (i : ℕ) (xs : List A) → firstFrom (suc i) p xs ≡ suc (firstFrom i p xs)
   first-later i [] = refl
   first-later i (x ∷ xs) = by-test (p x) (λ e. rw e) (λ e. rw e (first-later (suc i) xs))
+
+  first-counted : (i : ℕ) (xs : List A) → firstFrom i p xs ≡ i + firstFrom 0 p xs
+  first-counted zero xs = omega arith
+  first-counted (suc i) xs = first-later i xs ∙ omega (arith, first-counted i xs)
 
   -- it is past the last exactly where none passes
   pub first-none : (i : ℕ) (xs : List A) → leb (i + length xs) (firstFrom i p xs) ≡ not (any p xs)
@@ -34,6 +38,13 @@ module _ {ℓ} {A : Type ℓ} (p : A → Bool) where
   pub first-passes : (d : A) (xs : List A) → any p xs ≡ true → p (getD xs (firstFrom 0 p xs) d) ≡ true
   first-passes d [] e = absurd (false≢true e)
   first-passes d (x ∷ xs) e = by-test (p x) (λ h. rw (h, h)) (λ h. rw (h, first-later 0 xs) (first-passes d xs (rw h at e)))
+
+  -- the same of a list that begins at a place
+  pub first-at : (d : A) (i : ℕ) (xs : List A) → leb (i + length xs) (firstFrom i p xs) ≡ false
+      → (k : ℕ) × (k < length xs) × (firstFrom i p xs ≡ i + k) × (p (getD xs k d) ≡ true)
+  first-at d i xs e =
+      let some = not-false (any p xs) (sym (first-none i xs) ∙ e) in
+      (firstFrom 0 p xs, first-within xs some, first-counted i xs, first-passes d xs some)
 
   -- and none before it does
   pub none-before : (d : A) (xs : List A) (i : ℕ) → i < firstFrom 0 p xs → p (getD xs i d) ≡ false

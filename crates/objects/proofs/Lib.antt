@@ -6,3 +6,5 @@ pub mod Taken
 pub mod FitMade
 pub mod ReadMade
 pub mod ReadWritten
+pub mod Chosen
+pub mod Follow

@@ -111,7 +111,7 @@ size-within : (place size : ℕ) → isSmallBlock place ≡ isSmall size → siz
 unfolding sizeOf
 size-within place size store most = rw store (by-test (isSmall size) (λ s. rw s (leb-true size smallSize s)) (λ s. rw s most))
 
-both-whole : (small large : List ℕ) → isWholeSmall small ≡ true → isWholeLarge large ≡ true → (size : ℕ) → isWhole small large size ≡ true
+pub both-whole : (small large : List ℕ) → isWholeSmall small ≡ true → isWholeLarge large ≡ true → (size : ℕ) → isWhole small large size ≡ true
 both-whole small large s l size = rw (s, l, cond-same)
 
 -- A make
