@@ -1,37 +1,88 @@
 -- What the calls open to others promise: for each, what comes back and what record and stores then are.
-use Prim.Native.Nat.{ℕ}
-use mathlib.Core.Bool.{true, false}
+use Prim.Native.Nat.{ℕ, _<_}
+use mathlib.Core.Bool.{Bool, true, false, _&&_}
 use mathlib.Core.List.{List, []}
 use mathlib.Core.Path.{_≡_}
-use Rattle.ledger.specs.Objects.{Reply, usage}
-use Rattle.ledger.specs.Ledger.{Ledger, reply, next}
+use lib.ListN.{length, getD, replicate}
+use Rattle.ledger.specs.Objects.{Reply, plain}
+use Rattle.ledger.specs.Ledger.{Ledger, replyToRequest, afterRequest}
+use Rattle.ledger.specs.declared.Kind.{Kind}
 use Rattle.ledger.specs.declared.Answer.{Answer}
-use Rattle.ledger.specs.declared.Answer.the-variants.{Refused, Counted}
+use Rattle.ledger.specs.declared.Answer.the-variants.{Refused, Done, Handle}
 use Rattle.ledger.specs.declared.Call.{Call}
+use Rattle.ledger.specs.declared.Call.the-variants.{Schedule, Make, Refresh, Read, Write}
 use Rattle.ledger.specs.declared.Refusal.{Refusal}
-use Rattle.ledger.specs.declared.Refusal.the-variants.{NotWellFormed}
-use Rattle.record.specs.Reading.{Reads}
+use Rattle.ledger.specs.declared.Refusal.the-variants.{WrongStoreLength, NotWellFormed}
+use Rattle.ledger.specs.declared.Request.{Request}
+use Rattle.ledger.specs.declared.Request.the-variants.{Use, Report}
+use Rattle.stores.specs.Places.{blockCount, sizeOf, smallAfter, largeAfter}
+use Rattle.record.specs.Codes.{freeBlock}
+use Rattle.record.specs.Reading.{isWholeSmall, isWholeLarge, Reads}
 use Rattle.record.specs.WellFormed.{isWellFormed}
 use Rattle.record.specs.declared.Pool.{Pool}
 use Rattle.record.specs.declared.Outcome.{Outcome}
+use Rattle.objects.specs.Steps.{placeOf}
 
--- a call that touches no store, on the record p with the outcome r
-pub record Follows (call : Call) (p : Pool) (r : Outcome) : Type 0 where
-  -- 15, and nothing is changed
-  pub unfit : isWellFormed p ≡ false → r ≡ record { answer = Refused NotWellFormed; pool = p }
-  -- whatever stores are lent and whatever ledger the record reads as with them, the answer is that ledger's,
-  pub answers : isWellFormed p ≡ true → (small large : List ℕ) (L : Ledger) → Reads p small large L
-      → r .answer ≡ reply L call [] .answer
+-- the calls that test 14
+abbrev pub isStored : Request → Bool
+isStored (Use (Schedule event task)) = false
+isStored (Use (Make task kind extension size)) = true
+isStored (Use (Refresh task kind extension handle)) = false
+isStored (Use (Read task handle)) = true
+isStored (Use (Write task handle offset)) = true
+isStored Report = false
+
+-- both stores have 01's lengths
+abbrev pub areWhole : List ℕ → List ℕ → Bool
+areWhole small large = isWholeSmall small && isWholeLarge large
+
+-- "All refusals change nothing"
+pub record Refuses (why : Refusal) (p : Pool) (small large : List ℕ) (y : Reply) (p′ : Pool) (small′ large′ : List ℕ) : Type 0 where
+  pub refused : y ≡ plain (Refused why)
+  pub samePool : p′ ≡ p
+  pub sameSmall : small′ ≡ small
+  pub sameLarge : large′ ≡ large
+
+-- A call with the bytes that a write brings, on a record with two stores: its reply, and the record and stores that it leaves.
+pub record Obeys (request : Request) (new : List ℕ) (p : Pool) (small large : List ℕ) (y : Reply) (p′ : Pool) (small′ large′ : List ℕ) : Type 0 where
+  -- first 15, then 14
+  pub unfit : isWellFormed p ≡ false → Refuses NotWellFormed p small large y p′ small′ large′
+  pub wrong : isWellFormed p ≡ true → isStored request ≡ true → areWhole small large ≡ false
+      → Refuses WrongStoreLength p small large y p′ small′ large′
+  -- else whatever ledger record and stores read as, the reply is that ledger's,
+  pub answers : isWellFormed p ≡ true → (isStored request ≡ true → areWhole small large ≡ true) → (L : Ledger) → Reads p small large L
+      → y ≡ replyToRequest L request new
   -- what is left reads as its next,
-  pub leaves : isWellFormed p ≡ true → (small large : List ℕ) (L : Ledger) → Reads p small large L
-      → Reads (r .pool) small large (next L call [])
-  -- and is well-formed
-  pub fits : isWellFormed p ≡ true → isWellFormed (r .pool) ≡ true
-  -- "All refusals change nothing"
-  pub keeps : (why : Refusal) → r .answer ≡ Refused why → r .pool ≡ p
+  pub leaves : isWellFormed p ≡ true → (isStored request ≡ true → areWhole small large ≡ true) → (L : Ledger) → Reads p small large L
+      → Reads p′ small′ large′ (afterRequest L request new)
+  -- and the record is well-formed
+  pub fits : isWellFormed p ≡ true → isWellFormed p′ ≡ true
+  pub keeps : (why : Refusal) → y .answer ≡ Refused why → Refuses why p small large y p′ small′ large′
+  -- a store keeps its length
+  pub sizes : (length small′ ≡ length small) × (length large′ ≡ length large)
 
--- report, which changes nothing
-pub record Reports (p : Pool) (r : Answer) : Type 0 where
-  pub unfit : isWellFormed p ≡ false → r ≡ Refused NotWellFormed
-  pub answers : isWellFormed p ≡ true → (small large : List ℕ) (L : Ledger) → Reads p small large L
-      → r ≡ Counted (usage (L .memory) (L .expirations))
+-- a call that touches no store, whatever stores stand beside the record
+abbrev pub Follows : Request → Pool → Answer → Pool → Type 0
+Follows request p answer p′ = (small large : List ℕ) → Obeys request [] p small large (plain answer) p′ small large
+
+-- make: the block that it clears is the one part that is left open, and it belonged to no standing object
+pub record Placed (p : Pool) (small large small′ large′ : List ℕ) (block : ℕ) : Type 0 where
+  pub known : block < blockCount
+  pub free : getD (p .blocks) block freeBlock .handle ≡ 0
+  pub smallCleared : small′ ≡ smallAfter block 0 (replicate (sizeOf block) 0) small
+  pub largeCleared : large′ ≡ largeAfter block 0 (replicate (sizeOf block) 0) large
+
+pub record Makes (task : ℕ) (kind : Kind) (extension size : ℕ) (p : Pool) (small large : List ℕ) (r : Outcome) (small′ large′ : List ℕ) : Type 0 where
+  pub obeys : Obeys (Use (Make task kind extension size)) [] p small large (plain (r .answer)) (r .pool) small′ large′
+  pub placed : (handle : ℕ) → r .answer ≡ Handle handle → (block : ℕ) × Placed p small large small′ large′ block
+
+-- write: the record stays, and those bytes of its block are replaced and no other byte of either store
+pub record Writes (task handle offset : ℕ) (new : List ℕ) (p : Pool) (small large : List ℕ) (answer : Answer) (small′ large′ : List ℕ) : Type 0 where
+  pub obeys : Obeys (Use (Write task handle offset)) new p small large (plain answer) p small′ large′
+  pub smallWritten : answer ≡ Done → small′ ≡ smallAfter (placeOf handle (p .blocks)) offset new small
+  pub largeWritten : answer ≡ Done → large′ ≡ largeAfter (placeOf handle (p .blocks)) offset new large
+
+-- read: the part that it hands back, of no bytes where it is refused
+abbrev pub ReadsBack : ℕ → ℕ → Pool → List ℕ → List ℕ → Answer → List ℕ → Type 0
+ReadsBack task handle p small large answer part =
+    Obeys (Use (Read task handle)) [] p small large (record { answer = answer; bytes = part }) p small large

@@ -1,0 +1,37 @@
+-- Demands 2 and 3 of the pool: by the contracts a list of calls follows the ledger step by step, and the ledger meets demand 3.
+use Prim.Native.Nat.{ℕ}
+use mathlib.Core.Bool.{true, _&&_}
+use mathlib.Core.List.{List, [], _∷_, map}
+use mathlib.Core.Path.{_≡_, refl, sym, ap₂, _∙_}
+use lib.ListN.{length}
+use Rattle.ledger.specs.Limits.{limits, smallSize, largeSize}
+use Rattle.ledger.specs.Objects.{Reply}
+use Rattle.ledger.specs.Ledger.{Ledger, Sent, fresh, replies, afterAll, afterRequest}
+use Rattle.ledger.specs.Heap.{sent}
+use Rattle.ledger.proofs.Demand3.{demand3}
+use Rattle.record.specs.Reading.{freshPool, Reads}
+use Rattle.record.specs.WellFormed.{isWellFormed}
+use Rattle.record.specs.declared.Pool.{Pool}
+use Rattle.record.proofs.FreshReads.{fresh-reads, fresh-well-formed}
+use Rattle.pool.specs.Contract.{areWhole, Obeys}
+use Rattle.pool.specs.Demands.{Runs, done, call, Demand2, PoolDemand3}
+
+-- from any well-formed record that reads as a ledger, with whole stores
+runs-follow : {p p′ : Pool} {small small′ large large′ : List ℕ} {ss : List Sent} {ys : List Reply} → Runs p small large ss ys p′ small′ large′
+    → isWellFormed p ≡ true → areWhole small large ≡ true → (L : Ledger) → Reads p small large L
+    → (ys ≡ replies L ss) × Reads p′ small′ large′ (afterAll L ss)
+unfolding replies afterAll
+runs-follow done w whole L reads = (refl, reads)
+runs-follow (call {s = s} o rest) w whole L reads =
+    let (same, left) = runs-follow rest (o .fits w) (rw (o .sizes .0, o .sizes .1) whole) (afterRequest L (s .request) (s .bytes)) (o .leaves w (λ e. whole) L reads) in
+    (ap₂ _∷_ (o .answers w (λ e. whole) L reads) same, left)
+
+pub demand2 : Demand2
+unfolding limits smallSize largeSize
+demand2 small large a b ss ys p′ small′ large′ runs =
+    runs-follow runs fresh-well-formed (rw (a, b)) fresh (fresh-reads small large)
+
+pub pool-demand3 : PoolDemand3
+pool-demand3 small large a b us ys p′ small′ large′ runs =
+    let (same, left) = demand2 small large a b (map sent us) ys p′ small′ large′ runs in
+    rw same (demand3 us)

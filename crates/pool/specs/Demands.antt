@@ -1,0 +1,35 @@
+-- Demands 2 and 3 of the pool, over lists of calls: statements about all that the calls' contracts allow, and so about this code.
+use Prim.Native.Nat.{ℕ, _*_}
+use mathlib.Core.Bool.{true}
+use mathlib.Core.List.{List, [], _∷_, map}
+use mathlib.Core.Logic.{_↔_}
+use mathlib.Core.Path.{_≡_}
+use lib.ListN.{length}
+use Rattle.ledger.specs.Objects.{Reply, freshMemory}
+use Rattle.ledger.specs.Ledger.{Sent, fresh, replies, afterAll}
+use Rattle.ledger.specs.Heap.{Used, sent, heapReplies, allInTimeAndBounds}
+use Rattle.record.specs.Reading.{freshPool, Reads}
+use Rattle.record.specs.declared.Pool.{Pool}
+use Rattle.pool.specs.Contract.{Obeys}
+
+-- A list of calls is run: each gets record and stores as the last one left them.
+pub data Runs : Pool → List ℕ → List ℕ → List Sent → List Reply → Pool → List ℕ → List ℕ → Type 0 where
+  done : {p : Pool} {small large : List ℕ} → Runs p small large [] [] p small large
+  call : {p p′ p″ : Pool} {small small′ small″ large large′ large″ : List ℕ} {s : Sent} {ss : List Sent} {y : Reply} {ys : List Reply}
+      → Obeys (s .request) (s .bytes) p small large y p′ small′ large′ → Runs p′ small′ large′ ss ys p″ small″ large″
+      → Runs p small large (s ∷ ss) (y ∷ ys) p″ small″ large″
+
+-- Demand 2: for every list of the ten calls from a fresh pool, with stores of 01's lengths and any bytes in them, each answer is the ledger's, and record
+-- and stores then read as the ledger. (Every beginning of a list is a list: so they do after each call.)
+abbrev pub Demand2 : Type 0
+Demand2 =
+    (small large : List ℕ) → length small ≡ 2048 → length large ≡ 8192
+    → (ss : List Sent) (ys : List Reply) (p′ : Pool) (small′ large′ : List ℕ) → Runs freshPool small large ss ys p′ small′ large′
+    → (ys ≡ replies fresh ss) × Reads p′ small′ large′ (afterAll fresh ss)
+
+-- Demand 3: for every such list of the nine calls the answers equal the unbounded heap's exactly when all use was in time and in bounds.
+abbrev pub PoolDemand3 : Type 0
+PoolDemand3 =
+    (small large : List ℕ) → length small ≡ 2048 → length large ≡ 8192
+    → (us : List Used) (ys : List Reply) (p′ : Pool) (small′ large′ : List ℕ) → Runs freshPool small large (map sent us) ys p′ small′ large′
+    → (ys ≡ heapReplies freshMemory us) ↔ (allInTimeAndBounds freshMemory [] us ≡ true)
