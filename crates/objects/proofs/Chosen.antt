@@ -1,10 +1,9 @@
 -- What an accepted verdict shows: the task may set an expiration, and the block and the entry that are chosen are free.
-use Prim.Native.Nat.{ℕ, _+_, _≤_, _<_}
+use Prim.Native.Nat.{ℕ, _+_, _<_}
 use native.Mathlib.Omega.{arith}
-use mathlib.Core.Bool.{Bool, true, false, not, _||_}
-use mathlib.Core.List.{List}
-use mathlib.Core.Path.{_≡_, refl, sym, ap, _∙_}
-use borrow.Author.Tests.{leb-false, ltb-false, eqb-true, eqb-false, lt-ltb, le-ltb, not-true}
+use mathlib.Core.Bool.{Bool, true, false, _||_}
+use mathlib.Core.Path.{_≡_, refl, sym, _∙_}
+use borrow.Author.Tests.{leb-false, ltb-false, eqb-true, eqb-false, lt-ltb, le-ltb}
 use lib.Dec.{eqb, leb, ltb}
 use lib.ListN.{length, getD, take, drop, length-take, length-drop}
 use lib.Seq.{getD-take, getD-drop}
@@ -22,10 +21,8 @@ use Rattle.ledger.specs.declared.Verdict.the-variants.{Accepted, Refused}
 use Rattle.stores.specs.Places.{blockCount}
 use Rattle.record.specs.Codes.{stateOf, absentEntry, freeBlock, freeEntry}
 use Rattle.record.specs.Reading.{isSmallBlock, Typed}
-use Rattle.record.specs.declared.BlockEntry.{BlockEntry}
-use Rattle.record.specs.declared.ExpirationEntry.{ExpirationEntry}
 use Rattle.record.specs.declared.Pool.{Pool}
-use Rattle.objects.specs.Steps.{isFreeBlock, endFor, freePlace, isFreeEntry, freeSlot, andThen, refuseIf, byState, taskVerdict, extensionVerdict, handleVerdict, slotVerdict, makeVerdict, refreshVerdict, readVerdict, writeVerdict, placeOf}
+use Rattle.objects.specs.Steps.{isFreeBlock, endFor, freePlace, isFreeEntry, freeSlot, andThen, refuseIf, byState, taskVerdict, extensionVerdict, handleVerdict, slotVerdict, makeVerdict, refreshVerdict, placeOf}
 use Rattle.objects.proofs.Taken.{MaySet, SlotFree, PlaceFree}
 
 -- a chain that accepts, accepts in each of its parts

@@ -1,36 +1,36 @@
 -- Make, refresh, read and write on a well-formed record follow the ledger that it reads as.
-use Prim.Native.Nat.{ℕ, _<_}
+use Prim.Native.Nat.{ℕ, _+_, _≤_, _<_}
 use native.Mathlib.Omega.{arith}
-use mathlib.Core.Bool.{true, false}
+use mathlib.Core.Bool.{true}
 use mathlib.Core.List.{List, []}
-use mathlib.Core.Path.{_≡_, refl, sym, ap, _∙_}
+use mathlib.Core.Logic.{_≢_}
+use mathlib.Core.Path.{_≡_, sym, _∙_}
 use borrow.Author.Tests.{not-false, ltb-false, eqb-false}
 use lib.ListN.{length, getD, replicate}
-use Rattle.ledger.specs.Objects.{Reply, plain, replyTo, memoryAfter, expirationsAfter, objectAt}
+use Rattle.ledger.specs.Objects.{replyTo, memoryAfter, expirationsAfter, objectAt}
 use Rattle.ledger.specs.Refusals.{asRefusal}
 use Rattle.ledger.specs.Ledger.{Ledger, settled, replyBy, afterBy, verdictOn, reply, next}
 use Rattle.ledger.specs.Compared.{viewOf}
 use Rattle.ledger.specs.declared.Kind.{Kind}
-use Rattle.ledger.specs.declared.Answer.the-variants.{Done, Handle, Bytes}
 use Rattle.ledger.specs.declared.Call.{Call}
-use Rattle.ledger.specs.declared.Call.the-variants.{Make, Refresh, Read, Write}
+use Rattle.ledger.specs.declared.Call.the-variants.{Make, Refresh, Write}
 use Rattle.ledger.specs.declared.Refusal.the-variants.{OutsideObject}
 use Rattle.ledger.specs.declared.Verdict.{Verdict}
-use Rattle.ledger.specs.declared.Verdict.the-variants.{Accepted, Refused}
+use Rattle.ledger.specs.declared.Verdict.the-variants.{Accepted}
 use Rattle.stores.specs.Places.{sizeOf, smallAfter, largeAfter}
 use Rattle.record.specs.Codes.{freeBlock}
-use Rattle.record.specs.Reading.{isWholeSmall, isWholeLarge, isWhole, blockBytes, recordView, Typed, Reads}
+use Rattle.record.specs.Reading.{isWholeSmall, isWholeLarge, blockBytes, recordView, Typed, Reads}
 use Rattle.record.specs.WellFormed.{isWellFormed}
 use Rattle.record.specs.declared.Pool.{Pool}
-use Rattle.record.proofs.Facts.{Fit, fit-parts, fit-whole}
-use Rattle.objects.specs.Steps.{taskVerdict, placeOf, freePlace, freeSlot, handleVerdict, makeVerdict, refreshVerdict, readVerdict, writeVerdict, madePool, refreshedPool}
-use Rattle.objects.proofs.Chosen.{both-accept, not-refused, Taken, make-takes, Renewed, refresh-takes, handle-found}
+use Rattle.record.proofs.Distinct.{handleAt}
+use Rattle.record.proofs.Facts.{fit-parts, fit-whole}
+use Rattle.objects.specs.Steps.{taskVerdict, placeOf, freePlace, handleVerdict, makeVerdict, refreshVerdict, readVerdict, writeVerdict, madePool, refreshedPool}
+use Rattle.objects.proofs.Chosen.{both-accept, not-refused, make-takes, refresh-takes, handle-found}
 use Rattle.objects.proofs.Finding.{Found, gone-alike, found, blockOf}
-use Rattle.objects.proofs.Verdicts.{make-verdict, refresh-verdict, read-verdict, write-verdict}
 use Rattle.objects.proofs.StoreBytes.{made-bytes}
 use Rattle.objects.proofs.FitMade.{fit-made, fit-refreshed}
 use Rattle.objects.proofs.ReadMade.{both-whole, made-reads, refreshed-reads}
-use Rattle.objects.proofs.ReadWritten.{written-reads}
+use Rattle.objects.proofs.ReadWritten.{written-sizes, written-reads}
 
 -- the ledger after a call that it carries out
 abbrev pub carried : Call → List ℕ → Ledger → Ledger
@@ -49,7 +49,7 @@ module _ {p : Pool} {small large : List ℕ} {L : Ledger} (w : isWellFormed p �
       let (nonzero, place) = handle-found handle p v in
       found (fit-parts p w) reads handle nonzero (not-false _ (sym (gone-alike (fit-parts p w) reads handle nonzero types) ∙ place))
 
-  same-given : p .given ≡ L .memory .given
+  pub same-given : p .given ≡ L .memory .given
   unfolding recordView viewOf
   same-given = reads .alike .given
 
@@ -97,15 +97,25 @@ module _ {p : Pool} {small large : List ℕ} {L : Ledger} (w : isWellFormed p �
     read-bytes task handle v =
         place-found handle (both-accept (taskVerdict task (p .tasks)) _ v .1) .bytes (both-whole small large small-whole large-whole _)
 
-    pub write-reads : (task handle offset : ℕ) (new : List ℕ) → writeVerdict task handle offset (length new) p ≡ Accepted
-        → (let place = placeOf handle (p .blocks) in
-        Reads p (smallAfter place offset new small) (largeAfter place offset new large) (carried (Write task handle offset) new L))
-    unfolding writeVerdict readVerdict
-    write-reads task handle offset new v =
-        let (read-ok, within) = both-accept (readVerdict task handle p) _ v in
-        let handle-ok = both-accept (taskVerdict task (p .tasks)) _ read-ok .1 in
-        let here = place-found handle handle-ok in
-        let nonzero = eqb-false handle 0 (handle-found handle p handle-ok .0) in
-        rw (here .its) at
-        (written-reads p small large L (fit-parts p w) types reads small-whole large-whole (placeOf handle (p .blocks)) offset new
-        (λ z. nonzero (sym (here .its) ∙ z)) (ltb-false _ _ (not-refused _ OutsideObject within)) task)
+    -- a write that is accepted lies in a block in use
+    module _ (task handle offset : ℕ) (new : List ℕ) (v : writeVerdict task handle offset (length new) p ≡ Accepted) where
+      handle-ok : handleVerdict handle p ≡ Accepted
+      unfolding writeVerdict readVerdict
+      handle-ok = both-accept (taskVerdict task (p .tasks)) _ (both-accept (readVerdict task handle p) _ v .0) .1
+
+      used : handleAt (p .blocks) (placeOf handle (p .blocks)) ≢ 0
+      used z = eqb-false handle 0 (handle-found handle p handle-ok .0) (sym (place-found handle handle-ok .its) ∙ z)
+
+      within : offset + length new ≤ getD (p .blocks) (placeOf handle (p .blocks)) freeBlock .length
+      unfolding writeVerdict
+      within = ltb-false _ _ (not-refused _ OutsideObject (both-accept (readVerdict task handle p) _ v .1))
+
+      pub write-sizes : (let place = placeOf handle (p .blocks) in
+          (length (smallAfter place offset new small) ≡ length small) × (length (largeAfter place offset new large) ≡ length large))
+      write-sizes = written-sizes p small large L (fit-parts p w) types reads small-whole large-whole _ offset new used within
+
+      pub write-reads : (let place = placeOf handle (p .blocks) in
+          Reads p (smallAfter place offset new small) (largeAfter place offset new large) (carried (Write task handle offset) new L))
+      write-reads =
+          rw (place-found handle handle-ok .its) at
+          (written-reads p small large L (fit-parts p w) types reads small-whole large-whole (placeOf handle (p .blocks)) offset new used within task)

@@ -105,6 +105,9 @@ module _ (p : Pool) (small large : List ℕ) (L : Ledger) (fit : Fit p) (types :
   objects-stand =
       rw (every-object-stands fit reads, ← all-shown small large small-whole large-whole (L .memory .objects)) (reads .alike .objects)
 
+  pub written-sizes : (length (smallAfter block offset new small) ≡ length small) × (length (largeAfter block offset new large) ≡ length large)
+  written-sizes = (change .small-size, change .large-size)
+
   -- the record, as it was, with the new stores reads as the ledger after the write
   pub written-reads : (task : ℕ)
       → let call = Write task (handleAt (p .blocks) block) offset in

@@ -1,19 +1,18 @@
 -- Demands 2 and 3 of the pool: by the contracts a list of calls follows the ledger step by step, and the ledger meets demand 3.
 use Prim.Native.Nat.{ℕ}
-use mathlib.Core.Bool.{true, _&&_}
-use mathlib.Core.List.{List, [], _∷_, map}
-use mathlib.Core.Path.{_≡_, refl, sym, ap₂, _∙_}
-use lib.ListN.{length}
+use mathlib.Core.Bool.{true}
+use mathlib.Core.List.{List, _∷_, map}
+use mathlib.Core.Path.{_≡_, refl, ap₂}
 use Rattle.ledger.specs.Limits.{limits, smallSize, largeSize}
 use Rattle.ledger.specs.Objects.{Reply}
 use Rattle.ledger.specs.Ledger.{Ledger, Sent, fresh, replies, afterAll, afterRequest}
 use Rattle.ledger.specs.Heap.{sent}
 use Rattle.ledger.proofs.Demand3.{demand3}
-use Rattle.record.specs.Reading.{freshPool, Reads}
+use Rattle.record.specs.Reading.{Reads}
 use Rattle.record.specs.WellFormed.{isWellFormed}
 use Rattle.record.specs.declared.Pool.{Pool}
 use Rattle.record.proofs.FreshReads.{fresh-reads, fresh-well-formed}
-use Rattle.pool.specs.Contract.{areWhole, Obeys}
+use Rattle.pool.specs.Contract.{areWhole}
 use Rattle.pool.specs.Demands.{Runs, done, call, Demand2, PoolDemand3}
 
 -- from any well-formed record that reads as a ledger, with whole stores

@@ -1,1 +1,4 @@
 pub mod Demands
+pub mod Promises
+pub mod Outcomes
+pub mod Scheduled

@@ -1,5 +1,5 @@
 -- Demands 2 and 3 of the pool, over lists of calls: statements about all that the calls' contracts allow, and so about this code.
-use Prim.Native.Nat.{ℕ, _*_}
+use Prim.Native.Nat.{ℕ}
 use mathlib.Core.Bool.{true}
 use mathlib.Core.List.{List, [], _∷_, map}
 use mathlib.Core.Logic.{_↔_}
