@@ -7,7 +7,7 @@ use mathlib.Core.Path.{_≡_, refl, sym, ap, _∙_}
 use Rattle.lists.proofs.Cases.{by-test}
 use Rattle.ledger.specs.Tasks.{isTested}
 use Rattle.ledger.specs.Objects.{Memory, plain, replyTo}
-use Rattle.ledger.specs.Ledger.{replyBy, reply}
+use Rattle.ledger.specs.Ledger.{verdictOn, replyBy, reply}
 use Rattle.ledger.specs.declared.Answer.the-variants.{Refused as RefusedAnswer}
 use Rattle.ledger.specs.declared.Event.{Event}
 use Rattle.ledger.specs.declared.Call.the-variants.{Schedule}
@@ -45,7 +45,7 @@ schedule-obeys event task p types w small large =
     record {
       unfit = λ u. absurd (true≢false (sym w ∙ u));
       wrong = λ x s n. absurd (false≢true s);
-      answers = λ x s L reads. ap plain (schedule-follows event task p small large L w reads .0) ∙ no-bytes _ event task (L .memory);
+      answers = λ x s L reads. ap plain (schedule-follows event task p small large L w reads .0) ∙ no-bytes (verdictOn L (Schedule event task) []) event task (L .memory);
       leaves = λ x s L reads. schedule-follows event task p small large L w reads .1;
       fits = λ x. schedule-fits event task p types w;
       keeps =
