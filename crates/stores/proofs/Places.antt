@@ -8,7 +8,7 @@ use borrow.Author.Tests.{ltb-true, ltb-false, eqb-true}
 use lib.ListN.{length, take, drop}
 use Rattle.lists.proofs.Blocks.{apart}
 use Rattle.lists.proofs.Cases.{by-test}
-use Rattle.ledger.specs.Limits.{limits}
+use Rattle.ledger.specs.Limits.{limits, smallSize, largeSize}
 use Rattle.record.specs.Reading.{isSmallBlock, blockBytes}
 use Rattle.stores.specs.Places.{blockCount, storeOf, indexOf, sizeOf, startOf, InBlock}
 
@@ -30,6 +30,11 @@ module _ {small large : List ℕ} {block count : ℕ} (p : InBlock small large b
       by-test (isSmallBlock block)
       (λ e. rw e (eqb-true _ _ (p .small-whole)))
       (λ e. rw e (eqb-true _ _ (p .large-whole)))
+
+  -- so few bytes that no offset in it wraps
+  pub store-bound : length (storeOf small large block) ≤ 8192
+  unfolding sizeOf limits smallSize largeSize
+  store-bound = rw store-size (by-test (isSmallBlock block) (λ e. rw e (omega arith)) (λ e. rw e (omega arith)))
 
   pub part-within : startOf block + count ≤ length (storeOf small large block)
   unfolding startOf

@@ -5,7 +5,7 @@ ghost use Prim.Native.Nat.{_+_, _≤_, _<_};
 ghost use lib.ListN.{length, take, drop, replicate};
 ghost use Rattle.lists.specs.Blocks.{overwritten};
 ghost use Rattle.record.specs.Reading.{blockBytes};
-ghost use Rattle.stores.specs.Places.{blockCount, startOf, InBlock};
+ghost use Rattle.stores.specs.Places.{blockCount, sizeOf, startOf, InBlock, smallAfter, largeAfter};
 
 // 01's figures: the blocks of the small store, the bytes of a small and of a large block.
 const SMALL_BLOCKS: usize = 64;
@@ -90,4 +90,30 @@ pub fn no_part<'a>(small: &'a [u8]) -> &'a [u8]
     ensures { λ r. ⌜ now r ≡ [] ⌝ }
 {
     &small[..0]
+}
+
+// A whole block to zero, in whichever store has it; the other store stays.
+pub fn clear_place(small: &mut [u8], large: &mut [u8], block: usize)
+    requires { ⌜ InBlock (now small) (now large) block (sizeOf block) ⌝ }
+    ensures { λ _. ⌜ (now (small .exit) ≡ smallAfter block 0 (replicate (sizeOf block) 0) (now (small .entry))) × (now (large .exit) ≡ largeAfter block 0 (replicate (sizeOf block) 0) (now (large .entry))) ⌝ }
+{
+    let start = block_start(block);
+    if block < SMALL_BLOCKS {
+        clear_block(small, start, SMALL_SIZE);
+        return;
+    }
+    clear_block(large, start, LARGE_SIZE);
+}
+
+// Bytes into a block from an offset on, in whichever store has it; the other store stays.
+pub fn write_place(small: &mut [u8], large: &mut [u8], block: usize, offset: usize, bytes: &[u8])
+    requires { ⌜ InBlock (now small) (now large) block (offset + length (now bytes)) ⌝ }
+    ensures { λ _. ⌜ (now (small .exit) ≡ smallAfter block offset (now (bytes .entry)) (now (small .entry))) × (now (large .exit) ≡ largeAfter block offset (now (bytes .entry)) (now (large .entry))) ⌝ }
+{
+    let at = block_start(block) + offset;
+    if block < SMALL_BLOCKS {
+        write_block(small, at, bytes);
+        return;
+    }
+    write_block(large, at, bytes);
 }

@@ -1,0 +1,36 @@
+-- The block lies in the store that the test picks.
+use native.Mathlib.Nat.{add-zero}
+use borrow.Author.Needs.{needs}
+use borrow.Author.Tests.{lt-ltb, le-ltb}
+use Rattle.ledger.specs.Limits.{limits, smallSize, largeSize}
+use Rattle.stores.specs.Places.{sizeOf, smallAfter, largeAfter}
+use Rattle.stores.proofs.Places.{part-within}
+use Rattle.stores.proofs.clear_place.Statement.{statement}
+use Rattle.stores.proofs.clear_place.Tie as tie
+
+clear-block-requires : tie.Need-clear-block-requires
+unfolding limits smallSize sizeOf
+clear-block-requires c κs =
+    rw (c .before .before .block-start .ensures) (rw (lt-ltb _ _ (c .before .if1 .taken)) at (part-within (c .before .before .before .before .before .pre)))
+
+returns : tie.Need-returns
+unfolding limits smallSize sizeOf smallAfter largeAfter
+returns c =
+    let e = lt-ltb _ _ (c .before .before .before .before .if1 .taken) in
+    (rw (e, add-zero, ← c .before .before .before .before .before .block-start .ensures) (c .before .before .clear-block .ensures), rw e)
+
+clear-block-requires-2 : tie.Need-clear-block-requires-2
+unfolding limits largeSize sizeOf
+clear-block-requires-2 c κs =
+    rw (c .before .before .block-start .ensures) (rw (le-ltb _ _ (c .before .if1 .left)) at (part-within (c .before .before .before .before .before .pre)))
+
+returns-2 : tie.Need-returns-2
+unfolding limits largeSize sizeOf smallAfter largeAfter
+returns-2 c =
+    let e = le-ltb _ _ (c .before .before .before .before .if1 .left) in
+    (rw e, rw (e, add-zero, ← c .before .before .before .before .before .block-start .ensures) (c .before .before .clear-block2 .ensures))
+
+pub clear-place-spec : {M : Type 1} → statement M
+clear-place-spec =
+    tie.close
+    (tie.spec (λ c κs. search needs) clear-block-requires (λ c. search needs) returns clear-block-requires-2 (λ c. search needs) returns-2)
