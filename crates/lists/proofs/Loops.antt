@@ -1,53 +1,60 @@
--- Loops over an array, for any element type, each as the start, the turn and the end of its invariant: one that maps each element, one that goes by
+-- Loops over an array, for any element type, each as the start, the turn and the end of its invariant: one that makes each element anew, one that goes by
 -- what is left (a search, a test of all, a count), and one that sets a flag for each element.
 use Prim.Native.Nat.{ℕ, suc, _+_, _≤_, _<_}
+use native.Mathlib.Nat.{zero-add}
 use native.Mathlib.Numerals.{add-one}
 use native.Mathlib.Omega.{arith}
-use mathlib.Core.Bool.{Bool, true, false, cond, not, or-true, or-false}
-use mathlib.Core.List.{List, [], _∷_, _++_, map, append-assoc, append-nil, map-append}
+use mathlib.Core.Bool.{Bool, true, false, not, or-true, or-false}
+use mathlib.Core.List.{List, [], _∷_, _++_, map, append-assoc, append-nil}
 use mathlib.Core.Path.{_≡_, refl, sym, _∙_}
 use lib.Dec.{eqb}
-use lib.ListN.{length, take, drop, getD, set, replicate, length-map, length-take, length-drop, length-set, length-replicate, getD-replicate, drop-of-length-le}
+use lib.ListN.{length, take, drop, getD, set, replicate, length-take, length-drop, length-set, length-replicate, getD-replicate, drop-of-length-le}
 use lib.Seq.{take-suc, drop-cons, length-take-le, set-at, getD-at, take-all, getD-take, getD-set-same, getD-set-other}
+use mir.Val.{boolByte}
 use borrow.Author.Tests.{eqb-true, eqb-false, not-true, not-false}
 use Rattle.lists.specs.Tests.{any, all, count}
-use Rattle.lists.specs.Tables.{allFrom}
+use Rattle.lists.specs.Tables.{allFrom, firstFrom, mapFrom}
 use Rattle.lists.proofs.Cases.{by-test}
 use Rattle.lists.proofs.Counts.{any-append}
+use Rattle.lists.proofs.Tables.{mapFrom-append, length-mapFrom, mapFrom-map}
 
 module _ {ℓ} {A : Type ℓ} where
-  -- after i turns of n: the first i elements are mapped and the others as they were
-  pub record Mapped (f : A → A) (xs : List A) (n i : ℕ) (out : List A) : Type ℓ where
+  -- after i turns of n: the first i elements are made anew, each with its place, and the others as they were
+  pub record Mapped (f : ℕ → A → A) (xs : List A) (n i : ℕ) (out : List A) : Type ℓ where
     pub size : length xs ≡ n
     pub within : i ≤ n
-    pub so : out ≡ map f (take i xs) ++ drop i xs
+    pub so : out ≡ mapFrom 0 f (take i xs) ++ drop i xs
 
-  pub mapped-start : (f : A → A) (xs : List A) (n : ℕ) → length xs ≡ n → Mapped f xs n 0 xs
+  pub mapped-start : (f : ℕ → A → A) (xs : List A) (n : ℕ) → length xs ≡ n → Mapped f xs n 0 xs
   mapped-start f xs n e = record { size = e; within = omega arith; so = refl }
 
-  front : (f : A → A) (xs : List A) (i : ℕ) → i < length xs → length (map f (take i xs)) ≡ i
-  front f xs i h = length-map (take i xs) f ∙ length-take-le i xs (omega arith)
+  front : (f : ℕ → A → A) (xs : List A) (i : ℕ) → i < length xs → length (mapFrom 0 f (take i xs)) ≡ i
+  front f xs i h = length-mapFrom 0 f (take i xs) ∙ length-take-le i xs (omega arith)
 
   -- the element that a turn reads is still as it was
-  pub mapped-reads : (f : A → A) (xs : List A) (n i : ℕ) (out : List A) (d : A) → Mapped f xs n i out → i < n → getD out i d ≡ getD xs i d
-  mapped-reads f xs n i out d m h =
+  pub mapped-reads : {f : ℕ → A → A} {xs : List A} {n i : ℕ} {out : List A} (d : A) → Mapped f xs n i out → i < n → getD out i d ≡ getD xs i d
+  mapped-reads {f} {xs} {i = i} d m h =
       let k : i < length xs = omega (arith, m .size) in
-      rw (m .so, drop-cons xs i d k) (getD-at (map f (take i xs)) (getD xs i d) (drop (suc i) xs) d i (front f xs i k))
+      rw (m .so, drop-cons xs i d k) (getD-at (mapFrom 0 f (take i xs)) (getD xs i d) (drop (suc i) xs) d i (front f xs i k))
 
-  pub mapped-turn : (f : A → A) (xs : List A) (n i : ℕ) (out : List A) (d v : A) → Mapped f xs n i out → i < n → v ≡ f (getD out i d)
+  pub mapped-turn : {f : ℕ → A → A} {xs : List A} {n i : ℕ} {out : List A} (d v : A) → Mapped f xs n i out → i < n → v ≡ f i (getD out i d)
       → Mapped f xs n (i + 1) (set out i v)
-  mapped-turn f xs n i out d v m h e =
+  mapped-turn {f} {xs} {i = i} d v m h e =
       let k : i < length xs = omega (arith, m .size) in
       record {
         size = m .size;
         within = omega arith;
         so =
-            rw (e, mapped-reads f xs n i out d m h, m .so, drop-cons xs i d k, set-at (map f (take i xs)) (getD xs i d) (drop (suc i) xs) (f (getD xs i d)) i (front f xs i k), add-one, take-suc xs i d k, map-append, append-assoc);
+            rw (e, mapped-reads d m h, m .so, drop-cons xs i d k, set-at (mapFrom 0 f (take i xs)) (getD xs i d) (drop (suc i) xs) (f i (getD xs i d)) i (front f xs i k), add-one, take-suc xs i d k, mapFrom-append, length-take-le i xs (omega arith), zero-add, append-assoc);
       }
 
-  pub mapped-end : (f : A → A) (xs : List A) (n i : ℕ) (out : List A) → Mapped f xs n i out → n ≤ i → out ≡ map f xs
-  mapped-end f xs n i out m h =
+  pub mapped-end : {f : ℕ → A → A} {xs : List A} {n i : ℕ} {out : List A} → Mapped f xs n i out → n ≤ i → out ≡ mapFrom 0 f xs
+  mapped-end {f} {xs} {i = i} m h =
       rw (m .so, take-all i xs (omega (arith, m .size)), drop-of-length-le xs {i = i} (omega (arith, m .size)), append-nil)
+
+  -- the same where places do not count
+  pub mapped-all : {f : A → A} {xs : List A} {n i : ℕ} {out : List A} → Mapped (λ k. f) xs n i out → n ≤ i → out ≡ map f xs
+  mapped-all {f} {xs} m h = mapped-end m h ∙ mapFrom-map 0 f xs
 
 -- the elements from i up to n: the one at i, and the others
 left {ℓ} : {A : Type ℓ} (xs : List A) (n i : ℕ) (d : A) → n ≤ length xs → i < n
@@ -97,17 +104,28 @@ module _ {ℓ} {A : Type ℓ} (p : A → Bool) {xs : List A} {n i : ℕ} (d : A)
   pub any-stop : {v r : Bool} → Scanned v xs n i (any p) → i < n → r ≡ p (getD xs i d) → r ≡ true → true ≡ v
   any-stop s h e t = scanned-stop true d s h (λ ys. rw (← e, t))
 
+module _ {ℓ} {A : Type ℓ} (p : A → Bool) {xs : List A} {n i : ℕ} where
+  -- a search for the place of the first element that passes
+  pub first-turn : (d : A) {v : ℕ} → Scanned v xs n i (firstFrom i p) → i < n → p (getD xs i d) ≡ false → Scanned v xs n (i + 1) (firstFrom (i + 1) p)
+  first-turn d s h e = scanned-turn _ d s h (λ ys. rw (e, add-one))
+
+  pub first-stop : (d : A) {v : ℕ} → Scanned v xs n i (firstFrom i p) → i < n → p (getD xs i d) ≡ true → i ≡ v
+  first-stop d s h e = scanned-stop i d s h (λ ys. rw e)
+
+  pub first-end : {v : ℕ} → Scanned v xs n i (firstFrom i p) → n ≤ i → n ≡ v
+  first-end s h = omega (arith, scanned-end s h, s .within)
+
 count-le {ℓ} : {A : Type ℓ} (p : A → Bool) (xs : List A) → count p xs ≤ length xs
 count-le p [] = omega arith
 count-le p (x ∷ xs) = let k = count-le p xs in by-test (p x) (λ t. rw t (omega arith)) (λ t. rw t (omega arith))
 
 module _ {ℓ} {A : Type ℓ} (p : A → Bool) {xs : List A} {n : ℕ} where
-  -- a count of the elements from a up to n, so far m, to which the turn adds r
+  -- a count of the elements from a up to n, so far m, to which the turn adds 1 where its element passes
   pub count-from : (a : ℕ) → a ≤ n → n ≤ length xs → Scanned (count p (drop a (take n xs))) xs n a (λ ys. 0 + count p ys)
   count-from a h k = record { size = k; within = h; so = omega arith }
 
-  pub count-turn : {i : ℕ} (d : A) {v : ℕ} (m : ℕ) {r : ℕ} → Scanned v xs n i (λ ys. m + count p ys) → i < n → r ≡ cond (p (getD xs i d)) 1 0
-      → Scanned v xs n (i + 1) (λ ys. m + r + count p ys)
+  pub count-turn : {i : ℕ} (d : A) {v : ℕ} (m : ℕ) {r : Bool} → Scanned v xs n i (λ ys. m + count p ys) → i < n → r ≡ p (getD xs i d)
+      → Scanned v xs n (i + 1) (λ ys. m + boolByte r + count p ys)
   count-turn {i} d m s h e =
       scanned-turn _ d s h (λ ys. rw e (by-test (p (getD xs i d)) (λ t. rw t (omega arith)) (λ t. rw t (omega arith))))
 

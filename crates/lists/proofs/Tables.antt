@@ -1,5 +1,5 @@
 -- Laws of tables read as lists, and of entries set, for any element type.
-use Prim.Native.Nat.{ℕ, zero, suc, _<_, _+_}
+use Prim.Native.Nat.{ℕ, zero, suc, _+_, _≤_, _<_}
 use mathlib.Core.Bool.{Bool, true, and-eq-true-iff, cond, _&&_}
 use mathlib.Core.List.{List, [], _∷_, _++_, map, append-assoc, map-append, map-id}
 use mathlib.Core.Logic.{_≢_}
@@ -108,6 +108,25 @@ module _ {ℓ} {A : Type ℓ} where
   mapFrom-suc : (i : ℕ) (f : ℕ → A → A) (xs : List A) → mapFrom (suc i) f xs ≡ mapFrom i (λ j. f (suc j)) xs
   mapFrom-suc i f [] = refl
   mapFrom-suc i f (x ∷ xs) = rw (mapFrom-suc (suc i) f xs)
+
+  pub mapFrom-append : (i : ℕ) (f : ℕ → A → A) (xs ys : List A) → mapFrom i f (xs ++ ys) ≡ mapFrom i f xs ++ mapFrom (i + length xs) f ys
+  mapFrom-append i f [] ys = rw add-zero
+  mapFrom-append i f (x ∷ xs) ys = rw (mapFrom-append (suc i) f xs ys, add-suc, suc-add)
+
+  pub length-mapFrom : (i : ℕ) (f : ℕ → A → A) (xs : List A) → length (mapFrom i f xs) ≡ length xs
+  length-mapFrom i f [] = refl
+  length-mapFrom i f (x ∷ xs) = rw (length-mapFrom (suc i) f xs)
+
+  -- where the places do not count
+  pub mapFrom-map : (i : ℕ) (f : A → A) (xs : List A) → mapFrom i (λ k. f) xs ≡ map f xs
+  mapFrom-map i f [] = refl
+  mapFrom-map i f (x ∷ xs) = rw (mapFrom-map (suc i) f xs)
+
+  -- the same of every entry below n, in a list that ends there
+  pub mapFrom-same : (f g : ℕ → A → A) (n : ℕ) → ((k : ℕ) → k < n → (x : A) → f k x ≡ g k x) → (i : ℕ) (xs : List A) → i + length xs ≤ n
+      → mapFrom i f xs ≡ mapFrom i g xs
+  mapFrom-same f g n h i [] l = refl
+  mapFrom-same f g n h i (x ∷ xs) l = rw (h i (omega arith) x, mapFrom-same f g n h (suc i) xs (omega arith))
 
   -- the entry at an index, made anew, where the default stays as it is
   pub getD-mapFrom : (d : A) (f : ℕ → A → A) → ((i : ℕ) → f i d ≡ d) → (xs : List A) (i : ℕ)

@@ -45,7 +45,7 @@ fn fits_due(setter: TaskEntry, global: GlobalTime, used: bool, due: Due) -> bool
 }
 
 // An index below count: i, or 0 where i is none.
-fn clamped(count: usize, i: usize) -> usize
+pub fn clamped(count: usize, i: usize) -> usize
     requires { ⌜ 0 < count ⌝ }
     ensures { λ r. ⌜ Clamped count i r ⌝ }
 {
@@ -60,7 +60,7 @@ fn names_used(block: u8, b: BlockEntry) -> bool
 }
 
 // The flag that an expiration sets: its block's, or the one past the last where it names none.
-fn slot(block: u8, due: Due) -> usize
+pub fn slot(block: u8, due: Due) -> usize
     ensures { λ r. ⌜ r ≡ slotOf block due ⌝ }
 {
     if is_dated(due) & ((block as usize) < BLOCK_COUNT) {

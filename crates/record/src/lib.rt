@@ -3,9 +3,9 @@
 ghost use mathlib.Core.Path.{_≡_};
 ghost use Rattle.record.specs.Reading.{freshPool};
 
-mod blocks;
+pub mod blocks;
 pub mod codes;
-mod expirations;
+pub mod expirations;
 pub mod fit;
 pub mod tasks;
 
@@ -75,30 +75,34 @@ pub struct Outcome {
     pub pool: Pool,
 }
 
+// What an entry that is not in use holds.
+pub const ABSENT_TASK: TaskEntry = TaskEntry {
+    state: ABSENT,
+    ticked: 0,
+    clock: LocalTime(0),
+};
+
+pub const FREE_BLOCK: BlockEntry = BlockEntry {
+    handle: 0,
+    length: 0,
+};
+
+pub const FREE_EXPIRATION: ExpirationEntry = ExpirationEntry {
+    kind: FREE,
+    block: 0,
+    setter: 0,
+    due: 0,
+};
+
 // 01: a fresh pool.
 pub fn fresh() -> Pool
     ensures { λ r. ⌜ r ≡ freshPool ⌝ }
 {
-    let task = TaskEntry {
-        state: ABSENT,
-        ticked: 0,
-        clock: LocalTime(0),
-    };
-    let block = BlockEntry {
-        handle: 0,
-        length: 0,
-    };
-    let expiration = ExpirationEntry {
-        kind: FREE,
-        block: 0,
-        setter: 0,
-        due: 0,
-    };
     Pool {
-        tasks: [task; TASK_COUNT],
+        tasks: [ABSENT_TASK; TASK_COUNT],
         global: GlobalTime(0),
         given: 0,
-        blocks: [block; BLOCK_COUNT],
-        expirations: [expiration; EXPIRATION_COUNT],
+        blocks: [FREE_BLOCK; BLOCK_COUNT],
+        expirations: [FREE_EXPIRATION; EXPIRATION_COUNT],
     }
 }

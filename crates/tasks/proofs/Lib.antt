@@ -7,3 +7,4 @@ pub mod Aging
 pub mod ReadExpirations
 pub mod ReadObjects
 pub mod Follow
+pub mod Sweeping

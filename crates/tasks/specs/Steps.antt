@@ -51,15 +51,19 @@ verdictOf Tick Waiting = Refused TaskWaiting
 abbrev pub nextTime : ℕ → ℕ
 nextTime n = (n + 1) % counterRange
 
+-- in this state, the mark cleared
+abbrev pub clearedEntry : ℕ → TaskEntry → TaskEntry
+clearedEntry state e = record { state = state; ticked = 0; clock = e .clock }
+
 abbrev pub movedEntry : Event → TaskEntry → TaskEntry
-movedEntry Join e = record { state = 1; ticked = 0; clock = record { 0 = 0 } }
-movedEntry Block e = record { state = 2; ticked = 0; clock = e .clock }
-movedEntry Resume e = record { state = 1; ticked = 0; clock = e .clock }
+movedEntry Join e = clearedEntry 1 absentEntry
+movedEntry Block e = clearedEntry 2 e
+movedEntry Resume e = clearedEntry 1 e
 movedEntry Leave e = absentEntry
 movedEntry Tick e = record { state = e .state; ticked = 1; clock = record { 0 = nextTime (e .clock .0) } }
 
 abbrev pub untickedEntry : TaskEntry → TaskEntry
-untickedEntry e = record { state = e .state; ticked = 0; clock = e .clock }
+untickedEntry e = clearedEntry (e .state) e
 
 abbrev pub movedTasks : Event → ℕ → List TaskEntry → List TaskEntry
 movedTasks event task tasks = set tasks task (movedEntry event (getD tasks task absentEntry))

@@ -1,0 +1,142 @@
+// What an event makes of the task entries and the global time.
+ghost use mathlib.Core.List.{map};
+ghost use mathlib.Core.Path.{_≡_};
+ghost use Rattle.ledger.specs.Tasks.{isTested};
+ghost use Rattle.ledger.specs.declared.Event.the-variants.{Tick};
+ghost use Rattle.tasks.specs.Steps.{verdictOf, clearedEntry, movedEntry, untickedEntry, advancedTasks, advancedTime, leaverOf};
+use ledger::Event;
+use ledger::Refusal;
+use ledger::State;
+use ledger::TASK_COUNT;
+use ledger::Verdict;
+use record::ABSENT_TASK;
+use record::GlobalTime;
+use record::LocalTime;
+use record::TaskEntry;
+use record::codes::RUNNING;
+use record::codes::WAITING;
+
+// 01: join 2; leave 3; block and tick 3, 4; resume 3, 5.
+pub fn judge(event: Event, state: State) -> Verdict
+    ensures { λ r. ⌜ r ≡ verdictOf event state ⌝ }
+{
+    match event {
+        Event::Join => match state {
+            State::Absent => Verdict::Accepted,
+            State::Running => Verdict::Refused(Refusal::TaskPresent),
+            State::Waiting => Verdict::Refused(Refusal::TaskPresent),
+        },
+        Event::Leave => match state {
+            State::Absent => Verdict::Refused(Refusal::TaskAbsent),
+            State::Running => Verdict::Accepted,
+            State::Waiting => Verdict::Accepted,
+        },
+        Event::Block => match state {
+            State::Absent => Verdict::Refused(Refusal::TaskAbsent),
+            State::Running => Verdict::Accepted,
+            State::Waiting => Verdict::Refused(Refusal::TaskWaiting),
+        },
+        Event::Resume => match state {
+            State::Absent => Verdict::Refused(Refusal::TaskAbsent),
+            State::Running => Verdict::Refused(Refusal::TaskRunning),
+            State::Waiting => Verdict::Accepted,
+        },
+        Event::Tick => match state {
+            State::Absent => Verdict::Refused(Refusal::TaskAbsent),
+            State::Running => Verdict::Accepted,
+            State::Waiting => Verdict::Refused(Refusal::TaskWaiting),
+        },
+    }
+}
+
+// An entry in this state, its mark (01) cleared.
+fn cleared(state: u16, mut e: TaskEntry) -> TaskEntry
+    ensures { λ r. ⌜ r ≡ clearedEntry state e ⌝ }
+{
+    e.state = state;
+    e.ticked = 0;
+    e
+}
+
+// One tick more, and the mark set.
+fn ticked(mut e: TaskEntry) -> TaskEntry
+    ensures { λ r. ⌜ r ≡ movedEntry Tick e ⌝ }
+{
+    let next = LocalTime(std::num::wrapping_add_u32(e.clock.0, 1));
+    e.ticked = 1;
+    e.clock = next;
+    e
+}
+
+// 01's list of the five: what each makes of its task.
+pub fn moved(event: Event, e: TaskEntry) -> TaskEntry
+    ensures { λ r. ⌜ r ≡ movedEntry event e ⌝ }
+{
+    match event {
+        Event::Join => cleared(RUNNING, ABSENT_TASK),
+        Event::Leave => ABSENT_TASK,
+        Event::Block => cleared(WAITING, e),
+        Event::Resume => cleared(RUNNING, e),
+        Event::Tick => ticked(e),
+    }
+}
+
+// Whether the advance test comes after the event.
+pub fn is_tested(event: Event) -> bool
+    ensures { λ r. ⌜ r ≡ isTested event ⌝ }
+{
+    match event {
+        Event::Join => false,
+        Event::Leave => true,
+        Event::Block => true,
+        Event::Resume => false,
+        Event::Tick => true,
+    }
+}
+
+// No task.
+const NOBODY: u16 = TASK_COUNT as u16;
+
+// The task whose local expirations go.
+pub fn leaver(event: Event, task: u8) -> u16
+    ensures { λ r. ⌜ r ≡ leaverOf event task ⌝ }
+{
+    match event {
+        Event::Join => NOBODY,
+        Event::Leave => task as u16,
+        Event::Block => NOBODY,
+        Event::Resume => NOBODY,
+        Event::Tick => NOBODY,
+    }
+}
+
+fn all_unticked(tasks: [TaskEntry; TASK_COUNT]) -> [TaskEntry; TASK_COUNT]
+    ensures { λ r. ⌜ r ≡ map untickedEntry tasks ⌝ }
+{
+    let mut out = tasks;
+    for i in 0..TASK_COUNT {
+        let e = out[i];
+        out[i] = cleared(e.state, e);
+    }
+    out
+}
+
+// "all marks are cleared"
+pub fn advanced_tasks(advanced: bool, tasks: [TaskEntry; TASK_COUNT]) -> [TaskEntry; TASK_COUNT]
+    ensures { λ r. ⌜ r ≡ advancedTasks advanced tasks ⌝ }
+{
+    if advanced {
+        return all_unticked(tasks);
+    }
+    tasks
+}
+
+// "common time goes up by 1"
+pub fn advanced_time(advanced: bool, global: GlobalTime) -> GlobalTime
+    ensures { λ r. ⌜ r ≡ advancedTime advanced global ⌝ }
+{
+    if advanced {
+        return GlobalTime(std::num::wrapping_add_u32(global.0, 1));
+    }
+    global
+}
