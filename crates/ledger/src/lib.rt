@@ -1,4 +1,6 @@
 // What code and specifications share: document 01's figures, its calls, their answers, and the refusals with their numbers.
+ghost use mathlib.Core.Path.{_≡_};
+ghost use Rattle.ledger.specs.Numbers.{numberOf};
 
 // 01's four figures that a site may come to choose.
 pub struct Limits {
@@ -125,4 +127,31 @@ pub enum Answer {
     Handle(u32),
     Bytes,
     Counted(Usage),
+}
+
+// 01's number of a refusal.
+pub fn number_of(refusal: Refusal) -> u8
+    ensures { λ r. ⌜ r ≡ numberOf refusal ⌝ }
+{
+    match refusal {
+        Refusal::NoSuchTask => 1,
+        Refusal::TaskPresent => 2,
+        Refusal::TaskAbsent => 3,
+        Refusal::TaskWaiting => 4,
+        Refusal::TaskRunning => 5,
+        Refusal::ExtensionTooLong => 6,
+        Refusal::LengthOutOfRange => 7,
+        Refusal::HandlesSpent => 8,
+        Refusal::NoFreeBlock => 9,
+        Refusal::NoFreeExpiration => 10,
+        Refusal::HandleNotGiven => 11,
+        Refusal::ObjectGone => 12,
+        Refusal::OutsideObject => 13,
+        Refusal::WrongStoreLength => 14,
+        Refusal::NotWellFormed => 15,
+        Refusal::NotHexadecimal => 16,
+        Refusal::UnknownOperation => 17,
+        Refusal::WrongFrameLength => 18,
+        Refusal::UnknownKind => 19,
+    }
 }

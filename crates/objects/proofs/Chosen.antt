@@ -50,7 +50,7 @@ may-set task extension p t x =
     }
 
 -- the first free entry, where there is one
-slot-free : (p : Pool) → Typed p → slotVerdict (p .expirations) ≡ Accepted → SlotFree (freeSlot (p .expirations)) (p .expirations)
+slot-free : (p : Pool) → Typed p → slotVerdict (freeSlot (p .expirations)) ≡ Accepted → SlotFree (freeSlot (p .expirations)) (p .expirations)
 unfolding limits
 slot-free p types v =
     let xs = p .expirations in
@@ -96,6 +96,7 @@ module _ (p : Pool) (types : Typed p) (size : ℕ) (range : (eqb size 0 || ltb l
 -- what a make that is accepted takes
 pub record Taken (task extension size : ℕ) (p : Pool) : Type 0 where
   pub may : MaySet task extension p
+  pub unspent : p .given < lastHandle
   pub block : PlaceFree (freePlace size (p .blocks)) size (p .blocks)
   pub entry : SlotFree (freeSlot (p .expirations)) (p .expirations)
 
@@ -109,6 +110,7 @@ make-takes task extension size p types v =
     let (block-ok, slot-ok) = both-accept _ _ v₄ in
     record {
       may = may-set task extension p task-ok extension-ok;
+      unspent = leb-false lastHandle (p .given) (not-refused _ HandlesSpent given-ok);
       block = place-free p types size (not-refused _ LengthOutOfRange size-ok) (not-refused _ NoFreeBlock block-ok);
       entry = slot-free p types slot-ok;
     }
@@ -134,3 +136,6 @@ pub handle-found : (handle : ℕ) (p : Pool) → handleVerdict handle p ≡ Acce
 handle-found handle p v =
     let (given-ok, place-ok) = both-accept _ _ v in
     (or-false-parts (eqb handle 0) _ (not-refused _ _ given-ok) .0, not-refused _ _ place-ok)
+
+pub place-listed : (handle : ℕ) (p : Pool) → handleVerdict handle p ≡ Accepted → placeOf handle (p .blocks) < blockCount
+place-listed handle p v = leb-false _ _ (handle-found handle p v .1)

@@ -29,7 +29,7 @@ use Rattle.record.proofs.Facts.{Fit, FitUsed, fit-used}
 use Rattle.record.proofs.Distinct.{handleAt, same-handle}
 use Rattle.tasks.proofs.ReadObjects.{shown-stands, named-stands}
 use Rattle.stores.specs.Places.{blockCount}
-use Rattle.objects.specs.Steps.{placeOf, isFreeBlock}
+use Rattle.objects.specs.Steps.{isBlockOf, placeOf, isFreeBlock}
 
 -- the block of a handle
 abbrev pub blockOf : ℕ → List BlockEntry → BlockEntry
@@ -43,9 +43,6 @@ objectOf small large blocks i =
 
 abbrev isObjectOf : ℕ → Object → Bool
 isObjectOf handle o = eqb (o .handle) handle
-
-abbrev isBlockOf : ℕ → BlockEntry → Bool
-isBlockOf handle b = eqb (b .handle) handle
 
 -- what holds of every object with a handle holds of the one that is found by it
 at-handle : (P : Object → Type 0) (handle : ℕ) (os : List Object) → any (isObjectOf handle) os ≡ true

@@ -17,7 +17,7 @@ use Rattle.ledger.specs.declared.Call.the-variants.{Make, Refresh, Write}
 use Rattle.ledger.specs.declared.Refusal.the-variants.{OutsideObject}
 use Rattle.ledger.specs.declared.Verdict.{Verdict}
 use Rattle.ledger.specs.declared.Verdict.the-variants.{Accepted}
-use Rattle.stores.specs.Places.{sizeOf, smallAfter, largeAfter}
+use Rattle.stores.specs.Places.{sizeOf, InBlock, smallAfter, largeAfter}
 use Rattle.record.specs.Codes.{freeBlock}
 use Rattle.record.specs.Reading.{isWholeSmall, isWholeLarge, blockBytes, recordView, Typed, Reads}
 use Rattle.record.specs.WellFormed.{isWellFormed}
@@ -27,10 +27,10 @@ use Rattle.record.proofs.Facts.{fit-parts, fit-whole}
 use Rattle.objects.specs.Steps.{taskVerdict, placeOf, freePlace, handleVerdict, makeVerdict, refreshVerdict, readVerdict, writeVerdict, madePool, refreshedPool}
 use Rattle.objects.proofs.Chosen.{both-accept, not-refused, make-takes, refresh-takes, handle-found}
 use Rattle.objects.proofs.Finding.{Found, gone-alike, found, blockOf}
-use Rattle.objects.proofs.StoreBytes.{made-bytes}
+use Rattle.objects.proofs.StoreBytes.{used-in-block, made-bytes}
 use Rattle.objects.proofs.FitMade.{fit-made, fit-refreshed}
 use Rattle.objects.proofs.ReadMade.{both-whole, made-reads, refreshed-reads}
-use Rattle.objects.proofs.ReadWritten.{written-sizes, written-reads}
+use Rattle.objects.proofs.ReadWritten.{in-place, written-sizes, written-reads}
 
 -- the ledger after a call that it carries out
 abbrev pub carried : Call → List ℕ → Ledger → Ledger
@@ -97,6 +97,14 @@ module _ {p : Pool} {small large : List ℕ} {L : Ledger} (w : isWellFormed p �
     read-bytes task handle v =
         place-found handle (both-accept (taskVerdict task (p .tasks)) _ v .1) .bytes (both-whole small large small-whole large-whole _)
 
+    pub read-place : (task handle : ℕ) → readVerdict task handle p ≡ Accepted
+        → InBlock small large (placeOf handle (p .blocks)) (blockOf handle (p .blocks) .length)
+    unfolding readVerdict
+    read-place task handle v =
+        let here = place-found handle (both-accept (taskVerdict task (p .tasks)) _ v .1) in
+        let known : placeOf handle (p .blocks) < 96 = omega (arith, here .within, types .blocks) in
+        used-in-block small large small-whole large-whole p (fit-parts p w) _ known (here .used)
+
     -- a write that is accepted lies in a block in use
     module _ (task handle offset : ℕ) (new : List ℕ) (v : writeVerdict task handle offset (length new) p ≡ Accepted) where
       handle-ok : handleVerdict handle p ≡ Accepted
@@ -109,6 +117,9 @@ module _ {p : Pool} {small large : List ℕ} {L : Ledger} (w : isWellFormed p �
       within : offset + length new ≤ getD (p .blocks) (placeOf handle (p .blocks)) freeBlock .length
       unfolding writeVerdict
       within = ltb-false _ _ (not-refused _ OutsideObject (both-accept (readVerdict task handle p) _ v .1))
+
+      pub write-place : InBlock small large (placeOf handle (p .blocks)) (offset + length new)
+      write-place = in-place p small large L (fit-parts p w) types reads small-whole large-whole _ offset new used within
 
       pub write-sizes : (let place = placeOf handle (p .blocks) in
           (length (smallAfter place offset new small) ≡ length small) × (length (largeAfter place offset new large) ≡ length large))

@@ -76,11 +76,13 @@ module _ (p : Pool) (small large : List ℕ) (L : Ledger) (fit : Fit p) (types :
       let known : j < 96 = rw (types .blocks) at (entry-within freeBlock (p .blocks) j (λ e. u (ap handleOf e))) in
       used-in-block small large small-whole large-whole p fit j known (rw (ne-eqb _ 0 u))
 
-  change : BytesChanged small large small′ large′ block offset new
-  change =
+  pub in-place : InBlock small large block (offset + length new)
+  in-place =
       let q = object-in-block block used in
-      bytes-changed offset new
-      (record { known = q .known; small-whole = small-whole; large-whole = large-whole; within = le-trans within (q .within) })
+      record { known = q .known; small-whole = small-whole; large-whole = large-whole; within = le-trans within (q .within) }
+
+  change : BytesChanged small large small′ large′ block offset new
+  change = bytes-changed offset new in-place
 
   -- each block in use has the bytes of its object after the write: no other block has the handle
   bytes-after : (j : ℕ) → handleAt (p .blocks) j ≢ 0

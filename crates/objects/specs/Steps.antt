@@ -19,11 +19,15 @@ use Rattle.record.specs.Codes.{stateOf, absentEntry, freeBlock}
 use Rattle.record.specs.declared.TaskEntry.{TaskEntry}
 use Rattle.record.specs.declared.BlockEntry.{BlockEntry}
 use Rattle.record.specs.declared.ExpirationEntry.{ExpirationEntry}
+use Rattle.record.specs.declared.GlobalTime.{GlobalTime}
 use Rattle.record.specs.declared.Pool.{Pool}
+
+abbrev pub isBlockOf : ℕ → BlockEntry → Bool
+isBlockOf handle b = eqb (b .handle) handle
 
 -- the block of the object with this handle, or blockCount
 abbrev pub placeOf : ℕ → List BlockEntry → ℕ
-placeOf handle blocks = firstFrom 0 (λ (b : BlockEntry). eqb (b .handle) handle) blocks
+placeOf handle blocks = firstFrom 0 (isBlockOf handle) blocks
 
 abbrev pub isFreeBlock : BlockEntry → Bool
 isFreeBlock b = eqb (b .handle) 0
@@ -66,29 +70,39 @@ taskVerdict task tasks = andThen (refuseIf (leb taskCount task) NoSuchTask) (byS
 abbrev pub extensionVerdict : ℕ → Verdict
 extensionVerdict extension = refuseIf (ltb (limits .extension) extension) ExtensionTooLong
 
--- 11, 12
+-- 11, 12, by the handles given and the place that was found
+abbrev pub foundVerdict : ℕ → ℕ → ℕ → Verdict
+foundVerdict handle given place =
+    andThen (refuseIf (eqb handle 0 || ltb given handle) HandleNotGiven) (refuseIf (leb blockCount place) ObjectGone)
+
 abbrev pub handleVerdict : ℕ → Pool → Verdict
-handleVerdict handle p =
-    andThen (refuseIf (eqb handle 0 || ltb (p .given) handle) HandleNotGiven)
-    (refuseIf (leb blockCount (placeOf handle (p .blocks))) ObjectGone)
+handleVerdict handle p = foundVerdict handle (p .given) (placeOf handle (p .blocks))
 
--- 10
-abbrev pub slotVerdict : List ExpirationEntry → Verdict
-slotVerdict xs = refuseIf (leb (limits .expirations) (freeSlot xs)) NoFreeExpiration
+-- 10, by the entry that was found
+abbrev pub slotVerdict : ℕ → Verdict
+slotVerdict slot = refuseIf (leb (limits .expirations) slot) NoFreeExpiration
 
--- 01's lists for the four
-unfoldable pub makeVerdict : ℕ → ℕ → ℕ → Pool → Verdict
-makeVerdict task extension size p =
-    andThen (taskVerdict task (p .tasks))
+-- 01's lists for the four, first by the handles given and the places that were found
+abbrev pub makeVerdictBy : ℕ → ℕ → ℕ → List TaskEntry → ℕ → ℕ → ℕ → Verdict
+makeVerdictBy task extension size tasks given place slot =
+    andThen (taskVerdict task tasks)
     (andThen (extensionVerdict extension)
     (andThen (refuseIf (eqb size 0 || ltb largeSize size) LengthOutOfRange)
-    (andThen (refuseIf (leb lastHandle (p .given)) HandlesSpent)
-    (andThen (refuseIf (leb (endFor size) (freePlace size (p .blocks))) NoFreeBlock) (slotVerdict (p .expirations))))))
+    (andThen (refuseIf (leb lastHandle given) HandlesSpent)
+    (andThen (refuseIf (leb (endFor size) place) NoFreeBlock) (slotVerdict slot)))))
+
+unfoldable pub makeVerdict : ℕ → ℕ → ℕ → Pool → Verdict
+makeVerdict task extension size p =
+    makeVerdictBy task extension size (p .tasks) (p .given) (freePlace size (p .blocks)) (freeSlot (p .expirations))
+
+abbrev pub refreshVerdictBy : ℕ → ℕ → ℕ → List TaskEntry → ℕ → ℕ → ℕ → Verdict
+refreshVerdictBy task extension handle tasks given place slot =
+    andThen (taskVerdict task tasks)
+    (andThen (extensionVerdict extension) (andThen (foundVerdict handle given place) (slotVerdict slot)))
 
 unfoldable pub refreshVerdict : ℕ → ℕ → ℕ → Pool → Verdict
 refreshVerdict task extension handle p =
-    andThen (taskVerdict task (p .tasks))
-    (andThen (extensionVerdict extension) (andThen (handleVerdict handle p) (slotVerdict (p .expirations))))
+    refreshVerdictBy task extension handle (p .tasks) (p .given) (placeOf handle (p .blocks)) (freeSlot (p .expirations))
 
 unfoldable pub readVerdict : ℕ → ℕ → Pool → Verdict
 readVerdict task handle p = andThen (taskVerdict task (p .tasks)) (handleVerdict handle p)
@@ -99,11 +113,14 @@ writeVerdict task handle offset count p =
     (refuseIf (ltb (getD (p .blocks) (placeOf handle (p .blocks)) freeBlock .length) (offset + count)) OutsideObject)
 
 -- the entry of an expiration that a task sets on a block: "c + e + 1", "g + e + 2", by counters that wrap
+abbrev pub entryBy : Kind → ℕ → ℕ → ℕ → List TaskEntry → GlobalTime → ExpirationEntry
+entryBy Local task extension block tasks global =
+    record { kind = 1; block = block; setter = task; due = (getD tasks task absentEntry .clock .0 + (extension + 1)) % counterRange }
+entryBy Global task extension block tasks global =
+    record { kind = 2; block = block; setter = task; due = (global .0 + (extension + 2)) % counterRange }
+
 unfoldable pub entryFor : Kind → ℕ → ℕ → ℕ → Pool → ExpirationEntry
-entryFor Local task extension block p =
-    record { kind = 1; block = block; setter = task; due = (getD (p .tasks) task absentEntry .clock .0 + (extension + 1)) % counterRange }
-entryFor Global task extension block p =
-    record { kind = 2; block = block; setter = task; due = (p .global .0 + (extension + 2)) % counterRange }
+entryFor kind task extension block p = entryBy kind task extension block (p .tasks) (p .global)
 
 -- one expiration more, in an entry that was free
 abbrev pub withEntry : ℕ → ExpirationEntry → Pool → Pool

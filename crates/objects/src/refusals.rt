@@ -1,0 +1,148 @@
+// The tests of 01, "When a call is refused", each by numbers that its call has found. A call is refused by the first that holds.
+ghost use Prim.Native.Nat.{_+_};
+ghost use lib.Dec.{ltb};
+ghost use mathlib.Core.Path.{_≡_};
+ghost use Rattle.objects.specs.Steps.{andThen, refuseIf, byState, taskVerdict, extensionVerdict, foundVerdict, slotVerdict, makeVerdictBy, refreshVerdictBy};
+use super::search::end_for;
+use ledger::LARGE_SIZE;
+use ledger::LIMITS;
+use ledger::Refusal;
+use ledger::State;
+use ledger::TASK_COUNT;
+use ledger::Verdict;
+use record::BLOCK_COUNT;
+use record::EXPIRATION_COUNT;
+use record::TaskEntry;
+use record::codes::state_of;
+
+pub fn and_then(first: Verdict, next: Verdict) -> Verdict
+    ensures { λ r. ⌜ r ≡ andThen first next ⌝ }
+{
+    match first {
+        Verdict::Accepted => next,
+        Verdict::Refused(why) => Verdict::Refused(why),
+    }
+}
+
+fn refuse_if(holds: bool, why: Refusal) -> Verdict
+    ensures { λ r. ⌜ r ≡ refuseIf holds why ⌝ }
+{
+    if holds {
+        Verdict::Refused(why)
+    } else {
+        Verdict::Accepted
+    }
+}
+
+// 3, 4
+fn by_state(state: State) -> Verdict
+    ensures { λ r. ⌜ r ≡ byState state ⌝ }
+{
+    match state {
+        State::Absent => Verdict::Refused(Refusal::TaskAbsent),
+        State::Running => Verdict::Accepted,
+        State::Waiting => Verdict::Refused(Refusal::TaskWaiting),
+    }
+}
+
+// 1, 3, 4
+pub fn task_verdict(task: u8, tasks: [TaskEntry; TASK_COUNT]) -> Verdict
+    ensures { λ r. ⌜ r ≡ taskVerdict task tasks ⌝ }
+{
+    let i = task as usize;
+    if TASK_COUNT <= i {
+        return Verdict::Refused(Refusal::NoSuchTask);
+    }
+    let e = tasks[i];
+    by_state(state_of(e.state))
+}
+
+// 6
+fn extension_verdict(extension: u8) -> Verdict
+    ensures { λ r. ⌜ r ≡ extensionVerdict extension ⌝ }
+{
+    refuse_if(
+        LIMITS.extension < extension as u32,
+        Refusal::ExtensionTooLong,
+    )
+}
+
+// 11, 12
+pub fn found_verdict(handle: u32, given: u32, place: usize) -> Verdict
+    ensures { λ r. ⌜ r ≡ foundVerdict handle given place ⌝ }
+{
+    and_then(
+        refuse_if((handle == 0) | (given < handle), Refusal::HandleNotGiven),
+        refuse_if(BLOCK_COUNT <= place, Refusal::ObjectGone),
+    )
+}
+
+// 10
+fn slot_verdict(slot: usize) -> Verdict
+    ensures { λ r. ⌜ r ≡ slotVerdict slot ⌝ }
+{
+    refuse_if(EXPIRATION_COUNT <= slot, Refusal::NoFreeExpiration)
+}
+
+// 7, 8, 9 between the others, in 01's order
+pub fn make_verdict(
+    task: u8,
+    extension: u8,
+    length: u32,
+    tasks: [TaskEntry; TASK_COUNT],
+    given: u32,
+    place: usize,
+    slot: usize,
+) -> Verdict
+    ensures { λ r. ⌜ r ≡ makeVerdictBy task extension length tasks given place slot ⌝ }
+{
+    and_then(
+        task_verdict(task, tasks),
+        and_then(
+            extension_verdict(extension),
+            and_then(
+                refuse_if(
+                    (length == 0) | (LARGE_SIZE < length),
+                    Refusal::LengthOutOfRange,
+                ),
+                and_then(
+                    refuse_if(u32::MAX <= given, Refusal::HandlesSpent),
+                    and_then(
+                        refuse_if(end_for(length) <= place, Refusal::NoFreeBlock),
+                        slot_verdict(slot),
+                    ),
+                ),
+            ),
+        ),
+    )
+}
+
+// 11, 12 and 10 after 6
+pub fn refresh_verdict(
+    task: u8,
+    extension: u8,
+    handle: u32,
+    tasks: [TaskEntry; TASK_COUNT],
+    given: u32,
+    place: usize,
+    slot: usize,
+) -> Verdict
+    ensures { λ r. ⌜ r ≡ refreshVerdictBy task extension handle tasks given place slot ⌝ }
+{
+    and_then(
+        task_verdict(task, tasks),
+        and_then(
+            extension_verdict(extension),
+            and_then(found_verdict(handle, given, place), slot_verdict(slot)),
+        ),
+    )
+}
+
+// 13: offset plus count above the length, with no sum that could wrap.
+pub fn reaches_past(length: u32, offset: u8, count: usize) -> bool
+    ensures { λ r. ⌜ r ≡ ltb length (offset + count) ⌝ }
+{
+    let length = length as usize;
+    let offset = offset as usize;
+    (length < offset) || (length - offset < count)
+}
