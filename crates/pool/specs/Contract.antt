@@ -4,23 +4,27 @@ use mathlib.Core.Bool.{Bool, true, false, _&&_}
 use mathlib.Core.List.{List, []}
 use mathlib.Core.Path.{_≡_}
 use lib.ListN.{length, getD, replicate}
+use Rattle.ledger.specs.Numbers.{answerNumber}
 use Rattle.ledger.specs.Objects.{Reply, plain}
 use Rattle.ledger.specs.Ledger.{Ledger, replyToRequest, afterRequest}
 use Rattle.ledger.specs.declared.Kind.{Kind}
 use Rattle.ledger.specs.declared.Answer.{Answer}
-use Rattle.ledger.specs.declared.Answer.the-variants.{Refused, Done, Handle}
+use Rattle.ledger.specs.declared.Answer.the-variants.{Refused, Done, Handle, Bytes}
 use Rattle.ledger.specs.declared.Call.the-variants.{Schedule, Make, Refresh, Read, Write}
 use Rattle.ledger.specs.declared.Refusal.{Refusal}
 use Rattle.ledger.specs.declared.Refusal.the-variants.{WrongStoreLength, NotWellFormed}
 use Rattle.ledger.specs.declared.Request.{Request}
 use Rattle.ledger.specs.declared.Request.the-variants.{Use, Report}
-use Rattle.stores.specs.Places.{blockCount, sizeOf, smallAfter, largeAfter}
+use Rattle.stores.specs.Places.{blockCount, sizeOf, InBlock, smallAfter, largeAfter}
 use Rattle.record.specs.Codes.{freeBlock}
-use Rattle.record.specs.Reading.{isWholeSmall, isWholeLarge, Reads}
+use Rattle.record.specs.Reading.{isWholeSmall, isWholeLarge, blockBytes, Reads}
 use Rattle.record.specs.WellFormed.{isWellFormed}
 use Rattle.record.specs.declared.Pool.{Pool}
 use Rattle.record.specs.declared.Outcome.{Outcome}
 use Rattle.objects.specs.Steps.{placeOf}
+use Rattle.objects.specs.declared.Found.{Found}
+use Rattle.objects.specs.declared.Found.the-variants.{At}
+use Rattle.objects.specs.declared.Found.the-variants.{Refused as RefusedFound}
 
 -- the calls that test 14
 abbrev pub isStored : Request → Bool
@@ -85,3 +89,24 @@ pub record Writes (task handle offset : ℕ) (new : List ℕ) (p : Pool) (small 
 abbrev pub ReadsBack : ℕ → ℕ → Pool → List ℕ → List ℕ → Answer → List ℕ → Type 0
 ReadsBack task handle p small large answer part =
     Obeys (Use (Read task handle)) [] p small large (record { answer = answer; bytes = part }) p small large
+
+-- the reply of a read that was found in a block, or was refused
+abbrev pub replyFound : List ℕ → List ℕ → Found → Reply
+replyFound small large (RefusedFound why) = plain (Refused why)
+replyFound small large (At block count) = record { answer = Bytes; bytes = blockBytes small large block count }
+
+-- where a read finds its object: those bytes are its reply, and they lie in a block
+pub record Locates (task handle : ℕ) (p : Pool) (small large : List ℕ) (f : Found) : Type 0 where
+  pub reads : Obeys (Use (Read task handle)) [] p small large (replyFound small large f) p small large
+  pub inside : (block count : ℕ) → f ≡ At block count → InBlock small large block count
+
+-- the same for whatever stores have these lengths
+abbrev pub LocatesIn : ℕ → ℕ → ℕ → ℕ → Pool → Found → Type 0
+LocatesIn smallBytes largeBytes task handle p f =
+    (small large : List ℕ) → length small ≡ smallBytes → length large ≡ largeBytes → Locates task handle p small large f
+
+-- its answer by the number: 0, or that of the refusal
+pub record ReadsTo (task handle : ℕ) (p : Pool) (small large : List ℕ) (number : ℕ) (part : List ℕ) : Type 0 where
+  pub answer : Answer
+  pub numbered : number ≡ answerNumber answer
+  pub reads : ReadsBack task handle p small large answer part
