@@ -1,13 +1,14 @@
 -- The one fact about blocks, for any element type, count and size: a change inside a block changes that block and no other.
 use Prim.Native.Nat.{ℕ, zero, suc, _+_, _-_, _*_, _≤_, _<_}
 use native.Mathlib.Nat.{zero-add, suc-add, add-assoc, add-sub-of-le, add-sub-cancel-left, suc-mul, mul-le-mul-right}
+use native.Mathlib.Numerals.{add-one}
 use native.Mathlib.Omega.{arith}
 use mathlib.Core.List.{List, [], _∷_, _++_, append-assoc}
 use mathlib.Core.Path.{_≡_, ap, _∙_}
 use borrow.Author.Tests.{ltb-true, ltb-false}
 use lib.Dec.{ltb}
-use lib.ListN.{length, take, drop, replicate, length-append, length-take, length-drop, length-replicate, replicate-append-replicate}
-use lib.Seq.{take-nil, take-take, drop-drop, take-add, take-append-le, drop-append-le, take-at, drop-at}
+use lib.ListN.{length, take, drop, set, replicate, length-append, length-take, length-drop, length-replicate, replicate-append-replicate}
+use lib.Seq.{take-nil, take-take, drop-drop, take-add, take-append-le, drop-append-le, take-at, drop-at, append-snoc, set-split}
 use Rattle.lists.specs.Blocks.{blockOf, overwritten, BlockChanged}
 use Rattle.lists.proofs.Cases.{by-test}
 
@@ -62,6 +63,18 @@ module _ {ℓ} {A : Type ℓ} where
   pub take-new : (n : ℕ) (new old : List A) → n ≤ length new → take n (overwritten 0 new old) ≡ take n new
   unfolding overwritten
   take-new n new old h = take-append-le n new (drop (0 + length new) old) h
+
+  -- new elements after new elements
+  pub overwritten-on : (at : ℕ) (a b old : List A) → at + length a + length b ≤ length old
+      → overwritten (at + length a) b (overwritten at a old) ≡ overwritten at (a ++ b) old
+  unfolding overwritten
+  overwritten-on at a b old h =
+      rw (take-at _ _ _ (front at a old (omega arith)), drop-after at a old (omega arith) (at + length a + length b) (omega arith), length-append, ← add-assoc)
+      (simp append-assoc)
+
+  pub set-overwritten : (xs : List A) (i : ℕ) (v : A) → i < length xs → set xs i v ≡ overwritten i (v ∷ []) xs
+  unfolding overwritten
+  set-overwritten xs i v h = rw (set-split xs i v h, add-one, append-snoc)
 
   -- what a store is when a part of it that was lent comes back
   pub put-back : (at end : ℕ) (part new old : List A) → part ≡ new → end ≡ at + length new

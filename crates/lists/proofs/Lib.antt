@@ -12,3 +12,4 @@ pub mod Loops
 pub mod Blocks
 pub mod Copies
 pub mod Implied
+pub mod Searches

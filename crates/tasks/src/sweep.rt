@@ -58,7 +58,7 @@ pub struct Left {
     pub named: [bool; BLOCK_COUNT + 1],
 }
 
-pub fn sweep(
+fn sweep(
     xs: [ExpirationEntry; EXPIRATION_COUNT],
     tasks: [TaskEntry; TASK_COUNT],
     global: GlobalTime,
@@ -92,7 +92,7 @@ fn kept_block(named: bool, b: BlockEntry) -> BlockEntry
 }
 
 // What none names is free.
-pub fn keep_blocks(
+fn keep_blocks(
     blocks: [BlockEntry; BLOCK_COUNT],
     named: [bool; BLOCK_COUNT + 1],
 ) -> [BlockEntry; BLOCK_COUNT]

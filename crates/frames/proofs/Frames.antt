@@ -1,0 +1,73 @@
+-- Laws of frames: 18, 19 and the request of a known operation, by the length of its line; then the operation by its number.
+use Prim.Native.Nat.{ℕ, _+_, _-_, _/_, _≤_}
+use native.Mathlib.Omega.{arith}
+use mathlib.Core.Bool.{true, false, and-eq-true-iff}
+use mathlib.Core.List.{List, [], _∷_}
+use mathlib.Core.Option.{none, some}
+use mathlib.Core.Path.{_≡_, refl}
+use borrow.Author.Tests.{leb-true, ne-eqb}
+use lib.Dec.{leb}
+use lib.ListN.{length, List·getD-eq-default}
+use Rattle.lists.specs.Tests.{All}
+use Rattle.lists.proofs.Cases.{refuted}
+use Rattle.ledger.specs.declared.Refusal.the-variants.{UnknownOperation, WrongFrameLength, UnknownKind}
+use Rattle.ledger.specs.declared.Request.{Request}
+use Rattle.frames.specs.Fields.{fieldAt, fieldsAt}
+use Rattle.frames.specs.Frames.{Operation, widthsOf, headSize, mostBytes, isSizeOf, requestOf, frameAs, operations, operationNumber, operationIn, frameBy, frameIn}
+use Rattle.frames.specs.Hex.{bytesOf}
+use Rattle.frames.specs.declared.Frame.{Frame}
+use Rattle.frames.proofs.Digits.{within, length-bytes}
+use Rattle.frames.proofs.Fields.{field-one}
+
+-- the sizes of an operation
+pub sizes : (o : Operation) (size : ℕ) → isSizeOf o size ≡ true → (headSize o ≤ size) × (size ≤ headSize o + mostBytes o)
+sizes o size e =
+    let (low, high) = and-eq-true-iff (leb (headSize o) size) _ .0 e in
+    (leb-true (headSize o) size low, leb-true size (headSize o + mostBytes o) high)
+
+module _ (o : Operation) (line : List ℕ) where
+  abbrev valuesIn : List ℕ
+  valuesIn = fieldsAt 1 (widthsOf o) (bytesOf line)
+
+  pub wrong-size : isSizeOf o (length line / 2) ≡ false → Frame.Refused WrongFrameLength ≡ frameAs o (bytesOf line)
+  unfolding frameAs
+  wrong-size e = rw (length-bytes line, e)
+
+  pub right-size : isSizeOf o (length line / 2) ≡ true → {request : Request} {count : ℕ} → some request ≡ requestOf o valuesIn
+      → count ≡ length line / 2 - headSize o → Frame.Request request count ≡ frameAs o (bytesOf line)
+  unfolding frameAs
+  right-size e r n = rw (length-bytes line, e, ← r, n)
+
+  -- of an operation that no bytes follow
+  module _ (alone : mostBytes o ≡ 0) where
+    pub other-size : (length line / 2 ≡ headSize o → ⊥) → Frame.Refused WrongFrameLength ≡ frameAs o (bytesOf line)
+    other-size ne = wrong-size (refuted _ (λ e. let (low, high) = sizes o (length line / 2) e in ne (omega arith)))
+
+    own : length line / 2 ≡ headSize o → isSizeOf o (length line / 2) ≡ true
+    own e = within (headSize o) (headSize o + mostBytes o) (length line / 2) (omega arith) (omega arith)
+
+    pub wrong-kind : length line / 2 ≡ headSize o → none ≡ requestOf o valuesIn → Frame.Refused UnknownKind ≡ frameAs o (bytesOf line)
+    unfolding frameAs
+    wrong-kind e r = rw (length-bytes line, own e, ← r)
+
+    pub own-size : length line / 2 ≡ headSize o → {request : Request} → some request ≡ requestOf o valuesIn
+        → Frame.Request request 0 ≡ frameAs o (bytesOf line)
+    own-size e r = right-size (own e) r (omega arith)
+
+-- by the operation's number, or none
+pub by-number : (bytes : List ℕ) {byte : ℕ} (number : ℕ) → byte ≡ fieldAt 0 1 bytes → byte ≡ number
+    → frameBy (operationIn operations number) bytes ≡ frameIn bytes
+unfolding frameIn
+by-number bytes number e n = rw (← n, e, field-one 0 bytes)
+
+unknown : (os : List Operation) (number : ℕ) → All (λ (o : Operation). number ≡ operationNumber o → ⊥) os → operationIn os number ≡ none
+unknown [] number h = refl
+unknown (o ∷ os) number (h, hs) = rw (ne-eqb number (operationNumber o) h) (unknown os number hs)
+
+pub unknown-operation : (bytes : List ℕ) {byte : ℕ} → byte ≡ fieldAt 0 1 bytes → All (λ (o : Operation). byte ≡ operationNumber o → ⊥) operations
+    → Frame.Refused UnknownOperation ≡ frameIn bytes
+unknown-operation bytes {byte} e h = rw (← by-number bytes byte e refl, unknown operations byte h)
+
+pub no-operation : (line : List ℕ) → length line ≡ 0 → Frame.Refused UnknownOperation ≡ frameIn (bytesOf line)
+unfolding frameIn
+no-operation line e = rw (List·getD-eq-default (bytesOf line) 0 {n = 0} (rw (length-bytes line) (omega arith)))

@@ -1,0 +1,90 @@
+-- The round trip: the line of a request and its bytes gives the request and its bytes back.
+use Prim.Native.Nat.{ℕ, _+_, _-_, _≤_, _<_}
+use native.Mathlib.Omega.{arith}
+use mathlib.Core.Bool.{true}
+use mathlib.Core.List.{List, [], _∷_, _++_}
+use mathlib.Core.Option.{Option, some}
+use mathlib.Core.Path.{_≡_, refl, ap, _∙_}
+use lib.ListN.{length, length-append}
+use lib.Seq.{drop-at}
+use Rattle.lists.specs.Tests.{All}
+use Rattle.lists.proofs.All.{all-append}
+use Rattle.ledger.specs.declared.Call.the-variants.{Schedule, Make, Refresh, Read, Write}
+use Rattle.ledger.specs.declared.Event.the-variants.{Join, Leave, Block, Resume, Tick}
+use Rattle.ledger.specs.declared.Kind.the-variants.{Local, Global}
+use Rattle.ledger.specs.declared.Request.{Request}
+use Rattle.ledger.specs.declared.Request.the-variants.{Use, Report}
+use Rattle.frames.specs.Fields.{inFields, FitFields}
+use Rattle.frames.specs.Frames.{Operation, schedule, make, refresh, read, write, report, operations, operationNumber, operationIn, widthsOf, headSize, mostBytes, requestOf, frameAs, frameBy, frameIn, frameOf, payloadOf, operationOf, valuesOf, lineOf, RoundTrip}
+use Rattle.frames.specs.Hex.{isHex, bytesOf}
+use Rattle.frames.specs.declared.Frame.{Frame}
+use Rattle.frames.proofs.Digits.{within, hex-hex, bytes-hex}
+use Rattle.frames.proofs.Fields.{fields-in, fields-below, length-in-fields}
+
+-- an operation is found by its number, which is a byte
+found : (o : Operation) → (operationIn operations (operationNumber o) ≡ some o) × (operationNumber o < 256)
+found (schedule Join) = (refl, omega arith)
+found (schedule Leave) = (refl, omega arith)
+found (schedule Block) = (refl, omega arith)
+found (schedule Resume) = (refl, omega arith)
+found (schedule Tick) = (refl, omega arith)
+found make = (refl, omega arith)
+found refresh = (refl, omega arith)
+found read = (refl, omega arith)
+found write = (refl, omega arith)
+found report = (refl, omega arith)
+
+-- its fields' values make the request
+same-request : (request : Request) → requestOf (operationOf request) (valuesOf request) ≡ some request
+same-request (Use (Schedule event task)) = refl
+same-request (Use (Make task Local extension length)) = refl
+same-request (Use (Make task Global extension length)) = refl
+same-request (Use (Refresh task Local extension handle)) = refl
+same-request (Use (Refresh task Global extension handle)) = refl
+same-request (Use (Read task handle)) = refl
+same-request (Use (Write task handle offset)) = refl
+same-request Report = refl
+
+module _ (request : Request) (bytes : List ℕ) (fit : FitFields (widthsOf (operationOf request)) (valuesOf request))
+    (below : All (λ (b : ℕ). b < 256) bytes) (most : length bytes ≤ mostBytes (operationOf request)) where
+  abbrev o : Operation
+  o = operationOf request
+
+  abbrev head : List ℕ
+  head = operationNumber o ∷ inFields (widthsOf o) (valuesOf request)
+
+  head-size : length head ≡ headSize o
+  head-size = rw (length-in-fields (widthsOf o) (valuesOf request) fit) (omega arith)
+
+  size : length (head ++ bytes) ≡ headSize o + length bytes
+  size = rw (length-append, head-size)
+
+  framed : frameAs o (head ++ bytes) ≡ Frame.Request request (length bytes)
+  unfolding frameAs
+  framed =
+      let right = within (headSize o) (headSize o + mostBytes o) (length (head ++ bytes)) (omega (arith, size)) (omega (arith, size)) in
+      let count : length (head ++ bytes) - headSize o ≡ length bytes = omega (arith, size) in
+      let values = fields-in (operationNumber o ∷ []) bytes (widthsOf o) (valuesOf request) fit in
+      rw (right, values, same-request request, count)
+
+  bytes-below : All (λ (b : ℕ). b < 256) (head ++ bytes)
+  bytes-below = (found o .1, all-append _ (inFields (widthsOf o) (valuesOf request)) bytes (fields-below (widthsOf o) (valuesOf request)) below)
+
+  hex : isHex (lineOf request bytes) ≡ true
+  unfolding lineOf
+  hex = hex-hex (head ++ bytes) bytes-below
+
+  spelled : bytesOf (lineOf request bytes) ≡ head ++ bytes
+  unfolding lineOf
+  spelled = bytes-hex (head ++ bytes) bytes-below
+
+  frame-back : frameOf (lineOf request bytes) ≡ Frame.Request request (length bytes)
+  unfolding frameOf frameIn
+  frame-back = rw (hex, spelled) (ap (λ (x : Option Operation). frameBy x (head ++ bytes)) (found o .0) ∙ framed)
+
+  bytes-back : payloadOf (lineOf request bytes) ≡ bytes
+  unfolding payloadOf
+  bytes-back = rw (frame-back, spelled) (drop-at head bytes (length (head ++ bytes) - length bytes) (omega (arith, size, head-size)))
+
+pub round-trip : RoundTrip
+round-trip request bytes fit below most = (frame-back request bytes fit below most, bytes-back request bytes fit below most)

@@ -1,0 +1,12 @@
+-- By the number.
+use borrow.Author.Tests.{ne-eqb}
+use Rattle.frames.proofs.requests.kind_of.Statement.{statement}
+use Rattle.frames.proofs.requests.kind_of.Tie as tie
+
+pub kind-of-spec : {M : Type 1} → statement M
+kind-of-spec =
+    tie.close
+    (tie.spec
+    (λ c. rw (c .match .keys1))
+    (λ c. rw (c .match .keys2))
+    (λ c. rw (ne-eqb _ 0 (c .match .rest .0 .1), ne-eqb _ 1 (c .match .rest .1))))

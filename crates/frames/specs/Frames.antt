@@ -1,0 +1,171 @@
+-- Document 01, "Call frames": the request or the refusal that a line gives, and the line of a request.
+use Prim.Native.Nat.{ℕ, _+_, _-_, _≤_, _<_}
+use mathlib.Core.Bool.{Bool, cond}
+use mathlib.Core.List.{List, [], _∷_, _++_}
+use mathlib.Core.Option.{Option, none, some}
+use mathlib.Core.Path.{_≡_}
+use lib.Dec.{eqb}
+use lib.ListN.{length, getD, drop}
+use Rattle.frames.specs.Fields.{fieldsAt, inFields, total, FitFields}
+use Rattle.frames.specs.Hex.{isWithin, isHex, bytesOf, hexOf}
+use Rattle.lists.specs.Blocks.{overwritten}
+use Rattle.lists.specs.Tests.{All}
+use Rattle.frames.specs.declared.Frame.{Frame}
+use Rattle.frames.specs.declared.requests.KindByte.{KindByte}
+use Rattle.frames.specs.declared.requests.KindByte.the-variants.{Known, Unknown}
+use Rattle.ledger.specs.declared.Call.the-variants.{Schedule, Make, Refresh, Read, Write}
+use Rattle.ledger.specs.declared.Event.{Event}
+use Rattle.ledger.specs.declared.Event.the-variants.{Join, Leave, Block, Resume, Tick}
+use Rattle.ledger.specs.declared.Kind.{Kind}
+use Rattle.ledger.specs.declared.Kind.the-variants.{Local, Global}
+use Rattle.ledger.specs.declared.Refusal.the-variants.{NotHexadecimal, UnknownOperation, WrongFrameLength, UnknownKind}
+use Rattle.ledger.specs.declared.Request.{Request}
+use Rattle.ledger.specs.declared.Request.the-variants.{Use, Report}
+
+-- the ten operations; five of them are the events of a task
+pub data Operation : Type 0 where
+  schedule : Event → Operation
+  make refresh read write report : Operation
+
+abbrev pub operationNumber : Operation → ℕ
+operationNumber (schedule Join) = 1
+operationNumber (schedule Leave) = 2
+operationNumber (schedule Block) = 3
+operationNumber (schedule Resume) = 4
+operationNumber (schedule Tick) = 5
+operationNumber make = 6
+operationNumber refresh = 7
+operationNumber read = 8
+operationNumber write = 9
+operationNumber report = 10
+
+abbrev pub operations : List Operation
+operations =
+    schedule Join ∷ schedule Leave ∷ schedule Block ∷ schedule Resume ∷ schedule Tick ∷ make ∷ refresh ∷ read ∷ write ∷ report ∷ []
+
+-- the one of these with a number, or none
+abbrev pub operationIn : List Operation → ℕ → Option Operation
+operationIn [] number = none
+operationIn (o ∷ os) number = cond (eqb number (operationNumber o)) (some o) (operationIn os number)
+
+-- the widths of the fields after the operation, in bytes
+abbrev pub widthsOf : Operation → List ℕ
+-- "operation, task"
+widthsOf (schedule event) = 1 ∷ []
+-- "operation, task, kind (00 own, 01 common), extension, length in 2 bytes"
+widthsOf make = 1 ∷ 1 ∷ 1 ∷ 2 ∷ []
+-- "operation, task, kind, extension, object in 4"
+widthsOf refresh = 1 ∷ 1 ∷ 1 ∷ 4 ∷ []
+-- "operation, task, object in 4"
+widthsOf read = 1 ∷ 4 ∷ []
+-- "operation, task, object in 4, offset in 1, then 0 to 256 bytes"
+widthsOf write = 1 ∷ 4 ∷ 1 ∷ []
+-- "operation only"
+widthsOf report = []
+
+-- how many bytes may follow the fields
+abbrev pub mostBytes : Operation → ℕ
+mostBytes (schedule event) = 0
+mostBytes make = 0
+mostBytes refresh = 0
+mostBytes read = 0
+mostBytes write = 256
+mostBytes report = 0
+
+-- operation and fields
+abbrev pub headSize : Operation → ℕ
+headSize o = 1 + total (widthsOf o)
+
+-- 18 where this fails: "wrong length for it"
+abbrev pub isSizeOf : Operation → ℕ → Bool
+isSizeOf o size = isWithin (headSize o) (headSize o + mostBytes o) size
+
+-- 19 where it is unknown: "kind above 01"
+abbrev pub kindOf : ℕ → KindByte
+kindOf number = cond (eqb number 0) (Known Local) (cond (eqb number 1) (Known Global) Unknown)
+
+abbrev pub withKind : KindByte → (Kind → Request) → Option Request
+withKind (Known kind) request = some (request kind)
+withKind Unknown request = none
+
+-- the request that the values of the fields make, or none where a kind is unknown
+abbrev pub requestOf : Operation → List ℕ → Option Request
+requestOf (schedule event) values = some (Use (Schedule event (getD values 0 0)))
+requestOf make values =
+    withKind (kindOf (getD values 1 0)) (λ (kind : Kind). Use (Make (getD values 0 0) kind (getD values 2 0) (getD values 3 0)))
+requestOf refresh values =
+    withKind (kindOf (getD values 1 0)) (λ (kind : Kind). Use (Refresh (getD values 0 0) kind (getD values 2 0) (getD values 3 0)))
+requestOf read values = some (Use (Read (getD values 0 0) (getD values 1 0)))
+requestOf write values = some (Use (Write (getD values 0 0) (getD values 1 0) (getD values 2 0)))
+requestOf report values = some Report
+
+abbrev pub frameWith : Option Request → ℕ → Frame
+frameWith none count = Frame.Refused UnknownKind
+frameWith (some request) count = Frame.Request request count
+
+-- a frame of a known operation: 18, then 19; the bytes after the fields come with the request
+unfoldable pub frameAs : Operation → List ℕ → Frame
+frameAs o bytes =
+    cond (isSizeOf o (length bytes))
+    (frameWith (requestOf o (fieldsAt 1 (widthsOf o) bytes)) (length bytes - headSize o))
+    (Frame.Refused WrongFrameLength)
+
+-- 17 before these: "no or unknown operation"
+abbrev pub frameBy : Option Operation → List ℕ → Frame
+frameBy none bytes = Frame.Refused UnknownOperation
+frameBy (some o) bytes = frameAs o bytes
+
+-- no operation has the number 0, which stands for a frame of no byte
+unfoldable pub frameIn : List ℕ → Frame
+frameIn bytes = frameBy (operationIn operations (getD bytes 0 0)) bytes
+
+-- 16 before all
+unfoldable pub frameOf : List ℕ → Frame
+frameOf line = cond (isHex line) (frameIn (bytesOf line)) (Frame.Refused NotHexadecimal)
+
+-- the bytes that come with a request are the last of its frame
+abbrev pub lastOf : Frame → List ℕ → List ℕ
+lastOf (Frame.Request request count) bytes = drop (length bytes - count) bytes
+lastOf (Frame.Refused refusal) bytes = []
+
+unfoldable pub payloadOf : List ℕ → List ℕ
+payloadOf line = lastOf (frameOf line) (bytesOf line)
+
+-- What decoding a line gives: its frame, and the bytes that come with it at the start of a buffer, of which nothing else changes.
+pub record Decodes (line old : List ℕ) (r : Frame) (new : List ℕ) : Type 0 where
+  pub frame : r ≡ frameOf line
+  pub bytes : new ≡ overwritten 0 (payloadOf line) old
+
+-- the operation of a request and the values of its fields
+abbrev pub operationOf : Request → Operation
+operationOf (Use (Schedule event task)) = schedule event
+operationOf (Use (Make task kind extension length)) = make
+operationOf (Use (Refresh task kind extension handle)) = refresh
+operationOf (Use (Read task handle)) = read
+operationOf (Use (Write task handle offset)) = write
+operationOf Report = report
+
+abbrev pub kindNumber : Kind → ℕ
+kindNumber Local = 0
+kindNumber Global = 1
+
+abbrev pub valuesOf : Request → List ℕ
+valuesOf (Use (Schedule event task)) = task ∷ []
+valuesOf (Use (Make task kind extension length)) = task ∷ kindNumber kind ∷ extension ∷ length ∷ []
+valuesOf (Use (Refresh task kind extension handle)) = task ∷ kindNumber kind ∷ extension ∷ handle ∷ []
+valuesOf (Use (Read task handle)) = task ∷ handle ∷ []
+valuesOf (Use (Write task handle offset)) = task ∷ handle ∷ offset ∷ []
+valuesOf Report = []
+
+-- a request with its bytes, as a line
+unfoldable pub lineOf : Request → List ℕ → List ℕ
+lineOf request bytes =
+    let o = operationOf request in
+    hexOf (operationNumber o ∷ inFields (widthsOf o) (valuesOf request) ++ bytes)
+
+-- The round trip: from its line a request comes back with its bytes, where its values fit their fields and it brings no more bytes than it may.
+abbrev pub RoundTrip : Type 0
+RoundTrip =
+    (request : Request) (bytes : List ℕ) → FitFields (widthsOf (operationOf request)) (valuesOf request)
+    → All (λ (b : ℕ). b < 256) bytes → length bytes ≤ mostBytes (operationOf request)
+    → (frameOf (lineOf request bytes) ≡ Frame.Request request (length bytes)) × (payloadOf (lineOf request bytes) ≡ bytes)

@@ -1,0 +1,5 @@
+pub mod Hex
+pub mod Fields
+pub mod Frames
+pub mod Answers
+pub mod Lines

@@ -1,0 +1,18 @@
+// Document 01, "Call frames": the lines of a script, the request of a line, and the line of an answer.
+use ledger::Refusal;
+use ledger::Request;
+
+mod answers;
+mod hex;
+mod lines;
+mod requests;
+
+pub use answers::encode_answer;
+pub use lines::line_end;
+pub use requests::decode;
+
+// What a line gives: a request and the count of the bytes that come with it, or a refusal. An enum holds no array, so the bytes stand beside it.
+pub enum Frame {
+    Request(Request, usize),
+    Refused(Refusal),
+}

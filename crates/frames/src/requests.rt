@@ -1,0 +1,192 @@
+// The frame of a line. The fields of an operation stand at fixed places, and its number at place 0.
+use super::Frame;
+use super::hex::byte_at;
+use super::hex::is_hex;
+use super::hex::short_at;
+use super::hex::spell_last;
+use super::hex::word_at;
+use ledger::Call;
+use ledger::Event;
+use ledger::Kind;
+use ledger::Refusal;
+use ledger::Request;
+ghost use Prim.Native.Nat.{_≤_};
+ghost use mathlib.Core.Bool.{true};
+ghost use mathlib.Core.Path.{_≡_};
+ghost use lib.ListN.{length};
+ghost use Rattle.frames.specs.Frames.{Decodes, kindOf, frameAs, frameIn, frameOf, schedule, make, refresh, read, write, report};
+ghost use Rattle.frames.specs.Hex.{isHex, bytesOf};
+
+// The kind that a byte names: 00 is own, 01 common.
+pub enum KindByte {
+    Known(Kind),
+    Unknown,
+}
+
+fn kind_of(number: u8) -> KindByte
+    ensures { λ r. ⌜ r ≡ kindOf number ⌝ }
+{
+    match number {
+        0 => KindByte::Known(Kind::Local),
+        1 => KindByte::Known(Kind::Global),
+        _ => KindByte::Unknown,
+    }
+}
+
+// 01 to 05: operation, task.
+fn schedule(line: &[u8], event: Event) -> Frame
+    requires { ⌜ isHex (now line) ≡ true ⌝ }
+    ensures { λ r. ⌜ r ≡ frameAs (schedule event) (bytesOf (now (line .entry))) ⌝ }
+{
+    if line.len() / 2 != 2 {
+        return Frame::Refused(Refusal::WrongFrameLength);
+    }
+    let task = byte_at(line, 1);
+    Frame::Request(Request::Use(Call::Schedule { event, task }), 0)
+}
+
+// 06: operation, task, kind, extension, length in 2 bytes.
+fn make(line: &[u8]) -> Frame
+    requires { ⌜ isHex (now line) ≡ true ⌝ }
+    ensures { λ r. ⌜ r ≡ frameAs make (bytesOf (now (line .entry))) ⌝ }
+{
+    if line.len() / 2 != 6 {
+        return Frame::Refused(Refusal::WrongFrameLength);
+    }
+    let KindByte::Known(kind) = kind_of(byte_at(line, 2)) else {
+        return Frame::Refused(Refusal::UnknownKind);
+    };
+    let task = byte_at(line, 1);
+    let extension = byte_at(line, 3);
+    let length = short_at(line, 4);
+    Frame::Request(
+        Request::Use(Call::Make {
+            task,
+            kind,
+            extension,
+            length,
+        }),
+        0,
+    )
+}
+
+// 07: operation, task, kind, extension, object in 4.
+fn refresh(line: &[u8]) -> Frame
+    requires { ⌜ isHex (now line) ≡ true ⌝ }
+    ensures { λ r. ⌜ r ≡ frameAs refresh (bytesOf (now (line .entry))) ⌝ }
+{
+    if line.len() / 2 != 8 {
+        return Frame::Refused(Refusal::WrongFrameLength);
+    }
+    let KindByte::Known(kind) = kind_of(byte_at(line, 2)) else {
+        return Frame::Refused(Refusal::UnknownKind);
+    };
+    let task = byte_at(line, 1);
+    let extension = byte_at(line, 3);
+    let handle = word_at(line, 4);
+    Frame::Request(
+        Request::Use(Call::Refresh {
+            task,
+            kind,
+            extension,
+            handle,
+        }),
+        0,
+    )
+}
+
+// 08: operation, task, object in 4.
+fn read(line: &[u8]) -> Frame
+    requires { ⌜ isHex (now line) ≡ true ⌝ }
+    ensures { λ r. ⌜ r ≡ frameAs read (bytesOf (now (line .entry))) ⌝ }
+{
+    if line.len() / 2 != 6 {
+        return Frame::Refused(Refusal::WrongFrameLength);
+    }
+    let task = byte_at(line, 1);
+    let handle = word_at(line, 2);
+    Frame::Request(Request::Use(Call::Read { task, handle }), 0)
+}
+
+// 09: operation, task, object in 4, offset in 1, then 0 to 256 bytes: 7 to 263 in all.
+fn write(line: &[u8]) -> Frame
+    requires { ⌜ isHex (now line) ≡ true ⌝ }
+    ensures { λ r. ⌜ r ≡ frameAs write (bytesOf (now (line .entry))) ⌝ }
+{
+    let size = line.len() / 2;
+    if size < 7 {
+        return Frame::Refused(Refusal::WrongFrameLength);
+    }
+    if 263 < size {
+        return Frame::Refused(Refusal::WrongFrameLength);
+    }
+    let task = byte_at(line, 1);
+    let handle = word_at(line, 2);
+    let offset = byte_at(line, 6);
+    Frame::Request(
+        Request::Use(Call::Write {
+            task,
+            handle,
+            offset,
+        }),
+        size - 7,
+    )
+}
+
+// 0A: operation only.
+fn report(line: &[u8]) -> Frame
+    requires { ⌜ isHex (now line) ≡ true ⌝ }
+    ensures { λ r. ⌜ r ≡ frameAs report (bytesOf (now (line .entry))) ⌝ }
+{
+    if line.len() / 2 != 1 {
+        return Frame::Refused(Refusal::WrongFrameLength);
+    }
+    Frame::Request(Request::Report, 0)
+}
+
+// By the operation's number; 17 for no or an unknown operation.
+fn frame_in(line: &[u8]) -> Frame
+    requires { ⌜ isHex (now line) ≡ true ⌝ }
+    ensures { λ r. ⌜ r ≡ frameIn (bytesOf (now (line .entry))) ⌝ }
+{
+    if line.len() == 0 {
+        return Frame::Refused(Refusal::UnknownOperation);
+    }
+    match byte_at(line, 0) {
+        1 => schedule(line, Event::Join),
+        2 => schedule(line, Event::Leave),
+        3 => schedule(line, Event::Block),
+        4 => schedule(line, Event::Resume),
+        5 => schedule(line, Event::Tick),
+        6 => make(line),
+        7 => refresh(line),
+        8 => read(line),
+        9 => write(line),
+        10 => report(line),
+        _ => Frame::Refused(Refusal::UnknownOperation),
+    }
+}
+
+// 16 comes before all.
+fn frame_of(line: &[u8]) -> Frame
+    ensures { λ r. ⌜ r ≡ frameOf (now (line .entry)) ⌝ }
+{
+    if is_hex(line) {
+        frame_in(line)
+    } else {
+        Frame::Refused(Refusal::NotHexadecimal)
+    }
+}
+
+// The frame of a line; the bytes that come with a request go to the start of a buffer.
+pub fn decode(line: &[u8], bytes: &mut [u8]) -> Frame
+    requires { ⌜ 256 ≤ length (now bytes) ⌝ }
+    ensures { λ r. ⌜ Decodes (now (line .entry)) (now (bytes .entry)) r (now (bytes .exit)) ⌝ }
+{
+    let frame = frame_of(line);
+    let Frame::Request(_, count) = frame else {
+        return frame;
+    };
+    spell_last(&mut bytes[..count], line);
+    frame
+}
