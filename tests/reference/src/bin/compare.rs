@@ -1,0 +1,173 @@
+//! Compares a program that runs scripts with the reference: `compare PROGRAM COUNT [FIRST_SEED]`.
+
+use std::io::{self, Write};
+use std::process::{Command, ExitCode, Output, Stdio};
+use std::sync::atomic::{AtomicU64, Ordering};
+use std::sync::Mutex;
+use std::thread;
+
+use reference::call::Call;
+use reference::generate;
+use reference::heap::{first_difference, first_use_out};
+use reference::script::{calls, lines, run, LIMIT};
+
+struct Order {
+    program: String,
+    count: u64,
+    first_seed: u64,
+}
+
+/// What was compared so far.
+#[derive(Default)]
+struct Tally {
+    scripts: u64,
+    lines: usize,
+    in_time: u64,
+    /// The lowest seed with a difference, and the difference.
+    finding: Option<(u64, String)>,
+}
+
+fn main() -> ExitCode {
+    let Some(order) = order() else {
+        eprintln!("compare PROGRAM COUNT [FIRST_SEED]");
+        return ExitCode::from(2);
+    };
+    let tally = compare_all(&order);
+    if let Some((seed, finding)) = tally.finding {
+        println!("seed {seed}\n{finding}");
+        return ExitCode::FAILURE;
+    }
+    println!("{} scripts in time and in bounds throughout, {} not", tally.in_time, tally.scripts - tally.in_time);
+    println!("{} scripts, {} lines: all alike", tally.scripts, tally.lines);
+    ExitCode::SUCCESS
+}
+
+fn order() -> Option<Order> {
+    let mut arguments = std::env::args().skip(1);
+    let program = arguments.next()?;
+    let count = number(&arguments.next()?).filter(|&count| count > 0)?;
+    let first_seed = arguments.next().map_or(Some(1), |word| number(&word))?;
+    first_seed.checked_add(count)?;
+    arguments.next().is_none().then_some(Order { program, count, first_seed })
+}
+
+/// A decimal number without leading zeros.
+fn number(word: &str) -> Option<u64> {
+    let number: u64 = word.parse().ok()?;
+    (number.to_string() == word).then_some(number)
+}
+
+/// As many workers as the machine runs at once. Seeds are handed out in order, so the lowest one with
+/// a difference is always found.
+fn compare_all(order: &Order) -> Tally {
+    let workers = thread::available_parallelism().map_or(1, usize::from);
+    let next = AtomicU64::new(order.first_seed);
+    let tally = Mutex::new(Tally::default());
+    thread::scope(|scope| {
+        for _ in 0..workers {
+            scope.spawn(|| work(order, &next, &tally));
+        }
+    });
+    tally.into_inner().expect("no worker failed")
+}
+
+fn work(order: &Order, next: &AtomicU64, tally: &Mutex<Tally>) {
+    loop {
+        let seed = next.fetch_add(1, Ordering::Relaxed);
+        if seed >= order.first_seed + order.count {
+            return;
+        }
+        let result = compare_one(&order.program, seed);
+        let mut tally = tally.lock().expect("no worker failed");
+        tally.note(seed, result);
+        if tally.finding.is_some() {
+            return;
+        }
+    }
+}
+
+impl Tally {
+    fn note(&mut self, seed: u64, result: Result<(usize, bool), String>) {
+        match result {
+            Ok((lines, in_time)) => {
+                self.scripts += 1;
+                self.lines += lines;
+                self.in_time += u64::from(in_time);
+            }
+            Err(text) if self.finding.as_ref().is_none_or(|&(lowest, _)| seed < lowest) => {
+                self.finding = Some((seed, text));
+            }
+            Err(_) => {}
+        }
+    }
+}
+
+/// The count of answers and whether all use was in time, or what differs.
+fn compare_one(program: &str, seed: u64) -> Result<(usize, bool), String> {
+    let script = generate::script(seed);
+    let expected = run(&script);
+    let output = run_program(program, &script).map_err(|error| format!("{program} does not run: {error}"))?;
+    if let Some(difference) = difference(&script, &expected, &output.stdout) {
+        return Err(difference);
+    }
+    // A script that is too long may end a program in any way.
+    if script.len() <= LIMIT && !output.status.success() {
+        return Err(format!("{program} answered all and failed: {}", output.status));
+    }
+    Ok((lines(&expected).count(), check_heap(&script)?))
+}
+
+fn run_program(program: &str, script: &[u8]) -> io::Result<Output> {
+    let mut child = Command::new(program).stdin(Stdio::piped()).stdout(Stdio::piped()).spawn()?;
+    let mut input = child.stdin.take().expect("standard input is a pipe");
+    thread::scope(|scope| {
+        // A program may end before it has read a script that is too long.
+        scope.spawn(move || input.write_all(script).ok());
+        child.wait_with_output()
+    })
+}
+
+/// The first line whose answers differ, with both.
+fn difference(script: &[u8], expected: &[u8], actual: &[u8]) -> Option<String> {
+    if expected == actual {
+        return None;
+    }
+    let pairs = answers(expected).zip(answers(actual));
+    let alike = pairs.take_while(|(one, other)| one == other).count();
+    Some(format!(
+        "line {}\ncall {}\nreference {}\nprogram {}",
+        alike + 1,
+        show(lines(script).nth(alike)),
+        show(answers(expected).nth(alike)),
+        show(answers(actual).nth(alike)),
+    ))
+}
+
+/// The lines of an output with their LF.
+fn answers(output: &[u8]) -> impl Iterator<Item = &[u8]> {
+    output.split_inclusive(|&byte| byte == b'\n')
+}
+
+fn show(line: Option<&[u8]>) -> String {
+    line.map_or("none".to_string(), |line| line.escape_ascii().to_string())
+}
+
+/// Demand 3 of the reference itself: its answers are the heap's exactly when all use is in time and in
+/// bounds, and the first use out is the first answer that differs.
+fn check_heap(script: &[u8]) -> Result<bool, String> {
+    let mut room = vec![0; script.len() / 2];
+    let calls = calls(script, &mut room);
+    let (out, differs) = (first_use_out(&calls), first_difference(&calls));
+    if out != differs {
+        return Err(format!(
+            "heap: first use out {}, first answer that differs {}",
+            show_call(&calls, out),
+            show_call(&calls, differs)
+        ));
+    }
+    Ok(out.is_none())
+}
+
+fn show_call(calls: &[Call], index: Option<usize>) -> String {
+    index.map_or("none".to_string(), |index| format!("call {index} {:?}", calls[index]))
+}

@@ -1,0 +1,67 @@
+//! Calls and answers: what goes into the pool and what comes back.
+
+/// Which time an expiration goes by: its setter's own clock (own) or the common time (common).
+#[derive(Clone, Copy, Debug, PartialEq, Eq)]
+pub enum Kind {
+    Local,
+    Global,
+}
+
+#[derive(Clone, Copy, Debug, PartialEq, Eq)]
+pub enum Call<'a> {
+    Join { task: u8 },
+    Leave { task: u8 },
+    Block { task: u8 },
+    Resume { task: u8 },
+    Tick { task: u8 },
+    Make { task: u8, kind: Kind, extension: u8, length: u16 },
+    Refresh { task: u8, kind: Kind, extension: u8, handle: u32 },
+    Read { task: u8, handle: u32 },
+    Write { task: u8, handle: u32, offset: u8, bytes: &'a [u8] },
+    Report,
+}
+
+/// Why a call or a frame is refused; the value is the number in the answer.
+#[derive(Clone, Copy, Debug, PartialEq, Eq)]
+#[repr(u8)]
+pub enum Refusal {
+    TaskAbove15 = 1,
+    TaskNotAbsent = 2,
+    TaskAbsent = 3,
+    TaskWaiting = 4,
+    TaskRunning = 5,
+    ExtensionAbove30 = 6,
+    LengthOutOfRange = 7,
+    AllHandlesGiven = 8,
+    NoFreeBlock = 9,
+    ExpirationsFull = 10,
+    HandleNotGiven = 11,
+    ObjectGone = 12,
+    RangeAboveLength = 13,
+    NotHexadecimal = 16,
+    UnknownOperation = 17,
+    WrongFrameLength = 18,
+    KindAbove1 = 19,
+}
+
+/// What an accepted call gives back.
+#[derive(Clone, Copy, Debug, PartialEq, Eq)]
+pub enum Accepted<'a> {
+    Done,
+    /// Leave, block and tick: whether global time advanced.
+    Advanced(bool),
+    Handle(u32),
+    Bytes(&'a [u8]),
+    Report(Figures),
+}
+
+pub type Answer<'a> = Result<Accepted<'a>, Refusal>;
+
+/// The figures of a report.
+#[derive(Clone, Copy, Debug, PartialEq, Eq)]
+pub struct Figures {
+    pub small: u8,
+    pub large: u8,
+    pub expirations: u16,
+    pub given: u32,
+}

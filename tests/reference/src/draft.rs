@@ -1,0 +1,349 @@
+//! A script being written: lines, calls and arguments, led by a ledger that follows what is written.
+
+use crate::call::{Call, Kind, Refusal};
+use crate::damage::{damage, noise};
+use crate::frame::{decode, encode};
+use crate::ledger::Ledger;
+use crate::limits::{Store, TASKS};
+use crate::random::Random;
+use crate::tasks::Tasks;
+
+/// At the ends of the stores' ranges, and beyond them.
+const EDGE_LENGTHS: [u16; 9] = [0, 1, 32, 33, 256, 257, 0x0120, 40_000, 65_535];
+
+pub struct Draft {
+    pub random: Random,
+    pub script: Vec<u8>,
+    ledger: Ledger,
+    /// Keeps all use in time and in bounds.
+    in_time: bool,
+}
+
+impl Draft {
+    pub fn new(random: Random, in_time: bool) -> Draft {
+        Draft { random, script: Vec::new(), ledger: Ledger::fresh(), in_time }
+    }
+
+    // Lines.
+
+    /// Does the call on the ledger and writes it. A script that stays in time leaves out what is not;
+    /// a refused call has changed nothing.
+    pub fn call(&mut self, call: &Call) {
+        if !self.is_left_out(call) {
+            encode(call, &mut self.script);
+        }
+    }
+
+    fn is_left_out(&mut self, call: &Call) -> bool {
+        let out = [Refusal::NoFreeBlock, Refusal::ExpirationsFull, Refusal::ObjectGone];
+        let answer = self.ledger.call(call);
+        self.in_time && answer.is_err_and(|refusal| out.contains(&refusal))
+    }
+
+    /// Writes any line, and follows it if it is a call after all.
+    fn line(&mut self, line: &[u8]) {
+        let mut room = vec![0; line.len() / 2];
+        let left_out = decode(line, &mut room).is_ok_and(|call| self.is_left_out(&call));
+        if !left_out {
+            self.script.extend(line);
+            self.script.push(b'\n');
+        }
+    }
+
+    /// The line of some call with a fault in it.
+    pub fn damaged_line(&mut self) {
+        let task = self.random.below(3) as u8;
+        let handle = self.handle();
+        let bytes = [self.random.byte()];
+        let call = self.random.pick(&[
+            Call::Tick { task },
+            Call::Make { task, kind: Kind::Local, extension: 3, length: 10 },
+            Call::Refresh { task, kind: Kind::Global, extension: 3, handle },
+            Call::Read { task, handle },
+            Call::Write { task, handle, offset: 0, bytes: &bytes },
+            Call::Report,
+        ]);
+        let mut line = Vec::new();
+        encode(&call, &mut line);
+        line.pop();
+        damage(&mut line, &mut self.random);
+        self.line(&line);
+    }
+
+    /// Lines of chance; the noise may hold an LF.
+    pub fn noise(&mut self) {
+        let line = noise(&mut self.random);
+        for part in line.split(|&byte| byte == b'\n') {
+            self.line(part);
+        }
+    }
+
+    // Calls.
+
+    pub fn any_call(&mut self) {
+        match self.random.below(100) {
+            0..=24 => self.tick(),
+            25..=39 => self.make(),
+            40..=50 => self.refresh(),
+            51..=65 => self.read(),
+            66..=79 => self.write(),
+            80..=83 => self.block(),
+            84..=89 => self.resume(),
+            90..=91 => self.leave(),
+            92..=97 => self.join(),
+            _ => self.call(&Call::Report),
+        }
+    }
+
+    fn tick(&mut self) {
+        let task = self.task();
+        self.call(&Call::Tick { task });
+    }
+
+    fn block(&mut self) {
+        let task = self.task();
+        self.call(&Call::Block { task });
+    }
+
+    fn leave(&mut self) {
+        let task = self.task();
+        self.call(&Call::Leave { task });
+    }
+
+    fn join(&mut self) {
+        let task = self.random.pick(&[0, 1, 2, 3, 4, 15, 16]);
+        self.call(&Call::Join { task });
+    }
+
+    /// A waiting task if there is one.
+    fn resume(&mut self) {
+        let any = self.random.below(TASKS) as u8;
+        let task = self.find_task(Tasks::is_waiting).unwrap_or(any);
+        self.call(&Call::Resume { task });
+    }
+
+    fn make(&mut self) {
+        let (task, kind, extension) = (self.task(), self.kind(), self.extension());
+        let length = self.length();
+        self.call(&Call::Make { task, kind, extension, length });
+    }
+
+    fn refresh(&mut self) {
+        let (task, kind, extension) = (self.task(), self.kind(), self.extension());
+        let handle = self.handle();
+        self.call(&Call::Refresh { task, kind, extension, handle });
+    }
+
+    fn read(&mut self) {
+        let (task, handle) = (self.task(), self.handle());
+        self.call(&Call::Read { task, handle });
+    }
+
+    fn write(&mut self) {
+        let (task, handle) = (self.task(), self.handle());
+        let length = self.ledger.length(handle).unwrap_or(32);
+        let inside = self.random.below(length);
+        let (offset, count) = match self.random.below(24) {
+            0 => (length, 0),
+            1 => (length, 1),
+            2 => (0, length),
+            3 => (0, length + 1),
+            4 => (length - 1, 1),
+            5 => (length - 1, 2),
+            6 => (0, self.random.pick(&[0, 256, 257])),
+            _ => (inside, 1 + self.random.below((length - inside).min(12))),
+        };
+        self.write_at(task, handle, offset.min(255) as u8, count);
+    }
+
+    fn write_at(&mut self, task: u8, handle: u32, offset: u8, count: usize) {
+        let mut bytes = [0; 257];
+        self.random.fill(&mut bytes[..count]);
+        let bytes = &bytes[..count];
+        // One byte too many is a fault of the frame and no call.
+        if count > 256 {
+            let mut line = Vec::new();
+            encode(&Call::Write { task, handle, offset, bytes }, &mut line);
+            return self.line(&line[..line.len() - 1]);
+        }
+        self.call(&Call::Write { task, handle, offset, bytes });
+    }
+
+    /// A refresh, read or write.
+    pub fn any_use(&mut self) {
+        match self.random.below(4) {
+            0 => self.refresh(),
+            1 => self.read(),
+            _ => self.write(),
+        }
+    }
+
+    /// An object of a length at the end of a store's range, written at its own ends.
+    pub fn edge_object(&mut self) {
+        let length = self.random.pick(&[1, 32, 33, 256, 256]);
+        let Some(handle) = self.make_now(1, length) else { return };
+        let (task, length) = (self.runner(), usize::from(length));
+        let ends = [(0, length), (0, 0), (length - 1, 1), (length - 1, 2), (length, 0), (length, 1), (0, length + 1)];
+        for _ in 0..2 {
+            let (offset, count) = self.random.pick(&ends);
+            self.write_at(task, handle, offset.min(255) as u8, count);
+        }
+        self.read_now(handle);
+    }
+
+    /// Every argument at an end of its range or just past it.
+    pub fn edge_call(&mut self) {
+        let task = self.random.pick(&[0, 0, 0, 1, 15, 16, 255]);
+        let kind = self.kind();
+        let extension = self.random.pick(&[0, 30, 31, 255]);
+        let length = self.random.pick(&EDGE_LENGTHS);
+        let newest = self.ledger.figures().given;
+        let strange = self.strange_handle();
+        let handle = self.random.pick(&[1, newest, strange]);
+        let offset = self.random.pick(&[0, 1, 31, 32, 33, 255]);
+        let count = self.random.pick(&[0, 1, 31, 32, 33, 255, 256, 257]);
+        match self.random.below(12) {
+            0 => self.call(&Call::Join { task }),
+            1 => self.call(&Call::Leave { task }),
+            2 => self.call(&Call::Block { task }),
+            3 => self.call(&Call::Resume { task }),
+            4 => self.call(&Call::Tick { task }),
+            5 | 6 => self.call(&Call::Make { task, kind, extension, length }),
+            7 => self.call(&Call::Refresh { task, kind, extension, handle }),
+            8 => self.call(&Call::Read { task, handle }),
+            9 | 10 => self.write_at(task, handle, offset, count),
+            _ => self.call(&Call::Report),
+        }
+    }
+
+    // Calls by running tasks on standing objects.
+
+    /// Brings the first so many tasks to run.
+    pub fn gather(&mut self, tasks: usize) {
+        for task in 0..tasks as u8 {
+            if self.ledger.tasks().is_waiting(task) {
+                self.call(&Call::Resume { task });
+            } else if !self.ledger.tasks().is_running(task) {
+                self.call(&Call::Join { task });
+            }
+        }
+    }
+
+    /// Every running task ticks, so that global time advances.
+    pub fn round(&mut self) {
+        for task in 0..TASKS as u8 {
+            if self.ledger.tasks().is_running(task) {
+                self.call(&Call::Tick { task });
+            }
+        }
+    }
+
+    /// The handle of a new object of some length that goes to this store, if it is made.
+    pub fn make_in(&mut self, store: Store, extension: u8) -> Option<u32> {
+        let length = match store {
+            Store::Small => 1 + self.random.below(32) as u16,
+            Store::Large => 33 + self.random.below(224) as u16,
+        };
+        self.make_now(extension, length)
+    }
+
+    pub fn make_now(&mut self, extension: u8, length: u16) -> Option<u32> {
+        let (task, kind) = (self.runner(), self.kind());
+        let before = self.ledger.figures().given;
+        self.call(&Call::Make { task, kind, extension, length });
+        let given = self.ledger.figures().given;
+        (given > before).then_some(given)
+    }
+
+    pub fn refresh_standing(&mut self, extension: u8) {
+        let (task, kind) = (self.runner(), self.kind());
+        let handle = self.standing_handle().unwrap_or(0);
+        self.call(&Call::Refresh { task, kind, extension, handle });
+    }
+
+    pub fn read_now(&mut self, handle: u32) {
+        let task = self.runner();
+        self.call(&Call::Read { task, handle });
+    }
+
+    pub fn write_whole(&mut self, handle: u32) {
+        let task = self.runner();
+        let length = self.ledger.length(handle).unwrap_or(0);
+        self.write_at(task, handle, 0, length);
+    }
+
+    // Arguments.
+
+    /// A running task as a rule.
+    fn task(&mut self) -> u8 {
+        match self.random.below(40) {
+            0 => self.random.pick(&[15, 16, 255]),
+            1..=3 => self.random.below(TASKS) as u8,
+            _ => self.runner(),
+        }
+    }
+
+    /// A running task if there is one.
+    fn runner(&mut self) -> u8 {
+        self.find_task(Tasks::is_running).unwrap_or(0)
+    }
+
+    /// Some task that is as wanted, looking from any task on.
+    fn find_task(&mut self, wanted: fn(&Tasks, u8) -> bool) -> Option<u8> {
+        let first = self.random.below(TASKS);
+        let mut tasks = (first..first + TASKS).map(|task| (task % TASKS) as u8);
+        tasks.find(|&task| wanted(self.ledger.tasks(), task))
+    }
+
+    fn kind(&mut self) -> Kind {
+        self.random.pick(&[Kind::Local, Kind::Global])
+    }
+
+    fn extension(&mut self) -> u8 {
+        match self.random.below(12) {
+            0 => self.random.pick(&[0, 30, 31, 255]),
+            1..=5 => self.random.below(31) as u8,
+            _ => self.random.below(4) as u8,
+        }
+    }
+
+    fn length(&mut self) -> u16 {
+        match self.random.below(8) {
+            0 => self.random.pick(&EDGE_LENGTHS),
+            1 | 2 => 33 + self.random.below(224) as u16,
+            _ => 1 + self.random.below(32) as u16,
+        }
+    }
+
+    /// A standing handle as a rule, else one of the last, any that was given (most are gone), or none
+    /// that was.
+    fn handle(&mut self) -> u32 {
+        match self.random.below(16) {
+            0 => self.strange_handle(),
+            1 => self.recent_handle(u32::MAX),
+            2..=4 => self.recent_handle(8),
+            _ => self.standing_handle().unwrap_or_else(|| self.recent_handle(1)),
+        }
+    }
+
+    /// One of the last so many that were given.
+    fn recent_handle(&mut self, span: u32) -> u32 {
+        let given = self.ledger.figures().given;
+        given - self.random.below(span.min(given).max(1) as usize) as u32
+    }
+
+    /// None that was given, or one that a look at too few of its bytes takes for a given one.
+    fn strange_handle(&mut self) -> u32 {
+        let given = self.ledger.figures().given;
+        self.random.pick(&[0, given + 1, given << 8, given | 0x0001_0000, given | 0x0100_0000, u32::MAX])
+    }
+
+    fn standing_handle(&mut self) -> Option<u32> {
+        let count = self.ledger.handles().len();
+        if count == 0 {
+            return None;
+        }
+        let place = self.random.below(count);
+        self.ledger.handles().nth(place)
+    }
+}

@@ -1,0 +1,257 @@
+//! Scripts from seeds: what their phases are about and how they end.
+
+use crate::call::Call;
+use crate::draft::Draft;
+use crate::limits::{Store, LONGEST, LONGEST_EXTENSION, MOST_EXPIRATIONS, TASKS};
+use crate::random::Random;
+use crate::script::LIMIT;
+
+/// What a phase of a script is about.
+#[derive(Clone, Copy, Debug, PartialEq, Eq)]
+pub enum Profile {
+    /// Few tasks, all calls.
+    Everyday,
+    /// Sixteen tasks that come, go, block and tick.
+    Crowd,
+    /// Small objects up to all 64 blocks.
+    SmallFlood,
+    /// Large objects up to all 32 blocks.
+    LargeFlood,
+    /// Expirations up to all 256.
+    ExpirationFlood,
+    /// Objects read on every tick up to their end and past it.
+    Lapse,
+    /// Blocks written full, freed and taken again.
+    Reuse,
+    /// One of the longest objects read over and over: the longest outputs.
+    Reading,
+    /// Arguments at the ends of their ranges.
+    Edges,
+    /// Damaged lines among good ones.
+    Damage,
+    /// Lines of chance.
+    Noise,
+}
+
+pub const PROFILES: [Profile; 11] = [
+    Profile::Everyday,
+    Profile::Crowd,
+    Profile::SmallFlood,
+    Profile::LargeFlood,
+    Profile::ExpirationFlood,
+    Profile::Lapse,
+    Profile::Reuse,
+    Profile::Reading,
+    Profile::Edges,
+    Profile::Damage,
+    Profile::Noise,
+];
+
+/// The script of a seed. One in three keeps all use in time and in bounds; one in four keeps to one
+/// profile.
+pub fn script(seed: u64) -> Vec<u8> {
+    let mut random = Random::new(seed);
+    let size = size(&mut random);
+    let in_time = random.one_in(3);
+    let profile = random.pick(&PROFILES);
+    let only = if random.one_in(4) { Some(profile) } else { None };
+    whole(Draft::new(random, in_time), size, only)
+}
+
+/// A script of about this size that keeps to one profile.
+pub fn script_of(profile: Profile, seed: u64, size: usize) -> Vec<u8> {
+    whole(Draft::new(Random::new(seed), false), size, Some(profile))
+}
+
+/// From nothing up to the limit, on it, and now and then beyond it.
+fn size(random: &mut Random) -> usize {
+    match random.below(20) {
+        0 => random.below(64),
+        1..=3 => random.below(2_000),
+        4..=11 => 2_000 + random.below(14_000),
+        12..=16 => 16_000 + random.below(LIMIT - 16_000),
+        17 | 18 => LIMIT - random.below(3),
+        _ => LIMIT + 1 + random.pick(&[0, 1, 5_000]),
+    }
+}
+
+fn whole(mut draft: Draft, size: usize, only: Option<Profile>) -> Vec<u8> {
+    while draft.script.len() < size {
+        let profile = only.unwrap_or_else(|| draft.random.pick(&PROFILES));
+        phase(&mut draft, profile);
+    }
+    finish(&mut draft, size);
+    draft.script
+}
+
+fn phase(draft: &mut Draft, profile: Profile) {
+    match profile {
+        Profile::Everyday => everyday(draft),
+        Profile::Crowd => crowd(draft),
+        Profile::SmallFlood => flood(draft, Store::Small),
+        Profile::LargeFlood => flood(draft, Store::Large),
+        Profile::ExpirationFlood => expiration_flood(draft),
+        Profile::Lapse => lapse(draft),
+        Profile::Reuse => reuse(draft),
+        Profile::Reading => reading(draft),
+        Profile::Edges => edges(draft),
+        Profile::Damage => damage(draft),
+        Profile::Noise => noise(draft),
+    }
+}
+
+/// Ends the script at its size, in the middle of a line or after empty lines; a shorter one may also
+/// end after a whole line, with its LF or without.
+fn finish(draft: &mut Draft, size: usize) {
+    let Draft { random, script, .. } = draft;
+    script.truncate(size);
+    let end = script.iter().rposition(|&byte| byte == b'\n').map_or(0, |place| place + 1);
+    let ways = if size < LIMIT - 3 { 4 } else { 2 };
+    match random.below(ways) {
+        0 => {}
+        1 => {
+            script.truncate(end);
+            script.resize(size, b'\n');
+        }
+        2 => script.truncate(end),
+        _ => script.truncate(end.saturating_sub(1)),
+    }
+}
+
+fn everyday(draft: &mut Draft) {
+    let tasks = 1 + draft.random.below(4);
+    draft.gather(tasks);
+    for _ in 0..100 + draft.random.below(300) {
+        draft.any_call();
+    }
+}
+
+fn crowd(draft: &mut Draft) {
+    draft.gather(TASKS);
+    for _ in 0..4 + draft.random.below(12) {
+        crowd_round(draft);
+    }
+}
+
+/// Most tasks tick, beginning anywhere, so that global time advances about once.
+fn crowd_round(draft: &mut Draft) {
+    let first = draft.random.below(TASKS);
+    for step in 0..TASKS {
+        let task = ((first + step) % TASKS) as u8;
+        match draft.random.below(16) {
+            0 => draft.call(&Call::Block { task }),
+            1 => draft.call(&Call::Leave { task }),
+            2 => draft.call(&Call::Resume { task }),
+            3 => draft.call(&Call::Join { task }),
+            4 => draft.any_call(),
+            _ => draft.call(&Call::Tick { task }),
+        }
+    }
+    draft.gather(TASKS - 2);
+}
+
+/// Fills one store, tries both stores at the brim, lets some objects go and makes some again.
+fn flood(draft: &mut Draft, store: Store) {
+    draft.gather(1);
+    for _ in 0..store.blocks() {
+        let extension = 10 + draft.random.below(21) as u8;
+        draft.make_in(store, extension);
+    }
+    for store in [store, Store::Small, Store::Large] {
+        draft.make_in(store, 5);
+    }
+    draft.call(&Call::Report);
+    for _ in 0..draft.random.below(20) {
+        draft.round();
+        draft.any_use();
+        draft.any_use();
+    }
+    for _ in 0..4 {
+        draft.make_in(store, LONGEST_EXTENSION);
+    }
+}
+
+/// Sets expirations until no more are taken, tries more, lets some lapse and sets more.
+fn expiration_flood(draft: &mut Draft) {
+    draft.gather(2);
+    for _ in 0..1 + draft.random.below(6) {
+        draft.make_in(Store::Small, LONGEST_EXTENSION);
+    }
+    for _ in 0..MOST_EXPIRATIONS {
+        let extension = draft.random.below(31) as u8;
+        draft.refresh_standing(extension);
+    }
+    draft.refresh_standing(0);
+    draft.make_in(Store::Large, 0);
+    draft.call(&Call::Report);
+    for _ in 0..1 + draft.random.below(4) {
+        draft.round();
+        draft.refresh_standing(0);
+        draft.refresh_standing(LONGEST_EXTENSION);
+    }
+}
+
+fn lapse(draft: &mut Draft) {
+    draft.gather(1);
+    let any = draft.random.below(31) as u8;
+    let extension = draft.random.pick(&[0, 0, 1, 2, 29, LONGEST_EXTENSION, any]);
+    let Some(handle) = draft.make_in(Store::Small, extension) else { return draft.round() };
+    for _ in 0..extension + 3 {
+        draft.round();
+        draft.read_now(handle);
+        if draft.random.one_in(12) {
+            draft.refresh_standing(extension);
+        }
+    }
+}
+
+fn reuse(draft: &mut Draft) {
+    draft.gather(1);
+    let store = draft.random.pick(&[Store::Small, Store::Large]);
+    for _ in 0..4 {
+        if let Some(handle) = draft.make_in(store, 0) {
+            draft.write_whole(handle);
+        }
+    }
+    draft.round();
+    draft.round();
+    for _ in 0..4 {
+        if let Some(handle) = draft.make_in(store, 1) {
+            draft.read_now(handle);
+        }
+    }
+}
+
+fn reading(draft: &mut Draft) {
+    draft.gather(1);
+    let Some(handle) = draft.make_now(LONGEST_EXTENSION, LONGEST) else { return draft.round() };
+    draft.write_whole(handle);
+    for _ in 0..200 {
+        draft.read_now(handle);
+    }
+}
+
+fn edges(draft: &mut Draft) {
+    for _ in 0..8 {
+        draft.gather(1);
+        draft.edge_object();
+        for _ in 0..4 {
+            draft.edge_call();
+        }
+        draft.any_use();
+    }
+}
+
+fn damage(draft: &mut Draft) {
+    draft.gather(2);
+    for _ in 0..30 {
+        draft.any_call();
+        draft.damaged_line();
+    }
+}
+
+fn noise(draft: &mut Draft) {
+    for _ in 0..20 {
+        draft.noise();
+    }
+}

@@ -1,0 +1,238 @@
+//! The unbounded heap (endless heap) and the expiration book (date book): what the pool's answers
+//! would be if nothing ever went, and whether all use was in time and in bounds.
+
+use std::collections::BTreeMap;
+
+use crate::call::{Accepted, Answer, Call, Kind, Refusal};
+use crate::ledger::{Expiration, Ledger};
+use crate::limits::{check_extension, Store, MOST_EXPIRATIONS};
+use crate::tasks::Tasks;
+
+/// Objects for ever. `ends[h - 1]..ends[h]` is the part of `bytes` that handle h names.
+#[derive(Clone, Debug)]
+pub struct Heap {
+    tasks: Tasks,
+    ends: Vec<usize>,
+    bytes: Vec<u8>,
+}
+
+impl Heap {
+    pub fn fresh() -> Heap {
+        Heap { tasks: Tasks::default(), ends: vec![0], bytes: Vec::new() }
+    }
+
+    /// Refusals 1 to 8, 11 and 13 in the pool's order, never 9, 10 or 12.
+    pub fn call(&mut self, call: &Call) -> Answer<'_> {
+        match *call {
+            Call::Join { task } => self.tasks.join(task).map(|()| Accepted::Done),
+            Call::Leave { task } => self.tasks.leave(task).map(Accepted::Advanced),
+            Call::Block { task } => self.tasks.block(task).map(Accepted::Advanced),
+            Call::Resume { task } => self.tasks.resume(task).map(|()| Accepted::Done),
+            Call::Tick { task } => self.tasks.tick(task).map(Accepted::Advanced),
+            Call::Make { task, extension, length, .. } => self.make(task, extension, length),
+            Call::Refresh { task, extension, handle, .. } => self.refresh(task, extension, handle),
+            Call::Read { task, handle } => self.read(task, handle),
+            Call::Write { task, handle, offset, bytes } => self.write(task, handle, offset, bytes),
+            // Not one of the nine; the lists leave it out.
+            Call::Report => Ok(Accepted::Done),
+        }
+    }
+
+    fn make(&mut self, task: u8, extension: u8, length: u16) -> Answer<'static> {
+        self.tasks.check_running(task)?;
+        check_extension(extension)?;
+        Store::holding(length)?;
+        if self.given() == u32::MAX as usize {
+            return Err(Refusal::AllHandlesGiven);
+        }
+        self.bytes.resize(self.bytes.len() + usize::from(length), 0);
+        self.ends.push(self.bytes.len());
+        Ok(Accepted::Handle(self.given() as u32))
+    }
+
+    fn refresh(&self, task: u8, extension: u8, handle: u32) -> Answer<'static> {
+        self.tasks.check_running(task)?;
+        check_extension(extension)?;
+        self.check_given(handle)?;
+        Ok(Accepted::Done)
+    }
+
+    fn read(&self, task: u8, handle: u32) -> Answer<'_> {
+        self.tasks.check_running(task)?;
+        let object = self.check_given(handle)?;
+        Ok(Accepted::Bytes(&self.bytes[object]))
+    }
+
+    fn write(&mut self, task: u8, handle: u32, offset: u8, bytes: &[u8]) -> Answer<'static> {
+        self.tasks.check_running(task)?;
+        let object = self.check_given(handle)?;
+        let start = object.start + usize::from(offset);
+        let end = start + bytes.len();
+        if end > object.end {
+            return Err(Refusal::RangeAboveLength);
+        }
+        self.bytes[start..end].copy_from_slice(bytes);
+        Ok(Accepted::Done)
+    }
+
+    fn given(&self) -> usize {
+        self.ends.len() - 1
+    }
+
+    /// Refusal 11, else where the object's bytes are.
+    fn check_given(&self, handle: u32) -> Result<std::ops::Range<usize>, Refusal> {
+        let handle = handle as usize;
+        if handle == 0 || handle > self.given() {
+            return Err(Refusal::HandleNotGiven);
+        }
+        Ok(self.ends[handle - 1]..self.ends[handle])
+    }
+}
+
+/// The expiration book: the objects that have an expiration. Plain lists on purpose: it is a second way to do what the
+/// ledger does with schedules.
+#[derive(Clone, Debug, Default)]
+struct Book {
+    objects: BTreeMap<u32, Entry>,
+}
+
+#[derive(Clone, Debug)]
+struct Entry {
+    length: u16,
+    due: Vec<Due>,
+}
+
+#[derive(Clone, Copy, Debug, PartialEq, Eq)]
+enum Due {
+    Local { task: u8, at: u64 },
+    Global { at: u64 },
+}
+
+impl Book {
+    /// Whether a call that the heap does not refuse, or refuses with 13, is a use out of time or out
+    /// of bounds. Asked before the book follows the call.
+    fn is_out(&self, call: &Call) -> bool {
+        match *call {
+            Call::Make { length, .. } => self.is_store_full(length) || self.is_full(),
+            Call::Refresh { handle, .. } => self.is_gone(handle) || self.is_full(),
+            Call::Read { handle, .. } | Call::Write { handle, .. } => self.is_gone(handle),
+            _ => false,
+        }
+    }
+
+    /// Follows an accepted call; `handle` is the one that a make gave, `advanced` tells of global time.
+    fn follow(&mut self, call: &Call, tasks: &Tasks, handle: u32, advanced: bool) {
+        match *call {
+            Call::Leave { task } => self.keep(|due| !matches!(due, Due::Local { task: setter, .. } if setter == task)),
+            Call::Tick { task } => {
+                let at = tasks.local(task);
+                self.keep(|due| due != Due::Local { task, at });
+            }
+            Call::Make { task, kind, extension, length } => {
+                let due = due(tasks, task, kind, extension);
+                self.objects.insert(handle, Entry { length, due: vec![due] });
+            }
+            Call::Refresh { task, kind, extension, handle } => {
+                let due = due(tasks, task, kind, extension);
+                self.objects.entry(handle).and_modify(|entry| entry.due.push(due));
+            }
+            _ => {}
+        }
+        if advanced {
+            let at = tasks.global();
+            self.keep(|due| due != Due::Global { at });
+        }
+    }
+
+    /// Keeps these expirations, and the objects that still have one.
+    fn keep(&mut self, stays: impl Fn(Due) -> bool) {
+        self.objects.retain(|_, entry| {
+            entry.due.retain(|&due| stays(due));
+            !entry.due.is_empty()
+        });
+    }
+
+    fn is_gone(&self, handle: u32) -> bool {
+        !self.objects.contains_key(&handle)
+    }
+
+    fn is_full(&self) -> bool {
+        let expirations: usize = self.objects.values().map(|entry| entry.due.len()).sum();
+        expirations >= MOST_EXPIRATIONS
+    }
+
+    fn is_store_full(&self, length: u16) -> bool {
+        let store = Store::holding(length);
+        let standing = self.objects.values().filter(|entry| Store::holding(entry.length) == store);
+        store.is_ok_and(|store| standing.count() >= store.blocks())
+    }
+}
+
+fn due(tasks: &Tasks, task: u8, kind: Kind, extension: u8) -> Due {
+    match kind {
+        Kind::Local => Due::Local { task, at: tasks.local(task) + u64::from(extension) + 1 },
+        Kind::Global => Due::Global { at: tasks.global() + u64::from(extension) + 2 },
+    }
+}
+
+/// The heap with its book beside it.
+#[derive(Clone, Debug)]
+pub struct Judge {
+    heap: Heap,
+    book: Book,
+}
+
+impl Judge {
+    pub fn fresh() -> Judge {
+        Judge { heap: Heap::fresh(), book: Book::default() }
+    }
+
+    /// Feeds one call; false if it is a use out of time or out of bounds, which settles the list.
+    pub fn is_in_time(&mut self, call: &Call) -> bool {
+        let (refusal, handle, advanced) = match self.heap.call(call) {
+            Err(refusal) => (Some(refusal), 0, false),
+            Ok(Accepted::Handle(handle)) => (None, handle, false),
+            Ok(Accepted::Advanced(advanced)) => (None, 0, advanced),
+            Ok(_) => (None, 0, false),
+        };
+        match refusal {
+            None | Some(Refusal::RangeAboveLength) if self.book.is_out(call) => return false,
+            None => self.book.follow(call, &self.heap.tasks, handle, advanced),
+            Some(_) => {}
+        }
+        true
+    }
+
+    /// The tasks and times of the heap.
+    pub fn tasks(&self) -> &Tasks {
+        &self.heap.tasks
+    }
+
+    /// The objects that have an expiration in the book: handle, length and expirations, sorted.
+    pub fn standing(&self) -> impl Iterator<Item = (u32, usize, Vec<Expiration>)> + '_ {
+        self.book.objects.iter().map(|(&handle, entry)| {
+            let mut expirations: Vec<_> = entry.due.iter().map(|&due| self.units_left(due)).collect();
+            expirations.sort();
+            (handle, usize::from(entry.length), expirations)
+        })
+    }
+
+    fn units_left(&self, due: Due) -> Expiration {
+        match due {
+            Due::Local { task, at } => Expiration::Local { task, left: at - self.heap.tasks.local(task) },
+            Due::Global { at } => Expiration::Global { left: at - self.heap.tasks.global() },
+        }
+    }
+}
+
+/// The index of the first use in the list that is out of time or out of bounds; none if all use is in.
+pub fn first_use_out(calls: &[Call]) -> Option<usize> {
+    let mut judge = Judge::fresh();
+    calls.iter().position(|call| !judge.is_in_time(call))
+}
+
+/// The index of the first call that the ledger and the heap answer differently. Reports are left out.
+pub fn first_difference(calls: &[Call]) -> Option<usize> {
+    let (mut ledger, mut heap) = (Ledger::fresh(), Heap::fresh());
+    calls.iter().position(|call| *call != Call::Report && ledger.call(call) != heap.call(call))
+}

@@ -1,0 +1,110 @@
+//! The standing objects in order of handle, with their bytes and the count of their expirations.
+
+use crate::limits::{Store, LONGEST};
+
+/// Both stores full.
+const SLOTS: u8 = (Store::Small.blocks() + Store::Large.blocks()) as u8;
+
+#[derive(Clone, Debug)]
+struct Object {
+    handle: u32,
+    length: u16,
+    store: Store,
+    expirations: u16,
+    bytes: [u8; LONGEST as usize],
+}
+
+const UNUSED: Object =
+    Object { handle: 0, length: 0, store: Store::Small, expirations: 0, bytes: [0; LONGEST as usize] };
+
+/// An object keeps its slot while it stands. Handles only go up, so `order` is sorted by them.
+#[derive(Clone, Debug)]
+pub struct Objects {
+    slots: Vec<Object>,
+    free: Vec<u8>,
+    order: Vec<(u32, u8)>,
+    standing: [usize; 2],
+    expirations: usize,
+}
+
+impl Objects {
+    pub fn none() -> Objects {
+        Objects {
+            slots: vec![UNUSED; usize::from(SLOTS)],
+            free: (0..SLOTS).rev().collect(),
+            order: Vec::with_capacity(usize::from(SLOTS)),
+            standing: [0; 2],
+            expirations: 0,
+        }
+    }
+
+    /// How many objects of this store stand.
+    pub fn standing(&self, store: Store) -> usize {
+        self.standing[store as usize]
+    }
+
+    /// How many expirations stand in all.
+    pub fn expirations(&self) -> usize {
+        self.expirations
+    }
+
+    /// Handles and slots in order of handle.
+    pub fn order(&self) -> &[(u32, u8)] {
+        &self.order
+    }
+
+    pub fn find(&self, handle: u32) -> Option<u8> {
+        let place = self.place(handle)?;
+        Some(self.order[place].1)
+    }
+
+    pub fn bytes(&self, slot: u8) -> &[u8] {
+        let object = &self.slots[usize::from(slot)];
+        &object.bytes[..usize::from(object.length)]
+    }
+
+    pub fn bytes_mut(&mut self, slot: u8) -> &mut [u8] {
+        let object = &mut self.slots[usize::from(slot)];
+        &mut object.bytes[..usize::from(object.length)]
+    }
+
+    /// A new object of zero bytes. It stands from its first expiration on, which is set next. The
+    /// store has a free block.
+    pub fn make(&mut self, handle: u32, length: u16, store: Store) -> u8 {
+        let slot = self.free.pop().expect("a free block has a slot");
+        let object = &mut self.slots[usize::from(slot)];
+        (object.handle, object.length, object.store) = (handle, length, store);
+        object.bytes[..usize::from(length)].fill(0);
+        self.order.push((handle, slot));
+        self.standing[store as usize] += 1;
+        slot
+    }
+
+    /// One more expiration.
+    pub fn hold(&mut self, slot: u8) {
+        self.expirations += 1;
+        self.slots[usize::from(slot)].expirations += 1;
+    }
+
+    /// One expiration less; with the last the object is gone.
+    pub fn release(&mut self, slot: u8) {
+        self.expirations -= 1;
+        let object = &mut self.slots[usize::from(slot)];
+        object.expirations -= 1;
+        if object.expirations == 0 {
+            self.remove(slot);
+        }
+    }
+
+    fn remove(&mut self, slot: u8) {
+        let Object { handle, store, .. } = self.slots[usize::from(slot)];
+        let place = self.place(handle).expect("a standing object is in order");
+        self.order.remove(place);
+        self.standing[store as usize] -= 1;
+        self.free.push(slot);
+    }
+
+    fn place(&self, handle: u32) -> Option<usize> {
+        self.order.binary_search_by_key(&handle, |&(other, _)| other).ok()
+    }
+}

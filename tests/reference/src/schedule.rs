@@ -1,0 +1,50 @@
+//! The expirations that go by one clock, found by the time they are due.
+
+/// An expiration lies 1 to 32 units ahead, so a ring of 33 lists keeps their times apart.
+const RING: usize = 33;
+
+/// For each time ahead, the slots of the objects that lose an expiration then.
+#[derive(Clone, Debug)]
+pub struct Schedule {
+    count: usize,
+    ring: [Vec<u8>; RING],
+}
+
+impl Default for Schedule {
+    fn default() -> Self {
+        Schedule { count: 0, ring: std::array::from_fn(|_| Vec::new()) }
+    }
+}
+
+impl Schedule {
+    pub fn set(&mut self, due: u64, slot: u8) {
+        self.count += 1;
+        self.ring[place(due)].push(slot);
+    }
+
+    /// Takes out what is due now.
+    pub fn take_due(&mut self, now: u64) -> impl Iterator<Item = u8> + '_ {
+        let due = &mut self.ring[place(now)];
+        self.count -= due.len();
+        due.drain(..)
+    }
+
+    /// Takes out everything.
+    pub fn take_all(&mut self) -> impl Iterator<Item = u8> + '_ {
+        let used = if self.count == 0 { 0 } else { RING };
+        self.count = 0;
+        self.ring[..used].iter_mut().flat_map(|due| due.drain(..))
+    }
+
+    /// The units left to each expiration of the object in this slot.
+    pub fn units_left(&self, slot: u8, now: u64) -> impl Iterator<Item = u64> + '_ {
+        (1..RING as u64).flat_map(move |left| {
+            let due = &self.ring[place(now + left)];
+            due.iter().filter(move |&&other| other == slot).map(move |_| left)
+        })
+    }
+}
+
+fn place(time: u64) -> usize {
+    (time % RING as u64) as usize
+}

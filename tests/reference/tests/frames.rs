@@ -1,0 +1,148 @@
+//! Frames: calls go to their lines and back, and bad lines are refused in order.
+
+use reference::call::{Accepted, Answer, Call, Figures, Kind, Refusal};
+use reference::frame::{decode, encode, encode_answer};
+use reference::random::Random;
+
+fn random_call<'a>(random: &mut Random, bytes: &'a [u8; 256]) -> Call<'a> {
+    let (task, extension, offset) = (random.byte(), random.byte(), random.byte());
+    let kind = random.pick(&[Kind::Local, Kind::Global]);
+    let (handle, length) = (random.number() as u32, random.number() as u16);
+    let bytes = &bytes[random.below(257)..];
+    random.pick(&[
+        Call::Join { task },
+        Call::Leave { task },
+        Call::Block { task },
+        Call::Resume { task },
+        Call::Tick { task },
+        Call::Make { task, kind, extension, length },
+        Call::Refresh { task, kind, extension, handle },
+        Call::Read { task, handle },
+        Call::Write { task, handle, offset, bytes },
+        Call::Report,
+    ])
+}
+
+#[test]
+fn round_trip() {
+    let mut random = Random::new(1);
+    for _ in 0..20_000 {
+        let mut bytes = [0; 256];
+        random.fill(&mut bytes);
+        let call = random_call(&mut random, &bytes);
+        let (mut line, mut room) = (Vec::new(), [0; 263]);
+        encode(&call, &mut line);
+        assert_eq!(line.pop(), Some(b'\n'));
+        assert_eq!(decode(&line, &mut room), Ok(call));
+    }
+}
+
+/// One byte less or more is no frame, but for a write's bytes.
+#[test]
+fn other_lengths() {
+    let mut random = Random::new(2);
+    for _ in 0..20_000 {
+        let bytes = [random.byte(); 256];
+        let call = random_call(&mut random, &bytes);
+        let (mut line, mut room) = (Vec::new(), [0; 264]);
+        encode(&call, &mut line);
+        line.pop();
+        let shorter = decode(&line[..line.len() - 2], &mut room).err();
+        let longer = decode(&[&line[..], b"00"].concat(), &mut room).err();
+        let wrong = Some(Refusal::WrongFrameLength);
+        match call {
+            Call::Report => assert_eq!((shorter, longer), (Some(Refusal::UnknownOperation), wrong)),
+            Call::Write { bytes: [], .. } => assert_eq!((shorter, longer), (wrong, None)),
+            Call::Write { bytes, .. } => assert_eq!((shorter, longer), (None, wrong.filter(|_| bytes.len() == 256))),
+            _ => assert_eq!((shorter, longer), (wrong, wrong)),
+        }
+    }
+}
+
+#[test]
+fn refused_frames() {
+    for (line, number) in REFUSED {
+        let mut room = [0; 16];
+        let refusal = decode(line, &mut room).expect_err("a refusal");
+        assert_eq!(refusal as u8, *number, "{}", line.escape_ascii());
+    }
+}
+
+const REFUSED: &[(&[u8], u8)] = &[
+    (b"0", 16),
+    (b"010", 16),
+    (b"FG", 16),
+    (b"0a", 16),
+    (b"\r", 16),
+    (b"0100\r", 16),
+    (b"010\r", 16),
+    (b" 0100", 16),
+    (b"01 00", 16),
+    (b"01\x0000", 16),
+    (b"\0\0", 16),
+    (b"0\x80", 16),
+    (b"\xFF\xFF", 16),
+    (b"0/", 16),
+    (b"0:", 16),
+    (b"0@", 16),
+    (b"0`", 16),
+    (b"FFFFG", 16),
+    (b"060002000004G0", 16),
+    (b"", 17),
+    (b"00", 17),
+    (b"0B", 17),
+    (b"FF", 17),
+    (b"0B00", 17),
+    (b"FF0000", 17),
+    (b"01", 18),
+    (b"06", 18),
+    (b"010000", 18),
+    (b"0600000004", 18),
+    (b"0600020004", 18),
+    (b"06000200000400", 18),
+    (b"07000200000001", 18),
+    (b"0800000001", 18),
+    (b"090000000001", 18),
+    (b"0A00", 18),
+    (b"060002000004", 19),
+    (b"06FF80FF9C40", 19),
+    (b"0700FF0000000001", 19),
+];
+
+/// No fault of the frame: the call decides.
+#[test]
+fn arguments_out_of_range_are_calls() {
+    let mut room = [0; 263];
+    let make = Call::Make { task: 255, kind: Kind::Global, extension: 255, length: 40_000 };
+    assert_eq!(decode(b"06FF01FF9C40", &mut room), Ok(make));
+    assert_eq!(decode(b"080000000000", &mut room), Ok(Call::Read { task: 0, handle: 0 }));
+}
+
+#[test]
+fn every_character() {
+    for character in 0..=255 {
+        let mut room = [0; 2];
+        let answer = decode(&[b'0', character], &mut room);
+        let digit = character.is_ascii_digit() || (b'A'..=b'F').contains(&character);
+        assert_eq!(answer == Err(Refusal::NotHexadecimal), !digit, "{character}");
+    }
+}
+
+#[test]
+fn answers() {
+    let figures = Figures { small: 64, large: 32, expirations: 256, given: 0x0102_0304 };
+    let rows: [(Answer, &[u8]); 7] = [
+        (Ok(Accepted::Done), b"00\n"),
+        (Ok(Accepted::Advanced(false)), b"0000\n"),
+        (Ok(Accepted::Advanced(true)), b"0001\n"),
+        (Ok(Accepted::Handle(0xAB)), b"00000000AB\n"),
+        (Ok(Accepted::Bytes(&[0xA5, 0x0F])), b"00A50F\n"),
+        (Ok(Accepted::Report(figures)), b"004020010001020304\n"),
+        (Err(Refusal::KindAbove1), b"13\n"),
+    ];
+    for (answer, expected) in rows {
+        let mut line = Vec::new();
+        encode_answer(&answer, &mut line);
+        assert_eq!(line, expected);
+    }
+}

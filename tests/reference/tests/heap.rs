@@ -1,0 +1,143 @@
+//! Demand 3: the ledger's answers are the heap's exactly when all use is in time and in bounds, and
+//! the first use out is the first answer that differs.
+
+mod plan;
+
+use plan::{random_kind, some_bytes, List, Plan};
+use reference::call::{Accepted, Call, Kind, Refusal};
+use reference::heap::{first_difference, first_use_out, Heap, Judge};
+use reference::ledger::Ledger;
+use reference::random::Random;
+
+fn check(list: &[Call]) -> Option<usize> {
+    let out = first_use_out(list);
+    assert_eq!(out, first_difference(list), "{list:?}");
+    out
+}
+
+// Lists of chance.
+
+/// `haste` is how often a tick comes: the rarer, the longer use stays in time.
+fn random_call(random: &mut Random, given: usize, haste: usize) -> Call<'static> {
+    let task = random.below(4) as u8;
+    if random.below(100) < haste {
+        return Call::Tick { task };
+    }
+    let kind = random_kind(random);
+    let extension = random.pick(&[0, 1, 2, 5, 29, 30, 30, 31]);
+    let handle = random.below(given + 2) as u32;
+    match random.below(20) {
+        0 | 1 => Call::Join { task },
+        2 => Call::Leave { task },
+        3 => Call::Block { task },
+        4 | 5 => Call::Resume { task },
+        6..=8 => Call::Make { task, kind, extension, length: random.pick(&[0, 1, 8, 32, 33, 256, 257]) },
+        9..=11 => Call::Refresh { task, kind, extension, handle },
+        12..=15 => Call::Read { task, handle },
+        _ => {
+            let count = random.below(10);
+            Call::Write { task, handle, offset: random.below(34) as u8, bytes: some_bytes(random, count) }
+        }
+    }
+}
+
+fn random_list(seed: u64) -> List {
+    let mut random = Random::new(seed);
+    let (length, haste) = (random.below(300), random.below(30));
+    let mut heap = Heap::fresh();
+    let mut given = 0;
+    let mut list = vec![Call::Join { task: 0 }, Call::Join { task: 1 }];
+    for _ in 0..length {
+        let call = random_call(&mut random, given, haste);
+        given += usize::from(matches!(heap.call(&call), Ok(Accepted::Handle(_))));
+        list.push(call);
+    }
+    list
+}
+
+#[test]
+fn lists_of_chance() {
+    let outs: Vec<_> = (0..6_000).map(|seed| check(&random_list(seed))).collect();
+    let stayed = outs.iter().filter(|out| out.is_none()).count();
+    assert!(stayed > 200 && stayed < 5_800, "{stayed}");
+    assert!(outs.iter().flatten().any(|&out| out > 100));
+}
+
+// Lists that are planned.
+
+#[test]
+fn lists_that_stay_in_time() {
+    for seed in 0..1_500 {
+        let mut plan = Plan::new(seed);
+        plan.rounds(40);
+        assert_eq!(check(&plan.list), None);
+    }
+}
+
+#[test]
+fn lists_that_go_out_once() {
+    for seed in 0..1_500 {
+        let mut plan = Plan::new(seed);
+        plan.rounds(10);
+        let out = plan.go_out();
+        plan.rounds(10);
+        assert_eq!(check(&plan.list), Some(out));
+    }
+}
+
+/// The ledger finds what is due by schedules and the book by looking at all: they keep the same.
+#[test]
+fn the_ledger_and_the_book_keep_the_same() {
+    for seed in 0..150 {
+        let mut plan = Plan::new(seed);
+        plan.rounds(12);
+        keep_the_same(&plan.list);
+        keep_the_same(&random_list(seed));
+    }
+}
+
+fn keep_the_same(list: &[Call]) {
+    let (mut ledger, mut judge) = (Ledger::fresh(), Judge::fresh());
+    for call in list {
+        if !judge.is_in_time(call) {
+            return;
+        }
+        let _ = ledger.call(call);
+        let ledger_keeps: Vec<_> = ledger
+            .standing()
+            .into_iter()
+            .map(|object| (object.handle, object.bytes.len(), object.expirations))
+            .collect();
+        assert_eq!(ledger_keeps, judge.standing().collect::<Vec<_>>(), "{call:?}");
+        assert_eq!(ledger.tasks(), judge.tasks());
+    }
+}
+
+// The heap by itself.
+
+#[test]
+fn the_heap_keeps_for_ever() {
+    let mut heap = Heap::fresh();
+    let (task, handle) = (0, 1);
+    let make = Call::Make { task, kind: Kind::Local, extension: 0, length: 3 };
+    assert_eq!(heap.call(&make), Err(Refusal::TaskAbsent));
+    assert_eq!(heap.call(&Call::Join { task }), Ok(Accepted::Done));
+    for count in 1..=300 {
+        assert_eq!(heap.call(&make), Ok(Accepted::Handle(count)));
+    }
+    assert_eq!(heap.call(&Call::Write { task, handle, offset: 1, bytes: &[7] }), Ok(Accepted::Done));
+    assert_eq!(heap.call(&Call::Write { task, handle, offset: 3, bytes: &[7] }), Err(Refusal::RangeAboveLength));
+    assert_eq!(heap.call(&Call::Tick { task }), Ok(Accepted::Advanced(true)));
+    assert_eq!(heap.call(&Call::Read { task, handle }), Ok(Accepted::Bytes(&[0, 7, 0])));
+    assert_eq!(heap.call(&Call::Read { task, handle: 2 }), Ok(Accepted::Bytes(&[0; 3])));
+    assert_eq!(heap.call(&Call::Read { task, handle: 301 }), Err(Refusal::HandleNotGiven));
+}
+
+#[test]
+fn a_refused_range_of_a_gone_object_is_a_use_out_of_time() {
+    let (task, handle) = (0, 1);
+    let make = Call::Make { task, kind: Kind::Local, extension: 0, length: 4 };
+    let write = Call::Write { task, handle, offset: 4, bytes: &[1] };
+    assert_eq!(check(&[Call::Join { task }, make, write]), None);
+    assert_eq!(check(&[Call::Join { task }, make, Call::Tick { task }, write]), Some(3));
+}

@@ -1,0 +1,250 @@
+//! Lists of calls that stay in time because of how they are made, or go out once. In each round all
+//! use comes first and then every task ticks once, so that each clock, and global time, is the number
+//! of the round.
+
+use std::ops::RangeInclusive;
+
+use reference::call::{Call, Kind};
+use reference::random::Random;
+
+pub type List = Vec<Call<'static>>;
+
+/// What writes write: parts of these.
+static BYTES: [u8; 257] = bytes();
+
+const fn bytes() -> [u8; 257] {
+    let mut bytes = [0; 257];
+    let mut place = 0;
+    while place < bytes.len() {
+        bytes[place] = (place * 37 + 11) as u8;
+        place += 1;
+    }
+    bytes
+}
+
+pub fn some_bytes(random: &mut Random, count: usize) -> &'static [u8] {
+    let start = random.below(BYTES.len() - count);
+    &BYTES[start..start + count]
+}
+
+pub fn random_kind(random: &mut Random) -> Kind {
+    random.pick(&[Kind::Local, Kind::Global])
+}
+
+#[derive(Clone, Copy)]
+struct Planned {
+    handle: u32,
+    length: u16,
+    /// The last round in which it may be used.
+    last: usize,
+}
+
+pub struct Plan {
+    random: Random,
+    pub list: List,
+    tasks: u8,
+    round: usize,
+    given: u32,
+    objects: Vec<Planned>,
+    /// The last round of each expiration.
+    expirations: Vec<usize>,
+}
+
+impl Plan {
+    pub fn new(seed: u64) -> Plan {
+        let mut random = Random::new(seed);
+        let tasks = 1 + random.below(16) as u8;
+        let list = (0..tasks).map(|task| Call::Join { task }).collect();
+        Plan { random, list, tasks, round: 0, given: 0, objects: Vec::new(), expirations: Vec::new() }
+    }
+
+    pub fn rounds(&mut self, count: usize) {
+        for _ in 0..count {
+            for _ in 0..self.random.below(10) {
+                self.step();
+            }
+            self.end_round();
+        }
+    }
+
+    fn end_round(&mut self) {
+        let first = self.random.below(16) as u8;
+        self.list.extend((0..self.tasks).map(|step| Call::Tick { task: (first % self.tasks + step) % self.tasks }));
+        self.round += 1;
+        let round = self.round;
+        self.expirations.retain(|&last| last >= round);
+    }
+
+    fn step(&mut self) {
+        match self.random.below(12) {
+            0..=2 => self.make(),
+            3 | 4 => self.refresh(),
+            5 | 6 => self.read(),
+            7 | 8 => self.write(),
+            9 => self.block_and_resume(),
+            _ => self.left_aside(),
+        }
+    }
+
+    fn task(&mut self) -> u8 {
+        self.random.below(usize::from(self.tasks)) as u8
+    }
+
+    /// The last round before an expiration set now: its local clock or global time passes it then.
+    fn last(&self, kind: Kind, extension: u8) -> usize {
+        let more = if kind == Kind::Global { 1 } else { 0 };
+        self.round + usize::from(extension) + more
+    }
+
+    fn standing(&self, lengths: RangeInclusive<u16>) -> usize {
+        let round = self.round;
+        self.objects.iter().filter(|object| object.last >= round && lengths.contains(&object.length)).count()
+    }
+
+    /// The place of an object that may be used in this round.
+    fn any_standing(&mut self) -> Option<usize> {
+        let stands = |place: &usize| self.objects[*place].last >= self.round;
+        let places: Vec<_> = (0..self.objects.len()).filter(stands).collect();
+        (!places.is_empty()).then(|| self.random.pick(&places))
+    }
+
+    fn make(&mut self) {
+        let (task, kind) = (self.task(), random_kind(&mut self.random));
+        let extension = self.random.below(31) as u8;
+        let length = 1 + self.random.below(256) as u16;
+        let full = if length <= 32 { self.standing(1..=32) >= 64 } else { self.standing(33..=256) >= 32 };
+        if !full && self.expirations.len() < 256 {
+            self.make_now(task, kind, extension, length);
+        }
+    }
+
+    fn make_now(&mut self, task: u8, kind: Kind, extension: u8, length: u16) {
+        self.list.push(Call::Make { task, kind, extension, length });
+        let last = self.last(kind, extension);
+        self.given += 1;
+        self.objects.push(Planned { handle: self.given, length, last });
+        self.expirations.push(last);
+    }
+
+    fn refresh(&mut self) {
+        let (task, kind) = (self.task(), random_kind(&mut self.random));
+        let extension = self.random.below(31) as u8;
+        if self.expirations.len() < 256 {
+            if let Some(place) = self.any_standing() {
+                self.refresh_now(place, task, kind, extension);
+            }
+        }
+    }
+
+    fn refresh_now(&mut self, place: usize, task: u8, kind: Kind, extension: u8) {
+        let last = self.last(kind, extension);
+        let object = &mut self.objects[place];
+        object.last = object.last.max(last);
+        self.list.push(Call::Refresh { task, kind, extension, handle: object.handle });
+        self.expirations.push(last);
+    }
+
+    fn read(&mut self) {
+        let task = self.task();
+        if let Some(place) = self.any_standing() {
+            self.list.push(Call::Read { task, handle: self.objects[place].handle });
+        }
+    }
+
+    /// In range or not: a write refused with 13 is a use like any other.
+    fn write(&mut self) {
+        let task = self.task();
+        if let Some(place) = self.any_standing() {
+            let Planned { handle, length, .. } = self.objects[place];
+            let offset = self.random.below(usize::from(length)) as u8;
+            let count = self.random.below(usize::from(length) - usize::from(offset) + 2);
+            let bytes = some_bytes(&mut self.random, count.min(256));
+            self.list.push(Call::Write { task, handle, offset, bytes });
+        }
+    }
+
+    /// Before any tick of the round no task is marked, so this moves no time.
+    fn block_and_resume(&mut self) {
+        let task = self.task();
+        self.list.extend([Call::Block { task }, Call::Resume { task }]);
+    }
+
+    /// A call that the heap refuses.
+    fn left_aside(&mut self) {
+        let (task, kind) = (self.task(), Kind::Local);
+        let handle = self.random.pick(&[0, self.given + 1, u32::MAX]);
+        let call = self.random.pick(&[
+            Call::Tick { task: 16 },
+            Call::Join { task },
+            Call::Resume { task },
+            Call::Make { task, kind, extension: 31, length: 1 },
+            Call::Make { task, kind, extension: 30, length: 257 },
+            Call::Refresh { task, kind, extension: 30, handle },
+            Call::Read { task, handle },
+            Call::Write { task, handle, offset: 255, bytes: &BYTES },
+        ]);
+        self.list.push(call);
+    }
+
+    /// One use out of time or out of bounds; the index it has in the list.
+    pub fn go_out(&mut self) -> usize {
+        match self.random.below(4) {
+            0 => self.use_gone(),
+            1 => self.one_block_more(1..=32, 64),
+            2 => self.one_block_more(33..=256, 32),
+            _ => self.one_expiration_more(),
+        }
+        self.list.len() - 1
+    }
+
+    fn use_gone(&mut self) {
+        let (task, kind) = (self.task(), random_kind(&mut self.random));
+        let extension = self.random.below(31) as u8;
+        self.make_room();
+        self.make_now(task, kind, extension, 4);
+        let place = self.objects.len() - 1;
+        while self.objects[place].last >= self.round {
+            self.end_round();
+        }
+        let handle = self.objects[place].handle;
+        let call = self.random.pick(&[
+            Call::Read { task, handle },
+            Call::Refresh { task, kind, extension, handle },
+            Call::Write { task, handle, offset: 4, bytes: &[] },
+            Call::Write { task, handle, offset: 4, bytes: &[1] },
+        ]);
+        self.list.push(call);
+    }
+
+    fn one_block_more(&mut self, lengths: RangeInclusive<u16>, blocks: usize) {
+        self.make_room();
+        while self.standing(lengths.clone()) < blocks {
+            let length = self.random.pick(&[*lengths.start(), *lengths.end()]);
+            self.make_now(0, Kind::Global, 3, length);
+        }
+        self.list.push(Call::Make { task: 0, kind: Kind::Local, extension: 0, length: *lengths.start() });
+    }
+
+    fn one_expiration_more(&mut self) {
+        self.make_room();
+        self.make_now(0, Kind::Local, 30, 1);
+        let place = self.objects.len() - 1;
+        while self.expirations.len() < 256 {
+            let kind = random_kind(&mut self.random);
+            self.refresh_now(place, 0, kind, 7);
+        }
+        let handle = self.objects[place].handle;
+        let call = self.random.pick(&[
+            Call::Refresh { task: 0, kind: Kind::Local, extension: 0, handle },
+            Call::Make { task: 0, kind: Kind::Local, extension: 0, length: 1 },
+        ]);
+        self.list.push(call);
+    }
+
+    /// Lets everything lapse.
+    fn make_room(&mut self) {
+        while !self.expirations.is_empty() {
+            self.end_round();
+        }
+    }
+}

@@ -1,0 +1,60 @@
+//! The two programs.
+
+use std::io::Write;
+use std::process::{Command, Output, Stdio};
+
+use reference::generate::script;
+use reference::script::run;
+
+const REFERENCE: &str = env!("CARGO_BIN_EXE_reference");
+const COMPARE: &str = env!("CARGO_BIN_EXE_compare");
+
+fn compare(arguments: &[&str]) -> Output {
+    Command::new(COMPARE).args(arguments).output().unwrap()
+}
+
+#[test]
+fn reference_runs_a_script() {
+    let script = script(3);
+    let mut child = Command::new(REFERENCE).stdin(Stdio::piped()).stdout(Stdio::piped()).spawn().unwrap();
+    let mut input = child.stdin.take().unwrap();
+    let expected = run(&script);
+    let output = std::thread::scope(|scope| {
+        scope.spawn(move || input.write_all(&script).ok());
+        child.wait_with_output().unwrap()
+    });
+    assert!(output.status.success());
+    assert_eq!(output.stdout, expected);
+}
+
+#[test]
+fn the_reference_is_like_itself() {
+    let output = compare(&[REFERENCE, "40"]);
+    let text = String::from_utf8(output.stdout).unwrap();
+    assert!(output.status.success(), "{text}");
+    let last = text.lines().last().unwrap();
+    assert!(last.starts_with("40 scripts, ") && last.ends_with(" lines: all alike"), "{text}");
+}
+
+/// This program writes nothing on standard output when it is called without arguments.
+#[test]
+fn a_silent_program_is_found_out() {
+    let output = compare(&[COMPARE, "5", "100"]);
+    let text = String::from_utf8(output.stdout).unwrap();
+    assert_eq!(output.status.code(), Some(1));
+    assert!(text.starts_with("seed 100\nline 1\ncall ") && text.ends_with("program none\n"), "{text}");
+}
+
+#[test]
+fn wrong_arguments() {
+    for arguments in [
+        &[][..],
+        &[REFERENCE],
+        &[REFERENCE, "0"],
+        &[REFERENCE, "07"],
+        &[REFERENCE, "1", "x"],
+        &[REFERENCE, "1", "1", "1"],
+    ] {
+        assert_eq!(compare(arguments).status.code(), Some(2));
+    }
+}

@@ -1,0 +1,22 @@
+//! Rows of calls: how often a line comes, the line, and its answer each time.
+
+use reference::script::run;
+
+pub type Row = (usize, &'static str, &'static str);
+
+/// Stands for every accepted answer.
+pub const ACCEPTED: &str = "accepted";
+
+pub fn check(name: &str, rows: &[Row]) {
+    let script: String = rows.iter().map(|(times, line, _)| format!("{line}\n").repeat(*times)).collect();
+    let output = String::from_utf8(run(script.as_bytes())).unwrap();
+    let mut answers = output.lines();
+    for (place, (times, line, expected)) in rows.iter().enumerate() {
+        for _ in 0..*times {
+            let answer = answers.next().expect("one answer a line");
+            let right = if *expected == ACCEPTED { answer.starts_with("00") } else { answer == *expected };
+            assert!(right, "{name}, row {place}, {line}: {answer} and not {expected}");
+        }
+    }
+    assert_eq!(answers.next(), None, "{name}");
+}

@@ -1,0 +1,52 @@
+//! The limits of a script and the ends of its lines.
+
+use reference::script::{calls, run, LIMIT};
+
+#[test]
+fn lines_and_their_ends() {
+    let rows: [(&[u8], &[u8]); 9] = [
+        (b"", b""),
+        (b"\n", b"11\n"),
+        (b"\n\n", b"11\n11\n"),
+        (b"0A", b"000000000000000000\n"),
+        (b"0A\n", b"000000000000000000\n"),
+        (b"0100\n\n0500", b"00\n11\n0001\n"),
+        (b"0100\r\n0500\r\n", b"10\n10\n"),
+        (b"\r", b"10\n"),
+        (b"0", b"10\n"),
+    ];
+    for (script, output) in rows {
+        assert_eq!(run(script), output, "{}", script.escape_ascii());
+    }
+}
+
+#[test]
+fn the_longest_script() {
+    let mut script = b"0A\n".repeat(LIMIT / 3);
+    script.resize(LIMIT, b'\n');
+    assert_eq!(run(&script).len(), LIMIT / 3 * 19 + 3);
+    script.push(b'\n');
+    assert_eq!(run(&script), b"script too long\n");
+}
+
+#[test]
+fn the_longest_line() {
+    assert_eq!(run(&vec![b'0'; LIMIT]), b"11\n");
+    assert_eq!(run(&[b"09".repeat(LIMIT / 2 - 1), b"0G".to_vec()].concat()), b"10\n");
+    assert_eq!(run(&b"09".repeat(LIMIT / 2)), b"12\n");
+    assert_eq!(run(&vec![b'0'; LIMIT + 1]), b"script too long\n");
+}
+
+/// As far as a clock gets in one script.
+#[test]
+fn the_most_ticks() {
+    let script = [b"0100\n".to_vec(), b"0500\n".repeat(LIMIT / 5 - 1)].concat();
+    assert!(run(&script).ends_with(b"0001\n0001\n"));
+}
+
+#[test]
+fn the_list_for_the_heap_has_no_reports_and_no_refused_frames() {
+    let mut room = [0; 64];
+    let calls = calls(b"0100\n0A\n\n0G\n09000000000100A5\n0500", &mut room);
+    assert_eq!(calls.len(), 3);
+}
