@@ -3,3 +3,4 @@ pub mod Fields
 pub mod Frames
 pub mod Answers
 pub mod Lines
+pub mod Reader

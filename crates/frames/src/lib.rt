@@ -5,10 +5,15 @@ use ledger::Request;
 mod answers;
 mod hex;
 mod lines;
+mod reader;
 mod requests;
 
 pub use answers::encode_answer;
+pub use lines::Line;
+pub use lines::line_at;
 pub use lines::line_end;
+pub use reader::Reader;
+pub use reader::step;
 pub use requests::decode;
 
 // What a line gives: a request and the count of the bytes that come with it, or a refusal. An enum holds no array, so the bytes stand beside it.
