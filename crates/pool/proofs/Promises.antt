@@ -1,9 +1,10 @@
 -- How a call meets its contract: by 15, by 14, by a refusal of the ledger's, or carried out.
 use Prim.Native.Nat.{ℕ}
-use mathlib.Core.Bool.{Bool, true, false, true≢false, false≢true}
+use mathlib.Core.Bool.{Bool, true, false, not, _&&_, true≢false, false≢true, and-eq-true-iff}
 use mathlib.Core.List.{List}
 use mathlib.Core.Option.{none, some}
 use mathlib.Core.Path.{_≡_, refl, sym, ap, _∙_}
+use borrow.Author.Tests.{not-true, not-false}
 use lib.ListN.{length}
 use Rattle.ledger.specs.Objects.{Reply, plain, replyTo}
 use Rattle.ledger.specs.Ledger.{Ledger, verdictOn, reply, next}
@@ -18,7 +19,7 @@ use Rattle.record.specs.Reading.{Reads}
 use Rattle.record.specs.WellFormed.{isWellFormed}
 use Rattle.record.specs.declared.Pool.{Pool}
 use Rattle.objects.proofs.Follow.{carried}
-use Rattle.pool.specs.Contract.{isStored, areWhole, Refuses, Obeys}
+use Rattle.pool.specs.Contract.{isStored, areWhole, TellsWhole, Ready, Refuses, Obeys}
 
 abbrev pub isRefusal : Answer → Bool
 isRefusal (Refused r) = true
@@ -45,17 +46,29 @@ module _ (request : Request) (new : List ℕ) (p : Pool) (small large : List ℕ
         sizes = (refl, refl);
       }
 
-  pub wrong-obeys : isWellFormed p ≡ true → isStored request ≡ true → areWhole small large ≡ false
-      → Obeys request new p small large (plain (Refused WrongStoreLength)) p small large
-  wrong-obeys w s n =
+-- the two tests, as the code makes them: of the record, then of stores that the request touches
+module _ {request : Request} {p : Pool} {small large : List ℕ} {fit stored whole : Bool} (f : fit ≡ isWellFormed p) (passed : not fit ≡ false)
+    (s : stored ≡ isStored request) (tells : TellsWhole (length small) (length large) whole) where
+  pub wrong-obeys : {new : List ℕ} → stored && not whole ≡ true → Obeys request new p small large (plain (Refused WrongStoreLength)) p small large
+  wrong-obeys refused =
+      let w : isWellFormed p ≡ true = sym f ∙ not-false fit passed in
+      let (touched, wrong) = and-eq-true-iff stored (not whole) .0 refused in
+      let n : areWhole small large ≡ false = sym (tells small large refl refl) ∙ not-true whole wrong in
       record {
         unfit = λ u. absurd (true≢false (sym w ∙ u));
         wrong = λ v t e. kept p small large WrongStoreLength WrongStoreLength refl;
-        answers = λ v whole L reads. absurd (true≢false (sym (whole s) ∙ n));
-        leaves = λ v whole L reads. absurd (true≢false (sym (whole s) ∙ n));
+        answers = λ v known L reads. absurd (true≢false (sym (known (sym s ∙ touched)) ∙ n));
+        leaves = λ v known L reads. absurd (true≢false (sym (known (sym s ∙ touched)) ∙ n));
         fits = λ v. v;
         keeps = kept p small large WrongStoreLength;
         sizes = (refl, refl);
+      }
+
+  pub ready : stored && not whole ≡ false → Ready request p small large
+  ready passed-too =
+      record {
+        fit = sym f ∙ not-false fit passed;
+        whole = λ touched. sym (tells small large refl refl) ∙ not-false whole (rw (s, touched) at passed-too);
       }
 
 module _ (call : Call) (new : List ℕ) (p : Pool) (small large : List ℕ) (w : isWellFormed p ≡ true)

@@ -1,18 +1,20 @@
 -- The dispatch: what each call promises serves its request.
 use Prim.Native.Nat.{ℕ}
 use native.Mathlib.Omega.{arith}
-use mathlib.Core.Bool.{Bool, true, false, cond}
+use mathlib.Core.Bool.{Bool, true, false, true≢false, cond}
 use mathlib.Core.List.{List, []}
-use mathlib.Core.Path.{_≡_, refl, _∙_}
+use mathlib.Core.Path.{_≡_, refl, ap, _∙_}
 use Rattle.ledger.specs.Limits.{limits}
 use Rattle.ledger.specs.Objects.{Reply, plain, memoryAfter}
 use Rattle.ledger.specs.Refusals.{testsOf}
 use Rattle.ledger.specs.Ledger.{Ledger, reply, next, replyToRequest, afterRequest}
 use Rattle.ledger.specs.declared.Answer.{Answer}
+use Rattle.ledger.specs.declared.Answer.the-variants.{Refused as RefusedAnswer}
 use Rattle.ledger.specs.declared.Call.the-variants.{Schedule, Make, Refresh, Read, Write}
 use Rattle.ledger.specs.declared.Event.{Event}
 use Rattle.ledger.specs.declared.Event.the-variants.{Join, Leave, Block, Resume, Tick}
 use Rattle.ledger.specs.declared.Kind.{Kind}
+use Rattle.ledger.specs.declared.Refusal.{Refusal}
 use Rattle.ledger.specs.declared.Request.{Request}
 use Rattle.ledger.specs.declared.Request.the-variants.{Use, Report}
 use Rattle.record.specs.Reading.{isWholeSmall, blockBytes}
@@ -22,6 +24,7 @@ use Rattle.objects.specs.declared.Found.{Found}
 use Rattle.objects.specs.declared.Found.the-variants.{At, Refused}
 use Rattle.pool.specs.Contract.{Obeys, Follows, Makes, Locates, Writes}
 use Rattle.pool.specs.Served.{withoutBytes, whereFound, Beyond, Serves}
+use Rattle.pool.proofs.Promises.{isRefusal}
 
 either : (b : Bool) (xs : List ℕ) → cond b xs xs ≡ xs
 either true xs = refl
@@ -62,6 +65,21 @@ serves-plain : {request : Request} {new : List ℕ} {p p′ : Pool} {small large
     → Serves request new p small large (withoutBytes answer p′) small′ large′
 serves-plain {small′ = small′} {large′ = large′} b o =
     record { obeys = rw (no-bytes small′ large′) o; beyond = b; inside = λ l. absurd (omega arith) }
+
+-- a refusal makes no object and writes no bytes
+nothing-beyond : (request : Request) (new : List ℕ) (p : Pool) (small large : List ℕ) (why : Refusal)
+    → Beyond request new p small large (RefusedAnswer why) small large
+nothing-beyond (Use (Schedule event task)) new p small large why = tt
+nothing-beyond (Use (Make task kind extension size)) new p small large why = λ handle h. absurd (true≢false (ap isRefusal h))
+nothing-beyond (Use (Refresh task kind extension handle)) new p small large why = tt
+nothing-beyond (Use (Read task handle)) new p small large why = tt
+nothing-beyond (Use (Write task handle offset)) new p small large why = λ d. absurd (true≢false (ap isRefusal d))
+nothing-beyond Report new p small large why = tt
+
+pub refused-serves : {request : Request} {new : List ℕ} {p : Pool} {small large : List ℕ} {why : Refusal}
+    → Obeys request new p small large (plain (RefusedAnswer why)) p small large
+    → Serves request new p small large (withoutBytes (RefusedAnswer why) p) small large
+refused-serves {request} {new} {p} {small} {large} {why} o = serves-plain (nothing-beyond request new p small large why) o
 
 module _ (new : List ℕ) (p : Pool) (small large : List ℕ) where
   pub schedule-serves : (event : Event) (task : ℕ) (answer : Answer) (p′ : Pool) → Follows (Use (Schedule event task)) p answer p′

@@ -39,6 +39,15 @@ isStored Report = false
 abbrev pub areWhole : List ℕ → List ℕ → Bool
 areWhole small large = isWholeSmall small && isWholeLarge large
 
+-- the same by the lengths alone
+abbrev pub TellsWhole : ℕ → ℕ → Bool → Type 0
+TellsWhole smallBytes largeBytes b = (small large : List ℕ) → length small ≡ smallBytes → length large ≡ largeBytes → b ≡ areWhole small large
+
+-- neither 15 nor 14: a well-formed record, and whole stores where the request touches one
+pub record Ready (request : Request) (p : Pool) (small large : List ℕ) : Type 0 where
+  pub fit : isWellFormed p ≡ true
+  pub whole : isStored request ≡ true → areWhole small large ≡ true
+
 -- "All refusals change nothing"
 pub record Refuses (why : Refusal) (p : Pool) (small large : List ℕ) (y : Reply) (p′ : Pool) (small′ large′ : List ℕ) : Type 0 where
   pub refused : y ≡ plain (Refused why)

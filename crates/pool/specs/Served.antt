@@ -16,7 +16,7 @@ use Rattle.objects.specs.declared.Found.{Found}
 use Rattle.objects.specs.declared.Found.the-variants.{At}
 use Rattle.objects.specs.declared.Found.the-variants.{Refused as RefusedFound}
 use Rattle.pool.specs.Contract.{Obeys, Placed}
-use Rattle.pool.specs.declared.dispatch.Called.{Called}
+use Rattle.pool.specs.declared.core.Called.{Called}
 
 abbrev pub withoutBytes : Answer → Pool → Called
 withoutBytes answer p = record { answer = answer; pool = p; block = 0; length = 0 }

@@ -4,6 +4,7 @@ ghost use Rattle.ledger.specs.declared.Request.the-variants.{Use, Report};
 ghost use Rattle.ledger.specs.declared.Event.the-variants.{Join, Leave, Block, Resume, Tick};
 ghost use Rattle.pool.specs.Contract.{Follows};
 
+pub mod core;
 pub mod dispatch;
 pub mod stored;
 

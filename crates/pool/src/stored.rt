@@ -1,26 +1,30 @@
 // Make, refresh, read and write as others see them: 15 first, then 14 where a store is touched, then the record's own tests.
-ghost use mathlib.Core.Path.{_≡_};
 ghost use Rattle.ledger.specs.declared.Call.the-variants.{Refresh};
 ghost use Rattle.ledger.specs.declared.Request.the-variants.{Use};
-ghost use Rattle.pool.specs.Contract.{Follows, Makes, LocatesIn, ReadsTo, Writes};
+ghost use Rattle.pool.specs.Contract.{TellsWhole, Follows, Makes, LocatesIn, ReadsTo, Writes};
+use super::core;
 use ledger::Answer;
 use ledger::Kind;
 use ledger::Refusal;
 use ledger::number_of;
 use objects::Found;
-use record::BLOCK_COUNT;
 use record::Outcome;
 use record::Pool;
 use record::fit::is_well_formed;
 use stores::block_part;
-use stores::clear_place;
 use stores::no_part;
-use stores::write_place;
 
 // 01: the lengths of the two stores.
 pub const SMALL_BYTES: usize = 2048;
 
 pub const LARGE_BYTES: usize = 8192;
+
+// Two stores of these lengths have 01's.
+pub fn are_whole(small: usize, large: usize) -> bool
+    ensures { λ r. ⌜ TellsWhole small large r ⌝ }
+{
+    (small == SMALL_BYTES) & (large == LARGE_BYTES)
+}
 
 pub fn refresh(p: Pool, task: u8, kind: Kind, extension: u8, handle: u32) -> Outcome
     ensures { λ r. ⌜ Follows (Use (Refresh task kind extension handle)) p (r .answer) (r .pool) ⌝ }
@@ -51,33 +55,13 @@ pub fn make(
             pool: p,
         };
     }
-    if small.len() != SMALL_BYTES {
+    if !are_whole(small.len(), large.len()) {
         return Outcome {
             answer: Answer::Refused(Refusal::WrongStoreLength),
             pool: p,
         };
     }
-    if large.len() != LARGE_BYTES {
-        return Outcome {
-            answer: Answer::Refused(Refusal::WrongStoreLength),
-            pool: p,
-        };
-    }
-    let made = objects::make(p, task, kind, extension, length);
-    let block = made.block;
-    let answer = made.answer;
-    let pool = made.pool;
-    if BLOCK_COUNT <= block {
-        return Outcome {
-            answer: answer,
-            pool: pool,
-        };
-    }
-    clear_place(small, large, block);
-    Outcome {
-        answer: answer,
-        pool: pool,
-    }
+    core::make(p, small, large, task, kind, extension, length)
 }
 
 // Where a read finds its object in two stores of these lengths.
@@ -87,10 +71,7 @@ pub fn locate(p: Pool, small: usize, large: usize, task: u8, handle: u32) -> Fou
     if !is_well_formed(p) {
         return Found::Refused(Refusal::NotWellFormed);
     }
-    if small != SMALL_BYTES {
-        return Found::Refused(Refusal::WrongStoreLength);
-    }
-    if large != LARGE_BYTES {
+    if !are_whole(small, large) {
         return Found::Refused(Refusal::WrongStoreLength);
     }
     objects::find(p, task, handle)
@@ -133,17 +114,8 @@ pub fn write(
     if !is_well_formed(p) {
         return Answer::Refused(Refusal::NotWellFormed);
     }
-    if small.len() != SMALL_BYTES {
+    if !are_whole(small.len(), large.len()) {
         return Answer::Refused(Refusal::WrongStoreLength);
     }
-    if large.len() != LARGE_BYTES {
-        return Answer::Refused(Refusal::WrongStoreLength);
-    }
-    match objects::find_for_write(p, task, handle, offset, bytes.len()) {
-        Found::Refused(why) => Answer::Refused(why),
-        Found::At { block, length: _ } => {
-            write_place(small, large, block, offset as usize, bytes);
-            Answer::Done
-        }
-    }
+    core::write(p, small, large, task, handle, offset, bytes)
 }

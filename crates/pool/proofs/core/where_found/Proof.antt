@@ -1,7 +1,7 @@
 -- By what was found.
 use borrow.Author.Needs.{needs}
-use Rattle.pool.proofs.dispatch.where_found.Statement.{statement}
-use Rattle.pool.proofs.dispatch.where_found.Tie as tie
+use Rattle.pool.proofs.core.where_found.Statement.{statement}
+use Rattle.pool.proofs.core.where_found.Tie as tie
 
 returns : tie.Need-returns
 returns c = rw (c .before .before .found .given .1) (c .without-bytes .ensures)
