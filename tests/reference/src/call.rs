@@ -57,6 +57,39 @@ pub enum Accepted<'a> {
 
 pub type Answer<'a> = Result<Accepted<'a>, Refusal>;
 
+/// What calls are done on. A refused call changes nothing.
+pub trait Model {
+    /// As it is before the first call.
+    fn fresh() -> Self;
+
+    fn join(&mut self, task: u8) -> Answer<'static>;
+    fn leave(&mut self, task: u8) -> Answer<'static>;
+    fn block(&mut self, task: u8) -> Answer<'static>;
+    fn resume(&mut self, task: u8) -> Answer<'static>;
+    fn tick(&mut self, task: u8) -> Answer<'static>;
+    fn make(&mut self, task: u8, kind: Kind, extension: u8, length: u16) -> Answer<'static>;
+    fn refresh(&mut self, task: u8, kind: Kind, extension: u8, handle: u32) -> Answer<'static>;
+    fn read(&self, task: u8, handle: u32) -> Answer<'_>;
+    fn write(&mut self, task: u8, handle: u32, offset: u8, bytes: &[u8]) -> Answer<'static>;
+    fn report(&self) -> Answer<'static>;
+
+    /// Does the call and answers it.
+    fn call(&mut self, call: &Call) -> Answer<'_> {
+        match *call {
+            Call::Join { task } => self.join(task),
+            Call::Leave { task } => self.leave(task),
+            Call::Block { task } => self.block(task),
+            Call::Resume { task } => self.resume(task),
+            Call::Tick { task } => self.tick(task),
+            Call::Make { task, kind, extension, length } => self.make(task, kind, extension, length),
+            Call::Refresh { task, kind, extension, handle } => self.refresh(task, kind, extension, handle),
+            Call::Read { task, handle } => self.read(task, handle),
+            Call::Write { task, handle, offset, bytes } => self.write(task, handle, offset, bytes),
+            Call::Report => self.report(),
+        }
+    }
+}
+
 /// The figures of a report.
 #[derive(Clone, Copy, Debug, PartialEq, Eq)]
 pub struct Figures {

@@ -1,6 +1,6 @@
 //! A script being written: lines, calls and arguments, led by a ledger that follows what is written.
 
-use crate::call::{Call, Kind, Refusal};
+use crate::call::{Call, Kind, Model, Refusal};
 use crate::damage::{damage, noise};
 use crate::frame::{decode, encode};
 use crate::ledger::Ledger;

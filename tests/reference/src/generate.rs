@@ -58,9 +58,9 @@ pub fn script(seed: u64) -> Vec<u8> {
     whole(Draft::new(random, in_time), size, only)
 }
 
-/// A script of about this size that keeps to one profile.
-pub fn script_of(profile: Profile, seed: u64, size: usize) -> Vec<u8> {
-    whole(Draft::new(Random::new(seed), false), size, Some(profile))
+/// A script of about this size that keeps to one profile, or has phases of all.
+pub fn script_of(only: Option<Profile>, seed: u64, size: usize) -> Vec<u8> {
+    whole(Draft::new(Random::new(seed), false), size, only)
 }
 
 /// From nothing up to the limit, on it, and now and then beyond it.

@@ -3,12 +3,13 @@
 
 use std::collections::BTreeMap;
 
-use crate::call::{Accepted, Answer, Call, Kind, Refusal};
-use crate::ledger::{Expiration, Ledger};
+use crate::call::{Accepted, Answer, Call, Kind, Model, Refusal};
+use crate::expiration::{remaining, Expiration, Remaining};
+use crate::ledger::Ledger;
 use crate::limits::{check_extension, Store, MOST_EXPIRATIONS};
 use crate::tasks::Tasks;
 
-/// Objects for ever. `ends[h - 1]..ends[h]` is the part of `bytes` that handle h names.
+/// Objects for ever: refusals 1 to 8, 11 and 13 in the pool's order, never 9, 10 or 12. `ends[h - 1]..ends[h]` is the part of `bytes` that handle h names.
 #[derive(Clone, Debug)]
 pub struct Heap {
     tasks: Tasks,
@@ -16,29 +17,32 @@ pub struct Heap {
     bytes: Vec<u8>,
 }
 
-impl Heap {
-    pub fn fresh() -> Heap {
+impl Model for Heap {
+    fn fresh() -> Heap {
         Heap { tasks: Tasks::default(), ends: vec![0], bytes: Vec::new() }
     }
 
-    /// Refusals 1 to 8, 11 and 13 in the pool's order, never 9, 10 or 12.
-    pub fn call(&mut self, call: &Call) -> Answer<'_> {
-        match *call {
-            Call::Join { task } => self.tasks.join(task).map(|()| Accepted::Done),
-            Call::Leave { task } => self.tasks.leave(task).map(Accepted::Advanced),
-            Call::Block { task } => self.tasks.block(task).map(Accepted::Advanced),
-            Call::Resume { task } => self.tasks.resume(task).map(|()| Accepted::Done),
-            Call::Tick { task } => self.tasks.tick(task).map(Accepted::Advanced),
-            Call::Make { task, extension, length, .. } => self.make(task, extension, length),
-            Call::Refresh { task, extension, handle, .. } => self.refresh(task, extension, handle),
-            Call::Read { task, handle } => self.read(task, handle),
-            Call::Write { task, handle, offset, bytes } => self.write(task, handle, offset, bytes),
-            // Not one of the nine; the lists leave it out.
-            Call::Report => Ok(Accepted::Done),
-        }
+    fn join(&mut self, task: u8) -> Answer<'static> {
+        self.tasks.join(task).map(|()| Accepted::Done)
     }
 
-    fn make(&mut self, task: u8, extension: u8, length: u16) -> Answer<'static> {
+    fn leave(&mut self, task: u8) -> Answer<'static> {
+        self.tasks.leave(task).map(Accepted::Advanced)
+    }
+
+    fn block(&mut self, task: u8) -> Answer<'static> {
+        self.tasks.block(task).map(Accepted::Advanced)
+    }
+
+    fn resume(&mut self, task: u8) -> Answer<'static> {
+        self.tasks.resume(task).map(|()| Accepted::Done)
+    }
+
+    fn tick(&mut self, task: u8) -> Answer<'static> {
+        self.tasks.tick(task).map(Accepted::Advanced)
+    }
+
+    fn make(&mut self, task: u8, _: Kind, extension: u8, length: u16) -> Answer<'static> {
         self.tasks.check_running(task)?;
         check_extension(extension)?;
         Store::holding(length)?;
@@ -50,7 +54,7 @@ impl Heap {
         Ok(Accepted::Handle(self.given() as u32))
     }
 
-    fn refresh(&self, task: u8, extension: u8, handle: u32) -> Answer<'static> {
+    fn refresh(&mut self, task: u8, _: Kind, extension: u8, handle: u32) -> Answer<'static> {
         self.tasks.check_running(task)?;
         check_extension(extension)?;
         self.check_given(handle)?;
@@ -75,6 +79,13 @@ impl Heap {
         Ok(Accepted::Done)
     }
 
+    /// Not one of the nine; the lists leave it out.
+    fn report(&self) -> Answer<'static> {
+        Ok(Accepted::Done)
+    }
+}
+
+impl Heap {
     fn given(&self) -> usize {
         self.ends.len() - 1
     }
@@ -89,8 +100,7 @@ impl Heap {
     }
 }
 
-/// The expiration book: the objects that have an expiration. Plain lists on purpose: it is a second way to do what the
-/// ledger does with schedules.
+/// The expiration book: the objects that have an expiration.
 #[derive(Clone, Debug, Default)]
 struct Book {
     objects: BTreeMap<u32, Entry>,
@@ -99,13 +109,7 @@ struct Book {
 #[derive(Clone, Debug)]
 struct Entry {
     length: u16,
-    due: Vec<Due>,
-}
-
-#[derive(Clone, Copy, Debug, PartialEq, Eq)]
-enum Due {
-    Local { task: u8, at: u64 },
-    Global { at: u64 },
+    expirations: Vec<Expiration>,
 }
 
 impl Book {
@@ -120,35 +124,28 @@ impl Book {
         }
     }
 
-    /// Follows an accepted call; `handle` is the one that a make gave, `advanced` tells of global time.
-    fn follow(&mut self, call: &Call, tasks: &Tasks, handle: u32, advanced: bool) {
+    /// Follows an accepted call; `handle` is the one that a make gave.
+    fn follow(&mut self, call: &Call, tasks: &Tasks, handle: u32) {
         match *call {
-            Call::Leave { task } => self.keep(|due| !matches!(due, Due::Local { task: setter, .. } if setter == task)),
-            Call::Tick { task } => {
-                let at = tasks.local(task);
-                self.keep(|due| due != Due::Local { task, at });
-            }
+            Call::Leave { task } => self.keep(|expiration| !expiration.is_local_of(task) && !expiration.is_due(tasks)),
+            Call::Block { .. } | Call::Tick { .. } => self.keep(|expiration| !expiration.is_due(tasks)),
             Call::Make { task, kind, extension, length } => {
-                let due = due(tasks, task, kind, extension);
-                self.objects.insert(handle, Entry { length, due: vec![due] });
+                let expirations = vec![Expiration::set(tasks, task, kind, extension)];
+                self.objects.insert(handle, Entry { length, expirations });
             }
             Call::Refresh { task, kind, extension, handle } => {
-                let due = due(tasks, task, kind, extension);
-                self.objects.entry(handle).and_modify(|entry| entry.due.push(due));
+                let expiration = Expiration::set(tasks, task, kind, extension);
+                self.objects.entry(handle).and_modify(|entry| entry.expirations.push(expiration));
             }
             _ => {}
-        }
-        if advanced {
-            let at = tasks.global();
-            self.keep(|due| due != Due::Global { at });
         }
     }
 
     /// Keeps these expirations, and the objects that still have one.
-    fn keep(&mut self, stays: impl Fn(Due) -> bool) {
+    fn keep(&mut self, stays: impl Fn(&Expiration) -> bool) {
         self.objects.retain(|_, entry| {
-            entry.due.retain(|&due| stays(due));
-            !entry.due.is_empty()
+            entry.expirations.retain(&stays);
+            !entry.expirations.is_empty()
         });
     }
 
@@ -157,7 +154,7 @@ impl Book {
     }
 
     fn is_full(&self) -> bool {
-        let expirations: usize = self.objects.values().map(|entry| entry.due.len()).sum();
+        let expirations: usize = self.objects.values().map(|entry| entry.expirations.len()).sum();
         expirations >= MOST_EXPIRATIONS
     }
 
@@ -165,13 +162,6 @@ impl Book {
         let store = Store::holding(length);
         let standing = self.objects.values().filter(|entry| Store::holding(entry.length) == store);
         store.is_ok_and(|store| standing.count() >= store.blocks())
-    }
-}
-
-fn due(tasks: &Tasks, task: u8, kind: Kind, extension: u8) -> Due {
-    match kind {
-        Kind::Local => Due::Local { task, at: tasks.local(task) + u64::from(extension) + 1 },
-        Kind::Global => Due::Global { at: tasks.global() + u64::from(extension) + 2 },
     }
 }
 
@@ -189,15 +179,14 @@ impl Judge {
 
     /// Feeds one call; false if it is a use out of time or out of bounds, which settles the list.
     pub fn is_in_time(&mut self, call: &Call) -> bool {
-        let (refusal, handle, advanced) = match self.heap.call(call) {
-            Err(refusal) => (Some(refusal), 0, false),
-            Ok(Accepted::Handle(handle)) => (None, handle, false),
-            Ok(Accepted::Advanced(advanced)) => (None, 0, advanced),
-            Ok(_) => (None, 0, false),
+        let (refusal, handle) = match self.heap.call(call) {
+            Err(refusal) => (Some(refusal), 0),
+            Ok(Accepted::Handle(handle)) => (None, handle),
+            Ok(_) => (None, 0),
         };
         match refusal {
             None | Some(Refusal::RangeAboveLength) if self.book.is_out(call) => return false,
-            None => self.book.follow(call, &self.heap.tasks, handle, advanced),
+            None => self.book.follow(call, &self.heap.tasks, handle),
             Some(_) => {}
         }
         true
@@ -208,20 +197,11 @@ impl Judge {
         &self.heap.tasks
     }
 
-    /// The objects that have an expiration in the book: handle, length and expirations, sorted.
-    pub fn standing(&self) -> impl Iterator<Item = (u32, usize, Vec<Expiration>)> + '_ {
+    /// The objects that have an expiration in the book: handle, length and what remains, sorted.
+    pub fn standing(&self) -> impl Iterator<Item = (u32, usize, Vec<Remaining>)> + '_ {
         self.book.objects.iter().map(|(&handle, entry)| {
-            let mut expirations: Vec<_> = entry.due.iter().map(|&due| self.units_left(due)).collect();
-            expirations.sort();
-            (handle, usize::from(entry.length), expirations)
+            (handle, usize::from(entry.length), remaining(&entry.expirations, &self.heap.tasks))
         })
-    }
-
-    fn units_left(&self, due: Due) -> Expiration {
-        match due {
-            Due::Local { task, at } => Expiration::Local { task, left: at - self.heap.tasks.local(task) },
-            Due::Global { at } => Expiration::Global { left: at - self.heap.tasks.global() },
-        }
     }
 }
 

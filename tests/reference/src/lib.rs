@@ -1,22 +1,27 @@
-//! A reference for the short-term memory pool: its rules as a plain ledger, the unbounded heap that
-//! the ledger is held against, the call frames, and scripts to compare a pool with.
+//! A reference for the short-term memory pool: its rules as a plain ledger, the same rules written for
+//! speed, the unbounded heap that the ledger is held against, the call frames, and scripts to compare a
+//! pool with.
 //!
 //! Names and the scope paper's words for them: local time, a task's own clock; global time, the common
-//! time; expiration, a date; handle, an object's number; unbounded heap, the endless heap; expiration
-//! book, the date book.
+//! time; ticked, marked; expiration, a date; handle, an object's number; unbounded heap, the endless heap;
+//! expiration book, the date book.
 
 #![forbid(unsafe_code)]
 
 pub mod call;
 pub mod damage;
 pub mod draft;
+pub mod expiration;
 pub mod frame;
 pub mod generate;
 pub mod heap;
+pub mod indexed;
 pub mod ledger;
 pub mod limits;
-pub mod objects;
+pub mod program;
 pub mod random;
-pub mod schedule;
 pub mod script;
 pub mod tasks;
+
+#[cfg(test)]
+mod late_starts;

@@ -1,6 +1,6 @@
 //! Scripts: many frames in, one answer a line out.
 
-use crate::call::Call;
+use crate::call::{Call, Model};
 use crate::frame::{decode, encode_answer};
 use crate::ledger::Ledger;
 
@@ -9,14 +9,19 @@ pub const LIMIT: usize = 65_536;
 
 /// The whole output of a script's run on a fresh ledger.
 pub fn run(script: &[u8]) -> Vec<u8> {
+    run_on::<Ledger>(script)
+}
+
+/// The same on a fresh model of this kind.
+pub fn run_on<M: Model>(script: &[u8]) -> Vec<u8> {
     if script.len() > LIMIT {
         return b"script too long\n".to_vec();
     }
-    let mut ledger = Ledger::fresh();
+    let mut model = M::fresh();
     let mut room = vec![0; script.len() / 2];
     let mut output = Vec::with_capacity(script.len());
     for line in lines(script) {
-        let answer = decode(line, &mut room).and_then(|call| ledger.call(&call));
+        let answer = decode(line, &mut room).and_then(|call| model.call(&call));
         encode_answer(&answer, &mut output);
     }
     output

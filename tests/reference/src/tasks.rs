@@ -1,22 +1,40 @@
-//! The sixteen tasks and the two times: a local clock for each task and the global time.
+//! The sixteen tasks and the two times. Words in quotes are the scope paper's.
 
 use crate::call::Refusal;
 use crate::limits::TASKS;
 
-/// States and marks are sets with one bit for each task. A task that is neither running nor waiting
-/// is absent, and only running tasks are ever marked.
+/// "A state is absent, running or waiting."
+#[derive(Clone, Copy, Debug, Default, PartialEq, Eq)]
+pub enum State {
+    #[default]
+    Absent,
+    Running,
+    Waiting,
+}
+
+/// A task's entry, "with its state, mark and clock". The mark is `ticked`.
+#[derive(Clone, Copy, Debug, Default, PartialEq, Eq)]
+pub struct Task {
+    pub state: State,
+    pub ticked: bool,
+    pub clock: u64,
+}
+
+/// "A task's own clock and the common time are separate counters". "In the ledger they are whole numbers."
 #[derive(Clone, Debug, Default, PartialEq, Eq)]
 pub struct Tasks {
-    running: u16,
-    waiting: u16,
-    marked: u16,
-    local: [u64; TASKS],
+    entries: [Task; TASKS],
     global: u64,
 }
 
 impl Tasks {
-    pub fn local(&self, task: u8) -> u64 {
-        self.local[usize::from(task)]
+    pub fn entries(&self) -> &[Task; TASKS] {
+        &self.entries
+    }
+
+    /// The local time of a task from 0 to 15.
+    pub fn clock(&self, task: u8) -> u64 {
+        self.entries[usize::from(task)].clock
     }
 
     pub fn global(&self) -> u64 {
@@ -31,98 +49,109 @@ impl Tasks {
         self.check_waiting(task).is_ok()
     }
 
-    /// Refusals 1, 3 and 4, else the task's bit.
-    pub fn check_running(&self, task: u8) -> Result<u16, Refusal> {
-        let bit = self.check_present(task)?;
-        if self.waiting & bit != 0 {
-            return Err(Refusal::TaskWaiting);
-        }
-        Ok(bit)
-    }
-
+    /// "Join: absent to running, clock 0, mark clear."
     pub fn join(&mut self, task: u8) -> Result<(), Refusal> {
-        let bit = bit_of(task)?;
-        if (self.running | self.waiting) & bit != 0 {
-            return Err(Refusal::TaskNotAbsent);
-        }
-        self.running |= bit;
-        self.marked &= !bit;
-        self.local[usize::from(task)] = 0;
+        let place = self.check_absent(task)?;
+        self.entries[place] = Task { state: State::Running, ticked: false, clock: 0 };
         Ok(())
     }
 
-    /// Leave, block and tick tell whether global time advanced.
+    /// "Leave: running or waiting to absent, clock 0, mark clear." Leave, block and tick tell whether global
+    /// time advanced.
     pub fn leave(&mut self, task: u8) -> Result<bool, Refusal> {
-        let bit = self.check_present(task)?;
-        self.running &= !bit;
-        self.waiting &= !bit;
-        self.marked &= !bit;
-        self.local[usize::from(task)] = 0;
+        let place = self.check_present(task)?;
+        self.entries[place] = Task { state: State::Absent, ticked: false, clock: 0 };
         Ok(self.advance())
     }
 
+    /// "Block: running to waiting, mark clear. The own clock stands."
     pub fn block(&mut self, task: u8) -> Result<bool, Refusal> {
-        let bit = self.check_running(task)?;
-        self.running &= !bit;
-        self.waiting |= bit;
-        self.marked &= !bit;
+        let place = self.check_running(task)?;
+        self.entries[place].state = State::Waiting;
+        self.entries[place].ticked = false;
         Ok(self.advance())
     }
 
+    /// "Resume: waiting to running, mark clear."
     pub fn resume(&mut self, task: u8) -> Result<(), Refusal> {
-        let bit = self.check_waiting(task)?;
-        self.waiting &= !bit;
-        self.running |= bit;
-        self.marked &= !bit;
+        let place = self.check_waiting(task)?;
+        self.entries[place].state = State::Running;
+        self.entries[place].ticked = false;
         Ok(())
     }
 
+    /// "Tick: own clock plus 1, own dates that are due go, mark set." The dates are not kept here.
     pub fn tick(&mut self, task: u8) -> Result<bool, Refusal> {
-        let bit = self.check_running(task)?;
-        self.local[usize::from(task)] += 1;
-        self.marked |= bit;
+        let place = self.check_running(task)?;
+        self.entries[place].clock += 1;
+        self.entries[place].ticked = true;
         Ok(self.advance())
     }
 
-    /// The advance test: at least one task runs and every running one has its mark.
+    /// "After a tick, block or leave comes the advance test: if at least one task is running and every running
+    /// task has its mark, common time goes up by 1, all marks are cleared".
     fn advance(&mut self) -> bool {
-        let due = self.running != 0 && self.running & !self.marked == 0;
-        if due {
+        let running = || self.entries.iter().filter(|task| task.state == State::Running);
+        let advances = running().count() > 0 && running().all(|task| task.ticked);
+        if advances {
             self.global += 1;
-            self.marked = 0;
+            self.entries.iter_mut().for_each(|task| task.ticked = false);
         }
-        due
+        advances
     }
 
-    /// Refusals 1 and 3, else the task's bit.
-    fn check_present(&self, task: u8) -> Result<u16, Refusal> {
-        let bit = bit_of(task)?;
-        if (self.running | self.waiting) & bit == 0 {
-            return Err(Refusal::TaskAbsent);
+    // The refusals of a task: 1, then those of its state. Else the place of its entry.
+
+    /// 1, 2.
+    fn check_absent(&self, task: u8) -> Result<usize, Refusal> {
+        let place = check_number(task)?;
+        match self.entries[place].state {
+            State::Absent => Ok(place),
+            State::Running | State::Waiting => Err(Refusal::TaskNotAbsent),
         }
-        Ok(bit)
     }
 
-    /// Refusals 1, 3 and 5, else the task's bit.
-    fn check_waiting(&self, task: u8) -> Result<u16, Refusal> {
-        let bit = self.check_present(task)?;
-        if self.running & bit != 0 {
-            return Err(Refusal::TaskRunning);
+    /// 1, 3.
+    fn check_present(&self, task: u8) -> Result<usize, Refusal> {
+        let place = check_number(task)?;
+        match self.entries[place].state {
+            State::Absent => Err(Refusal::TaskAbsent),
+            State::Running | State::Waiting => Ok(place),
         }
-        Ok(bit)
     }
 
-    /// A late start, which no script lives to see.
+    /// 1, 3, 4.
+    pub fn check_running(&self, task: u8) -> Result<usize, Refusal> {
+        let place = check_number(task)?;
+        match self.entries[place].state {
+            State::Absent => Err(Refusal::TaskAbsent),
+            State::Waiting => Err(Refusal::TaskWaiting),
+            State::Running => Ok(place),
+        }
+    }
+
+    /// 1, 3, 5.
+    fn check_waiting(&self, task: u8) -> Result<usize, Refusal> {
+        let place = check_number(task)?;
+        match self.entries[place].state {
+            State::Absent => Err(Refusal::TaskAbsent),
+            State::Running => Err(Refusal::TaskRunning),
+            State::Waiting => Ok(place),
+        }
+    }
+
+    /// For a late start, which no script lives to see.
     #[cfg(test)]
-    pub fn start_local_at(&mut self, task: u8, clock: u64) {
-        self.local[usize::from(task)] = clock;
+    pub fn clock_mut(&mut self, task: u8) -> &mut u64 {
+        &mut self.entries[usize::from(task)].clock
     }
 }
 
-/// Refusal 1, else the task's bit.
-fn bit_of(task: u8) -> Result<u16, Refusal> {
-    if usize::from(task) >= TASKS {
+/// 1: "task above 15".
+fn check_number(task: u8) -> Result<usize, Refusal> {
+    let place = usize::from(task);
+    if place >= TASKS {
         return Err(Refusal::TaskAbove15);
     }
-    Ok(1 << task)
+    Ok(place)
 }

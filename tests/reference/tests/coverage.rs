@@ -1,6 +1,6 @@
 //! The scripts of the generator reach what they are meant to.
 
-use reference::call::{Accepted, Answer, Call};
+use reference::call::{Accepted, Answer, Call, Model};
 use reference::frame::decode;
 use reference::generate::{script, script_of, Profile, PROFILES};
 use reference::ledger::Ledger;
@@ -137,7 +137,7 @@ fn sizes_and_ends() {
 #[test]
 fn each_profile_meets_its_own() {
     for profile in PROFILES {
-        let census = Census::of((1..=20).map(|seed| script_of(profile, seed, 30_000)));
+        let census = Census::of((1..=20).map(|seed| script_of(Some(profile), seed, 30_000)));
         let least = |numbers: &[usize]| numbers.iter().map(|&number| census.refused[number]).min().unwrap_or(0);
         let met = match profile {
             Profile::Everyday => {

@@ -4,7 +4,7 @@
 mod plan;
 
 use plan::{random_kind, some_bytes, List, Plan};
-use reference::call::{Accepted, Call, Kind, Refusal};
+use reference::call::{Accepted, Call, Kind, Model, Refusal};
 use reference::heap::{first_difference, first_use_out, Heap, Judge};
 use reference::ledger::Ledger;
 use reference::random::Random;
@@ -85,7 +85,6 @@ fn lists_that_go_out_once() {
     }
 }
 
-/// The ledger finds what is due by schedules and the book by looking at all: they keep the same.
 #[test]
 fn the_ledger_and_the_book_keep_the_same() {
     for seed in 0..150 {

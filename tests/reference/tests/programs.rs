@@ -1,9 +1,9 @@
-//! The two programs.
+//! The programs.
 
-use std::io::Write;
-use std::process::{Command, Output, Stdio};
+use std::process::{Command, Output};
 
 use reference::generate::script;
+use reference::program::run_program;
 use reference::script::run;
 
 const REFERENCE: &str = env!("CARGO_BIN_EXE_reference");
@@ -16,15 +16,11 @@ fn compare(arguments: &[&str]) -> Output {
 #[test]
 fn reference_runs_a_script() {
     let script = script(3);
-    let mut child = Command::new(REFERENCE).stdin(Stdio::piped()).stdout(Stdio::piped()).spawn().unwrap();
-    let mut input = child.stdin.take().unwrap();
-    let expected = run(&script);
-    let output = std::thread::scope(|scope| {
-        scope.spawn(move || input.write_all(&script).ok());
-        child.wait_with_output().unwrap()
-    });
-    assert!(output.status.success());
-    assert_eq!(output.stdout, expected);
+    for arguments in [&[][..], &["--indexed"]] {
+        let output = run_program(Command::new(REFERENCE).args(arguments), &script).unwrap();
+        assert!(output.status.success());
+        assert_eq!(output.stdout, run(&script));
+    }
 }
 
 #[test]
@@ -56,5 +52,9 @@ fn wrong_arguments() {
         &[REFERENCE, "1", "1", "1"],
     ] {
         assert_eq!(compare(arguments).status.code(), Some(2));
+    }
+    for arguments in [&["--index"][..], &["--indexed", "1"]] {
+        let output = Command::new(REFERENCE).args(arguments).output().unwrap();
+        assert_eq!(output.status.code(), Some(2));
     }
 }

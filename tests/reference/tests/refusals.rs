@@ -2,6 +2,7 @@
 
 mod rows;
 
+use reference::call::Model;
 use reference::frame::decode;
 use reference::generate::script;
 use reference::ledger::Ledger;

@@ -1,7 +1,7 @@
-//! Compares a program that runs scripts with the reference: `compare PROGRAM COUNT [FIRST_SEED]`.
+//! Compares a program that runs scripts with the reference, and the reference's two ledgers with each
+//! other: `compare PROGRAM COUNT [FIRST_SEED]`.
 
-use std::io::{self, Write};
-use std::process::{Command, ExitCode, Output, Stdio};
+use std::process::{Command, ExitCode};
 use std::sync::atomic::{AtomicU64, Ordering};
 use std::sync::Mutex;
 use std::thread;
@@ -9,6 +9,8 @@ use std::thread;
 use reference::call::Call;
 use reference::generate;
 use reference::heap::{first_difference, first_use_out};
+use reference::indexed;
+use reference::program::run_program;
 use reference::script::{calls, lines, run, LIMIT};
 
 struct Order {
@@ -106,7 +108,8 @@ impl Tally {
 fn compare_one(program: &str, seed: u64) -> Result<(usize, bool), String> {
     let script = generate::script(seed);
     let expected = run(&script);
-    let output = run_program(program, &script).map_err(|error| format!("{program} does not run: {error}"))?;
+    let output = run_program(&mut Command::new(program), &script);
+    let output = output.map_err(|error| format!("{program} does not run: {error}"))?;
     if let Some(difference) = difference(&script, &expected, &output.stdout) {
         return Err(difference);
     }
@@ -114,17 +117,10 @@ fn compare_one(program: &str, seed: u64) -> Result<(usize, bool), String> {
     if script.len() <= LIMIT && !output.status.success() {
         return Err(format!("{program} answered all and failed: {}", output.status));
     }
-    Ok((lines(&expected).count(), check_heap(&script)?))
-}
-
-fn run_program(program: &str, script: &[u8]) -> io::Result<Output> {
-    let mut child = Command::new(program).stdin(Stdio::piped()).stdout(Stdio::piped()).spawn()?;
-    let mut input = child.stdin.take().expect("standard input is a pipe");
-    thread::scope(|scope| {
-        // A program may end before it has read a script that is too long.
-        scope.spawn(move || input.write_all(script).ok());
-        child.wait_with_output()
-    })
+    let mut room = vec![0; script.len() / 2];
+    let calls = calls(&script, &mut room);
+    check_indexed(&calls)?;
+    Ok((lines(&expected).count(), check_heap(&calls)?))
 }
 
 /// The first line whose answers differ, with both.
@@ -152,17 +148,23 @@ fn show(line: Option<&[u8]>) -> String {
     line.map_or("none".to_string(), |line| line.escape_ascii().to_string())
 }
 
+/// The two ledgers answer alike and have the same figures after each call.
+fn check_indexed(calls: &[Call]) -> Result<(), String> {
+    match indexed::first_difference(calls) {
+        None => Ok(()),
+        differs => Err(format!("ledgers: first answer or figures that differ {}", show_call(calls, differs))),
+    }
+}
+
 /// Demand 3 of the reference itself: its answers are the heap's exactly when all use is in time and in
 /// bounds, and the first use out is the first answer that differs.
-fn check_heap(script: &[u8]) -> Result<bool, String> {
-    let mut room = vec![0; script.len() / 2];
-    let calls = calls(script, &mut room);
-    let (out, differs) = (first_use_out(&calls), first_difference(&calls));
+fn check_heap(calls: &[Call]) -> Result<bool, String> {
+    let (out, differs) = (first_use_out(calls), first_difference(calls));
     if out != differs {
         return Err(format!(
             "heap: first use out {}, first answer that differs {}",
-            show_call(&calls, out),
-            show_call(&calls, differs)
+            show_call(calls, out),
+            show_call(calls, differs)
         ));
     }
     Ok(out.is_none())

@@ -1,6 +1,7 @@
-//! Rows of calls: how often a line comes, the line, and its answer each time.
+//! Rows of calls: how often a line comes, the line, and its answer each time, by both ledgers.
 
-use reference::script::run;
+use reference::indexed;
+use reference::script::{run, run_on};
 
 pub type Row = (usize, &'static str, &'static str);
 
@@ -10,6 +11,7 @@ pub const ACCEPTED: &str = "accepted";
 pub fn check(name: &str, rows: &[Row]) {
     let script: String = rows.iter().map(|(times, line, _)| format!("{line}\n").repeat(*times)).collect();
     let output = String::from_utf8(run(script.as_bytes())).unwrap();
+    assert_eq!(output.as_bytes(), run_on::<indexed::Ledger>(script.as_bytes()), "{name}");
     let mut answers = output.lines();
     for (place, (times, line, expected)) in rows.iter().enumerate() {
         for _ in 0..*times {

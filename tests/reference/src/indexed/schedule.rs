@@ -36,11 +36,11 @@ impl Schedule {
         self.ring[..used].iter_mut().flat_map(|due| due.drain(..))
     }
 
-    /// The units left to each expiration of the object in this slot.
-    pub fn units_left(&self, slot: u8, now: u64) -> impl Iterator<Item = u64> + '_ {
-        (1..RING as u64).flat_map(move |left| {
-            let due = &self.ring[place(now + left)];
-            due.iter().filter(move |&&other| other == slot).map(move |_| left)
+    /// What remains to each expiration of the object in this slot.
+    pub fn remaining(&self, slot: u8, now: u64) -> impl Iterator<Item = u64> + '_ {
+        (1..RING as u64).flat_map(move |units| {
+            let due = &self.ring[place(now + units)];
+            due.iter().filter(move |&&other| other == slot).map(move |_| units)
         })
     }
 }

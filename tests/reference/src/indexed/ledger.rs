@@ -1,0 +1,196 @@
+//! The pool's rules and refusals 1 to 13, by schedules and slots.
+
+use super::objects::Objects;
+use super::schedule::Schedule;
+use super::tasks::Tasks;
+use crate::call::{Accepted, Answer, Figures, Kind, Model, Refusal};
+use crate::expiration::Remaining;
+use crate::ledger::Standing;
+use crate::limits::{check_extension, Store, MOST_EXPIRATIONS, TASKS};
+use crate::tasks::Task;
+
+#[derive(Clone, Debug)]
+pub struct Ledger {
+    tasks: Tasks,
+    given: u32,
+    objects: Objects,
+    local: [Schedule; TASKS],
+    global: Schedule,
+}
+
+impl Model for Ledger {
+    /// All tasks absent, both times 0, no object, no expiration, no handle given.
+    fn fresh() -> Ledger {
+        Ledger {
+            tasks: Tasks::default(),
+            given: 0,
+            objects: Objects::none(),
+            local: Default::default(),
+            global: Schedule::default(),
+        }
+    }
+
+    fn join(&mut self, task: u8) -> Answer<'static> {
+        self.tasks.join(task)?;
+        Ok(Accepted::Done)
+    }
+
+    fn leave(&mut self, task: u8) -> Answer<'static> {
+        let advanced = self.tasks.leave(task)?;
+        for slot in self.local[usize::from(task)].take_all() {
+            self.objects.release(slot);
+        }
+        self.expire_global(advanced)
+    }
+
+    fn block(&mut self, task: u8) -> Answer<'static> {
+        let advanced = self.tasks.block(task)?;
+        self.expire_global(advanced)
+    }
+
+    fn resume(&mut self, task: u8) -> Answer<'static> {
+        self.tasks.resume(task)?;
+        Ok(Accepted::Done)
+    }
+
+    fn tick(&mut self, task: u8) -> Answer<'static> {
+        let advanced = self.tasks.tick(task)?;
+        for slot in self.local[usize::from(task)].take_due(self.tasks.clock(task)) {
+            self.objects.release(slot);
+        }
+        self.expire_global(advanced)
+    }
+
+    fn make(&mut self, task: u8, kind: Kind, extension: u8, length: u16) -> Answer<'static> {
+        self.tasks.check_running(task)?;
+        check_extension(extension)?;
+        let store = Store::holding(length)?;
+        if self.given == u32::MAX {
+            return Err(Refusal::AllHandlesGiven);
+        }
+        if self.objects.standing(store) == store.blocks() {
+            return Err(Refusal::NoFreeBlock);
+        }
+        self.check_expirations()?;
+        self.given += 1;
+        let slot = self.objects.make(self.given, length, store);
+        self.set_expiration(slot, task, kind, extension);
+        Ok(Accepted::Handle(self.given))
+    }
+
+    fn refresh(&mut self, task: u8, kind: Kind, extension: u8, handle: u32) -> Answer<'static> {
+        self.tasks.check_running(task)?;
+        check_extension(extension)?;
+        let slot = self.check_standing(handle)?;
+        self.check_expirations()?;
+        self.set_expiration(slot, task, kind, extension);
+        Ok(Accepted::Done)
+    }
+
+    fn read(&self, task: u8, handle: u32) -> Answer<'_> {
+        self.tasks.check_running(task)?;
+        let slot = self.check_standing(handle)?;
+        Ok(Accepted::Bytes(self.objects.bytes(slot)))
+    }
+
+    fn write(&mut self, task: u8, handle: u32, offset: u8, bytes: &[u8]) -> Answer<'static> {
+        self.tasks.check_running(task)?;
+        let slot = self.check_standing(handle)?;
+        let offset = usize::from(offset);
+        let range = offset..offset + bytes.len();
+        let part = self.objects.bytes_mut(slot).get_mut(range).ok_or(Refusal::RangeAboveLength)?;
+        part.copy_from_slice(bytes);
+        Ok(Accepted::Done)
+    }
+
+    fn report(&self) -> Answer<'static> {
+        Ok(Accepted::Report(self.figures()))
+    }
+}
+
+impl Ledger {
+    /// The tasks as the ledger has them.
+    pub fn entries(&self) -> [Task; TASKS] {
+        self.tasks.entries()
+    }
+
+    pub fn global(&self) -> u64 {
+        self.tasks.global()
+    }
+
+    pub fn figures(&self) -> Figures {
+        Figures {
+            small: self.objects.standing(Store::Small) as u8,
+            large: self.objects.standing(Store::Large) as u8,
+            expirations: self.objects.expirations() as u16,
+            given: self.given,
+        }
+    }
+
+    /// The standing objects in order of handle.
+    pub fn standing(&self) -> Vec<Standing> {
+        let show = |&(handle, slot): &(u32, u8)| Standing {
+            handle,
+            bytes: self.objects.bytes(slot).to_vec(),
+            expirations: self.remaining(slot),
+        };
+        self.objects.order().iter().map(show).collect()
+    }
+
+    /// After an advance the global expirations that are due go.
+    fn expire_global(&mut self, advanced: bool) -> Answer<'static> {
+        if advanced {
+            for slot in self.global.take_due(self.tasks.global()) {
+                self.objects.release(slot);
+            }
+        }
+        Ok(Accepted::Advanced(advanced))
+    }
+
+    /// A local expiration is due one unit after its extension, a global one two.
+    fn set_expiration(&mut self, slot: u8, task: u8, kind: Kind, extension: u8) {
+        let extension = u64::from(extension);
+        self.objects.hold(slot);
+        match kind {
+            Kind::Local => {
+                let due = self.tasks.clock(task) + extension + 1;
+                self.local[usize::from(task)].set(due, slot);
+            }
+            Kind::Global => {
+                let due = self.tasks.global() + extension + 2;
+                self.global.set(due, slot);
+            }
+        }
+    }
+
+    fn check_expirations(&self) -> Result<(), Refusal> {
+        if self.objects.expirations() == MOST_EXPIRATIONS {
+            return Err(Refusal::ExpirationsFull);
+        }
+        Ok(())
+    }
+
+    /// Refusals 11 and 12, else the object's slot.
+    fn check_standing(&self, handle: u32) -> Result<u8, Refusal> {
+        if handle == 0 || handle > self.given {
+            return Err(Refusal::HandleNotGiven);
+        }
+        self.objects.find(handle).ok_or(Refusal::ObjectGone)
+    }
+
+    fn remaining(&self, slot: u8) -> Vec<Remaining> {
+        let local = (0..TASKS as u8).flat_map(|setter| {
+            let remaining = self.local[usize::from(setter)].remaining(slot, self.tasks.clock(setter));
+            remaining.map(move |units| Remaining::Local { setter, units })
+        });
+        let global = self.global.remaining(slot, self.tasks.global());
+        local.chain(global.map(|units| Remaining::Global { units })).collect()
+    }
+}
+
+#[cfg(test)]
+impl crate::late_starts::LateStart for Ledger {
+    fn clock_and_given(&mut self) -> (&mut u64, &mut u32) {
+        (self.tasks.clock_mut(0), &mut self.given)
+    }
+}

@@ -1,0 +1,19 @@
+//! The rules of the ledger once more, written for speed: tasks as sets of bits, expirations found by the
+//! time at which they are due, objects in slots. It shares no rule with the ledger, and the two are held
+//! against each other.
+
+mod ledger;
+mod objects;
+mod schedule;
+mod tasks;
+
+pub use ledger::Ledger;
+
+use crate::call::{Call, Model};
+
+/// The index of the first call that the ledger and this one answer differently, or after which their
+/// figures differ.
+pub fn first_difference(calls: &[Call]) -> Option<usize> {
+    let (mut literal, mut indexed) = (crate::ledger::Ledger::fresh(), Ledger::fresh());
+    calls.iter().position(|call| literal.call(call) != indexed.call(call) || literal.figures() != indexed.figures())
+}

@@ -1,0 +1,65 @@
+//! Tests of both ledgers at clocks and counts that no script lives to see.
+
+use crate::call::{Accepted, Call, Kind, Model, Refusal};
+use crate::limits::Store;
+use crate::{indexed, ledger};
+
+const MAKE: Call = Call::Make { task: 0, kind: Kind::Local, extension: 0, length: 4 };
+const TICK: Call = Call::Tick { task: 0 };
+const READ: Call = Call::Read { task: 0, handle: 1 };
+
+/// A ledger that can be set to a late clock of task 0 or a late count.
+pub trait LateStart: Model {
+    fn clock_and_given(&mut self) -> (&mut u64, &mut u32);
+}
+
+fn started<L: LateStart>(clock: u64, given: u32) -> L {
+    let mut ledger = L::fresh();
+    ledger.join(0).unwrap();
+    let parts = ledger.clock_and_given();
+    (*parts.0, *parts.1) = (clock, given);
+    ledger
+}
+
+/// Edge 13: the ledger's clock goes on where a 32-bit one would read 0.
+fn local_expiration_set_at_the_highest_32_bit_clock<L: LateStart>() {
+    let mut ledger: L = started(u64::from(u32::MAX), 0);
+    assert_eq!(ledger.call(&MAKE), Ok(Accepted::Handle(1)));
+    assert_eq!(ledger.call(&READ), Ok(Accepted::Bytes(&[0; 4])));
+    assert_eq!(ledger.call(&TICK), Ok(Accepted::Advanced(true)));
+    assert_eq!(ledger.call(&READ), Err(Refusal::ObjectGone));
+    assert_eq!(*ledger.clock_and_given().0 as u32, 0);
+}
+
+fn after_the_highest_handle_all_are_given<L: LateStart>() {
+    let mut ledger: L = started(0, u32::MAX - 1);
+    assert_eq!(ledger.call(&MAKE), Ok(Accepted::Handle(u32::MAX)));
+    assert_eq!(ledger.call(&MAKE), Err(Refusal::AllHandlesGiven));
+    assert_eq!(ledger.read(0, u32::MAX), Ok(Accepted::Bytes(&[0; 4])));
+}
+
+fn all_handles_given_is_told_after_a_bad_length_and_before_a_full_store<L: LateStart>() {
+    let mut ledger: L = started(0, 0);
+    for _ in 0..Store::Small.blocks() {
+        ledger.call(&MAKE).unwrap();
+    }
+    *ledger.clock_and_given().1 = u32::MAX;
+    assert_eq!(ledger.call(&MAKE), Err(Refusal::AllHandlesGiven));
+    assert_eq!(ledger.make(0, Kind::Local, 0, 257), Err(Refusal::LengthOutOfRange));
+}
+
+fn all<L: LateStart>() {
+    local_expiration_set_at_the_highest_32_bit_clock::<L>();
+    after_the_highest_handle_all_are_given::<L>();
+    all_handles_given_is_told_after_a_bad_length_and_before_a_full_store::<L>();
+}
+
+#[test]
+fn of_the_ledger() {
+    all::<ledger::Ledger>();
+}
+
+#[test]
+fn of_the_indexed_ledger() {
+    all::<indexed::Ledger>();
+}
