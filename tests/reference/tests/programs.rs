@@ -8,6 +8,7 @@ use reference::script::run;
 
 const REFERENCE: &str = env!("CARGO_BIN_EXE_reference");
 const COMPARE: &str = env!("CARGO_BIN_EXE_compare");
+const BENCH: &str = env!("CARGO_BIN_EXE_bench");
 
 fn compare(arguments: &[&str]) -> Output {
     Command::new(COMPARE).args(arguments).output().unwrap()
@@ -43,18 +44,19 @@ fn a_silent_program_is_found_out() {
 
 #[test]
 fn wrong_arguments() {
-    for arguments in [
-        &[][..],
-        &[REFERENCE],
-        &[REFERENCE, "0"],
-        &[REFERENCE, "07"],
-        &[REFERENCE, "1", "x"],
-        &[REFERENCE, "1", "1", "1"],
+    for (program, arguments) in [
+        (COMPARE, &[][..]),
+        (COMPARE, &[REFERENCE]),
+        (COMPARE, &[REFERENCE, "0"]),
+        (COMPARE, &[REFERENCE, "07"]),
+        (COMPARE, &[REFERENCE, "1", "x"]),
+        (COMPARE, &[REFERENCE, "1", "1", "1"]),
+        (REFERENCE, &["--index"]),
+        (REFERENCE, &["--indexed", "1"]),
+        (BENCH, &[]),
+        (BENCH, &[REFERENCE, "1"]),
     ] {
-        assert_eq!(compare(arguments).status.code(), Some(2));
-    }
-    for arguments in [&["--index"][..], &["--indexed", "1"]] {
-        let output = Command::new(REFERENCE).args(arguments).output().unwrap();
-        assert_eq!(output.status.code(), Some(2));
+        let output = Command::new(program).args(arguments).output().unwrap();
+        assert_eq!(output.status.code(), Some(2), "{program} {arguments:?}");
     }
 }

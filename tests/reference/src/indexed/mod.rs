@@ -1,6 +1,6 @@
 //! The rules of the ledger once more, written for speed: tasks as sets of bits, expirations found by the
-//! time at which they are due, objects in slots. It shares no rule with the ledger, and the two are held
-//! against each other.
+//! time at which they are due, objects in slots. But for the limits it shares no rule with the ledger, and
+//! the two are held against each other.
 
 mod ledger;
 mod objects;
