@@ -11,7 +11,7 @@ use Rattle.frames.specs.Answers.{answerHead, answerLine}
 use Rattle.frames.specs.Hex.{hexOf, Placed}
 use Rattle.frames.proofs.Digits.{length-hex, hex-append}
 
-placed-on : {at middle end : ℕ} {a b old between after : List ℕ} → Placed at a old between middle → Placed middle b between after end
+pub placed-on : {at middle end : ℕ} {a b old between after : List ℕ} → Placed at a old between middle → Placed middle b between after end
     → at + length a + length b ≤ length old → Placed at (a ++ b) old after end
 placed-on {at} {a = a} {b} {old} p q h =
     record {

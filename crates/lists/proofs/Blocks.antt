@@ -28,7 +28,7 @@ module _ {ℓ} {A : Type ℓ} where
 
   -- parts of an overwritten list: before the new elements, after them, and with them inside
   module _ (at : ℕ) (new old : List A) (h : at + length new ≤ length old) where
-    length-overwritten : length (overwritten at new old) ≡ length old
+    pub length-overwritten : length (overwritten at new old) ≡ length old
     unfolding overwritten
     length-overwritten = simp (length-append, length-take, length-drop) (omega arith)
 

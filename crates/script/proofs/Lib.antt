@@ -1,0 +1,4 @@
+pub mod Showing
+pub mod Carrying
+pub mod Running
+pub mod Demands

@@ -1,0 +1,78 @@
+// A script run from fresh, a buffer of answers at a time. Its record is well-formed from the start and stays so: no line tests that again.
+ghost use Rattle.script.specs.Output.{Readable, Steps, Runnable, Continues};
+use super::put_answer;
+use super::refusal_of;
+use super::show;
+use frames::Frame;
+use frames::decode;
+use frames::line_at;
+use pool::core::call;
+use record::Pool;
+use stores::no_part;
+
+// The longest answer line that is made room for.
+pub const LONGEST_ANSWER: usize = 531;
+
+// The frame of a line, and where the next line starts.
+pub struct Step {
+    pub frame: Frame,
+    pub next: usize,
+}
+
+fn next_frame(script: &[u8], at: usize, bytes: &mut [u8]) -> Step
+    requires { ⌜ Readable (now script) at (now bytes) ⌝ }
+    ensures { λ r. ⌜ Steps (now (script .entry)) at (now (bytes .entry)) r (now (bytes .exit)) ⌝ }
+{
+    let line = line_at(script, at);
+    let end = line.end;
+    let next = line.next;
+    let frame = decode(&script[at..end], bytes);
+    Step {
+        frame: frame,
+        next: next,
+    }
+}
+
+// The record after some lines of a script, where the next line starts, and how long the answers are.
+pub struct Ran {
+    pub pool: Pool,
+    pub next: usize,
+    pub written: usize,
+}
+
+// The answers to a script's lines from a place on, until the script or the buffer ends.
+pub fn run_on(
+    mut p: Pool,
+    small: &mut [u8],
+    large: &mut [u8],
+    script: &[u8],
+    start: usize,
+    out: &mut [u8],
+) -> Ran
+    requires { ⌜ Runnable p (now small) (now large) (now script) start ⌝ }
+    ensures { λ r. ⌜ Continues p (now (small .entry)) (now (large .entry)) (now (script .entry)) start r (now (small .exit)) (now (large .exit)) (now (out .entry)) (now (out .exit)) ⌝ }
+{
+    let mut bytes = [0u8; 256];
+    let mut at = start;
+    let mut written = 0;
+    while (at < script.len()) & (LONGEST_ANSWER <= out.len() - written) {
+        let step = next_frame(script, at, &mut bytes);
+        let frame = step.frame;
+        at = step.next;
+        let Frame::Request(request, count) = frame else {
+            written = put_answer(refusal_of(frame), no_part(small), out, written);
+            continue;
+        };
+        let called = call(p, small, large, request, &bytes[..count]);
+        let answer = called.answer;
+        let block = called.block;
+        let shown = called.length;
+        p = called.pool;
+        written = show(answer, small, large, block, shown, out, written);
+    }
+    Ran {
+        pool: p,
+        next: at,
+        written: written,
+    }
+}
