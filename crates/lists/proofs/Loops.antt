@@ -4,16 +4,17 @@ use Prim.Native.Nat.{ℕ, suc, _+_, _≤_, _<_}
 use native.Mathlib.Nat.{zero-add}
 use native.Mathlib.Numerals.{add-one}
 use native.Mathlib.Omega.{arith}
-use mathlib.Core.Bool.{Bool, true, false, not, or-true, or-false}
-use mathlib.Core.List.{List, [], _∷_, _++_, map, append-assoc, append-nil}
-use mathlib.Core.Path.{_≡_, refl, sym, _∙_}
+use mathlib.Core.Bool.{Bool, true, false, not, _||_, or-true, or-false}
+use mathlib.Core.List.{List, [], _∷_, _++_, map, append-assoc, append-nil, map-append, map-id}
+use mathlib.Core.Path.{_≡_, refl, sym, _∙_, ap, ap₂}
 use lib.Dec.{eqb}
-use lib.ListN.{length, take, drop, getD, set, replicate, length-take, length-drop, length-set, length-replicate, getD-replicate, drop-of-length-le}
-use lib.Seq.{take-suc, drop-cons, length-take-le, set-at, getD-at, take-all, getD-take, getD-set-same, getD-set-other}
+use lib.ListN.{length, take, drop, getD, set, replicate, length-take, length-drop, length-set, length-replicate, getD-replicate, drop-of-length-le, take-append-drop}
+use lib.Seq.{take-suc, drop-cons, length-take-le, set-at, getD-at, take-all, getD-take, getD-set-same, getD-set-other, set-getD}
 use mir.Val.{boolByte}
 use borrow.Author.Tests.{eqb-true, eqb-false, not-true, not-false}
-use Rattle.lists.specs.Tests.{any, all, count}
+use Rattle.lists.specs.Tests.{any, all, count, All}
 use Rattle.lists.specs.Tables.{allFrom, firstFrom, mapFrom}
+use Rattle.lists.proofs.All.{map-same, All→none}
 use Rattle.lists.proofs.Cases.{by-test}
 use Rattle.lists.proofs.Counts.{any-append}
 use Rattle.lists.proofs.Tables.{mapFrom-append, length-mapFrom, mapFrom-map}
@@ -48,6 +49,11 @@ module _ {ℓ} {A : Type ℓ} where
             rw (e, mapped-reads d m h, m .so, drop-cons xs i d k, set-at (mapFrom 0 f (take i xs)) (getD xs i d) (drop (suc i) xs) (f i (getD xs i d)) i (front f xs i k), add-one, take-suc xs i d k, mapFrom-append, length-take-le i xs (omega arith), zero-add, append-assoc);
       }
 
+  -- a turn that leaves its element as it is
+  pub mapped-kept : {f : ℕ → A → A} {xs : List A} {n i : ℕ} {out : List A} (d : A) → Mapped f xs n i out → i < n → getD out i d ≡ f i (getD out i d)
+      → Mapped f xs n (i + 1) out
+  mapped-kept {i = i} {out} d m h e = rw (set-getD out i d) at (mapped-turn d (getD out i d) m h e)
+
   pub mapped-end : {f : ℕ → A → A} {xs : List A} {n i : ℕ} {out : List A} → Mapped f xs n i out → n ≤ i → out ≡ mapFrom 0 f xs
   mapped-end {f} {xs} {i = i} m h =
       rw (m .so, take-all i xs (omega (arith, m .size)), drop-of-length-le xs {i = i} (omega (arith, m .size)), append-nil)
@@ -55,6 +61,15 @@ module _ {ℓ} {A : Type ℓ} where
   -- the same where places do not count
   pub mapped-all : {f : A → A} {xs : List A} {n i : ℕ} {out : List A} → Mapped (λ k. f) xs n i out → n ≤ i → out ≡ map f xs
   mapped-all {f} {xs} m h = mapped-end m h ∙ mapFrom-map 0 f xs
+
+  -- and where f leaves the others as they are
+  pub mapped-rest : {f : A → A} {xs : List A} {n i : ℕ} {out : List A} → Mapped (λ k. f) xs n i out → All (λ (x : A). f x ≡ x) (drop i xs)
+      → out ≡ map f xs
+  mapped-rest {f} {xs} {i = i} m h =
+      m .so
+      ∙ ap₂ _++_ (mapFrom-map 0 f (take i xs)) (sym (map-same f (λ x. x) (drop i xs) h ∙ map-id (drop i xs)))
+      ∙ sym (map-append f (take i xs) (drop i xs))
+      ∙ ap (map f) (take-append-drop i xs)
 
 -- the elements from i up to n: the one at i, and the others
 left {ℓ} : {A : Type ℓ} (xs : List A) (n i : ℕ) (d : A) → n ≤ length xs → i < n
@@ -168,6 +183,24 @@ module _ {ℓ} {A : Type ℓ} (p : ℕ → A → Bool) where
             (λ t. rw (t, eqb-true s k t, getD-set-same flags k true false (omega (arith, r .within)), or-true))
             (λ t. rw (t, getD-set-other flags s k true false (λ f. eqb-false s k t (sym f)), or-false)));
       }
+
+  -- the turn's element has no flag
+  pub marked-none : {xs : List A} {n m i : ℕ} {flags : List Bool} (d : A) → Marked xs n m i flags → i < n
+      → ((k : ℕ) → k < m → p k (getD xs i d) ≡ false) → Marked xs n m (i + 1) flags
+  marked-none {xs} {i = i} d r h e =
+      record {
+        size = r .size;
+        within = r .within;
+        so = λ k l. rw (add-one, take-suc xs i d (omega (arith, r .size)), any-append, e k l, ← r .so k l, or-false);
+      }
+
+  -- where the others have none
+  pub marked-rest : {xs : List A} {n m i : ℕ} {flags : List Bool} → Marked xs n m i flags
+      → (k : ℕ) → k < m → All (λ (x : A). p k x ≡ false) (drop i xs) → getD flags k false ≡ any (p k) xs
+  marked-rest {xs} {i = i} r k l h =
+      r .so k l ∙ sym (or-false _) ∙ ap (λ (b : Bool). any (p k) (take i xs) || b) (sym (All→none (p k) (drop i xs) h))
+      ∙ sym (any-append (p k) (take i xs) (drop i xs))
+      ∙ ap (any (p k)) (take-append-drop i xs)
 
   pub marked-end : {xs : List A} {n m i : ℕ} {flags : List Bool} → Marked xs n m i flags → n ≤ i
       → (k : ℕ) → k < m → getD flags k false ≡ any (p k) xs

@@ -1,10 +1,8 @@
 // The end of expirations that are due or were a leaver's own, and of blocks that none names any more: one pass over each table.
-ghost use mathlib.Core.Bool.{cond};
 ghost use mathlib.Core.Path.{_≡_};
 ghost use Rattle.lists.specs.Tables.{mapFrom};
-ghost use Rattle.record.specs.Codes.{freeBlock, freeEntry};
 ghost use Rattle.tasks.specs.Steps.{isLasting, swept};
-ghost use Rattle.tasks.specs.Sweep.{entryIf, Sweeps, keptByFlag};
+ghost use Rattle.tasks.specs.Sweep.{entryIf, areFree, keptByFlag};
 use ledger::TASK_COUNT;
 use record::ABSENT_TASK;
 use record::BLOCK_COUNT;
@@ -17,6 +15,7 @@ use record::FREE_EXPIRATION;
 use record::GlobalTime;
 use record::Pool;
 use record::TaskEntry;
+use record::codes::FREE;
 use record::codes::due_of;
 use record::codes::global_left;
 use record::codes::local_left;
@@ -46,49 +45,10 @@ fn entry_if(task: usize, e: TaskEntry) -> TaskEntry
     if task < TASK_COUNT { e } else { ABSENT_TASK }
 }
 
-fn kept(lasting: bool, e: ExpirationEntry) -> ExpirationEntry
-    ensures { λ r. ⌜ r ≡ cond lasting e freeEntry ⌝ }
+fn are_free(a: ExpirationEntry, b: ExpirationEntry, c: ExpirationEntry, d: ExpirationEntry) -> bool
+    ensures { λ r. ⌜ r ≡ areFree a b c d ⌝ }
 {
-    if lasting { e } else { FREE_EXPIRATION }
-}
-
-// The entries that are left, and which blocks they name.
-pub struct Left {
-    pub expirations: [ExpirationEntry; EXPIRATION_COUNT],
-    pub named: [bool; BLOCK_COUNT + 1],
-}
-
-fn sweep(
-    xs: [ExpirationEntry; EXPIRATION_COUNT],
-    tasks: [TaskEntry; TASK_COUNT],
-    global: GlobalTime,
-    leaver: u16,
-) -> Left
-    ensures { λ r. ⌜ Sweeps leaver tasks global xs r ⌝ }
-{
-    let mut out = xs;
-    let mut named = [false; BLOCK_COUNT + 1];
-    for i in 0..EXPIRATION_COUNT {
-        let e = out[i];
-        let due = due_of(e);
-        let task = setter_of(due);
-        let s = clamped(TASK_COUNT, task);
-        let setter = tasks[s];
-        let left = kept(is_lasting(leaver, entry_if(task, setter), global, due), e);
-        out[i] = left;
-        let at = slot(left.block, due_of(left));
-        named[at] = true;
-    }
-    Left {
-        expirations: out,
-        named: named,
-    }
-}
-
-fn kept_block(named: bool, b: BlockEntry) -> BlockEntry
-    ensures { λ r. ⌜ r ≡ cond named b freeBlock ⌝ }
-{
-    if named { b } else { FREE_BLOCK }
+    (a.kind == FREE) & (b.kind == FREE) & (c.kind == FREE) & (d.kind == FREE)
 }
 
 // What none names is free.
@@ -100,25 +60,51 @@ fn keep_blocks(
 {
     let mut out = blocks;
     for i in 0..BLOCK_COUNT {
-        let b = out[i];
-        out[i] = kept_block(named[i], b);
+        if named[i] {
+            continue;
+        }
+        out[i] = FREE_BLOCK;
     }
     out
 }
 
-// The record with these tasks and this time, swept.
-pub fn swept(mut p: Pool, tasks: [TaskEntry; TASK_COUNT], global: GlobalTime, leaver: u16) -> Pool
+// The record with these tasks and this time, swept. Most entries are free most of the time, so the free ones at the table's end are left out, eight at a
+// time.
+pub fn swept(p: Pool, tasks: [TaskEntry; TASK_COUNT], global: GlobalTime, leaver: u16) -> Pool
     ensures { λ r. ⌜ r ≡ swept leaver tasks global p ⌝ }
 {
-    let xs = p.expirations;
+    let mut xs = p.expirations;
+    let mut n = EXPIRATION_COUNT;
+    while 8 <= n {
+        let m = n - 8;
+        let low = are_free(xs[m], xs[m + 1], xs[m + 2], xs[m + 3]);
+        let high = are_free(xs[m + 4], xs[m + 5], xs[m + 6], xs[m + 7]);
+        if !(low & high) {
+            break;
+        }
+        n = m;
+    }
+    let mut named = [false; BLOCK_COUNT + 1];
+    for i in 0..n {
+        let e = xs[i];
+        let due = due_of(e);
+        let task = setter_of(due);
+        let s = clamped(TASK_COUNT, task);
+        let setter = tasks[s];
+        if !is_lasting(leaver, entry_if(task, setter), global, due) {
+            xs[i] = FREE_EXPIRATION;
+            continue;
+        }
+        let at = slot(e.block, due);
+        named[at] = true;
+    }
     let blocks = p.blocks;
-    let left = sweep(xs, tasks, global, leaver);
-    let live = left.expirations;
-    let named = left.named;
     let used = keep_blocks(blocks, named);
-    p.tasks = tasks;
-    p.global = global;
-    p.blocks = used;
-    p.expirations = live;
-    p
+    Pool {
+        tasks: tasks,
+        global: global,
+        given: p.given,
+        blocks: used,
+        expirations: xs,
+    }
 }

@@ -1,7 +1,7 @@
--- Every block made anew in its place, by its flag.
+-- Every block left or freed in its place, by its flag.
 use Prim.Native.Nat.{_-_}
 use borrow.Author.Needs.{needs}
-use Rattle.lists.proofs.Loops.{Mapped, mapped-start, mapped-turn, mapped-end}
+use Rattle.lists.proofs.Loops.{Mapped, mapped-start, mapped-turn, mapped-kept, mapped-end}
 use Rattle.record.specs.Codes.{freeBlock}
 use Rattle.tasks.specs.Sweep.{keptByFlag}
 use Rattle.tasks.proofs.sweep.keep_blocks.Statement.{statement}
@@ -23,10 +23,10 @@ keep-blocks-spec =
     (λ c. search needs)
     (λ c. search needs)
     (λ c. search needs)
-    (λ c κs. search needs)
+    (λ c. mapped-kept freeBlock (c .before .before .loop .inv) (search needs) (rw (c .if1 .taken)))
     (λ c. search needs)
     (λ c. search needs)
     (λ c. search needs)
     (λ c. search needs)
-    (λ c. mapped-turn freeBlock _ (c .before .before .before .loop .inv) (search needs) (c .kept-block .ensures))
+    (λ c. mapped-turn freeBlock _ (c .before .before .loop .inv) (search needs) (rw (c .if1 .left)))
     (λ c. mapped-end (c .before .loop .inv) (search needs)))
