@@ -24,7 +24,7 @@ use Rattle.record.specs.declared.Pool.{Pool}
 use Rattle.record.specs.declared.Due.{Due}
 use Rattle.record.specs.declared.Due.the-variants.{Free, Local, Global, Unknown}
 use Rattle.record.proofs.Facts.{Fit, fit-parts, fit-whole}
-use Rattle.tasks.specs.Steps.{verdictOf, untickedEntry, advancedTasks, advancedTime, swept, withTasks, poolAfter}
+use Rattle.tasks.specs.Steps.{verdictOf, untickedEntry, advancedTasks, advancedTime, swept, withTimes, poolAfter}
 use Rattle.ledger.specs.declared.Verdict.the-variants.{Accepted}
 use Rattle.tasks.proofs.FitTasks.{Later, later-same, later-next, Follows, AllFollow, set-follows, join-absent, tick-running, ticked-fits, unticked-fits, advanced-unticked, running-unticked}
 use Rattle.tasks.proofs.FitSwept.{local-fits, fit-swept}
@@ -68,7 +68,7 @@ module _ (p : Pool) (f : Fit p) (task : ℕ) (e : TaskEntry) (fits : isFitTask e
 
   -- by an event that makes the task run
   fit-running : stateOf (e .state) ≡ Running → eqb (e .ticked) 1 ≡ false → Follows _≡_ (getD (p .tasks) task absentEntry) e
-      → Fit (withTasks (set (p .tasks) task e) p)
+      → Fit (withTimes (set (p .tasks) task e) (p .global) p)
   fit-running running unticked follows =
       record {
         tasks = set-fits;

@@ -14,7 +14,7 @@ use Rattle.lists.proofs.Tests.{passes-map, passes-found}
 use Rattle.lists.proofs.Tables.{allFrom-mapFrom}
 use Rattle.ledger.specs.Limits.{limits, taskCount}
 use Rattle.ledger.specs.Tasks.{allTicked}
-use Rattle.record.specs.Codes.{taskOf, dueOf, isDated, setterOf, leftAt, absentEntry}
+use Rattle.record.specs.Codes.{taskOf, dueOf, isDated, setterOf, leftAt, absentEntry, freeBlock}
 use Rattle.record.specs.WellFormed.{isUsed, isFitTask, isAhead, isFitDue, isFitEntry, isNaming, isFitBlock, isDistinct, handleOf}
 use Rattle.record.specs.declared.TaskEntry.{TaskEntry}
 use Rattle.record.specs.declared.BlockEntry.{BlockEntry}
@@ -73,13 +73,13 @@ used-fits setter global before after (Local task at) f e = rw (f refl) e
 used-fits setter global before after (Global at) f e = rw (f refl) e
 used-fits setter global before after Unknown f e = e
 
--- entries are fit by the blocks that are kept for them
-named-fits : (tasks : List TaskEntry) (global : GlobalTime) (blocks : List BlockEntry) (xs : List ExpirationEntry)
-    → all (isFitEntry tasks global blocks) xs ≡ true → all (isFitEntry tasks global (mapFrom 0 (keptBlock xs) blocks)) xs ≡ true
-named-fits tasks global blocks xs h =
+-- entries stay fit by blocks that are as they were where an entry names them
+pub named-fits : (tasks : List TaskEntry) (global : GlobalTime) (before after : List BlockEntry) (xs : List ExpirationEntry)
+    → ((block : ℕ) → any (isNaming block) xs ≡ true → getD after block freeBlock ≡ getD before block freeBlock)
+    → all (isFitEntry tasks global before) xs ≡ true → all (isFitEntry tasks global after) xs ≡ true
+named-fits tasks global before after xs same =
     passes-found (λ (e x : ExpirationEntry). isNaming (e .block) x) xs
-    (λ e named. used-fits _ global _ _ (dueOf e) (λ dated. rw (kept-block xs blocks (e .block) (named (rw (dated, eq-eqb (e .block) (e .block) refl))))))
-    h
+    (λ e named. used-fits _ global _ _ (dueOf e) (λ dated. rw (same (e .block) (named (rw (dated, eq-eqb (e .block) (e .block) refl))))))
 
 -- a block that is kept is named
 kept-fits : (given : ℕ) (xs ys : List ExpirationEntry) (block : ℕ) (b : BlockEntry) → isFitBlock given xs block b ≡ true
@@ -131,7 +131,9 @@ module _ (leaver : ℕ) (tasks : List TaskEntry) (global : GlobalTime) (p : Pool
       record {
         tasks = fits;
         unticked = unticked;
-        entries = named-fits tasks global (p .blocks) xs (passes-map _ kept entry-fits (p .expirations) (f .entries));
+        entries =
+            named-fits tasks global (p .blocks) (mapFrom 0 (keptBlock xs) (p .blocks)) xs (kept-block xs (p .blocks))
+            (passes-map _ kept entry-fits (p .expirations) (f .entries));
         blocks = allFrom-mapFrom _ _ _ (kept-fits (p .given) (p .expirations) xs) 0 (p .blocks) (f .blocks);
         distinct = kept-distinct xs 0 (p .blocks) (f .distinct);
       }

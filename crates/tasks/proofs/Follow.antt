@@ -27,7 +27,7 @@ use Rattle.record.specs.declared.ExpirationEntry.{ExpirationEntry}
 use Rattle.record.specs.declared.GlobalTime.{GlobalTime}
 use Rattle.record.specs.declared.Pool.{Pool}
 use Rattle.record.proofs.Facts.{Fit, fit-parts}
-use Rattle.tasks.specs.Steps.{verdictOf, movedTasks, advancedTasks, advancedTime, leaverOf, keptEntry, keptBlock, swept, poolAfter, answerAfter, outcomeBy, scheduled}
+use Rattle.tasks.specs.Steps.{verdictOf, verdictAt, movedTasks, advancedTasks, advancedTime, leaverOf, keptEntry, keptBlock, swept, poolAfter, answerAfter, outcomeBy, scheduled}
 use Rattle.ledger.specs.declared.Verdict.{Verdict}
 use Rattle.ledger.specs.declared.Verdict.the-variants.{Accepted, Refused}
 use Rattle.tasks.proofs.FitAfter.{fit-after}
@@ -110,8 +110,7 @@ accepted-by-state false v e = e
 
 -- the record's verdict on an event
 abbrev pub recordVerdict : Event → ℕ → Pool → Verdict
-recordVerdict event task p =
-    cond (leb taskCount task) (Refused NoSuchTask) (verdictOf event (stateOf (getD (p .tasks) task absentEntry .state)))
+recordVerdict event task p = verdictAt event task (p .tasks)
 
 pub schedule-follows : (event : Event) (task : ℕ) (p : Pool) (small large : List ℕ) (L : Ledger) → isWellFormed p ≡ true → Reads p small large L
     → (scheduled event task p .answer ≡ reply L (Schedule event task) [] .answer)

@@ -8,3 +8,5 @@ pub mod ReadExpirations
 pub mod ReadObjects
 pub mod Follow
 pub mod Sweeping
+pub mod Standing
+pub mod Types

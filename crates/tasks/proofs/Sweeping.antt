@@ -16,7 +16,7 @@ use Rattle.lists.proofs.Counts.{any-map}
 use Rattle.lists.proofs.Loops.{Mapped, mapped-start, mapped-reads, mapped-turn, mapped-kept, mapped-rest, Marked, marked-start, marked-turn, marked-none, marked-rest}
 use Rattle.lists.proofs.Tables.{mapFrom-same}
 use Rattle.ledger.specs.Limits.{taskCount}
-use Rattle.record.specs.Codes.{dueOf, setterOf, absentEntry, freeEntry}
+use Rattle.record.specs.Codes.{dueOf, absentEntry, freeEntry}
 use Rattle.record.specs.WellFormed.{isNaming}
 use Rattle.record.specs.Checks.{Clamped, slotOf, Marks}
 use Rattle.record.specs.declared.TaskEntry.{TaskEntry}
@@ -24,7 +24,7 @@ use Rattle.record.specs.declared.BlockEntry.{BlockEntry}
 use Rattle.record.specs.declared.ExpirationEntry.{ExpirationEntry}
 use Rattle.record.specs.declared.GlobalTime.{GlobalTime}
 use Rattle.record.proofs.Entries.{flag-of}
-use Rattle.tasks.specs.Steps.{isLasting, keptEntry, keptBlock}
+use Rattle.tasks.specs.Steps.{isKept, keptEntry, keptBlock}
 use Rattle.tasks.specs.Sweep.{entryIf, isFree, areFree, keptByFlag}
 
 -- past the last task is an absent one
@@ -79,19 +79,18 @@ module _ {xs : List ExpirationEntry} where
       (bounded-four (m + 4) (m + 5) (m + 6) (m + 7) b (omega arith) (omega arith) (omega arith) (omega arith) (sym h ∙ hs))
       (omega arith) (omega arith) (omega arith) (omega arith) (sym l ∙ ls)
 
--- whether an entry stands on
-abbrev pub isKept : ℕ → List TaskEntry → GlobalTime → ExpirationEntry → Bool
-isKept leaver tasks global e = isLasting leaver (getD tasks (setterOf (dueOf e)) absentEntry) global (dueOf e)
-
 module _ (leaver : ℕ) (tasks : List TaskEntry) (global : GlobalTime) where
   -- it stands on and names the block
   abbrev isNamingKept : ℕ → ExpirationEntry → Bool
   isNamingKept block e = isNaming block (keptEntry leaver tasks global e)
 
   -- a free entry stays, and names no block
-  free-stays : (e : ExpirationEntry) → e .kind ≡ 0 → keptEntry leaver tasks global e ≡ e
+  pub free-kept : (e : ExpirationEntry) → e .kind ≡ 0 → isKept leaver tasks global e ≡ true
   unfolding dueOf
-  free-stays e h = rw h
+  free-kept e h = rw h
+
+  pub free-stays : (e : ExpirationEntry) → e .kind ≡ 0 → keptEntry leaver tasks global e ≡ e
+  free-stays e h = rw (free-kept e h)
 
   free-unnaming : (block : ℕ) (e : ExpirationEntry) → e .kind ≡ 0 → isNamingKept block e ≡ false
   unfolding dueOf

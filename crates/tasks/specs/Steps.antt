@@ -1,6 +1,6 @@
 -- What an event makes of a record: the steps that the code takes, as functions of the record's entries.
 use Prim.Native.Nat.{ℕ, _+_, _%_}
-use mathlib.Core.Bool.{Bool, true, cond, not, _&&_}
+use mathlib.Core.Bool.{Bool, true, false, cond, not, _&&_}
 use mathlib.Core.List.{List, map}
 use lib.Dec.{eqb, leb, ltb}
 use lib.ListN.{getD, set}
@@ -28,6 +28,7 @@ use Rattle.record.specs.declared.Due.{Due}
 use Rattle.record.specs.declared.Due.the-variants.{Free, Local, Global, Unknown}
 use Rattle.ledger.specs.declared.Verdict.{Verdict}
 use Rattle.ledger.specs.declared.Verdict.the-variants.{Accepted, Refused}
+use Rattle.tasks.specs.declared.Planned.{Planned}
 
 -- 01: join 2; leave 3; block and tick 3, 4; resume 3, 5
 abbrev pub verdictOf : Event → State → Verdict
@@ -46,6 +47,11 @@ verdictOf Resume Waiting = Accepted
 verdictOf Tick Absent = Refused TaskAbsent
 verdictOf Tick Running = Accepted
 verdictOf Tick Waiting = Refused TaskWaiting
+
+-- the verdict on an event: first 1, then the tests of the task's state
+abbrev pub verdictAt : Event → ℕ → List TaskEntry → Verdict
+verdictAt event task tasks =
+    cond (leb taskCount task) (Refused NoSuchTask) (verdictOf event (stateOf (getD tasks task absentEntry .state)))
 
 -- a counter's next value: "goes on from 4,294,967,295 to 0"
 abbrev pub nextTime : ℕ → ℕ
@@ -90,9 +96,12 @@ isLasting leaver setter global (Local task at) = not (eqb task leaver) && ltb 0 
 isLasting leaver setter global (Global at) = ltb 0 (leftAt (at .0) (global .0))
 isLasting leaver setter global Unknown = true
 
+-- whether an entry stands on
+abbrev pub isKept : ℕ → List TaskEntry → GlobalTime → ExpirationEntry → Bool
+isKept leaver tasks global e = isLasting leaver (getD tasks (setterOf (dueOf e)) absentEntry) global (dueOf e)
+
 abbrev pub keptEntry : ℕ → List TaskEntry → GlobalTime → ExpirationEntry → ExpirationEntry
-keptEntry leaver tasks global e =
-    cond (isLasting leaver (getD tasks (setterOf (dueOf e)) absentEntry) global (dueOf e)) e freeEntry
+keptEntry leaver tasks global e = cond (isKept leaver tasks global e) e freeEntry
 
 -- what no expiration names is free
 abbrev pub keptBlock : List ExpirationEntry → ℕ → BlockEntry → BlockEntry
@@ -104,16 +113,17 @@ swept leaver tasks global p =
     let xs = map (keptEntry leaver tasks global) (p .expirations) in
     record { tasks = tasks; global = global; given = p .given; blocks = mapFrom 0 (keptBlock xs) (p .blocks); expirations = xs }
 
-abbrev pub withTasks : List TaskEntry → Pool → Pool
-withTasks tasks p =
-    record { tasks = tasks; global = p .global; given = p .given; blocks = p .blocks; expirations = p .expirations }
+-- the record with these tasks and this time, all else as it was
+abbrev pub withTimes : List TaskEntry → GlobalTime → Pool → Pool
+withTimes tasks global p =
+    record { tasks = tasks; global = global; given = p .given; blocks = p .blocks; expirations = p .expirations }
 
 -- an accepted event
 unfoldable pub poolAfter : Event → ℕ → Pool → Pool
 poolAfter event task p =
     let tasks = movedTasks event task (p .tasks) in
     let advanced = allTicked (map taskOf tasks) in
-    cond (isTested event) (swept (leaverOf event task) (advancedTasks advanced tasks) (advancedTime advanced (p .global)) p) (withTasks tasks p)
+    cond (isTested event) (swept (leaverOf event task) (advancedTasks advanced tasks) (advancedTime advanced (p .global)) p) (withTimes tasks (p .global) p)
 
 unfoldable pub answerAfter : Event → ℕ → Pool → Answer
 answerAfter event task p = cond (isTested event) (Advanced (allTicked (map taskOf (movedTasks event task (p .tasks))))) Done
@@ -122,9 +132,38 @@ abbrev pub outcomeBy : Verdict → Event → ℕ → Pool → Outcome
 outcomeBy Accepted event task p = record { answer = answerAfter event task p; pool = poolAfter event task p }
 outcomeBy (Refused r) event task p = record { answer = RefusedAnswer r; pool = p }
 
--- any event on any record: first 1, then the tests of the task's state
+-- any event on any record
 unfoldable pub scheduled : Event → ℕ → Pool → Outcome
-scheduled event task p =
-    outcomeBy
-    (cond (leb taskCount task) (Refused NoSuchTask) (verdictOf event (stateOf (getD (p .tasks) task absentEntry .state))))
-    event task p
+scheduled event task p = outcomeBy (verdictAt event task (p .tasks)) event task p
+
+-- what no sweep comes after
+abbrev pub unswept : Answer → List TaskEntry → GlobalTime → Planned
+unswept answer tasks global = record { answer = answer; tasks = tasks; global = global; leaver = taskCount; sweeps = false }
+
+-- what an accepted event decides: one with an advance test sweeps
+unfoldable pub plannedAfter : Event → ℕ → List TaskEntry → GlobalTime → Planned
+plannedAfter event task tasks global =
+    let moved = movedTasks event task tasks in
+    let advanced = isTested event && allTicked (map taskOf moved) in
+    record {
+      answer = cond (isTested event) (Advanced advanced) Done;
+      tasks = advancedTasks advanced moved;
+      global = advancedTime advanced global;
+      leaver = cond (isTested event) (leaverOf event task) taskCount;
+      sweeps = isTested event;
+    }
+
+abbrev pub plannedBy : Verdict → Event → ℕ → List TaskEntry → GlobalTime → Planned
+plannedBy Accepted event task tasks global = plannedAfter event task tasks global
+plannedBy (Refused r) event task tasks global = unswept (RefusedAnswer r) tasks global
+
+-- what any event decides, by the task entries and the global time alone
+unfoldable pub planned : Event → ℕ → List TaskEntry → GlobalTime → Planned
+planned event task tasks global = plannedBy (verdictAt event task tasks) event task tasks global
+
+-- a plan carried out on a record
+abbrev pub poolBy : Planned → Pool → Pool
+poolBy q p = cond (q .sweeps) (swept (q .leaver) (q .tasks) (q .global) p) (withTimes (q .tasks) (q .global) p)
+
+abbrev pub carriedOut : Planned → Pool → Outcome
+carriedOut q p = record { answer = q .answer; pool = poolBy q p }

@@ -1,14 +1,25 @@
--- What the parts of a sweep hand to one another: the setter's entry by a clamped index, whether entries are free, and which blocks are still named.
+-- What a sweep is asked first, whether any expiration ends; and what its parts hand to one another: the setter's entry by a clamped index, whether
+-- entries are free, and which blocks are still named.
 use Prim.Native.Nat.{ℕ}
-use mathlib.Core.Bool.{Bool, false, cond, _&&_}
+use mathlib.Core.Bool.{Bool, false, cond, not, _&&_}
 use mathlib.Core.List.{List}
 use lib.Dec.{eqb, ltb}
-use lib.ListN.{getD}
+use lib.ListN.{getD, take, drop}
+use Rattle.lists.specs.Tests.{any, all}
 use Rattle.ledger.specs.Limits.{taskCount}
 use Rattle.record.specs.Codes.{absentEntry, freeBlock}
 use Rattle.record.specs.declared.TaskEntry.{TaskEntry}
 use Rattle.record.specs.declared.BlockEntry.{BlockEntry}
 use Rattle.record.specs.declared.ExpirationEntry.{ExpirationEntry}
+use Rattle.record.specs.declared.GlobalTime.{GlobalTime}
+use Rattle.tasks.specs.Steps.{isKept}
+
+abbrev pub isEnded : ℕ → List TaskEntry → GlobalTime → ExpirationEntry → Bool
+isEnded leaver tasks global e = not (isKept leaver tasks global e)
+
+-- one of the entries below the bound ends
+unfoldable pub endsAny : ℕ → List TaskEntry → GlobalTime → ℕ → List ExpirationEntry → Bool
+endsAny leaver tasks global bound xs = any (isEnded leaver tasks global) (take bound xs)
 
 -- this entry where the number is a task's, else an absent one's
 abbrev pub entryIf : ℕ → TaskEntry → TaskEntry
@@ -17,6 +28,10 @@ entryIf task e = cond (ltb task taskCount) e absentEntry
 -- the entry is not in use
 abbrev pub isFree : ExpirationEntry → Bool
 isFree e = eqb (e .kind) 0
+
+-- no entry from the bound on is in use
+abbrev pub areFreeFrom : ℕ → List ExpirationEntry → Bool
+areFreeFrom bound xs = all isFree (drop bound xs)
 
 abbrev pub areFree : ExpirationEntry → ExpirationEntry → ExpirationEntry → ExpirationEntry → Bool
 areFree a b c d = isFree a && isFree b && isFree c && isFree d

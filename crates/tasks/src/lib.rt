@@ -1,8 +1,7 @@
 // The calls of tasks on a record by value: join, leave, block, resume and tick, which differ only in their event.
 ghost use Prim.Native.Nat.{_<_};
 ghost use mathlib.Core.Path.{_≡_};
-ghost use Rattle.ledger.specs.declared.Verdict.the-variants.{Accepted};
-ghost use Rattle.tasks.specs.Steps.{outcomeBy, scheduled};
+ghost use Rattle.tasks.specs.Steps.{unswept, plannedAfter, planned, scheduled};
 
 mod moves;
 mod sweep;
@@ -12,64 +11,103 @@ use ledger::Event;
 use ledger::Refusal;
 use ledger::TASK_COUNT;
 use ledger::Verdict;
+use moves::NOBODY;
 use moves::advanced_tasks;
 use moves::advanced_time;
 use moves::is_tested;
 use moves::judge;
 use moves::leaver;
 use moves::moved;
+use record::GlobalTime;
 use record::Outcome;
 use record::Pool;
+use record::TaskEntry;
 use record::codes::state_of;
 use record::tasks::all_ticked;
-use sweep::swept;
+pub use sweep::ends_any;
+pub use sweep::swept;
 
-// What an accepted event answers and leaves.
-fn accepted(mut p: Pool, event: Event, task: u8) -> Outcome
-    requires { ⌜ task < 16 ⌝ }
-    ensures { λ r. ⌜ r ≡ outcomeBy Accepted event task p ⌝ }
+// What an event decides: its answer, the task entries and the time that it leaves, and whether the record is to be swept. The leaver is the task whose
+// local expirations go with it.
+pub struct Planned {
+    pub answer: Answer,
+    pub tasks: [TaskEntry; TASK_COUNT],
+    pub global: GlobalTime,
+    pub leaver: u16,
+    pub sweeps: bool,
+}
+
+// What no sweep comes after.
+fn unswept(answer: Answer, tasks: [TaskEntry; TASK_COUNT], global: GlobalTime) -> Planned
+    ensures { λ r. ⌜ r ≡ unswept answer tasks global ⌝ }
 {
-    let mut tasks = p.tasks;
-    let at = task as usize;
-    let e = tasks[at];
-    tasks[at] = moved(event, e);
-    if !is_tested(event) {
-        p.tasks = tasks;
-        return Outcome {
-            answer: Answer::Done,
-            pool: p,
-        };
-    }
-    let advanced = all_ticked(tasks);
-    let global = p.global;
-    Outcome {
-        answer: Answer::Advanced(advanced),
-        pool: swept(
-            p,
-            advanced_tasks(advanced, tasks),
-            advanced_time(advanced, global),
-            leaver(event, task),
-        ),
+    Planned {
+        answer: answer,
+        tasks: tasks,
+        global: global,
+        leaver: NOBODY,
+        sweeps: false,
     }
 }
 
-// Any event on any record: first 1, then the tests of the task's state.
-pub fn schedule(p: Pool, event: Event, task: u8) -> Outcome
-    ensures { λ r. ⌜ r ≡ scheduled event task p ⌝ }
+// What an accepted event decides.
+fn accepted(tasks: [TaskEntry; TASK_COUNT], global: GlobalTime, event: Event, task: u8) -> Planned
+    requires { ⌜ task < 16 ⌝ }
+    ensures { λ r. ⌜ r ≡ plannedAfter event task tasks global ⌝ }
+{
+    let mut next = tasks;
+    let at = task as usize;
+    let e = next[at];
+    next[at] = moved(event, e);
+    if !is_tested(event) {
+        return unswept(Answer::Done, next, global);
+    }
+    let advanced = all_ticked(next);
+    Planned {
+        answer: Answer::Advanced(advanced),
+        tasks: advanced_tasks(advanced, next),
+        global: advanced_time(advanced, global),
+        leaver: leaver(event, task),
+        sweeps: true,
+    }
+}
+
+// Any event, by the task entries and the time alone: first 1, then the tests of the task's state.
+pub fn plan(tasks: [TaskEntry; TASK_COUNT], global: GlobalTime, event: Event, task: u8) -> Planned
+    ensures { λ r. ⌜ r ≡ planned event task tasks global ⌝ }
 {
     let at = task as usize;
     if TASK_COUNT <= at {
+        return unswept(Answer::Refused(Refusal::NoSuchTask), tasks, global);
+    }
+    let e = tasks[at];
+    match judge(event, state_of(e.state)) {
+        Verdict::Accepted => accepted(tasks, global, event, task),
+        Verdict::Refused(r) => unswept(Answer::Refused(r), tasks, global),
+    }
+}
+
+// Any event on any record.
+pub fn schedule(mut p: Pool, event: Event, task: u8) -> Outcome
+    ensures { λ r. ⌜ r ≡ scheduled event task p ⌝ }
+{
+    let before = p.tasks;
+    let now = p.global;
+    let planned = plan(before, now, event, task);
+    let answer = planned.answer;
+    let tasks = planned.tasks;
+    let global = planned.global;
+    if planned.sweeps {
+        let leaver = planned.leaver;
         return Outcome {
-            answer: Answer::Refused(Refusal::NoSuchTask),
-            pool: p,
+            answer: answer,
+            pool: swept(p, tasks, global, leaver),
         };
     }
-    let e = p.tasks[at];
-    match judge(event, state_of(e.state)) {
-        Verdict::Accepted => accepted(p, event, task),
-        Verdict::Refused(r) => Outcome {
-            answer: Answer::Refused(r),
-            pool: p,
-        },
+    p.tasks = tasks;
+    p.global = global;
+    Outcome {
+        answer: answer,
+        pool: p,
     }
 }

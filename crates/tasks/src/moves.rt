@@ -95,7 +95,7 @@ pub fn is_tested(event: Event) -> bool
 }
 
 // No task.
-const NOBODY: u16 = TASK_COUNT as u16;
+pub const NOBODY: u16 = TASK_COUNT as u16;
 
 // The task whose local expirations go.
 pub fn leaver(event: Event, task: u8) -> u16

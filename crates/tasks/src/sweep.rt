@@ -1,8 +1,9 @@
 // The end of expirations that are due or were a leaver's own, and of blocks that none names any more: one pass over each table.
+ghost use Prim.Native.Nat.{_≤_};
 ghost use mathlib.Core.Path.{_≡_};
 ghost use Rattle.lists.specs.Tables.{mapFrom};
 ghost use Rattle.tasks.specs.Steps.{isLasting, swept};
-ghost use Rattle.tasks.specs.Sweep.{entryIf, areFree, keptByFlag};
+ghost use Rattle.tasks.specs.Sweep.{endsAny, entryIf, areFree, keptByFlag};
 use ledger::TASK_COUNT;
 use record::ABSENT_TASK;
 use record::BLOCK_COUNT;
@@ -43,6 +44,33 @@ fn entry_if(task: usize, e: TaskEntry) -> TaskEntry
     ensures { λ r. ⌜ r ≡ entryIf task e ⌝ }
 {
     if task < TASK_COUNT { e } else { ABSENT_TASK }
+}
+
+// Whether one of the entries below the bound ends.
+pub fn ends_any(
+    xs: [ExpirationEntry; EXPIRATION_COUNT],
+    bound: usize,
+    tasks: [TaskEntry; TASK_COUNT],
+    global: GlobalTime,
+    leaver: u16,
+) -> bool
+    requires { ⌜ bound ≤ 256 ⌝ }
+    ensures { λ r. ⌜ r ≡ endsAny leaver tasks global bound xs ⌝ }
+{
+    for i in 0..bound {
+        let e = xs[i];
+        if e.kind == FREE {
+            continue;
+        }
+        let due = due_of(e);
+        let task = setter_of(due);
+        let s = clamped(TASK_COUNT, task);
+        let setter = tasks[s];
+        if !is_lasting(leaver, entry_if(task, setter), global, due) {
+            return true;
+        }
+    }
+    false
 }
 
 fn are_free(a: ExpirationEntry, b: ExpirationEntry, c: ExpirationEntry, d: ExpirationEntry) -> bool

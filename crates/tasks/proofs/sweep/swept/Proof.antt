@@ -8,8 +8,8 @@ use lib.ListN.{getD}
 use Rattle.record.specs.Codes.{freeEntry}
 use Rattle.record.proofs.Entries.{slot-below}
 use Rattle.record.proofs.Types.{typed}
-use Rattle.tasks.specs.Steps.{swept}
-use Rattle.tasks.proofs.Sweeping.{entry-clamped, kept-by-flags, Bounded, bounded-start, bounded-turn, isKept, Sweeping, sweeping-start, sweeping-ends, sweeping-goes-on, sweeping-end, sweeping-marks}
+use Rattle.tasks.specs.Steps.{isKept, swept}
+use Rattle.tasks.proofs.Sweeping.{entry-clamped, kept-by-flags, Bounded, bounded-start, bounded-turn, Sweeping, sweeping-start, sweeping-ends, sweeping-goes-on, sweeping-end, sweeping-marks}
 use Rattle.tasks.proofs.sweep.swept.Statement.{statement}
 use Rattle.tasks.proofs.sweep.swept.Tie as tie
 

@@ -1,0 +1,42 @@
+-- First 1, then by the verdict on the task's state.
+use borrow.Author.Needs.{needs}
+use borrow.Author.Tests.{le-leb, lt-leb}
+use Rattle.ledger.specs.Limits.{taskCount}
+use Rattle.tasks.specs.Steps.{planned}
+use Rattle.tasks.proofs.plan.Statement.{statement}
+use Rattle.tasks.proofs.plan.Tie as tie
+
+returns : tie.Need-returns
+unfolding planned taskCount
+returns c = rw (le-leb _ _ (c .before .if1 .taken)) (c .unswept .ensures)
+
+returns-2 : tie.Need-returns-2
+unfolding planned taskCount
+returns-2 c =
+    let j = c .before .before .before in
+    rw (lt-leb _ _ (j .before .before .before .if1 .left), ← j .before .state-of .ensures, ← j .judge .ensures, c .before .enum-told .given .1)
+    (c .accepted .ensures)
+
+returns-3 : tie.Need-returns-3
+unfolding planned taskCount
+returns-3 c =
+    let j = c .before .before .before .before in
+    rw (lt-leb _ _ (j .before .before .before .if1 .left), ← j .before .state-of .ensures, ← j .judge .ensures, c .before .before .r .given .1)
+    (c .unswept2 .ensures)
+
+pub plan-spec : {M : Type 1} → statement M
+plan-spec =
+    tie.close
+    (tie.spec
+    (λ c κs. search needs)
+    returns
+    (λ c. search needs)
+    (λ c. search needs)
+    (λ c κs. search needs)
+    (λ c κs. search needs)
+    (λ c. search needs)
+    (λ c κs. search needs)
+    (λ c. search needs)
+    (λ c κs. search needs)
+    returns-2
+    returns-3)
