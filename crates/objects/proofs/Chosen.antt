@@ -22,7 +22,7 @@ use Rattle.stores.specs.Places.{blockCount}
 use Rattle.record.specs.Codes.{stateOf, absentEntry, freeBlock, freeEntry}
 use Rattle.record.specs.Reading.{isSmallBlock, Typed}
 use Rattle.record.specs.declared.Pool.{Pool}
-use Rattle.objects.specs.Steps.{isFreeBlock, endFor, freePlace, isFreeEntry, freeSlot, andThen, refuseIf, byState, taskVerdict, extensionVerdict, handleVerdict, slotVerdict, makeVerdict, refreshVerdict, placeOf}
+use Rattle.objects.specs.Steps.{isFreeBlock, endFor, freePlace, isFreeEntry, freeSlot, andThen, refuseIf, byState, taskVerdict, extensionVerdict, foundVerdict, handleVerdict, slotVerdict, makeVerdict, refreshVerdict}
 use Rattle.objects.proofs.Taken.{MaySet, SlotFree, PlaceFree}
 
 -- a chain that accepts, accepts in each of its parts
@@ -131,11 +131,10 @@ refresh-takes task extension handle p types v =
     record { may = may-set task extension p task-ok extension-ok; found = found; entry = slot-free p types slot-ok }
 
 -- a handle that is found is not 0, and its place is that of a block
-pub handle-found : (handle : ℕ) (p : Pool) → handleVerdict handle p ≡ Accepted
-    → (eqb handle 0 ≡ false) × (leb blockCount (placeOf handle (p .blocks)) ≡ false)
-handle-found handle p v =
+pub handle-found : (handle given place : ℕ) → foundVerdict handle given place ≡ Accepted → (eqb handle 0 ≡ false) × (leb blockCount place ≡ false)
+handle-found handle given place v =
     let (given-ok, place-ok) = both-accept _ _ v in
     (or-false-parts (eqb handle 0) _ (not-refused _ _ given-ok) .0, not-refused _ _ place-ok)
 
-pub place-listed : (handle : ℕ) (p : Pool) → handleVerdict handle p ≡ Accepted → placeOf handle (p .blocks) < blockCount
-place-listed handle p v = leb-false _ _ (handle-found handle p v .1)
+pub place-listed : (handle given place : ℕ) → foundVerdict handle given place ≡ Accepted → place < blockCount
+place-listed handle given place v = leb-false _ _ (handle-found handle given place v .1)

@@ -46,7 +46,7 @@ module _ {p : Pool} {small large : List ℕ} {L : Ledger} (w : isWellFormed p �
   -- an accepted handle is that of an object that stands, in a block in use
   place-found : (handle : ℕ) → handleVerdict handle p ≡ Accepted → Found small large (p .blocks) handle (objectAt handle (L .memory .objects))
   place-found handle v =
-      let (nonzero, place) = handle-found handle p v in
+      let (nonzero, place) = handle-found handle (p .given) (placeOf handle (p .blocks)) v in
       found (fit-parts p w) reads handle nonzero (not-false _ (sym (gone-alike (fit-parts p w) reads handle nonzero types) ∙ place))
 
   pub same-given : p .given ≡ L .memory .given
@@ -112,7 +112,7 @@ module _ {p : Pool} {small large : List ℕ} {L : Ledger} (w : isWellFormed p �
       handle-ok = both-accept (taskVerdict task (p .tasks)) _ (both-accept (readVerdict task handle p) _ v .0) .1
 
       used : handleAt (p .blocks) (placeOf handle (p .blocks)) ≢ 0
-      used z = eqb-false handle 0 (handle-found handle p handle-ok .0) (sym (place-found handle handle-ok .its) ∙ z)
+      used z = eqb-false handle 0 (handle-found handle (p .given) (placeOf handle (p .blocks)) handle-ok .0) (sym (place-found handle handle-ok .its) ∙ z)
 
       within : offset + length new ≤ getD (p .blocks) (placeOf handle (p .blocks)) freeBlock .length
       unfolding writeVerdict

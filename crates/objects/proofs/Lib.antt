@@ -7,4 +7,6 @@ pub mod FitMade
 pub mod ReadMade
 pub mod ReadWritten
 pub mod Chosen
+pub mod Planned
 pub mod Follow
+pub mod Types

@@ -104,13 +104,18 @@ unfoldable pub refreshVerdict : ℕ → ℕ → ℕ → Pool → Verdict
 refreshVerdict task extension handle p =
     refreshVerdictBy task extension handle (p .tasks) (p .given) (placeOf handle (p .blocks)) (freeSlot (p .expirations))
 
+abbrev pub readVerdictIn : ℕ → ℕ → List TaskEntry → ℕ → List BlockEntry → Verdict
+readVerdictIn task handle tasks given blocks = andThen (taskVerdict task tasks) (foundVerdict handle given (placeOf handle blocks))
+
 unfoldable pub readVerdict : ℕ → ℕ → Pool → Verdict
-readVerdict task handle p = andThen (taskVerdict task (p .tasks)) (handleVerdict handle p)
+readVerdict task handle p = readVerdictIn task handle (p .tasks) (p .given) (p .blocks)
+
+-- 13
+abbrev pub endVerdict : ℕ → ℕ → List BlockEntry → Verdict
+endVerdict handle end blocks = refuseIf (ltb (getD blocks (placeOf handle blocks) freeBlock .length) end) OutsideObject
 
 unfoldable pub writeVerdict : ℕ → ℕ → ℕ → ℕ → Pool → Verdict
-writeVerdict task handle offset count p =
-    andThen (readVerdict task handle p)
-    (refuseIf (ltb (getD (p .blocks) (placeOf handle (p .blocks)) freeBlock .length) (offset + count)) OutsideObject)
+writeVerdict task handle offset count p = andThen (readVerdict task handle p) (endVerdict handle (offset + count) (p .blocks))
 
 -- the entry of an expiration that a task sets on a block: "c + e + 1", "g + e + 2", by counters that wrap
 abbrev pub entryBy : Kind → ℕ → ℕ → ℕ → List TaskEntry → GlobalTime → ExpirationEntry

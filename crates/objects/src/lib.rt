@@ -3,12 +3,17 @@ ghost use mathlib.Core.Path.{_≡_};
 ghost use Rattle.objects.specs.Steps.{makeVerdict, refreshVerdict, readVerdict, writeVerdict};
 ghost use Rattle.objects.specs.Outcomes.{madeBy, refreshedBy, foundBy};
 
+mod decide;
 mod entries;
 mod refusals;
 mod search;
 pub mod usage;
 
-use entries::entry_for;
+pub use decide::find_for_write_in;
+pub use decide::find_in;
+pub use decide::plan_make;
+pub use decide::plan_refresh;
+pub use entries::entry_for;
 use ledger::Answer;
 use ledger::Kind;
 use ledger::Refusal;
@@ -17,15 +22,13 @@ use record::BLOCK_COUNT;
 use record::BlockEntry;
 use record::Outcome;
 use record::Pool;
-use refusals::and_then;
-use refusals::found_verdict;
-use refusals::make_verdict;
-use refusals::reaches_past;
-use refusals::refresh_verdict;
-use refusals::task_verdict;
-use search::free_place;
-use search::free_slot;
-use search::place_of;
+
+// The verdict of a make or a refresh, and the block and the expiration entry that it goes by.
+pub struct Plan {
+    pub verdict: Verdict,
+    pub place: usize,
+    pub slot: usize,
+}
 
 // What a make gives back; block is the one that it took, to be cleared, or BLOCK_COUNT where it is refused.
 pub struct Made {
@@ -40,23 +43,25 @@ pub enum Found {
     At { block: usize, length: u32 },
 }
 
-// The block and the entry that the verdict goes by are those that are set.
+// The block and the entry that are set are those of the plan.
 pub fn make(mut p: Pool, task: u8, kind: Kind, extension: u8, length: u16) -> Made
     ensures { λ r. ⌜ r ≡ madeBy (makeVerdict task extension length p) task kind extension length p ⌝ }
 {
     let tasks = p.tasks;
+    let given = p.given;
     let blocks = p.blocks;
     let xs = p.expirations;
-    let given = p.given;
-    let place = free_place(blocks, length as u32);
-    let slot = free_slot(xs);
-    match make_verdict(task, extension, length as u32, tasks, given, place, slot) {
+    let plan = plan_make(tasks, given, blocks, xs, task, extension, length);
+    let verdict = plan.verdict;
+    match verdict {
         Verdict::Refused(why) => Made {
             answer: Answer::Refused(why),
             pool: p,
             block: BLOCK_COUNT,
         },
         Verdict::Accepted => {
+            let place = plan.place;
+            let slot = plan.slot;
             let global = p.global;
             let e = entry_for(kind, task, extension, place, tasks, global);
             let handle = given + 1;
@@ -80,16 +85,19 @@ pub fn refresh(mut p: Pool, task: u8, kind: Kind, extension: u8, handle: u32) ->
     ensures { λ r. ⌜ r ≡ refreshedBy (refreshVerdict task extension handle p) task kind extension handle p ⌝ }
 {
     let tasks = p.tasks;
+    let given = p.given;
     let blocks = p.blocks;
     let xs = p.expirations;
-    let place = place_of(blocks, handle);
-    let slot = free_slot(xs);
-    match refresh_verdict(task, extension, handle, tasks, p.given, place, slot) {
+    let plan = plan_refresh(tasks, given, blocks, xs, task, extension, handle);
+    let verdict = plan.verdict;
+    match verdict {
         Verdict::Refused(why) => Outcome {
             answer: Answer::Refused(why),
             pool: p,
         },
         Verdict::Accepted => {
+            let place = plan.place;
+            let slot = plan.slot;
             let global = p.global;
             let e = entry_for(kind, task, extension, place, tasks, global);
             p.expirations[slot] = e;
@@ -106,35 +114,17 @@ pub fn find(p: Pool, task: u8, handle: u32) -> Found
     ensures { λ r. ⌜ r ≡ foundBy (readVerdict task handle p) handle p ⌝ }
 {
     let tasks = p.tasks;
+    let given = p.given;
     let blocks = p.blocks;
-    let place = place_of(blocks, handle);
-    match and_then(
-        task_verdict(task, tasks),
-        found_verdict(handle, p.given, place),
-    ) {
-        Verdict::Refused(why) => Found::Refused(why),
-        Verdict::Accepted => {
-            let b = blocks[place];
-            Found::At {
-                block: place,
-                length: b.length,
-            }
-        }
-    }
+    find_in(tasks, given, blocks, task, handle)
 }
 
-// The object that is written: count bytes from offset lie within its length.
+// The object that is written.
 pub fn find_for_write(p: Pool, task: u8, handle: u32, offset: u8, count: usize) -> Found
     ensures { λ r. ⌜ r ≡ foundBy (writeVerdict task handle offset count p) handle p ⌝ }
 {
-    match find(p, task, handle) {
-        Found::Refused(why) => Found::Refused(why),
-        Found::At { block, length } => {
-            if reaches_past(length, offset, count) {
-                Found::Refused(Refusal::OutsideObject)
-            } else {
-                Found::At { block, length }
-            }
-        }
-    }
+    let tasks = p.tasks;
+    let given = p.given;
+    let blocks = p.blocks;
+    find_for_write_in(tasks, given, blocks, task, handle, offset, count)
 }

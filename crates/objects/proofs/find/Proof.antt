@@ -1,46 +1,12 @@
--- An accepted verdict has shown that the place is that of a block.
-use Prim.Native.Nat.{_<_}
-use native.Mathlib.Omega.{arith}
-use mathlib.Core.Path.{_≡_, sym, _∙_}
+-- What is found in the record's own tables.
 use borrow.Author.Needs.{needs}
-use Rattle.ledger.specs.Limits.{limits}
-use Rattle.ledger.specs.declared.Verdict.the-variants.{Accepted}
-use Rattle.stores.specs.Places.{blockCount}
-use Rattle.objects.specs.Steps.{taskVerdict, readVerdict}
-use Rattle.objects.proofs.Chosen.{both-accept, place-listed}
+use Rattle.objects.proofs.Planned.{found-in}
 use Rattle.objects.proofs.find.Statement.{statement}
 use Rattle.objects.proofs.find.Tie as tie
-
--- the verdict is the record's
-verdict : (c : tie.After-and-then)
-    → let a = c .before .before .before .before .before .before .args in c .and-then .result ≡ readVerdict (a .task) (a .handle) (a .p)
-unfolding readVerdict
-verdict c =
-    rw (c .and-then .ensures, c .before .found-verdict .ensures, c .before .before .task-verdict .ensures, c .before .before .before .place-of .ensures)
-
-accepted : (c : tie.After-enum-told)
-    → let a = c .before .before .before .before .before .before .before .before .args in readVerdict (a .task) (a .handle) (a .p) ≡ Accepted
-accepted c = sym (verdict (c .before .before)) ∙ c .enum-told .given .1
-
-listed : (c : tie.After-enum-told) → c .before .before .before .before .before .place-of .result < 96
-unfolding limits blockCount readVerdict
-listed c =
-    let place = c .before .before .before .before .before .place-of in
-    let a = c .before .before .before .before .before .before .before .before .args in
-    let found = place-listed (a .handle) (a .p) (both-accept (taskVerdict (a .task) (a .p .tasks)) _ (accepted c) .1) in
-    omega (arith, found, place .ensures)
 
 pub find-spec : {M : Type 1} → statement M
 find-spec =
     tie.close
     (tie.spec
     (λ c κs. search needs)
-    (λ c κs. search needs)
-    (λ c κs. search needs)
-    (λ c κs. search needs)
-    (λ c. search needs)
-    (λ c. search needs)
-    (λ c. omega (arith, listed c))
-    (λ c. listed c)
-    (λ c. rw (← verdict (c .before .before .before), c .before .why .given .1))
-    (λ c. rw (accepted (c .before), c .before .before .before .before .before .before .place-of .ensures)))
+    (λ c. let a = c .before .before .before .args in rw (c .find-in .ensures) (found-in (a .task) (a .handle) (a .p))))

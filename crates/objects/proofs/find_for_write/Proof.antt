@@ -1,48 +1,14 @@
--- What find has found, by one test more.
-use Prim.Native.Nat.{ℕ, _+_}
-use mathlib.Core.Bool.{cond}
-use mathlib.Core.Path.{_≡_, refl}
+-- What is found in the record's own tables.
 use borrow.Author.Needs.{needs}
-use lib.Dec.{ltb}
-use Rattle.lists.proofs.Cases.{by-test}
-use Rattle.ledger.specs.declared.Refusal.the-variants.{OutsideObject}
-use Rattle.ledger.specs.declared.Verdict.{Verdict}
-use Rattle.ledger.specs.declared.Verdict.the-variants.{Accepted, Refused}
-use Rattle.record.specs.declared.Pool.{Pool}
-use Rattle.objects.specs.Steps.{andThen, refuseIf, readVerdict, writeVerdict}
-use Rattle.objects.specs.Outcomes.{foundBy}
-use Rattle.objects.specs.declared.Found.{Found}
-use Rattle.objects.specs.declared.Found.the-variants.{At}
-use Rattle.objects.specs.declared.Found.the-variants.{Refused as RefusedFound}
-use Rattle.objects.proofs.Finding.{blockOf}
+use Rattle.objects.proofs.Planned.{found-for-write-in}
 use Rattle.objects.proofs.find_for_write.Statement.{statement}
 use Rattle.objects.proofs.find_for_write.Tie as tie
-
--- what is found where the bytes lie within it
-abbrev reached : ℕ → Found → Found
-reached end (RefusedFound r) = RefusedFound r
-reached end (At block length) = cond (ltb length end) (RefusedFound OutsideObject) (At block length)
-
-by-find : (v : Verdict) (handle end : ℕ) (p : Pool)
-    → foundBy (andThen v (refuseIf (ltb (blockOf handle (p .blocks) .length) end) OutsideObject)) handle p ≡ reached end (foundBy v handle p)
-by-find Accepted handle end p = by-test (ltb (blockOf handle (p .blocks) .length) end) (λ e. rw e) (λ e. rw e)
-by-find (Refused r) handle end p = refl
-
--- the verdict's outcome, by what find gave
-found : (c : tie.After-find)
-    → let a = c .before .args in
-    foundBy (writeVerdict (a .task) (a .handle) (a .offset) (a .count) (a .p)) (a .handle) (a .p) ≡ reached (a .offset + a .count) (c .find .result)
-unfolding writeVerdict
-found c = let a = c .before .args in rw (c .find .ensures) (by-find (readVerdict (a .task) (a .handle) (a .p)) _ _ _)
 
 pub find-for-write-spec : {M : Type 1} → statement M
 find-for-write-spec =
     tie.close
     (tie.spec
     (λ c κs. search needs)
-    (λ c. search needs)
-    (λ c. search needs)
-    (λ c κs. search needs)
-    (λ c. rw (found (c .before .before .before), c .before .why .given .1))
-    (λ c. rw (found (c .before .before .before .before .before), c .before .before .before .block .given .1, ← c .before .reaches-past .ensures, c .if1 .taken))
-    (λ c. rw (found (c .before .before .before .before .before), c .before .before .before .block .given .1, ← c .before .reaches-past .ensures, c .if1 .left)))
+    (λ c.
+    let a = c .before .before .before .args in
+    rw (c .find-for-write-in .ensures) (found-for-write-in (a .task) (a .handle) (a .offset) (a .count) (a .p))))
