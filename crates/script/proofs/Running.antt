@@ -16,7 +16,7 @@ use Rattle.ledger.specs.Ledger.{Ledger}
 use Rattle.ledger.specs.declared.Answer.{Answer}
 use Rattle.ledger.specs.declared.Refusal.{Refusal}
 use Rattle.ledger.specs.declared.Request.{Request}
-use Rattle.record.specs.Reading.{blockBytes, Reads}
+use Rattle.record.specs.Reading.{blockBytes, Typed, Reads}
 use Rattle.record.specs.WellFormed.{isWellFormed}
 use Rattle.record.specs.declared.Pool.{Pool}
 use Rattle.pool.specs.Contract.{areWhole, Ready}
@@ -30,6 +30,7 @@ use Rattle.frames.specs.declared.Frame.{Frame}
 use Rattle.frames.proofs.AnswerLines.{placed-on}
 use Rattle.frames.proofs.Payloads.{payload-front}
 use Rattle.frames.proofs.Scripts.{lines-on, next-within}
+use Rattle.script.specs.Bounds.{Bounds}
 use Rattle.script.specs.Execution.{refusalOf}
 use Rattle.script.specs.Output.{answerTo, afterLine, answersTo, lineIn, Runnable, Continues}
 
@@ -166,3 +167,8 @@ module _ {p₀ : Pool} {small₀ large₀ script : List ℕ} {start : ℕ} {out�
             let fits = le-leb 531 (length out - written) (omega (arith, run .unmoved same, run .size)) in
             absurd (true≢false (sym (rw (line, fits)) ∙ stop)));
       }
+
+-- What the changes in place go by: the record's tables have their lengths, and entries from the bound on are free.
+pub record InPlace (p : Pool) (bound : ℕ) : Type 0 where
+  pub types : Typed p
+  pub bounds : Bounds bound (p .expirations)

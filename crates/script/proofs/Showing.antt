@@ -45,7 +45,7 @@ shown-most small large block count =
 pub shows-none : (small large : List ℕ) (block : ℕ) {count : ℕ} → count ≡ 0 → blockBytes small large block count ≡ []
 shows-none small large block {count} e = empty (blockBytes small large block count) (omega (arith, e, shown-most small large block count))
 
-few : {small large : List ℕ} {block : ℕ} (count : ℕ) → (0 < count → InBlock small large block count) → count ≤ 256
+pub few : {small large : List ℕ} {block : ℕ} (count : ℕ) → (0 < count → InBlock small large block count) → count ≤ 256
 few zero inside = omega arith
 few {block = block} (suc n) inside = omega (arith, inside (omega arith) .within, most-bytes block)
 

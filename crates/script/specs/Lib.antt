@@ -1,2 +1,4 @@
 pub mod Output
 pub mod Execution
+pub mod Finding
+pub mod Bounds

@@ -59,6 +59,7 @@ pub record Readable (script : List ℕ) (at : ℕ) (bytes : List ℕ) : Type 0 w
 pub record Steps (script : List ℕ) (at : ℕ) (old : List ℕ) (r : Step) (new : List ℕ) : Type 0 where
   pub decodes : Decodes (lineIn script at) old (r .frame) new
   pub next : r .next ≡ lineAt script at .next
+  pub size : length new ≡ length old
 
 -- A run can go on: the record is well-formed, the stores have 01's lengths, and the next line starts in the script or at its end.
 pub record Runnable (p : Pool) (small large script : List ℕ) (at : ℕ) : Type 0 where

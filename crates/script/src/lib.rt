@@ -7,6 +7,8 @@ ghost use Rattle.frames.specs.Answers.{answerLine};
 ghost use Rattle.frames.specs.Hex.{Placed};
 ghost use Rattle.script.specs.Execution.{refusalOf, Showable, Executes};
 
+mod bounds;
+mod finding;
 mod scripts;
 
 use frames::Frame;

@@ -1,14 +1,32 @@
 // A script run from fresh, a buffer of answers at a time. Its record is well-formed from the start and stays so: no line tests that again.
 ghost use Rattle.script.specs.Output.{Readable, Steps, Runnable, Continues};
+use super::bounds::raised;
+use super::bounds::used_end;
+use super::finding::show_found;
+use super::finding::verdict_answer;
+use super::finding::write_found;
 use super::put_answer;
 use super::refusal_of;
-use super::show;
 use frames::Frame;
 use frames::decode;
 use frames::line_at;
-use pool::core::call;
+use ledger::Answer;
+use ledger::Call;
+use ledger::Request;
+use ledger::Verdict;
+use objects::entry_for;
+use objects::find_for_write_in;
+use objects::find_in;
+use objects::plan_make;
+use objects::plan_refresh;
+use objects::usage::usage;
+use record::BlockEntry;
 use record::Pool;
+use stores::clear_place;
 use stores::no_part;
+use tasks::ends_any;
+use tasks::plan;
+use tasks::swept;
 
 // The longest answer line that is made room for.
 pub const LONGEST_ANSWER: usize = 531;
@@ -55,6 +73,8 @@ pub fn run_on(
     let mut bytes = [0u8; 256];
     let mut at = start;
     let mut written = 0;
+    let table = p.expirations;
+    let mut bound = used_end(table);
     while (at < script.len()) & (LONGEST_ANSWER <= out.len() - written) {
         let step = next_frame(script, at, &mut bytes);
         let frame = step.frame;
@@ -63,12 +83,97 @@ pub fn run_on(
             written = put_answer(refusal_of(frame), no_part(small), out, written);
             continue;
         };
-        let called = call(p, small, large, request, &bytes[..count]);
-        let answer = called.answer;
-        let block = called.block;
-        let shown = called.length;
-        p = called.pool;
-        written = show(answer, small, large, block, shown, out, written);
+        let Request::Use(call) = request else {
+            written = put_answer(Answer::Counted(usage(p)), no_part(small), out, written);
+            continue;
+        };
+        let tasks = p.tasks;
+        let global = p.global;
+        let given = p.given;
+        match call {
+            Call::Schedule { event, task } => {
+                let planned = plan(tasks, global, event, task);
+                let answer = planned.answer;
+                let after = planned.tasks;
+                let now = planned.global;
+                let leaver = planned.leaver;
+                p.tasks = after;
+                p.global = now;
+                written = put_answer(answer, no_part(small), out, written);
+                if !planned.sweeps {
+                    continue;
+                }
+                let xs = p.expirations;
+                if !ends_any(xs, bound, after, now, leaver) {
+                    continue;
+                }
+                p = swept(p, after, now, leaver);
+            }
+            Call::Make {
+                task,
+                kind,
+                extension,
+                length,
+            } => {
+                let blocks = p.blocks;
+                let xs = p.expirations;
+                let plan = plan_make(tasks, given, blocks, xs, task, extension, length);
+                let verdict = plan.verdict;
+                let place = plan.place;
+                let slot = plan.slot;
+                let Verdict::Accepted = verdict else {
+                    written = put_answer(verdict_answer(verdict), no_part(small), out, written);
+                    continue;
+                };
+                let e = entry_for(kind, task, extension, place, tasks, global);
+                let handle = given + 1;
+                p.given = handle;
+                p.blocks[place] = BlockEntry {
+                    handle: handle,
+                    length: length as u32,
+                };
+                p.expirations[slot] = e;
+                bound = raised(bound, slot);
+                clear_place(small, large, place);
+                written = put_answer(Answer::Handle(handle), no_part(small), out, written);
+            }
+            Call::Refresh {
+                task,
+                kind,
+                extension,
+                handle,
+            } => {
+                let blocks = p.blocks;
+                let xs = p.expirations;
+                let plan = plan_refresh(tasks, given, blocks, xs, task, extension, handle);
+                let verdict = plan.verdict;
+                let place = plan.place;
+                let slot = plan.slot;
+                let Verdict::Accepted = verdict else {
+                    written = put_answer(verdict_answer(verdict), no_part(small), out, written);
+                    continue;
+                };
+                let e = entry_for(kind, task, extension, place, tasks, global);
+                p.expirations[slot] = e;
+                bound = raised(bound, slot);
+                written = put_answer(Answer::Done, no_part(small), out, written);
+            }
+            Call::Read { task, handle } => {
+                let blocks = p.blocks;
+                let found = find_in(tasks, given, blocks, task, handle);
+                written = show_found(found, small, large, out, written);
+            }
+            Call::Write {
+                task,
+                handle,
+                offset,
+            } => {
+                let blocks = p.blocks;
+                let found = find_for_write_in(tasks, given, blocks, task, handle, offset, count);
+                let answer = write_found(found, small, large, offset, &bytes[..count]);
+                written = put_answer(answer, no_part(small), out, written);
+            }
+        }
     }
     Ran {
         pool: p,

@@ -24,7 +24,7 @@ part-decode-end c =
 returns : tie.Need-returns
 returns c =
     let e = c .before .before .before .before .before .line-at .ensures in
-    record { decodes = rw e at (c .before .before .decode .ensures); next = rw e }
+    record { decodes = rw e at (c .before .before .decode .ensures); next = rw e; size = search needs }
 
 pub next-frame-spec : {M : Type 1} → statement M
 next-frame-spec =
