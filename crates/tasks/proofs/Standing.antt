@@ -1,19 +1,24 @@
 -- A record after an event, by what was planned. Where nothing ends, a sweep shows no more than the new task entries and the new time.
-use Prim.Native.Nat.{ℕ, zero, suc}
-use mathlib.Core.Bool.{true, false}
+use Prim.Native.Nat.{ℕ, zero, suc, _+_, _<_}
+use native.Mathlib.Numerals.{add-one}
+use mathlib.Core.Bool.{true, false, or-false}
 use mathlib.Core.List.{List, [], _∷_, map, map-id}
 use mathlib.Core.Path.{_≡_, refl, sym, _∙_}
 use borrow.Author.Tests.{eqb-true, not-false}
-use lib.ListN.{take, drop, take-append-drop}
+use lib.ListN.{length, getD, take, drop, take-append-drop}
+use lib.Seq.{take-suc}
 use Rattle.lists.specs.Tables.{mapFrom}
 use Rattle.lists.proofs.All.{all-imp, all-true, all-append, none→All, map-same}
 use Rattle.lists.proofs.Cases.{by-test}
+use Rattle.lists.proofs.Counts.{any-append}
 use Rattle.lists.proofs.Tests.{passes-map}
 use Rattle.ledger.specs.Ledger.{Ledger}
 use Rattle.ledger.specs.Tasks.{isTested}
 use Rattle.ledger.specs.declared.Event.{Event}
 use Rattle.ledger.specs.declared.Verdict.{Verdict}
 use Rattle.ledger.specs.declared.Verdict.the-variants.{Accepted, Refused}
+use Rattle.record.specs.Checks.{Clamped}
+use Rattle.record.specs.Codes.{dueOf, setterOf, absentEntry, freeEntry}
 use Rattle.record.specs.Reading.{recordView, Reads}
 use Rattle.record.specs.WellFormed.{isWellFormed}
 use Rattle.record.specs.declared.TaskEntry.{TaskEntry}
@@ -22,11 +27,11 @@ use Rattle.record.specs.declared.GlobalTime.{GlobalTime}
 use Rattle.record.specs.declared.Pool.{Pool}
 use Rattle.record.proofs.Facts.{Fit, fit-parts, fit-whole}
 use Rattle.tasks.specs.Steps.{verdictAt, isKept, keptEntry, keptBlock, swept, withTimes, poolAfter, answerAfter, outcomeBy, scheduled, plannedAfter, plannedBy, planned, carriedOut}
-use Rattle.tasks.specs.Sweep.{isEnded, endsAny, isFree, areFreeFrom}
+use Rattle.tasks.specs.Sweep.{isEnded, endsAny, endsBy, isFree, areFreeFrom}
 use Rattle.tasks.proofs.KeptBlocks.{kept-block}
 use Rattle.tasks.proofs.FitSwept.{named-fits}
 use Rattle.tasks.proofs.ReadObjects.{freed-shown, none-freed}
-use Rattle.tasks.proofs.Sweeping.{free-stays}
+use Rattle.tasks.proofs.Sweeping.{entry-clamped, free-stays}
 
 by-verdict : (v : Verdict) (event : Event) (task : ℕ) (p : Pool)
     → outcomeBy v event task p ≡ carriedOut (plannedBy v event task (p .tasks) (p .global)) p
@@ -103,3 +108,17 @@ module _ (leaver : ℕ) (tasks : List TaskEntry) (global : GlobalTime) where
 
     pub standing-fits : isWellFormed (swept leaver tasks global p) ≡ true → isWellFormed (withTimes tasks global p) ≡ true
     standing-fits s = fit-whole _ (fit-stands (fit-parts _ s))
+
+-- an entry asked by its setter's: it ends, or not; and so do the first ones, one after the other
+pub ends-as : (leaver : ℕ) (tasks : List TaskEntry) (global : GlobalTime) (e : ExpirationEntry) {s : ℕ} → length tasks ≡ 16 → Clamped 16 (setterOf (dueOf e)) s
+    → endsBy leaver (getD tasks s absentEntry) global e ≡ isEnded leaver tasks global e
+ends-as leaver tasks global e h c = rw (entry-clamped tasks (setterOf (dueOf e)) h c)
+
+pub ends-none : (leaver : ℕ) (tasks : List TaskEntry) (global : GlobalTime) (xs : List ExpirationEntry) → endsAny leaver tasks global 0 xs ≡ false
+unfolding endsAny
+ends-none leaver tasks global xs = refl
+
+pub ends-next : (leaver : ℕ) (tasks : List TaskEntry) (global : GlobalTime) (xs : List ExpirationEntry) (i : ℕ) → i < length xs
+    → endsAny leaver tasks global i xs ≡ false → endsAny leaver tasks global (i + 1) xs ≡ isEnded leaver tasks global (getD xs i freeEntry)
+unfolding endsAny
+ends-next leaver tasks global xs i h e = rw (add-one, take-suc xs i freeEntry h, any-append, e) (or-false (isEnded leaver tasks global (getD xs i freeEntry)))

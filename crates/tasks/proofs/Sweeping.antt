@@ -10,7 +10,7 @@ use lib.ListN.{length, getD, drop, set, replicate, List·getD-eq-default, drop-o
 use lib.Seq.{drop-cons}
 use Rattle.lists.specs.Tests.{All}
 use Rattle.lists.specs.Tables.{mapFrom}
-use Rattle.lists.proofs.All.{all-imp}
+use Rattle.lists.proofs.All.{all-imp, all-true}
 use Rattle.lists.proofs.Cases.{by-test}
 use Rattle.lists.proofs.Counts.{any-map}
 use Rattle.lists.proofs.Loops.{Mapped, mapped-start, mapped-reads, mapped-turn, mapped-kept, mapped-rest, Marked, marked-start, marked-turn, marked-none, marked-rest}
@@ -25,7 +25,7 @@ use Rattle.record.specs.declared.ExpirationEntry.{ExpirationEntry}
 use Rattle.record.specs.declared.GlobalTime.{GlobalTime}
 use Rattle.record.proofs.Entries.{flag-of}
 use Rattle.tasks.specs.Steps.{isKept, keptEntry, keptBlock}
-use Rattle.tasks.specs.Sweep.{entryIf, isFree, areFree, keptByFlag}
+use Rattle.tasks.specs.Sweep.{entryIf, isFree, areFree, Bounds, keptByFlag}
 
 -- past the last task is an absent one
 pub entry-clamped : (tasks : List TaskEntry) (task : ℕ) {s : ℕ} → length tasks ≡ 16 → Clamped 16 task s
@@ -41,42 +41,31 @@ pub kept-by-flags : {named : List Bool} {xs : List ExpirationEntry} (blocks : Li
     → mapFrom 0 (keptByFlag named) blocks ≡ mapFrom 0 (keptBlock xs) blocks
 kept-by-flags blocks h m = mapFrom-same _ _ 96 (λ k b e. rw (m .so k b)) 0 blocks (omega arith)
 
--- the entries from n on are free
-pub record Bounded (xs : List ExpirationEntry) (n : ℕ) : Type 0 where
-  pub size : length xs ≡ 256
-  pub within : n ≤ 256
-  pub so : All (λ (e : ExpirationEntry). e .kind ≡ 0) (drop n xs)
+pub bounds-all : (xs : List ExpirationEntry) → length xs ≡ 256 → Bounds 256 xs
+bounds-all xs h = record { within = omega arith; free = rw (drop-of-length-le xs {i = 256} (omega arith)) }
 
-pub bounded-start : (xs : List ExpirationEntry) → length xs ≡ 256 → Bounded xs 256
-bounded-start xs h = record { size = h; within = omega arith; so = rw (drop-of-length-le xs {i = 256} (omega arith)) tt }
+module _ {xs : List ExpirationEntry} (size : length xs ≡ 256) where
+  bounds-one : (i : ℕ) {n : ℕ} → Bounds n xs → n ≡ suc i → isFree (getD xs i freeEntry) ≡ true → Bounds i xs
+  bounds-one i b next e =
+      record { within = omega (arith, b .within); free = rw (drop-cons xs i freeEntry (omega (arith, b .within)), e) (rw next at (b .free)) }
 
-module _ {xs : List ExpirationEntry} where
-  bounded-one : (i : ℕ) {n : ℕ} → Bounded xs n → n ≡ suc i → isFree (getD xs i freeEntry) ≡ true → Bounded xs i
-  bounded-one i b next e =
-      let less : i < 256 = omega (arith, b .within) in
-      record {
-        size = b .size;
-        within = omega arith;
-        so = rw (drop-cons xs i freeEntry (omega (arith, b .size))) (eqb-true _ _ e, rw next at (b .so));
-      }
-
-  bounded-four : (i j k l : ℕ) {n : ℕ} → Bounded xs n → n ≡ suc l → l ≡ suc k → k ≡ suc j → j ≡ suc i
-      → areFree (getD xs i freeEntry) (getD xs j freeEntry) (getD xs k freeEntry) (getD xs l freeEntry) ≡ true → Bounded xs i
-  bounded-four i j k l b nl lk kj ji e =
+  bounds-four : (i j k l : ℕ) {n : ℕ} → Bounds n xs → n ≡ suc l → l ≡ suc k → k ≡ suc j → j ≡ suc i
+      → areFree (getD xs i freeEntry) (getD xs j freeEntry) (getD xs k freeEntry) (getD xs l freeEntry) ≡ true → Bounds i xs
+  bounds-four i j k l b nl lk kj ji e =
       let (abc, h) = and-eq-true-iff _ _ .0 e in
       let (ab, g) = and-eq-true-iff _ _ .0 abc in
       let (a, f) = and-eq-true-iff _ _ .0 ab in
-      bounded-one i (bounded-one j (bounded-one k (bounded-one l b nl h) lk g) kj f) ji a
+      bounds-one i (bounds-one j (bounds-one k (bounds-one l b nl h) lk g) kj f) ji a
 
   -- the eight before them are free too
-  pub bounded-turn : (m : ℕ) {n : ℕ} {low high : Bool} → Bounded xs n → n ≡ m + 8
+  pub bounds-turn : (m : ℕ) {n : ℕ} {low high : Bool} → Bounds n xs → n ≡ m + 8
       → low ≡ areFree (getD xs m freeEntry) (getD xs (m + 1) freeEntry) (getD xs (m + 2) freeEntry) (getD xs (m + 3) freeEntry)
       → high ≡ areFree (getD xs (m + 4) freeEntry) (getD xs (m + 5) freeEntry) (getD xs (m + 6) freeEntry) (getD xs (m + 7) freeEntry)
-      → not (low && high) ≡ false → Bounded xs m
-  bounded-turn m {low = low} {high} b next l h e =
+      → not (low && high) ≡ false → Bounds m xs
+  bounds-turn m {low = low} {high} b next l h e =
       let (ls, hs) = and-eq-true-iff low high .0 (not-false (low && high) e) in
-      bounded-four m (m + 1) (m + 2) (m + 3)
-      (bounded-four (m + 4) (m + 5) (m + 6) (m + 7) b (omega arith) (omega arith) (omega arith) (omega arith) (sym h ∙ hs))
+      bounds-four m (m + 1) (m + 2) (m + 3)
+      (bounds-four (m + 4) (m + 5) (m + 6) (m + 7) b (omega arith) (omega arith) (omega arith) (omega arith) (sym h ∙ hs))
       (omega arith) (omega arith) (omega arith) (omega arith) (sym l ∙ ls)
 
 module _ (leaver : ℕ) (tasks : List TaskEntry) (global : GlobalTime) where
@@ -98,14 +87,14 @@ module _ (leaver : ℕ) (tasks : List TaskEntry) (global : GlobalTime) where
 
   -- after i turns of n
   pub record Sweeping (xs : List ExpirationEntry) (n i : ℕ) (named : List Bool) (out : List ExpirationEntry) : Type 0 where
-    pub bounded : Bounded xs n
+    pub bounds : Bounds n xs
     pub within : i ≤ n
     pub mapped : Mapped (λ k. keptEntry leaver tasks global) xs 256 i out
     pub marked : Marked isNamingKept xs 256 96 i named
 
-  pub sweeping-start : {xs : List ExpirationEntry} {n : ℕ} → Bounded xs n → Sweeping xs n 0 (replicate 97 false) xs
-  sweeping-start b =
-      record { bounded = b; within = omega arith; mapped = mapped-start _ _ 256 (b .size); marked = marked-start _ _ 256 96 97 (b .size) (omega arith) }
+  pub sweeping-start : {xs : List ExpirationEntry} {n : ℕ} → length xs ≡ 256 → Bounds n xs → Sweeping xs n 0 (replicate 97 false) xs
+  sweeping-start h b =
+      record { bounds = b; within = omega arith; mapped = mapped-start _ _ 256 h; marked = marked-start _ _ 256 96 97 h (omega arith) }
 
 module _ {leaver : ℕ} {tasks : List TaskEntry} {global : GlobalTime} {xs : List ExpirationEntry} {n i : ℕ} {named : List Bool}
     {out : List ExpirationEntry} (s : Sweeping leaver tasks global xs n i named out) where
@@ -114,9 +103,9 @@ module _ {leaver : ℕ} {tasks : List TaskEntry} {global : GlobalTime} {xs : Lis
       → Sweeping leaver tasks global xs n (i + 1) named (set out i freeEntry)
   unfolding dueOf
   sweeping-ends l e =
-      let less : i < 256 = omega (arith, s .bounded .within) in
+      let less : i < 256 = omega (arith, s .bounds .within) in
       record {
-        bounded = s .bounded;
+        bounds = s .bounds;
         within = omega arith;
         mapped = mapped-turn freeEntry _ (s .mapped) less (rw e);
         marked = marked-none _ freeEntry (s .marked) less (λ k b. rw (← mapped-reads freeEntry (s .mapped) less, e));
@@ -128,9 +117,9 @@ module _ {leaver : ℕ} {tasks : List TaskEntry} {global : GlobalTime} {xs : Lis
       isKept leaver tasks global e ≡ true → at ≡ slotOf (e .block) (dueOf e)
       → Sweeping leaver tasks global xs n (i + 1) (set named at true) out
   sweeping-goes-on {at} l e f =
-      let less : i < 256 = omega (arith, s .bounded .within) in
+      let less : i < 256 = omega (arith, s .bounds .within) in
       record {
-        bounded = s .bounded;
+        bounds = s .bounds;
         within = omega arith;
         mapped = mapped-kept freeEntry (s .mapped) less (rw e);
         marked = marked-turn _ at freeEntry (s .marked) less (λ k b. rw (← mapped-reads freeEntry (s .mapped) less, e, f) (flag-of _ k b));
@@ -138,7 +127,7 @@ module _ {leaver : ℕ} {tasks : List TaskEntry} {global : GlobalTime} {xs : Lis
 
   module _ (h : n ≤ i) where
     frees : All (λ (e : ExpirationEntry). e .kind ≡ 0) (drop i xs)
-    frees = let end : n ≡ i = omega (arith, s .within) in rw end at (s .bounded .so)
+    frees = let end : n ≡ i = omega (arith, s .within) in all-imp (λ e. eqb-true (e .kind) 0) (drop i xs) (all-true isFree (drop i xs) (rw end at (s .bounds .free)))
 
     -- at the end
     pub sweeping-end : out ≡ map (keptEntry leaver tasks global) xs

@@ -1,18 +1,19 @@
 -- What a sweep is asked first, whether any expiration ends; and what its parts hand to one another: the setter's entry by a clamped index, whether
 -- entries are free, and which blocks are still named.
-use Prim.Native.Nat.{ℕ}
-use mathlib.Core.Bool.{Bool, false, cond, not, _&&_}
+use Prim.Native.Nat.{ℕ, _≤_}
+use mathlib.Core.Bool.{Bool, true, false, cond, not, _&&_}
 use mathlib.Core.List.{List}
+use mathlib.Core.Path.{_≡_}
 use lib.Dec.{eqb, ltb}
 use lib.ListN.{getD, take, drop}
 use Rattle.lists.specs.Tests.{any, all}
 use Rattle.ledger.specs.Limits.{taskCount}
-use Rattle.record.specs.Codes.{absentEntry, freeBlock}
+use Rattle.record.specs.Codes.{dueOf, setterOf, absentEntry, freeBlock}
 use Rattle.record.specs.declared.TaskEntry.{TaskEntry}
 use Rattle.record.specs.declared.BlockEntry.{BlockEntry}
 use Rattle.record.specs.declared.ExpirationEntry.{ExpirationEntry}
 use Rattle.record.specs.declared.GlobalTime.{GlobalTime}
-use Rattle.tasks.specs.Steps.{isKept}
+use Rattle.tasks.specs.Steps.{isLasting, isKept}
 
 abbrev pub isEnded : ℕ → List TaskEntry → GlobalTime → ExpirationEntry → Bool
 isEnded leaver tasks global e = not (isKept leaver tasks global e)
@@ -25,6 +26,10 @@ endsAny leaver tasks global bound xs = any (isEnded leaver tasks global) (take b
 abbrev pub entryIf : ℕ → TaskEntry → TaskEntry
 entryIf task e = cond (ltb task taskCount) e absentEntry
 
+-- an expiration ends, by the entry of its setter where there is one
+abbrev pub endsBy : ℕ → TaskEntry → GlobalTime → ExpirationEntry → Bool
+endsBy leaver setter global e = not (isLasting leaver (entryIf (setterOf (dueOf e)) setter) global (dueOf e))
+
 -- the entry is not in use
 abbrev pub isFree : ExpirationEntry → Bool
 isFree e = eqb (e .kind) 0
@@ -32,6 +37,10 @@ isFree e = eqb (e .kind) 0
 -- no entry from the bound on is in use
 abbrev pub areFreeFrom : ℕ → List ExpirationEntry → Bool
 areFreeFrom bound xs = all isFree (drop bound xs)
+
+pub record Bounds (bound : ℕ) (xs : List ExpirationEntry) : Type 0 where
+  pub within : bound ≤ 256
+  pub free : areFreeFrom bound xs ≡ true
 
 abbrev pub areFree : ExpirationEntry → ExpirationEntry → ExpirationEntry → ExpirationEntry → Bool
 areFree a b c d = isFree a && isFree b && isFree c && isFree d

@@ -24,8 +24,11 @@ use record::Pool;
 use record::TaskEntry;
 use record::codes::state_of;
 use record::tasks::all_ticked;
-pub use sweep::ends_any;
+pub use sweep::ends;
+pub use sweep::setter_at;
 pub use sweep::swept;
+pub use sweep::swept_within;
+pub use sweep::used_bound;
 
 // What an event decides: its answer, the task entries and the time that it leaves, and whether the record is to be swept. The leaver is the task whose
 // local expirations go with it.

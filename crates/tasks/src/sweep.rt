@@ -1,9 +1,10 @@
 // The end of expirations that are due or were a leaver's own, and of blocks that none names any more: one pass over each table.
-ghost use Prim.Native.Nat.{_≤_};
 ghost use mathlib.Core.Path.{_≡_};
 ghost use Rattle.lists.specs.Tables.{mapFrom};
 ghost use Rattle.tasks.specs.Steps.{isLasting, swept};
-ghost use Rattle.tasks.specs.Sweep.{endsAny, entryIf, areFree, keptByFlag};
+ghost use Rattle.record.specs.Checks.{Clamped};
+ghost use Rattle.record.specs.Codes.{dueOf, setterOf};
+ghost use Rattle.tasks.specs.Sweep.{endsBy, entryIf, areFree, Bounds, keptByFlag};
 use ledger::TASK_COUNT;
 use record::ABSENT_TASK;
 use record::BLOCK_COUNT;
@@ -46,37 +47,42 @@ fn entry_if(task: usize, e: TaskEntry) -> TaskEntry
     if task < TASK_COUNT { e } else { ABSENT_TASK }
 }
 
-// Whether one of the entries below the bound ends.
-pub fn ends_any(
-    xs: [ExpirationEntry; EXPIRATION_COUNT],
-    bound: usize,
-    tasks: [TaskEntry; TASK_COUNT],
-    global: GlobalTime,
-    leaver: u16,
-) -> bool
-    requires { ⌜ bound ≤ 256 ⌝ }
-    ensures { λ r. ⌜ r ≡ endsAny leaver tasks global bound xs ⌝ }
+// Where the entry of an expiration's setter stands; the first one for a number that is no task's.
+pub fn setter_at(e: ExpirationEntry) -> usize
+    ensures { λ r. ⌜ Clamped 16 (setterOf (dueOf e)) r ⌝ }
 {
-    for i in 0..bound {
-        let e = xs[i];
-        if e.kind == FREE {
-            continue;
-        }
-        let due = due_of(e);
-        let task = setter_of(due);
-        let s = clamped(TASK_COUNT, task);
-        let setter = tasks[s];
-        if !is_lasting(leaver, entry_if(task, setter), global, due) {
-            return true;
-        }
-    }
-    false
+    clamped(TASK_COUNT, setter_of(due_of(e)))
+}
+
+// Whether an expiration ends, by the entry that stands there and the times.
+pub fn ends(e: ExpirationEntry, setter: TaskEntry, global: GlobalTime, leaver: u16) -> bool
+    ensures { λ r. ⌜ r ≡ endsBy leaver setter global e ⌝ }
+{
+    let due = due_of(e);
+    !is_lasting(leaver, entry_if(setter_of(due), setter), global, due)
 }
 
 fn are_free(a: ExpirationEntry, b: ExpirationEntry, c: ExpirationEntry, d: ExpirationEntry) -> bool
     ensures { λ r. ⌜ r ≡ areFree a b c d ⌝ }
 {
     (a.kind == FREE) & (b.kind == FREE) & (c.kind == FREE) & (d.kind == FREE)
+}
+
+// How far the entries are in use. Most are free most of the time, so the free ones at the table's end are left out, eight at a time.
+pub fn used_bound(xs: [ExpirationEntry; EXPIRATION_COUNT]) -> usize
+    ensures { λ r. ⌜ Bounds r xs ⌝ }
+{
+    let mut n = EXPIRATION_COUNT;
+    while 8 <= n {
+        let m = n - 8;
+        let low = are_free(xs[m], xs[m + 1], xs[m + 2], xs[m + 3]);
+        let high = are_free(xs[m + 4], xs[m + 5], xs[m + 6], xs[m + 7]);
+        if !(low & high) {
+            break;
+        }
+        n = m;
+    }
+    n
 }
 
 // What none names is free.
@@ -96,24 +102,20 @@ fn keep_blocks(
     out
 }
 
-// The record with these tasks and this time, swept. Most entries are free most of the time, so the free ones at the table's end are left out, eight at a
-// time.
-pub fn swept(p: Pool, tasks: [TaskEntry; TASK_COUNT], global: GlobalTime, leaver: u16) -> Pool
+// The record with these tasks and this time, swept, where no entry from the bound on is in use.
+pub fn swept_within(
+    p: Pool,
+    bound: usize,
+    tasks: [TaskEntry; TASK_COUNT],
+    global: GlobalTime,
+    leaver: u16,
+) -> Pool
+    requires { ⌜ Bounds bound (p .expirations) ⌝ }
     ensures { λ r. ⌜ r ≡ swept leaver tasks global p ⌝ }
 {
     let mut xs = p.expirations;
-    let mut n = EXPIRATION_COUNT;
-    while 8 <= n {
-        let m = n - 8;
-        let low = are_free(xs[m], xs[m + 1], xs[m + 2], xs[m + 3]);
-        let high = are_free(xs[m + 4], xs[m + 5], xs[m + 6], xs[m + 7]);
-        if !(low & high) {
-            break;
-        }
-        n = m;
-    }
     let mut named = [false; BLOCK_COUNT + 1];
-    for i in 0..n {
+    for i in 0..bound {
         let e = xs[i];
         let due = due_of(e);
         let task = setter_of(due);
@@ -135,4 +137,12 @@ pub fn swept(p: Pool, tasks: [TaskEntry; TASK_COUNT], global: GlobalTime, leaver
         blocks: used,
         expirations: xs,
     }
+}
+
+// The record with these tasks and this time, swept.
+pub fn swept(p: Pool, tasks: [TaskEntry; TASK_COUNT], global: GlobalTime, leaver: u16) -> Pool
+    ensures { λ r. ⌜ r ≡ swept leaver tasks global p ⌝ }
+{
+    let xs = p.expirations;
+    swept_within(p, used_bound(xs), tasks, global, leaver)
 }
