@@ -1,5 +1,6 @@
 pub mod StoreBytes
 pub mod Finding
+pub mod Searching
 pub mod Rooms
 pub mod Verdicts
 pub mod Taken

@@ -11,7 +11,7 @@ use super::refusals::refresh_verdict;
 use super::refusals::task_verdict;
 use super::search::free_place;
 use super::search::free_slot;
-use super::search::place_of;
+use super::search::locate;
 use ledger::Refusal;
 use ledger::TASK_COUNT;
 use ledger::Verdict;
@@ -56,7 +56,8 @@ pub fn plan_refresh(
 ) -> Plan
     ensures { λ r. ⌜ r ≡ refreshPlan task extension handle tasks given blocks xs ⌝ }
 {
-    let place = place_of(blocks, handle);
+    let located = locate(blocks, handle);
+    let place = located.place;
     let slot = free_slot(xs);
     let verdict = refresh_verdict(task, extension, handle, tasks, given, place, slot);
     Plan {
@@ -76,19 +77,17 @@ pub fn find_in(
 ) -> Found
     ensures { λ r. ⌜ r ≡ foundIn task handle tasks given blocks ⌝ }
 {
-    let place = place_of(blocks, handle);
+    let located = locate(blocks, handle);
+    let place = located.place;
     match and_then(
         task_verdict(task, tasks),
         found_verdict(handle, given, place),
     ) {
         Verdict::Refused(why) => Found::Refused(why),
-        Verdict::Accepted => {
-            let b = blocks[place];
-            Found::At {
-                block: place,
-                length: b.length,
-            }
-        }
+        Verdict::Accepted => Found::At {
+            block: place,
+            length: located.length,
+        },
     }
 }
 

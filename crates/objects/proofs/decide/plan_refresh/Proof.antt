@@ -12,4 +12,4 @@ plan-refresh-spec =
     (λ c κs. search needs)
     (λ c κs. search needs)
     (λ c κs. search needs)
-    (λ c. rw (c .refresh-verdict .ensures, c .before .free-slot .ensures, c .before .before .place-of .ensures)))
+    (λ c. rw (c .refresh-verdict .ensures, c .before .free-slot .ensures, c .before .before .locate .ensures .0)))
