@@ -1,14 +1,17 @@
 -- The line of an answer as it is put into a buffer, and how long it is.
-use Prim.Native.Nat.{ℕ, _+_, _*_, _≤_, _<_}
+use Prim.Native.Nat.{ℕ, _+_, _*_, _/_, _%_, _≤_, _<_}
 use native.Mathlib.Omega.{arith}
+use mathlib.Core.Bool.{Bool, true, false, cond}
 use mathlib.Core.List.{List, [], _∷_, _++_}
-use mathlib.Core.Path.{_≡_, ap}
-use lib.ListN.{length, set, length-append}
+use mathlib.Core.Path.{_≡_, refl, ap}
+use mir.Val.{boolByte}
+use lib.ListN.{length, set, length-append, length-set}
 use Rattle.lists.proofs.Blocks.{overwritten-on, set-overwritten}
 use Rattle.ledger.specs.declared.Answer.{Answer}
 use Rattle.ledger.specs.declared.Answer.the-variants.{Refused, Done, Advanced, Handle, Bytes, Counted}
 use Rattle.frames.specs.Answers.{answerHead, answerLine}
-use Rattle.frames.specs.Hex.{hexOf, Placed}
+use Rattle.frames.specs.Fields.{inBytes}
+use Rattle.frames.specs.Hex.{digitFor, hexOf, Placed}
 use Rattle.frames.proofs.Digits.{length-hex, hex-append}
 
 pub placed-on : {at middle end : ℕ} {a b old between after : List ℕ} → Placed at a old between middle → Placed middle b between after end
@@ -21,6 +24,39 @@ placed-on {at} {a = a} {b} {old} p q h =
 
 placed-one : (xs : List ℕ) (i v : ℕ) → i < length xs → Placed i (v ∷ []) xs (set xs i v) (i + 1)
 placed-one xs i v h = record { bytes = set-overwritten xs i v h; next = omega arith }
+
+-- a byte's two digits, one after the other
+pub byte-placed : (xs : List ℕ) (at b : ℕ) → at + 2 ≤ length xs
+    → Placed at (hexOf (b ∷ [])) xs (set (set xs at (digitFor (b / 16))) (at + 1) (digitFor (b % 16))) (at + 2)
+byte-placed xs at b h =
+    let high = digitFor (b / 16) in
+    let p = placed-one xs at high (omega arith) in
+    let q = placed-one (set xs at high) (at + 1) (digitFor (b % 16)) (rw length-set (omega arith)) in
+    record { bytes = placed-on p q (omega arith) .bytes; next = omega arith }
+
+-- bytes after bytes
+pub hex-placed : {at middle end : ℕ} {old between after : List ℕ} (xs ys : List ℕ) → Placed at (hexOf xs) old between middle
+    → Placed middle (hexOf ys) between after end → at + 2 * length xs + 2 * length ys ≤ length old → Placed at (hexOf (xs ++ ys)) old after end
+hex-placed xs ys p q h = rw (hex-append xs ys) (placed-on p q (omega (arith, length-hex xs, length-hex ys)))
+
+bool-byte : (b : Bool) → boolByte b ≡ cond b 1 0 % 256
+bool-byte true = refl
+bool-byte false = refl
+
+-- a head is one byte at least
+pub head-one : (answer : Answer) → 2 ≤ 2 * length (answerHead answer)
+unfolding answerHead
+head-one answer = omega arith
+
+-- the head of an answer, by its kind
+module _ {answer : Answer} where
+  pub advanced-head : {advanced : Bool} → answer ≡ Advanced advanced → answerHead answer ≡ 0 ∷ boolByte advanced ∷ []
+  unfolding answerHead
+  advanced-head e = rw (e, bool-byte)
+
+  pub handle-head : {handle : ℕ} → answer ≡ Handle handle → answerHead answer ≡ 0 ∷ inBytes 4 handle
+  unfolding answerHead
+  handle-head e = rw e
 
 line-parts : (answer : Answer) (bytes : List ℕ) → answerLine answer bytes ≡ hexOf (answerHead answer) ++ hexOf bytes ++ (10 ∷ [])
 unfolding answerLine

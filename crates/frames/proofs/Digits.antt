@@ -2,11 +2,11 @@
 use Prim.Native.Nat.{ℕ, zero, suc, _+_, _-_, _*_, _/_, _%_, _≤_, _<_}
 use native.Mathlib.Nat.{suc-add}
 use native.Mathlib.Omega.{arith}
-use mathlib.Core.Bool.{true, false, and-eq-true-iff, and-false}
+use mathlib.Core.Bool.{true, false, _||_, and-eq-true-iff, and-false}
 use mathlib.Core.List.{List, [], _∷_, _++_}
 use mathlib.Core.Path.{_≡_, refl, ap}
-use borrow.Author.Tests.{eqb-true, eq-eqb, ltb-true, ltb-false, lt-ltb, le-leb, lt-leb}
-use lib.Dec.{eqb, ltb}
+use borrow.Author.Tests.{eqb-true, eq-eqb, leb-true, ltb-true, ltb-false, lt-ltb, le-leb, lt-leb}
+use lib.Dec.{eqb, leb, ltb}
 use lib.ListN.{length, getD}
 use Rattle.lists.specs.Tests.{all, All}
 use Rattle.lists.proofs.Cases.{by-test}
@@ -23,6 +23,32 @@ under low high n h = rw (lt-leb low n h)
 
 pub over : (low high n : ℕ) → high + 1 ≤ n → isWithin low high n ≡ false
 over low high n h = rw (lt-leb n high (omega arith), and-false)
+
+-- the bounds of a range that a number is in
+bounds : (low high n : ℕ) → isWithin low high n ≡ true → (low ≤ n) × (n ≤ high)
+bounds low high n e =
+    let (l, h) = and-eq-true-iff (leb low n) (leb n high) .0 e in
+    (leb-true low n l, leb-true n high h)
+
+-- a digit is in one of the two ranges
+pub digit-test : (c : ℕ) → (isWithin 48 57 c || isWithin 65 70 c) ≡ isDigit c
+unfolding digitOf
+digit-test c =
+    by-test (isWithin 48 57 c)
+    (λ e. rw (e, lt-ltb (c - 48) 16 (omega (arith, bounds 48 57 c e .1))))
+    (λ e. by-test (isWithin 65 70 c)
+    (λ f. rw (e, f, lt-ltb (c - 65 + 10) 16 (omega (arith, bounds 65 70 c f .1))))
+    (λ f. rw (e, f)))
+
+-- the value of a digit, by its low four bits and the seventh
+pub digit-bits : (c : ℕ) → digitOf c < 16 → c % 16 + 9 * (c / 64) ≡ digitOf c
+unfolding digitOf
+digit-bits c h =
+    by-test (isWithin 48 57 c)
+    (λ e. rw e (omega (arith, bounds 48 57 c e .0, bounds 48 57 c e .1)))
+    (λ e. by-test (isWithin 65 70 c)
+    (λ f. rw (e, f) (omega (arith, bounds 65 70 c f .0, bounds 65 70 c f .1)))
+    (λ f. let k : 16 < 16 = rw (e, f) at h in absurd (omega arith)))
 
 double : (n : ℕ) → 2 * suc n ≡ suc (suc (2 * n))
 double n = omega arith

@@ -1,11 +1,8 @@
 -- Document 01, "Call frames": the line of an answer.
-use Prim.Native.Nat.{ℕ, _≤_}
+use Prim.Native.Nat.{ℕ}
 use mathlib.Core.List.{List, [], _∷_, _++_}
-use mathlib.Core.Path.{_≡_}
-use lib.ListN.{length, take}
 use Rattle.frames.specs.Fields.{inFields}
 use Rattle.frames.specs.Hex.{hexOf}
-use Rattle.frames.specs.declared.answers.Head.{Head}
 use Rattle.ledger.specs.Numbers.{answerNumber, answerValues}
 use Rattle.ledger.specs.declared.Answer.{Answer}
 use Rattle.ledger.specs.declared.Answer.the-variants.{Refused, Done, Advanced, Handle, Bytes, Counted}
@@ -29,8 +26,3 @@ answerHead answer = answerNumber answer ∷ inFields (answerWidths answer) (answ
 -- "in the same hexadecimal and ended by LF"; the bytes are those of a read
 unfoldable pub answerLine : Answer → List ℕ → List ℕ
 answerLine answer bytes = hexOf (answerHead answer ++ bytes) ++ (10 ∷ [])
-
--- The head stands at the start of an array.
-pub record HeadOf (answer : Answer) (r : Head) : Type 0 where
-  pub within : r .count ≤ length (r .bytes)
-  pub bytes : take (r .count) (r .bytes) ≡ answerHead answer

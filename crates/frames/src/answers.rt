@@ -1,13 +1,16 @@
 // The line of an answer.
+use super::hex::put_byte;
 use super::hex::put_hex;
 use ledger::Answer;
+use ledger::Usage;
 use ledger::number_of;
-ghost use Prim.Native.Nat.{_*_, _≤_};
+ghost use Prim.Native.Nat.{_+_, _*_, _≤_};
 ghost use mathlib.Core.Path.{_≡_};
 ghost use lib.ListN.{length};
-ghost use Rattle.frames.specs.Answers.{HeadOf, answerHead, answerLine};
+ghost use Rattle.frames.specs.Answers.{answerHead, answerLine};
 ghost use Rattle.frames.specs.Fields.{inBytes};
 ghost use Rattle.frames.specs.Hex.{hexOf, Placed};
+ghost use Rattle.ledger.specs.declared.Answer.the-variants.{Counted};
 
 // A number in four bytes, high byte first.
 fn word(value: u32) -> [u8; 4]
@@ -21,55 +24,31 @@ fn word(value: u32) -> [u8; 4]
     ]
 }
 
-// An answer's number and values, one to nine bytes.
-pub struct Head {
-    pub bytes: [u8; 9],
-    pub count: usize,
+// A number in four bytes as digits at a place of a buffer; the place after them.
+fn put_word(out: &mut [u8], at: usize, value: u32) -> usize
+    requires { ⌜ at + 8 ≤ length (now out) ⌝ }
+    ensures { λ r. ⌜ Placed at (hexOf (inBytes 4 value)) (now (out .entry)) (now (out .exit)) r ⌝ }
+{
+    put_hex(out, at, &word(value))
 }
 
-fn head_of(answer: Answer) -> Head
-    ensures { λ r. ⌜ HeadOf answer r ⌝ }
+// The head of a report's answer.
+fn counts(usage: Usage) -> [u8; 9]
+    ensures { λ r. ⌜ r ≡ answerHead (Counted usage) ⌝ }
 {
-    let zeros = [0u8; 9];
-    match answer {
-        Answer::Refused(refusal) => {
-            let bytes = [number_of(refusal), 0, 0, 0, 0, 0, 0, 0, 0];
-            Head { bytes, count: 1 }
-        }
-        Answer::Done => Head {
-            bytes: zeros,
-            count: 1,
-        },
-        Answer::Bytes => Head {
-            bytes: zeros,
-            count: 1,
-        },
-        Answer::Advanced(advanced) => {
-            let bytes = [0, advanced as u8, 0, 0, 0, 0, 0, 0, 0];
-            Head { bytes, count: 2 }
-        }
-        Answer::Handle(handle) => {
-            let h = word(handle);
-            let bytes = [0, h[0], h[1], h[2], h[3], 0, 0, 0, 0];
-            Head { bytes, count: 5 }
-        }
-        Answer::Counted(usage) => {
-            let e = usage.expirations;
-            let g = word(usage.given);
-            let bytes = [
-                0,
-                usage.small,
-                usage.large,
-                (e / 256 % 256) as u8,
-                (e % 256) as u8,
-                g[0],
-                g[1],
-                g[2],
-                g[3],
-            ];
-            Head { bytes, count: 9 }
-        }
-    }
+    let dates = usage.expirations;
+    let given = word(usage.given);
+    [
+        0,
+        usage.small,
+        usage.large,
+        (dates / 256 % 256) as u8,
+        (dates % 256) as u8,
+        given[0],
+        given[1],
+        given[2],
+        given[3],
+    ]
 }
 
 // The head as digits at the start of a buffer; the place after them.
@@ -77,10 +56,20 @@ fn put_head(out: &mut [u8], answer: Answer) -> usize
     requires { ⌜ 2 * length (answerHead answer) ≤ length (now out) ⌝ }
     ensures { λ r. ⌜ Placed 0 (hexOf (answerHead answer)) (now (out .entry)) (now (out .exit)) r ⌝ }
 {
-    let head = head_of(answer);
-    let bytes = head.bytes;
-    let count = head.count;
-    put_hex(out, 0, &bytes[..count])
+    match answer {
+        Answer::Refused(refusal) => put_byte(out, 0, number_of(refusal)),
+        Answer::Done => put_byte(out, 0, 0),
+        Answer::Bytes => put_byte(out, 0, 0),
+        Answer::Advanced(advanced) => {
+            let next = put_byte(out, 0, 0);
+            put_byte(out, next, advanced as u8)
+        }
+        Answer::Handle(handle) => {
+            let next = put_byte(out, 0, 0);
+            put_word(out, next, handle)
+        }
+        Answer::Counted(usage) => put_hex(out, 0, &counts(usage)),
+    }
 }
 
 // The line of an answer, with the bytes of a read, at the start of a buffer; how long it is.

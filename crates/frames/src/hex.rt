@@ -1,25 +1,18 @@
 // Hexadecimal: digits 0-9 and A-F, two for a byte. What a line spells, and bytes as a line.
 ghost use Prim.Native.Nat.{_+_, _-_, _*_, _/_, _≤_, _<_};
+ghost use mathlib.Core.List.{[], _∷_};
 ghost use mathlib.Core.Path.{_≡_};
 ghost use lib.ListN.{length, drop};
 ghost use Rattle.frames.specs.Fields.{fieldAt};
 ghost use Rattle.frames.specs.Hex.{digitOf, isDigit, isHex, bytesOf, digitFor, hexOf, Spells, Placed};
 
-// The value of a digit; 16 for another character.
-fn digit(c: u8) -> u8
-    ensures { λ r. ⌜ r ≡ digitOf c ⌝ }
-{
-    match c {
-        b'0'..=b'9' => c - b'0',
-        b'A'..=b'F' => c - b'A' + 10,
-        _ => 16,
-    }
-}
-
+// Whether a character is 0-9 or A-F.
 fn is_digit(c: u8) -> bool
     ensures { λ r. ⌜ r ≡ isDigit c ⌝ }
 {
-    digit(c) < 16
+    let decimal = (b'0' <= c) & (c <= b'9');
+    let letter = (b'A' <= c) & (c <= b'F');
+    decimal | letter
 }
 
 // Whether a line is hexadecimal: an even count of digits and no other character.
@@ -33,12 +26,20 @@ pub fn is_hex(line: &[u8]) -> bool
     ok
 }
 
+// The value of a digit: its low four bits, and 9 more for a letter.
+fn value_of(c: u8) -> u8
+    requires { ⌜ digitOf c < 16 ⌝ }
+    ensures { λ r. ⌜ r ≡ digitOf c ⌝ }
+{
+    c % 16 + 9 * (c / 64)
+}
+
 // The byte at a place of those that a line spells.
 pub fn byte_at(line: &[u8], at: usize) -> u8
     requires { ⌜ Spells (now line) (at + 1) ⌝ }
     ensures { λ r. ⌜ r ≡ fieldAt at 1 (bytesOf (now (line .entry))) ⌝ }
 {
-    16 * digit(line[2 * at]) + digit(line[2 * at + 1])
+    16 * value_of(line[2 * at]) + value_of(line[2 * at + 1])
 }
 
 // The number in two bytes from a place on.
@@ -104,4 +105,14 @@ pub fn put_hex(out: &mut [u8], at: usize, bytes: &[u8]) -> usize
     let end = at + 2 * bytes.len();
     spell_out(&mut out[at..end], bytes);
     end
+}
+
+// A byte as two digits at a place of a buffer; the place after them.
+pub fn put_byte(out: &mut [u8], at: usize, byte: u8) -> usize
+    requires { ⌜ at + 2 ≤ length (now out) ⌝ }
+    ensures { λ r. ⌜ Placed at (hexOf (byte ∷ [])) (now (out .entry)) (now (out .exit)) r ⌝ }
+{
+    out[at] = digit_for(byte / 16);
+    out[at + 1] = digit_for(byte % 16);
+    at + 2
 }
