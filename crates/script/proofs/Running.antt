@@ -19,6 +19,7 @@ use Rattle.ledger.specs.declared.Request.{Request}
 use Rattle.record.specs.Reading.{blockBytes, Typed, Reads}
 use Rattle.record.specs.WellFormed.{isWellFormed}
 use Rattle.record.specs.declared.Pool.{Pool}
+use Rattle.tasks.specs.Sweep.{Bounds}
 use Rattle.pool.specs.Contract.{areWhole, Ready}
 use Rattle.pool.specs.Served.{Serves}
 use Rattle.pool.specs.declared.core.Called.{Called}
@@ -30,7 +31,6 @@ use Rattle.frames.specs.declared.Frame.{Frame}
 use Rattle.frames.proofs.AnswerLines.{placed-on}
 use Rattle.frames.proofs.Payloads.{payload-front}
 use Rattle.frames.proofs.Scripts.{lines-on, next-within}
-use Rattle.script.specs.Bounds.{Bounds}
 use Rattle.script.specs.Execution.{refusalOf}
 use Rattle.script.specs.Output.{answerTo, afterLine, answersTo, lineIn, Runnable, Continues}
 

@@ -1,12 +1,15 @@
 -- What each call makes of a record in place, as a turn of the run.
 use Prim.Native.Nat.{ℕ, _+_, _≤_, _<_}
 use native.Mathlib.Omega.{arith}
-use mathlib.Core.Bool.{Bool, true, false, cond}
+use mathlib.Core.Bool.{Bool, true, false, true≢false, not, _&&_, and-eq-true-iff}
 use mathlib.Core.List.{List, []}
 use mathlib.Core.Path.{_≡_, refl, sym, _∙_}
-use lib.ListN.{length, take, replicate}
+use borrow.Author.Tests.{ltb-true, ltb-false, not-true}
+use lib.Dec.{ltb}
+use lib.ListN.{length, getD, take, replicate}
 use lib.Seq.{length-take-le}
-use Rattle.ledger.specs.Objects.{Reply, plain}
+use Rattle.lists.proofs.Cases.{by-test}
+use Rattle.ledger.specs.Objects.{plain}
 use Rattle.ledger.specs.declared.Answer.{Answer}
 use Rattle.ledger.specs.declared.Answer.the-variants.{Done, Handle, Bytes, Counted}
 use Rattle.ledger.specs.declared.Answer.the-variants.{Refused as RefusedAnswer}
@@ -21,16 +24,18 @@ use Rattle.ledger.specs.declared.Verdict.{Verdict}
 use Rattle.ledger.specs.declared.Verdict.the-variants.{Accepted, Refused}
 use Rattle.ledger.specs.Limits.{limits}
 use Rattle.stores.specs.Places.{blockCount, sizeOf, InBlock, smallAfter, largeAfter}
+use Rattle.record.specs.Checks.{Clamped}
+use Rattle.record.specs.Codes.{dueOf, setterOf, absentEntry, freeEntry}
 use Rattle.record.specs.Reading.{blockBytes, Typed}
 use Rattle.record.specs.declared.ExpirationEntry.{ExpirationEntry}
 use Rattle.record.specs.declared.GlobalTime.{GlobalTime}
 use Rattle.record.specs.declared.Pool.{Pool}
 use Rattle.record.specs.declared.TaskEntry.{TaskEntry}
 use Rattle.tasks.specs.Steps.{withTimes, swept, planned, poolBy}
-use Rattle.tasks.specs.Sweep.{areFreeFrom, endsAny}
+use Rattle.tasks.specs.Sweep.{areFreeFrom, Bounds, endsAny, endsBy}
 use Rattle.tasks.specs.declared.Planned.{Planned}
 use Rattle.tasks.proofs.Types.{typed-scheduled}
-use Rattle.tasks.proofs.Standing.{scheduled-as-planned, standing-reads, standing-fits, swept-free-from}
+use Rattle.tasks.proofs.Standing.{scheduled-as-planned, standing-reads, standing-fits, swept-free-from, ends-as, ends-none, ends-next}
 use Rattle.objects.specs.Steps.{freePlace, makeVerdict, refreshVerdict, writeVerdict, entryBy, entryFor, withObject, withEntry, madePool, refreshedPool}
 use Rattle.objects.specs.Outcomes.{makePlan, refreshPlan, foundIn, foundForWriteIn, madeBy, foundBy}
 use Rattle.objects.specs.declared.Plan.{Plan}
@@ -51,7 +56,6 @@ use Rattle.frames.specs.Answers.{answerLine}
 use Rattle.frames.specs.Frames.{Decodes}
 use Rattle.frames.proofs.AnswerLines.{line-within}
 use Rattle.frames.specs.declared.Frame.{Frame}
-use Rattle.script.specs.Bounds.{Bounds}
 use Rattle.script.specs.Finding.{FoundInside, Findable, WroteFound}
 use Rattle.script.specs.Output.{Runnable}
 use Rattle.script.proofs.Showing.{few, shown-most, shows-none}
@@ -198,6 +202,9 @@ module _ {line old new : List ℕ} {frame : Frame} (d : Decodes line old frame n
           given = types .given;
         }
 
+    pub planned-sixteen : length (plan .tasks) ≡ 16
+    planned-sixteen = by-test (plan .sweeps) (λ s. standing-typed s .tasks) (λ s. unswept-typed s .tasks)
+
     pub unswept-in-place : plan .sweeps ≡ false → (bound : ℕ) → Bounds bound (p .expirations) → InPlace (withTimes (plan .tasks) (plan .global) p) bound
     unswept-in-place s bound b = record { types = unswept-typed s; bounds = b }
 
@@ -211,6 +218,38 @@ module _ {line old new : List ℕ} {frame : Frame} (d : Decodes line old frame n
           types = swept-typed s;
           bounds = record { within = b .within; free = swept-free-from (plan .leaver) (plan .tasks) (plan .global) bound p (b .free) };
         }
+
+-- the entries are asked one after the other until one ends or the bound is reached
+pub record Asked (leaver : ℕ) (tasks : List TaskEntry) (global : GlobalTime) (bound : ℕ) (xs : List ExpirationEntry) (asked : ℕ) (ended : Bool) : Type 0 where
+  pub within : asked ≤ bound
+  pub so : ended ≡ endsAny leaver tasks global asked xs
+
+abbrev pub asksOn : ℕ → ℕ → Bool → Bool
+asksOn asked bound ended = ltb asked bound && not ended
+
+module _ (leaver : ℕ) (tasks : List TaskEntry) (global : GlobalTime) (bound : ℕ) (xs : List ExpirationEntry) where
+  pub asked-none : Asked leaver tasks global bound xs 0 false
+  asked-none = record { within = omega arith; so = sym (ends-none leaver tasks global xs) }
+
+  module _ {asked : ℕ} {ended : Bool} (a : Asked leaver tasks global bound xs asked ended) where
+    pub asked-below : asksOn asked bound ended ≡ true → asked < bound
+    asked-below t = ltb-true asked bound (and-eq-true-iff (ltb asked bound) (not ended) .0 t .0)
+
+    pub asked-next : asksOn asked bound ended ≡ true → bound ≤ length xs → length tasks ≡ 16 → {s : ℕ} {e : ExpirationEntry} → e ≡ getD xs asked freeEntry
+        → Clamped 16 (setterOf (dueOf e)) s → {now : Bool} → now ≡ endsBy leaver (getD tasks s absentEntry) global e
+        → Asked leaver tasks global bound xs (asked + 1) now
+    asked-next t within sixteen {e = e} same c so =
+        let below = asked-below t in
+        let standing = not-true ended (and-eq-true-iff (ltb asked bound) (not ended) .0 t .1) in
+        record {
+          within = omega (arith, below);
+          so = so ∙ ends-as leaver tasks global e sixteen c ∙ rw same (sym (ends-next leaver tasks global xs asked (omega (arith, below, within)) (sym (a .so) ∙ standing)));
+        }
+
+    pub asked-all : asksOn asked bound ended ≡ false → ended ≡ false → endsAny leaver tasks global bound xs ≡ false
+    asked-all t e =
+        by-test (ltb asked bound) (λ l. absurd (true≢false (sym (rw (l, e)) ∙ t)))
+        (λ l. let same : bound ≡ asked = omega (arith, ltb-false asked bound l, a .within) in rw same (sym (a .so) ∙ e))
 
 -- a sweep does not look at the times that the record had
 pub swept-again : (leaver : ℕ) (tasks : List TaskEntry) (global : GlobalTime) (p : Pool)

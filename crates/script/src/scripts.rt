@@ -1,7 +1,6 @@
 // A script run from fresh, a buffer of answers at a time. Its record is well-formed from the start and stays so: no line tests that again.
 ghost use Rattle.script.specs.Output.{Readable, Steps, Runnable, Continues};
 use super::bounds::raised;
-use super::bounds::used_end;
 use super::finding::show_found;
 use super::finding::verdict_answer;
 use super::finding::write_found;
@@ -24,9 +23,11 @@ use record::BlockEntry;
 use record::Pool;
 use stores::clear_place;
 use stores::no_part;
-use tasks::ends_any;
+use tasks::ends;
 use tasks::plan;
-use tasks::swept;
+use tasks::setter_at;
+use tasks::swept_within;
+use tasks::used_bound;
 
 // The longest answer line that is made room for.
 pub const LONGEST_ANSWER: usize = 531;
@@ -74,7 +75,7 @@ pub fn run_on(
     let mut at = start;
     let mut written = 0;
     let table = p.expirations;
-    let mut bound = used_end(table);
+    let mut bound = used_bound(table);
     while (at < script.len()) & (LONGEST_ANSWER <= out.len() - written) {
         let step = next_frame(script, at, &mut bytes);
         let frame = step.frame;
@@ -103,11 +104,18 @@ pub fn run_on(
                 if !planned.sweeps {
                     continue;
                 }
-                let xs = p.expirations;
-                if !ends_any(xs, bound, after, now, leaver) {
+                let mut asked = 0;
+                let mut ended = false;
+                while (asked < bound) & !ended {
+                    let e = p.expirations[asked];
+                    let setter = after[setter_at(e)];
+                    ended = ends(e, setter, now, leaver);
+                    asked += 1;
+                }
+                if !ended {
                     continue;
                 }
-                p = swept(p, after, now, leaver);
+                p = swept_within(p, bound, after, now, leaver);
             }
             Call::Make {
                 task,
