@@ -14,7 +14,9 @@ pub use lines::line_at;
 pub use lines::line_end;
 pub use reader::Reader;
 pub use reader::step;
+pub use requests::KindByte;
 pub use requests::decode;
+pub use requests::kind_of;
 
 // What a line gives: a request and the count of the bytes that come with it, or a refusal. An enum holds no array, so the bytes stand beside it.
 pub enum Frame {

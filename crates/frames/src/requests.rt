@@ -23,7 +23,7 @@ pub enum KindByte {
     Unknown,
 }
 
-fn kind_of(number: u8) -> KindByte
+pub fn kind_of(number: u8) -> KindByte
     ensures { λ r. ⌜ r ≡ kindOf number ⌝ }
 {
     match number {

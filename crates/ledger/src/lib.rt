@@ -1,6 +1,6 @@
 // What code and specifications share: document 01's figures, its calls, their answers, and the refusals with their numbers.
 ghost use mathlib.Core.Path.{_≡_};
-ghost use Rattle.ledger.specs.Numbers.{numberOf};
+ghost use Rattle.ledger.specs.Numbers.{numberOf, answerNumber};
 
 // 01's four figures that a site may come to choose.
 pub struct Limits {
@@ -153,5 +153,19 @@ pub fn number_of(refusal: Refusal) -> u8
         Refusal::UnknownOperation => 17,
         Refusal::WrongFrameLength => 18,
         Refusal::UnknownKind => 19,
+    }
+}
+
+// The number of an answer: 0 where the call was carried out.
+pub fn answer_number(answer: Answer) -> u8
+    ensures { λ r. ⌜ r ≡ answerNumber answer ⌝ }
+{
+    match answer {
+        Answer::Refused(why) => number_of(why),
+        Answer::Done => 0,
+        Answer::Advanced(_) => 0,
+        Answer::Handle(_) => 0,
+        Answer::Bytes => 0,
+        Answer::Counted(_) => 0,
     }
 }
