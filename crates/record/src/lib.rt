@@ -22,9 +22,11 @@ pub const BLOCK_COUNT: usize = LIMITS.small_blocks + LIMITS.large_blocks;
 pub const EXPIRATION_COUNT: usize = LIMITS.expirations;
 
 // 01: own ticks, a task's own clock.
+#[repr(C)]
 pub struct LocalTime(pub u32);
 
 // 01: the common time.
+#[repr(C)]
 pub struct GlobalTime(pub u32);
 
 // 01: a task entry. State 0 is absent, 1 running, 2 waiting; ticked (01: mark) is 0 or 1.
