@@ -4,6 +4,7 @@ use native.Mathlib.Omega.{arith}
 use mathlib.Core.List.{List, []}
 use mathlib.Core.Path.{_≡_, refl, sym, _∙_}
 use lib.ListN.{length, take}
+use Rattle.ledger.specs.Numbers.{answerNumber}
 use Rattle.ledger.specs.declared.Answer.{Answer}
 use Rattle.ledger.specs.declared.Answer.the-variants.{Refused}
 use Rattle.ledger.specs.declared.Refusal.{Refusal}
@@ -28,23 +29,26 @@ module _ {line : List ℕ} {old new : List ℕ} {frame : Frame} (d : Decodes lin
 
   module _ (p : Pool) (small large out out′ : List ℕ) (n : ℕ) where
     pub refused-executes : {why : Refusal} → frame ≡ Frame.Refused why → {answer : Answer} → answer ≡ refusalOf frame → {none : List ℕ} → none ≡ []
-        → Placed 0 (answerLine answer none) out out′ n → Executes line p small large out (record { pool = p; length = n }) small large out′
-    refused-executes {why} e a z placed =
+        → {number : ℕ} → number ≡ answerNumber answer → Placed 0 (answerLine answer none) out out′ n
+        → Executes line p small large out (record { pool = p; number = number; length = n }) small large out′
+    refused-executes {why} e a z m placed =
         record {
           called = withoutBytes (Refused why) p;
           performs = rw (← d .frame, e) (refl, refl, refl);
           left = refl;
+          numbered = rw (a, e) at m;
           shown = rw (shows-none small large 0 refl) (rw (a, e, z) at placed);
         }
 
     pub served-executes : {request : Request} {count : ℕ} → frame ≡ Frame.Request request count → {r : Called} {small′ large′ : List ℕ}
         → Serves request (take count new) p small large r small′ large′
-        → Placed 0 (answerLine (r .answer) (blockBytes small′ large′ (r .block) (r .length))) out out′ n
-        → Executes line p small large out (record { pool = r .pool; length = n }) small′ large′ out′
-    served-executes e {r} s placed =
+        → {number : ℕ} → number ≡ answerNumber (r .answer) → Placed 0 (answerLine (r .answer) (blockBytes small′ large′ (r .block) (r .length))) out out′ n
+        → Executes line p small large out (record { pool = r .pool; number = number; length = n }) small′ large′ out′
+    served-executes e {r} s m placed =
         record {
           called = r;
           performs = rw (← d .frame, e) (rw (payload-front (rw e at d)) at s);
           left = refl;
+          numbered = m;
           shown = placed;
         }

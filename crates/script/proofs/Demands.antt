@@ -34,6 +34,7 @@ demand-1 line p small large out r small′ large′ out′ x =
     record {
       answer = x .called .answer;
       bytes = replyOf (x .called) small′ large′ .bytes;
+      numbered = x .numbered;
       line = x .shown;
       refused = λ why e.
           let (none, pool, s, l) = unchanged (frameOf line) (payloadOf line) p small large (x .called) small′ large′ (x .performs) why e in

@@ -3,6 +3,7 @@ use Prim.Native.Nat.{ℕ, _+_, _≤_, _<_}
 use mathlib.Core.List.{List, []}
 use mathlib.Core.Path.{_≡_}
 use lib.ListN.{length}
+use Rattle.ledger.specs.Numbers.{answerNumber}
 use Rattle.ledger.specs.declared.Answer.{Answer}
 use Rattle.ledger.specs.declared.Answer.the-variants.{Refused, Done}
 use Rattle.ledger.specs.declared.Refusal.{Refusal}
@@ -33,17 +34,19 @@ Performs (Frame.Request request count) bytes p small large r small′ large′ =
 Performs (Frame.Refused why) bytes p small large r small′ large′ =
     (r ≡ withoutBytes (Refused why) p) × (small′ ≡ small) × (large′ ≡ large)
 
--- A line carried out: what its frame gives, the record that is left, and the answer's line in a buffer.
+-- A line carried out: what its frame gives, the record that is left, the answer's number, and its line in a buffer.
 pub record Executes (line : List ℕ) (p : Pool) (small large out : List ℕ) (r : Executed) (small′ large′ out′ : List ℕ) : Type 0 where
   pub called : Called
   pub performs : Performs (frameOf line) (payloadOf line) p small large called small′ large′
   pub left : r .pool ≡ called .pool
+  pub numbered : r .number ≡ answerNumber (called .answer)
   pub shown : Placed 0 (answerLine (called .answer) (replyOf called small′ large′ .bytes)) out out′ (r .length)
 
 -- The answer is 00 with its data or one number of 01, and a refusal is its number alone and leaves record and both stores the same.
 pub record Answered (p : Pool) (small large out : List ℕ) (r : Executed) (small′ large′ out′ : List ℕ) : Type 0 where
   pub answer : Answer
   pub bytes : List ℕ
+  pub numbered : r .number ≡ answerNumber answer
   pub line : Placed 0 (answerLine answer bytes) out out′ (r .length)
   pub refused : (why : Refusal) → answer ≡ Refused why → (bytes ≡ []) × (r .pool ≡ p) × (small′ ≡ small) × (large′ ≡ large)
 

@@ -15,6 +15,7 @@ use frames::Frame;
 use frames::decode;
 use frames::encode_answer;
 use ledger::Answer;
+use ledger::answer_number;
 use pool::dispatch::call;
 use record::Pool;
 pub use scripts::LONGEST_ANSWER;
@@ -23,9 +24,10 @@ pub use scripts::run_on;
 use stores::block_part;
 use stores::no_part;
 
-// The record that a line leaves, and how long the line of its answer is.
+// The record that a line leaves, the number of its answer, and how long the line of it is.
 pub struct Executed {
     pub pool: Pool,
+    pub number: u8,
     pub length: usize,
 }
 
@@ -80,9 +82,11 @@ pub fn execute(p: Pool, small: &mut [u8], large: &mut [u8], line: &[u8], out: &m
     let mut bytes = [0u8; 256];
     let frame = decode(line, &mut bytes);
     let Frame::Request(request, count) = frame else {
+        let refusal = refusal_of(frame);
         return Executed {
             pool: p,
-            length: put_answer(refusal_of(frame), no_part(small), out, 0),
+            number: answer_number(refusal),
+            length: put_answer(refusal, no_part(small), out, 0),
         };
     };
     let called = call(p, small, large, request, &bytes[..count]);
@@ -93,6 +97,7 @@ pub fn execute(p: Pool, small: &mut [u8], large: &mut [u8], line: &[u8], out: &m
     let length = show(answer, small, large, block, shown, out, 0);
     Executed {
         pool: pool,
+        number: answer_number(answer),
         length: length,
     }
 }
