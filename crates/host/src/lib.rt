@@ -1,0 +1,163 @@
+// The pool for a host, by a loan of the record and the stores: what a logger in C or Rust links. An entry calls the by-value call, stores the record back and gives
+// the answer's number: 0, a refusal of 01, or 255 for a buffer too short. There is none with a condition: whatever a host passes is carried out or refused.
+ghost use mathlib.Core.Path.{_≡_};
+ghost use Rattle.ledger.specs.declared.Call.the-variants.{Schedule};
+ghost use Rattle.ledger.specs.declared.Event.the-variants.{Join, Leave, Block, Resume, Tick};
+ghost use Rattle.ledger.specs.declared.Request.the-variants.{Use};
+ghost use Rattle.record.specs.Reading.{freshPool};
+ghost use Rattle.frames.specs.Frames.{kindOf};
+ghost use Rattle.host.specs.Entries.{Does, Moves, Reports, MakesBy, RefreshesBy, WritesTo, CopiesOut, Carries};
+
+mod calls;
+
+use record::Pool;
+
+#[no_mangle]
+pub extern "C" fn ramsummer_fresh(p: &mut Pool) -> u8
+    ensures { λ r. ⌜ (r ≡ 0) × (now (p .exit) ≡ freshPool) ⌝ }
+{
+    let r = calls::renew(*p);
+    *p = r.pool;
+    r.number
+}
+
+#[no_mangle]
+pub extern "C" fn ramsummer_join(p: &mut Pool, task: u8) -> u8
+    ensures { λ r. ⌜ Does (Use (Schedule Join task)) (now (p .entry)) r (now (p .exit)) ⌝ }
+{
+    let r = calls::join(*p, task);
+    *p = r.pool;
+    r.number
+}
+
+#[no_mangle]
+pub extern "C" fn ramsummer_leave(p: &mut Pool, task: u8, advanced: &mut u8) -> u8
+    ensures { λ r. ⌜ Moves Leave task (now (p .entry)) (now (advanced .entry)) r (now (p .exit)) (now (advanced .exit)) ⌝ }
+{
+    let r = calls::leave(*p, task, advanced);
+    *p = r.pool;
+    r.number
+}
+
+#[no_mangle]
+pub extern "C" fn ramsummer_block(p: &mut Pool, task: u8, advanced: &mut u8) -> u8
+    ensures { λ r. ⌜ Moves Block task (now (p .entry)) (now (advanced .entry)) r (now (p .exit)) (now (advanced .exit)) ⌝ }
+{
+    let r = calls::block(*p, task, advanced);
+    *p = r.pool;
+    r.number
+}
+
+#[no_mangle]
+pub extern "C" fn ramsummer_resume(p: &mut Pool, task: u8) -> u8
+    ensures { λ r. ⌜ Does (Use (Schedule Resume task)) (now (p .entry)) r (now (p .exit)) ⌝ }
+{
+    let r = calls::resume(*p, task);
+    *p = r.pool;
+    r.number
+}
+
+#[no_mangle]
+pub extern "C" fn ramsummer_tick(p: &mut Pool, task: u8, advanced: &mut u8) -> u8
+    ensures { λ r. ⌜ Moves Tick task (now (p .entry)) (now (advanced .entry)) r (now (p .exit)) (now (advanced .exit)) ⌝ }
+{
+    let r = calls::tick(*p, task, advanced);
+    *p = r.pool;
+    r.number
+}
+
+#[no_mangle]
+pub extern "C" fn ramsummer_make(
+    p: &mut Pool,
+    small: &mut [u8],
+    large: &mut [u8],
+    task: u8,
+    kind: u8,
+    extension: u8,
+    size: u16,
+    handle: &mut u32,
+) -> u8
+    ensures { λ r. ⌜ MakesBy (kindOf kind) task extension size (now (p .entry)) (now (small .entry)) (now (large .entry)) (now (handle .entry)) r (now (p .exit)) (now (small .exit)) (now (large .exit)) (now (handle .exit)) ⌝ }
+{
+    let r = calls::make(*p, small, large, task, kind, extension, size, handle);
+    *p = r.pool;
+    r.number
+}
+
+#[no_mangle]
+pub extern "C" fn ramsummer_refresh(
+    p: &mut Pool,
+    task: u8,
+    kind: u8,
+    extension: u8,
+    handle: u32,
+) -> u8
+    ensures { λ r. ⌜ RefreshesBy (kindOf kind) task extension handle (now (p .entry)) r (now (p .exit)) ⌝ }
+{
+    let r = calls::refresh(*p, task, kind, extension, handle);
+    *p = r.pool;
+    r.number
+}
+
+// The object's bytes go to the start of a buffer, and how many to `count`. The record stays, and so it is not stored back.
+#[no_mangle]
+pub extern "C" fn ramsummer_read<'a>(
+    p: &mut Pool,
+    small: &'a [u8],
+    large: &'a [u8],
+    task: u8,
+    handle: u32,
+    out: &mut [u8],
+    count: &mut usize,
+) -> u8
+    ensures { λ r. ⌜ CopiesOut task handle (now (p .entry)) (now (small .entry)) (now (large .entry)) (now (out .entry)) (now (count .entry)) r (now (out .exit)) (now (count .exit)) × (now (p .exit) ≡ now (p .entry)) ⌝ }
+{
+    calls::read(*p, small, large, task, handle, out, count)
+}
+
+// The record stays.
+#[no_mangle]
+pub extern "C" fn ramsummer_write(
+    p: &mut Pool,
+    small: &mut [u8],
+    large: &mut [u8],
+    task: u8,
+    handle: u32,
+    offset: u8,
+    bytes: &[u8],
+) -> u8
+    ensures { λ r. ⌜ WritesTo task handle offset (now (bytes .entry)) (now (p .entry)) (now (small .entry)) (now (large .entry)) r (now (small .exit)) (now (large .exit)) × (now (p .exit) ≡ now (p .entry)) ⌝ }
+{
+    calls::write(*p, small, large, task, handle, offset, bytes)
+}
+
+// The record stays.
+#[no_mangle]
+pub extern "C" fn ramsummer_report(
+    p: &mut Pool,
+    small: &mut u8,
+    large: &mut u8,
+    expirations: &mut u16,
+    given: &mut u32,
+) -> u8
+    ensures { λ r. ⌜ Reports (now (p .entry)) (record { small = now (small .entry); large = now (large .entry); expirations = now (expirations .entry); given = now (given .entry) }) r (record { small = now (small .exit); large = now (large .exit); expirations = now (expirations .exit); given = now (given .exit) }) × (now (p .exit) ≡ now (p .entry)) ⌝ }
+{
+    calls::report(*p, small, large, expirations, given)
+}
+
+// One line without its LF; the line of its answer goes to the start of a buffer of at least 531 bytes, and how many to `count`.
+#[no_mangle]
+pub extern "C" fn ramsummer_frame(
+    p: &mut Pool,
+    small: &mut [u8],
+    large: &mut [u8],
+    line: &[u8],
+    out: &mut [u8],
+    count: &mut usize,
+) -> u8
+    ensures { λ r. ⌜ Carries (now (line .entry)) (now (p .entry)) (now (small .entry)) (now (large .entry)) (now (out .entry)) (now (count .entry)) r (now (p .exit)) (now (small .exit)) (now (large .exit)) (now (out .exit)) (now (count .exit)) ⌝ }
+{
+    let r = calls::frame(*p, small, large, line, out, count);
+    *p = r.pool;
+    r.number
+}
