@@ -1,0 +1,8 @@
+//! The work of the calls on a well-formed record: the tests but 15 in the rules' order, then the change in place.
+//! A refusal is its number.
+
+mod objects;
+mod tasks;
+
+pub use objects::{make, read, refresh, report, write, Figures};
+pub use tasks::{block, join, leave, resume, tick};
