@@ -6,6 +6,7 @@
 //! work alone, for records that are known to be well-formed.
 
 #![forbid(unsafe_code)]
+#![no_std]
 
 pub mod calls;
 pub mod fit;

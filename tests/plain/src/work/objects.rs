@@ -1,6 +1,6 @@
 //! The calls on objects, and the report.
 
-use std::ops::Range;
+use core::ops::Range;
 
 use crate::limits::{
     GLOBAL_EXTRA, LARGE_SIZE, LARGE_STORE, LOCAL_EXTRA, LONGEST_EXTENSION, SMALL_BLOCKS, SMALL_SIZE, SMALL_STORE,

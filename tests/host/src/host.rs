@@ -1,0 +1,159 @@
+//! A host: it makes calls through the entries of a pool, and tests of each call what the interface promises of every
+//! one: a refusal touches nothing, neither memory nor parameter, and an accepted call no byte that is not its own.
+
+use std::marker::PhantomData;
+
+use plain::calls::ANSWER_ROOM;
+use plain::limits::LARGE_SIZE;
+use reference::call::{Accepted, Call, Figures, Kind};
+
+use crate::entries::Entries;
+use crate::memory::Memory;
+
+/// What a call answers: what it gives back, or the number of its refusal.
+pub type Told<'a> = Result<Accepted<'a>, u8>;
+
+pub struct Host<E> {
+    pub memory: Memory,
+    before: Memory,
+    out: Out,
+    entries: PhantomData<E>,
+}
+
+/// What is lent for answers.
+#[derive(Clone, Debug, PartialEq, Eq)]
+struct Out {
+    advanced: u8,
+    handle: u32,
+    bytes: [u8; LARGE_SIZE],
+    line: [u8; ANSWER_ROOM],
+    length: u32,
+    small: u8,
+    large: u8,
+    expirations: u16,
+    given: u32,
+}
+
+/// What stands there before a call.
+const UNTOLD: Out = Out {
+    advanced: 0xA5,
+    handle: 0xA5A5_A5A5,
+    bytes: [0xA5; LARGE_SIZE],
+    line: [0xA5; ANSWER_ROOM],
+    length: 0xA5A5_A5A5,
+    small: 0xA5,
+    large: 0xA5,
+    expirations: 0xA5A5,
+    given: 0xA5A5_A5A5,
+};
+
+impl<E: Entries> Host<E> {
+    pub fn new(memory: Memory) -> Host<E> {
+        Host { before: memory.clone(), memory, out: UNTOLD, entries: PhantomData }
+    }
+
+    /// Makes the call by its own entry.
+    pub fn call(&mut self, call: &Call) -> Told<'_> {
+        self.prepare();
+        let number = self.enter(call);
+        if number != 0 {
+            assert!(self.memory == self.before, "refusal {number} of {call:?} changes memory");
+            assert!(self.out == UNTOLD, "refusal {number} of {call:?} tells more");
+            return Err(number);
+        }
+        self.check_memory(call);
+        Ok(self.accepted(call))
+    }
+
+    /// Asks one line by the entry for frames: the number, and the answer line. `call` is the line's, if it is one.
+    pub fn line(&mut self, line: &[u8], call: Option<&Call>) -> (u8, &[u8]) {
+        self.prepare();
+        let Host { memory: Memory { pool, small, large }, out, .. } = self;
+        let number = E::frame(pool, small, large, line, &mut out.line, &mut out.length);
+        match call {
+            Some(call) if number == 0 => self.check_memory(call),
+            _ => assert!(self.memory == self.before, "refusal {number} of {line:?} changes memory"),
+        }
+        let (answer, rest) = self.out.line.split_at(self.out.length as usize);
+        assert!(rest.iter().all(|&byte| byte == 0xA5), "the room behind the answer stays");
+        (number, answer)
+    }
+
+    fn prepare(&mut self) {
+        self.before.clone_from(&self.memory);
+        self.out.clone_from(&UNTOLD);
+    }
+
+    fn enter(&mut self, call: &Call) -> u8 {
+        let Host { memory: Memory { pool, small, large }, out, .. } = self;
+        match *call {
+            Call::Join { task } => E::join(pool, task),
+            Call::Leave { task } => E::leave(pool, task, &mut out.advanced),
+            Call::Block { task } => E::block(pool, task, &mut out.advanced),
+            Call::Resume { task } => E::resume(pool, task),
+            Call::Tick { task } => E::tick(pool, task, &mut out.advanced),
+            Call::Make { task, kind, extension, length } => {
+                E::make(pool, small, large, task, code(kind), extension, length, &mut out.handle)
+            }
+            Call::Refresh { task, kind, extension, handle } => E::refresh(pool, task, code(kind), extension, handle),
+            Call::Read { task, handle } => E::read(pool, small, large, task, handle, &mut out.bytes, &mut out.length),
+            Call::Write { task, handle, offset, bytes } => E::write(pool, small, large, task, handle, offset, bytes),
+            Call::Report => E::report(pool, &mut out.small, &mut out.large, &mut out.expirations, &mut out.given),
+        }
+    }
+
+    /// An accepted call touches its own bytes alone: a make clears one block, a write replaces its bytes, and no
+    /// other call touches a store. Read, write and report leave the record.
+    fn check_memory(&mut self, call: &Call) {
+        let Host { memory, before, .. } = self;
+        match *call {
+            Call::Make { .. } => {
+                let place = memory.place(memory.pool.given).expect("the new object has a block");
+                assert_eq!(before.pool.blocks[place].handle, 0, "{call:?} takes a free block");
+                before.block_mut(place).fill(0);
+            }
+            Call::Write { handle, offset, bytes, .. } => {
+                let place = memory.place(handle).expect("the object has a block");
+                before.block_mut(place)[usize::from(offset)..][..bytes.len()].copy_from_slice(bytes);
+            }
+            _ => {}
+        }
+        if matches!(call, Call::Read { .. } | Call::Write { .. } | Call::Report) {
+            assert!(memory == before, "{call:?} changes more than is its own");
+        } else {
+            let stores = memory.small == before.small && memory.large == before.large;
+            assert!(stores, "{call:?} changes bytes that are not its own");
+        }
+    }
+
+    fn accepted(&self, call: &Call) -> Accepted<'_> {
+        let out = &self.out;
+        match call {
+            Call::Join { .. } | Call::Resume { .. } | Call::Refresh { .. } | Call::Write { .. } => Accepted::Done,
+            Call::Leave { .. } | Call::Block { .. } | Call::Tick { .. } => {
+                assert!(out.advanced <= 1, "{call:?} tells 0 or 1");
+                Accepted::Advanced(out.advanced == 1)
+            }
+            Call::Make { .. } => Accepted::Handle(out.handle),
+            Call::Read { .. } => {
+                let (bytes, rest) = out.bytes.split_at(out.length as usize);
+                assert!(rest.iter().all(|&byte| byte == 0xA5), "the room behind the bytes stays");
+                Accepted::Bytes(bytes)
+            }
+            Call::Report => Accepted::Report(Figures {
+                small: out.small,
+                large: out.large,
+                expirations: out.expirations,
+                given: out.given,
+            }),
+        }
+    }
+}
+
+/// The number of a kind.
+fn code(kind: Kind) -> u8 {
+    match kind {
+        Kind::Local => 0,
+        Kind::Global => 1,
+    }
+}

@@ -1,0 +1,171 @@
+//! The linked library: its C interface, and safe entries over it. A slice goes as its first byte and its length.
+
+use plain::record::Pool;
+
+use crate::entries::Entries;
+
+/// The proved pool.
+#[derive(Clone, Copy, Debug)]
+pub struct Library;
+
+extern "C" {
+    fn ramsummer_fresh(pool: *mut Pool) -> u8;
+    fn ramsummer_join(pool: *mut Pool, task: u8) -> u8;
+    fn ramsummer_leave(pool: *mut Pool, task: u8, advanced: *mut u8) -> u8;
+    fn ramsummer_block(pool: *mut Pool, task: u8, advanced: *mut u8) -> u8;
+    fn ramsummer_resume(pool: *mut Pool, task: u8) -> u8;
+    fn ramsummer_tick(pool: *mut Pool, task: u8, advanced: *mut u8) -> u8;
+    fn ramsummer_make(
+        pool: *mut Pool,
+        small: *mut u8,
+        small_length: usize,
+        large: *mut u8,
+        large_length: usize,
+        task: u8,
+        kind: u8,
+        extension: u8,
+        length: u16,
+        handle: *mut u32,
+    ) -> u8;
+    fn ramsummer_refresh(pool: *mut Pool, task: u8, kind: u8, extension: u8, handle: u32) -> u8;
+    fn ramsummer_read(
+        pool: *mut Pool,
+        small: *const u8,
+        small_length: usize,
+        large: *const u8,
+        large_length: usize,
+        task: u8,
+        handle: u32,
+        out: *mut u8,
+        out_length: usize,
+        length: *mut u32,
+    ) -> u8;
+    fn ramsummer_write(
+        pool: *mut Pool,
+        small: *mut u8,
+        small_length: usize,
+        large: *mut u8,
+        large_length: usize,
+        task: u8,
+        handle: u32,
+        offset: u8,
+        bytes: *const u8,
+        count: usize,
+    ) -> u8;
+    fn ramsummer_report(pool: *mut Pool, small: *mut u8, large: *mut u8, expirations: *mut u16, given: *mut u32) -> u8;
+    fn ramsummer_frame(
+        pool: *mut Pool,
+        small: *mut u8,
+        small_length: usize,
+        large: *mut u8,
+        large_length: usize,
+        line: *const u8,
+        line_length: usize,
+        out: *mut u8,
+        out_length: usize,
+        length: *mut u32,
+    ) -> u8;
+}
+
+// SAFETY of every call: references are non-null, aligned and apart, slices come with their own lengths, and the
+// record is the library's, numbers without a gap, so that any bytes of it are a value.
+impl Entries for Library {
+    #[inline]
+    fn fresh(pool: &mut Pool) -> u8 {
+        unsafe { ramsummer_fresh(pool) }
+    }
+
+    #[inline]
+    fn join(pool: &mut Pool, task: u8) -> u8 {
+        unsafe { ramsummer_join(pool, task) }
+    }
+
+    #[inline]
+    fn leave(pool: &mut Pool, task: u8, advanced: &mut u8) -> u8 {
+        unsafe { ramsummer_leave(pool, task, advanced) }
+    }
+
+    #[inline]
+    fn block(pool: &mut Pool, task: u8, advanced: &mut u8) -> u8 {
+        unsafe { ramsummer_block(pool, task, advanced) }
+    }
+
+    #[inline]
+    fn resume(pool: &mut Pool, task: u8) -> u8 {
+        unsafe { ramsummer_resume(pool, task) }
+    }
+
+    #[inline]
+    fn tick(pool: &mut Pool, task: u8, advanced: &mut u8) -> u8 {
+        unsafe { ramsummer_tick(pool, task, advanced) }
+    }
+
+    #[inline]
+    fn make(
+        pool: &mut Pool,
+        small: &mut [u8],
+        large: &mut [u8],
+        task: u8,
+        kind: u8,
+        extension: u8,
+        length: u16,
+        handle: &mut u32,
+    ) -> u8 {
+        let (small, small_length) = (small.as_mut_ptr(), small.len());
+        let (large, large_length) = (large.as_mut_ptr(), large.len());
+        unsafe { ramsummer_make(pool, small, small_length, large, large_length, task, kind, extension, length, handle) }
+    }
+
+    #[inline]
+    fn refresh(pool: &mut Pool, task: u8, kind: u8, extension: u8, handle: u32) -> u8 {
+        unsafe { ramsummer_refresh(pool, task, kind, extension, handle) }
+    }
+
+    #[inline]
+    fn read(
+        pool: &mut Pool,
+        small: &[u8],
+        large: &[u8],
+        task: u8,
+        handle: u32,
+        out: &mut [u8],
+        length: &mut u32,
+    ) -> u8 {
+        let (small, small_length) = (small.as_ptr(), small.len());
+        let (large, large_length) = (large.as_ptr(), large.len());
+        let (out, out_length) = (out.as_mut_ptr(), out.len());
+        unsafe { ramsummer_read(pool, small, small_length, large, large_length, task, handle, out, out_length, length) }
+    }
+
+    #[inline]
+    fn write(
+        pool: &mut Pool,
+        small: &mut [u8],
+        large: &mut [u8],
+        task: u8,
+        handle: u32,
+        offset: u8,
+        bytes: &[u8],
+    ) -> u8 {
+        let (small, small_length) = (small.as_mut_ptr(), small.len());
+        let (large, large_length) = (large.as_mut_ptr(), large.len());
+        let (bytes, count) = (bytes.as_ptr(), bytes.len());
+        unsafe { ramsummer_write(pool, small, small_length, large, large_length, task, handle, offset, bytes, count) }
+    }
+
+    #[inline]
+    fn report(pool: &mut Pool, small: &mut u8, large: &mut u8, expirations: &mut u16, given: &mut u32) -> u8 {
+        unsafe { ramsummer_report(pool, small, large, expirations, given) }
+    }
+
+    #[inline]
+    fn frame(pool: &mut Pool, small: &mut [u8], large: &mut [u8], line: &[u8], out: &mut [u8], length: &mut u32) -> u8 {
+        let (small, small_length) = (small.as_mut_ptr(), small.len());
+        let (large, large_length) = (large.as_mut_ptr(), large.len());
+        let (line, line_length) = (line.as_ptr(), line.len());
+        let (out, out_length) = (out.as_mut_ptr(), out.len());
+        unsafe {
+            ramsummer_frame(pool, small, small_length, large, large_length, line, line_length, out, out_length, length)
+        }
+    }
+}

@@ -1,0 +1,90 @@
+//! A record and its stores read as a ledger, and a ledger read in the same way, so that the two compare: clocks by
+//! 32 bits, an object's expirations by kind, setter and units left, in no order. Places are not compared.
+
+use plain::limits::TASKS;
+use plain::record::{Pool, ABSENT, FREE, LOCAL, RUNNING};
+use reference::call::Figures;
+use reference::expiration::Remaining;
+use reference::ledger::{Ledger, Standing};
+use reference::tasks::{State, Task};
+
+use crate::memory::Memory;
+
+#[derive(Debug, PartialEq, Eq)]
+pub struct Reading {
+    tasks: Vec<(State, bool, u32)>,
+    global: u32,
+    given: u32,
+    /// In order of handle.
+    standing: Vec<Standing>,
+}
+
+/// How far the clocks of a record are ahead of a ledger's: a record may start late, a ledger starts at 0.
+#[derive(Clone, Debug, Default)]
+pub struct Ahead {
+    pub clocks: [u32; TASKS],
+    pub global: u32,
+}
+
+/// What a record stands for that is well-formed.
+pub fn of_record(memory: &Memory) -> Reading {
+    let Pool { tasks, global, given, .. } = &memory.pool;
+    let state = |state: u16| match state {
+        ABSENT => State::Absent,
+        RUNNING => State::Running,
+        _ => State::Waiting,
+    };
+    Reading {
+        tasks: tasks.iter().map(|task| (state(task.state), task.ticked != 0, task.clock)).collect(),
+        global: *global,
+        given: *given,
+        standing: standing(memory),
+    }
+}
+
+fn standing(memory: &Memory) -> Vec<Standing> {
+    let mut expirations: Vec<Vec<Remaining>> = vec![Vec::new(); memory.pool.blocks.len()];
+    for entry in memory.pool.expirations.iter().filter(|entry| entry.kind != FREE) {
+        let units = |now: u32| u64::from(entry.due.wrapping_sub(now));
+        expirations[usize::from(entry.block)].push(match entry.kind {
+            LOCAL => Remaining::Local {
+                setter: entry.setter as u8,
+                units: units(memory.pool.tasks[usize::from(entry.setter)].clock),
+            },
+            _ => Remaining::Global { units: units(memory.pool.global) },
+        });
+    }
+    let mut standing: Vec<Standing> = Vec::new();
+    for (place, mut expirations) in expirations.into_iter().enumerate() {
+        let block = memory.pool.blocks[place];
+        if block.handle != 0 {
+            expirations.sort();
+            let bytes = memory.block(place)[..block.length as usize].to_vec();
+            standing.push(Standing { handle: block.handle, bytes, expirations });
+        }
+    }
+    standing.sort_by_key(|object| object.handle);
+    standing
+}
+
+/// What a ledger says, with its clocks so far ahead.
+pub fn of_ledger(ledger: &Ledger, ahead: &Ahead) -> Reading {
+    let task = |(task, ahead): (&Task, &u32)| (task.state, task.ticked, (task.clock as u32).wrapping_add(*ahead));
+    Reading {
+        tasks: ledger.tasks().entries().iter().zip(&ahead.clocks).map(task).collect(),
+        global: (ledger.tasks().global() as u32).wrapping_add(ahead.global),
+        given: ledger.figures().given,
+        standing: ledger.standing(),
+    }
+}
+
+/// The figures that a report of this record tells.
+pub fn figures(pool: &Pool) -> Figures {
+    let used = |places: std::ops::Range<usize>| pool.blocks[places].iter().filter(|block| block.handle != 0).count();
+    Figures {
+        small: used(0..64) as u8,
+        large: used(64..96) as u8,
+        expirations: pool.expirations.iter().filter(|entry| entry.kind != FREE).count() as u16,
+        given: pool.given,
+    }
+}

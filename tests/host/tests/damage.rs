@@ -1,0 +1,229 @@
+//! Damaged records. Every call refuses one with 15 and touches nothing, exactly when the rules say that it is not
+//! well-formed; else it answers as the plain pool does.
+
+use host_tests::entries::Plain;
+use host_tests::host::Host;
+use host_tests::library::Library;
+use host_tests::memory::{bytes_mut, Memory};
+use host_tests::reading::of_record;
+use host_tests::samples::{after, full};
+use plain::fit::is_well_formed;
+use plain::limits::TASKS;
+use plain::record::{BlockEntry, ExpirationEntry, Pool, ABSENT, FREE, GLOBAL, LOCAL, RECORD, RUNNING};
+use reference::call::{Call, Kind};
+use reference::generate::Profile;
+use reference::random::Random;
+
+const NOT_WELL_FORMED: u8 = 15;
+
+// The rules' words.
+
+/// "A record is fit if all of this holds". Nothing here is arranged for speed.
+fn is_fit(pool: &Pool) -> bool {
+    let dates = || pool.expirations.iter().filter(|date| date.kind != FREE);
+    let used = |place: usize| pool.blocks.get(place).is_some_and(|block| block.handle != 0);
+    let running = || pool.tasks.iter().filter(|task| task.state == RUNNING);
+    let named = dates().all(|date| used(usize::from(date.block)));
+    let blocks = (0..96).filter(|&place| used(place)).all(|place| {
+        let BlockEntry { handle, length } = pool.blocks[place];
+        let range = if place < 64 { 1..=32 } else { 33..=256 };
+        dates().any(|date| usize::from(date.block) == place)
+            && range.contains(&length)
+            && handle <= pool.given
+            && pool.blocks.iter().filter(|block| block.handle == handle).count() == 1
+    });
+    let known = pool.tasks.iter().all(|task| task.state <= 2 && task.ticked <= 1);
+    let marks = pool.tasks.iter().all(|task| task.ticked == 0 || task.state == RUNNING);
+    let pending = running().count() == 0 || running().any(|task| task.ticked == 0);
+    let absent = pool.tasks.iter().all(|task| task.state != ABSENT || task.clock == 0);
+    named && blocks && dates().all(|date| is_ahead(pool, date)) && known && marks && pending && absent
+}
+
+/// "own dates are 1 to 31 ticks ahead … and their task is not absent; common dates are 1 to 32 ahead".
+fn is_ahead(pool: &Pool, date: &ExpirationEntry) -> bool {
+    match date.kind {
+        LOCAL => pool
+            .tasks
+            .get(usize::from(date.setter))
+            .is_some_and(|setter| setter.state != ABSENT && (1..=31).contains(&date.due.wrapping_sub(setter.clock))),
+        GLOBAL => (1..=32).contains(&date.due.wrapping_sub(pool.global)),
+        _ => false,
+    }
+}
+
+// One damaged record.
+
+/// The library and the plain pool, with the same memory.
+struct Pair {
+    library: Host<Library>,
+    plain: Host<Plain>,
+    whole: Memory,
+    calls: [Call<'static>; 4],
+    fit: usize,
+    unfit: usize,
+}
+
+impl Pair {
+    fn of(whole: Memory) -> Pair {
+        let running = whole.pool.tasks.iter().position(|task| task.state == RUNNING);
+        let task = running.unwrap_or(0) as u8;
+        let handle = whole.pool.blocks.iter().map(|block| block.handle).max().unwrap_or(0);
+        Pair {
+            library: Host::new(whole.clone()),
+            plain: Host::new(whole.clone()),
+            whole,
+            calls: [
+                Call::Report,
+                Call::Tick { task },
+                Call::Read { task, handle },
+                Call::Make { task, kind: Kind::Local, extension: 30, length: 40 },
+            ],
+            fit: 0,
+            unfit: 0,
+        }
+    }
+
+    /// Makes these calls, each on the record that the damage leaves.
+    fn examine(&mut self, calls: &[Call], damage: impl Fn(&mut Pool)) {
+        damage(&mut self.library.memory.pool);
+        let fit = is_well_formed(&self.library.memory.pool);
+        for call in calls {
+            if fit {
+                damage(&mut self.plain.memory.pool);
+                self.compare(call);
+                damage(&mut self.library.memory.pool);
+            } else {
+                // The host tests that nothing is touched.
+                assert_eq!(self.library.call(call), Err(NOT_WELL_FORMED), "{call:?}");
+            }
+        }
+        self.fit += usize::from(fit);
+        self.unfit += usize::from(!fit);
+    }
+
+    /// Answers alike and leaves alike; then both have the whole record again.
+    fn compare(&mut self, call: &Call) {
+        let told = self.library.call(call);
+        assert_eq!(told, self.plain.call(call), "{call:?}");
+        if told.is_ok() && !matches!(call, Call::Read { .. } | Call::Report) {
+            assert_eq!(of_record(&self.library.memory), of_record(&self.plain.memory), "{call:?}");
+            self.library.memory.clone_from(&self.whole);
+            self.plain.memory.clone_from(&self.whole);
+        }
+        self.plain.memory.pool.clone_from(&self.whole.pool);
+    }
+
+    fn restore(&mut self) {
+        self.library.memory.pool.clone_from(&self.whole.pool);
+        self.plain.memory.pool.clone_from(&self.whole.pool);
+    }
+}
+
+// Damages.
+
+/// All values at all offsets: a report, and one of the other calls in turn.
+fn overwrite_each_byte(whole: Memory) {
+    let mut pair = Pair::of(whole);
+    let calls = pair.calls;
+    for offset in 0..RECORD {
+        let held = bytes_mut(&mut pair.whole.pool)[offset];
+        for value in 0..=255 {
+            let turn = 1 + (offset + usize::from(value)) % 3;
+            pair.examine(&[calls[0], calls[turn]], |pool| bytes_mut(pool)[offset] = value);
+        }
+        bytes_mut(&mut pair.library.memory.pool)[offset] = held;
+    }
+    println!("{} well-formed, {} not", pair.fit, pair.unfit);
+    assert!(pair.fit >= RECORD && pair.unfit > 10_000);
+}
+
+#[test]
+fn one_byte_of_a_fresh_record() {
+    overwrite_each_byte(Memory::fresh(&mut Random::new(5)));
+}
+
+#[test]
+fn one_byte_of_a_full_record() {
+    overwrite_each_byte(full(256));
+}
+
+#[test]
+fn one_byte_of_a_mixed_record() {
+    overwrite_each_byte(after(Profile::Everyday, 3, 900));
+}
+
+/// Its clocks stand at the end of 32 bits.
+#[test]
+fn one_byte_of_a_late_record() {
+    overwrite_each_byte(late(after(Profile::Crowd, 8, 1_500)));
+}
+
+/// The same record with all clocks put forward, and what goes by them.
+fn late(mut memory: Memory) -> Memory {
+    let ahead = (u32::MAX - 7).wrapping_sub(memory.pool.global);
+    memory.pool.global = memory.pool.global.wrapping_add(ahead);
+    for task in memory.pool.tasks.iter_mut().filter(|task| task.state != ABSENT) {
+        task.clock = task.clock.wrapping_add(ahead);
+    }
+    for date in memory.pool.expirations.iter_mut().filter(|date| date.kind != FREE) {
+        date.due = date.due.wrapping_add(ahead);
+    }
+    assert!(is_fit(&memory.pool));
+    memory
+}
+
+/// Entries copied over others, flags and counters put to likely values, a few at a time. Here the rules' words judge.
+#[test]
+fn likely_damages() {
+    let wholes =
+        [full(256), full(96), after(Profile::Everyday, 3, 900), late(after(Profile::Crowd, 8, 1_500))].map(Pair::of);
+    let mut random = Random::new(11);
+    for mut pair in wholes {
+        let calls = pair.calls;
+        for _ in 0..15_000 {
+            let mut damaged = pair.whole.pool.clone();
+            for _ in 0..1 + random.below(3) {
+                damage(&mut damaged, &mut random);
+            }
+            assert_eq!(is_well_formed(&damaged), is_fit(&damaged));
+            pair.examine(&calls, |pool| pool.clone_from(&damaged));
+            pair.restore();
+        }
+        println!("{} well-formed, {} not", pair.fit, pair.unfit);
+        assert!(pair.fit > 500 && pair.unfit > 500);
+    }
+}
+
+fn damage(pool: &mut Pool, random: &mut Random) {
+    let (from, to) = (random.below(256), random.below(256));
+    let small = random.below(4) as u32;
+    match random.below(13) {
+        0 => pool.tasks[to % TASKS] = pool.tasks[from % TASKS],
+        1 => pool.tasks[to % TASKS].state = small as u16,
+        2 => pool.tasks[to % TASKS].ticked = small as u16,
+        3 => pool.tasks[to % TASKS].clock = pool.tasks[to % TASKS].clock.wrapping_add(small),
+        4 => pool.global = pool.global.wrapping_add(small),
+        5 => pool.given = pool.given.wrapping_sub(small),
+        6 => pool.blocks[to % 96] = pool.blocks[from % 96],
+        7 => pool.blocks[to % 96].handle = small,
+        8 => pool.blocks[to % 96].length = random.pick(&[0, 1, 32, 33, 256, 257]),
+        9 => pool.expirations[to] = pool.expirations[from],
+        10 => pool.expirations[to].kind = small as u8,
+        11 => pool.expirations[to].block = random.pick(&[0, 63, 64, 95, 96, 255]),
+        _ => pool.expirations[to].due = pool.expirations[to].due.wrapping_add(small),
+    }
+}
+
+/// Nothing but chance.
+#[test]
+fn noise() {
+    let mut random = Random::new(12);
+    let mut pair = Pair::of(full(256));
+    let calls = pair.calls;
+    for _ in 0..2_000 {
+        let mut noise = pair.whole.pool.clone();
+        random.fill(bytes_mut(&mut noise));
+        pair.examine(&calls, |pool| pool.clone_from(&noise));
+    }
+    assert_eq!(pair.unfit, 2_000);
+}

@@ -1,0 +1,293 @@
+//! Long lists of calls, on the library, the plain pool and both ledgers at once: the same answers and, from time to
+//! time, the same state. The lists are the reference's scripts; lines that hold no call go to the entry for frames.
+
+use host_tests::entries::{Entries, Plain};
+use host_tests::host::{Host, Told};
+use host_tests::library::Library;
+use host_tests::memory::Memory;
+use host_tests::reading::{figures, of_ledger, of_record, Ahead};
+use reference::call::{Answer, Call, Model};
+use reference::frame::{decode, encode_answer};
+use reference::generate::{script_of, Profile, PROFILES};
+use reference::indexed;
+use reference::ledger::Ledger;
+use reference::random::Random;
+use reference::script::lines;
+
+/// The size of a list as a script, in bytes.
+const SIZE: usize = 200_000;
+
+/// How many calls go by between two comparisons of the whole state.
+const STATE: usize = 50;
+
+/// Everything that makes the same calls.
+struct Company {
+    ledger: Ledger,
+    indexed: indexed::Ledger,
+    library: Host<Library>,
+    plain: Host<Plain>,
+    random: Random,
+    /// Joining tasks and global time begin near the end of 32 bits.
+    late: bool,
+    ahead: Ahead,
+    global_before: u32,
+    census: Census,
+}
+
+/// How often what was met.
+#[derive(Default)]
+struct Census {
+    calls: usize,
+    frames: usize,
+    accepted: [usize; 10],
+    refused: [usize; 20],
+    advances: usize,
+    clock_wraps: usize,
+    global_wraps: usize,
+    most: (u8, u8, u16),
+}
+
+impl Company {
+    fn new(seed: u64, late: bool) -> Company {
+        let mut random = Random::new(seed);
+        let mut memory = Memory::fresh(&mut random);
+        let mut ahead = Ahead::default();
+        if late {
+            ahead.global = u32::MAX - random.below(200) as u32;
+            memory.pool.global = ahead.global;
+        }
+        Company {
+            ledger: Ledger::fresh(),
+            indexed: indexed::Ledger::fresh(),
+            library: Host::new(memory.clone()),
+            plain: Host::new(memory),
+            random,
+            late,
+            global_before: ahead.global,
+            ahead,
+            census: Census::default(),
+        }
+    }
+
+    fn run(mut self, script: &[u8]) -> Census {
+        let mut room = vec![0; script.len()];
+        for (count, line) in lines(script).enumerate() {
+            match decode(line, &mut room) {
+                Ok(call) if self.random.one_in(5) => self.ask(line, Some(&call)),
+                Ok(call) => self.call(&call),
+                Err(_) => self.ask(line, None),
+            }
+            if count % STATE == 0 {
+                self.compare_states();
+            }
+        }
+        self.compare_states();
+        self.census
+    }
+
+    /// One call by its own entry.
+    fn call(&mut self, call: &Call) {
+        self.census.calls += 1;
+        let expected = self.ledger.call(call);
+        self.census.note(call, expected);
+        assert_eq!(expected, self.indexed.call(call), "{call:?}");
+        let expected: Told = expected.map_err(|refusal| refusal as u8);
+        assert_eq!(self.library.call(call), expected, "{call:?}");
+        assert_eq!(self.plain.call(call), expected, "{call:?}, plain");
+        let accepted = expected.is_ok();
+        self.follow(call, accepted);
+    }
+
+    /// One line by the entry for frames.
+    fn ask(&mut self, line: &[u8], call: Option<&Call>) {
+        self.census.frames += 1;
+        let mut room = vec![0; line.len() / 2];
+        let expected = decode(line, &mut room).and_then(|call| self.ledger.call(&call));
+        match call {
+            Some(call) => {
+                self.census.note(call, expected);
+                assert_eq!(expected, self.indexed.call(call), "{call:?}");
+            }
+            None => self.census.note_refusal(expected),
+        }
+        let mut answer = Vec::new();
+        encode_answer(&expected, &mut answer);
+        let number = expected.err().map_or(0, |refusal| refusal as u8);
+        assert_eq!(self.library.line(line, call), (number, &answer[..]), "{line:?}");
+        assert_eq!(self.plain.line(line, call), (number, &answer[..]), "{line:?}, plain");
+        if let Some(call) = call {
+            self.follow(call, number == 0);
+        }
+    }
+
+    /// After a call: a task that joined begins late, and the counters are watched.
+    fn follow(&mut self, call: &Call, accepted: bool) {
+        self.census.global_wraps += usize::from(self.plain.memory.pool.global < self.global_before);
+        match *call {
+            Call::Join { task } if accepted && self.late => self.begin_late(usize::from(task)),
+            Call::Leave { task } if accepted => self.ahead.clocks[usize::from(task)] = 0,
+            Call::Tick { task } if accepted => {
+                let wrapped = self.plain.memory.pool.tasks[usize::from(task)].clock == 0;
+                self.census.clock_wraps += usize::from(wrapped);
+            }
+            _ => {}
+        }
+        if accepted {
+            self.census.note_state(&self.plain.memory.pool);
+            self.global_before = self.plain.memory.pool.global;
+        }
+    }
+
+    /// No expiration goes by the clock of a task that has just joined.
+    fn begin_late(&mut self, task: usize) {
+        let clock = u32::MAX - self.random.below(40) as u32;
+        self.ahead.clocks[task] = clock;
+        self.library.memory.pool.tasks[task].clock = clock;
+        self.plain.memory.pool.tasks[task].clock = clock;
+    }
+
+    fn compare_states(&self) {
+        let expected = of_ledger(&self.ledger, &self.ahead);
+        assert_eq!(of_record(&self.library.memory), expected);
+        assert_eq!(of_record(&self.plain.memory), expected, "plain");
+    }
+}
+
+impl Census {
+    fn note(&mut self, call: &Call, answer: Answer) {
+        self.note_refusal(answer);
+        if let Ok(accepted) = answer {
+            self.accepted[operation(call)] += 1;
+            self.advances += usize::from(accepted == reference::call::Accepted::Advanced(true));
+        }
+    }
+
+    fn note_refusal(&mut self, answer: Answer) {
+        if let Err(refusal) = answer {
+            self.refused[refusal as usize] += 1;
+        }
+    }
+
+    fn note_state(&mut self, pool: &plain::record::Pool) {
+        let figures = figures(pool);
+        let (small, large, expirations) = self.most;
+        self.most = (small.max(figures.small), large.max(figures.large), expirations.max(figures.expirations));
+    }
+
+    fn add(&mut self, other: &Census) {
+        self.calls += other.calls;
+        self.frames += other.frames;
+        self.accepted.iter_mut().zip(other.accepted).for_each(|(sum, count)| *sum += count);
+        self.refused.iter_mut().zip(other.refused).for_each(|(sum, count)| *sum += count);
+        self.advances += other.advances;
+        self.clock_wraps += other.clock_wraps;
+        self.global_wraps += other.global_wraps;
+        let (small, large, expirations) = self.most;
+        self.most = (small.max(other.most.0), large.max(other.most.1), expirations.max(other.most.2));
+    }
+
+    fn print(&self) {
+        println!("calls {}, frames {}, advances {}", self.calls, self.frames, self.advances);
+        println!("accepted {:?}", self.accepted);
+        println!("refused, by number, {:?}", self.refused);
+        println!("wraps of clocks {}, of global time {}", self.clock_wraps, self.global_wraps);
+        println!("most small, large, expirations {:?}", self.most);
+    }
+}
+
+fn operation(call: &Call) -> usize {
+    match call {
+        Call::Join { .. } => 0,
+        Call::Leave { .. } => 1,
+        Call::Block { .. } => 2,
+        Call::Resume { .. } => 3,
+        Call::Tick { .. } => 4,
+        Call::Make { .. } => 5,
+        Call::Refresh { .. } => 6,
+        Call::Read { .. } => 7,
+        Call::Write { .. } => 8,
+        Call::Report => 9,
+    }
+}
+
+/// Lists of one profile each and of all together. Those of every seed differ.
+fn run_lists(seeds: std::ops::Range<u64>, late: bool) -> Census {
+    let mut census = Census::default();
+    for seed in seeds {
+        let only = PROFILES.get(seed as usize % (PROFILES.len() + 4)).copied();
+        let script = script_of(only, seed, SIZE);
+        census.add(&Company::new(seed, late).run(&script));
+    }
+    census.print();
+    census
+}
+
+fn check_all_met(census: &Census) {
+    assert!(census.accepted.iter().all(|&count| count > 1_000));
+    for number in (1..=7).chain(9..=13).chain(16..=19) {
+        assert!(census.refused[number] > 500, "{number}");
+    }
+    assert_eq!(census.most, (64, 32, 256));
+    assert!(census.advances > 10_000 && census.frames > 100_000);
+}
+
+#[test]
+fn of_fresh_records() {
+    let census = run_lists(0..105, false);
+    check_all_met(&census);
+    assert!(census.calls + census.frames > 1_000_000);
+}
+
+#[test]
+fn of_records_whose_counters_go_round() {
+    let census = run_lists(1_000..1_105, true);
+    check_all_met(&census);
+    assert!(census.clock_wraps > 100 && census.global_wraps > 20);
+    assert!(census.calls + census.frames > 1_000_000);
+}
+
+/// Near the last handle the ledgers, which start at 0, cannot follow; library and plain pool give the same answers.
+#[test]
+fn of_records_with_nearly_all_handles_given() {
+    let mut refused = [0; 20];
+    for seed in 0..20 {
+        let mut random = Random::new(seed);
+        let mut memory = Memory::fresh(&mut random);
+        let given = u32::MAX - random.below(200) as u32;
+        memory.pool.given = given;
+        let (mut library, mut plain) = (Host::<Library>::new(memory.clone()), Host::<Plain>::new(memory));
+        let script = script_of(Some(Profile::Everyday), seed, SIZE / 4);
+        let mut room = vec![0; script.len()];
+        for line in lines(&script) {
+            let Ok(call) = decode(line, &mut room) else { continue };
+            let call = with_handle_after(given, call);
+            let told = library.call(&call);
+            assert_eq!(told, plain.call(&call), "{call:?}");
+            refused[usize::from(told.err().unwrap_or(0))] += 1;
+        }
+        assert_eq!(of_record(&library.memory), of_record(&plain.memory));
+    }
+    assert!(refused[8] > 100 && refused[11] > 100 && refused[12] > 100, "{refused:?}");
+}
+
+/// The call on a handle so much further on.
+fn with_handle_after(given: u32, call: Call) -> Call {
+    let later = |handle: u32| if handle == 0 { 0 } else { handle.saturating_add(given) };
+    match call {
+        Call::Refresh { task, kind, extension, handle } => {
+            Call::Refresh { task, kind, extension, handle: later(handle) }
+        }
+        Call::Read { task, handle } => Call::Read { task, handle: later(handle) },
+        Call::Write { task, handle, offset, bytes } => Call::Write { task, handle: later(handle), offset, bytes },
+        other => other,
+    }
+}
+
+/// A fresh record is written over whatever stands there.
+#[test]
+fn fresh_is_all_zeros() {
+    let mut memory = Memory::fresh(&mut Random::new(1));
+    host_tests::memory::bytes_mut(&mut memory.pool).fill(0xFF);
+    assert_eq!(Library::fresh(&mut memory.pool), 0);
+    assert!(host_tests::memory::bytes(&memory.pool).iter().all(|&byte| byte == 0));
+}
