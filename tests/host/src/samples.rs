@@ -16,18 +16,19 @@ use crate::memory::Memory;
 pub fn full(expirations: usize) -> Memory {
     let objects = SMALL_BLOCKS + LARGE_BLOCKS;
     assert!((objects..=EXPIRATIONS).contains(&expirations), "each object has an expiration");
-    standing(SMALL_BLOCKS, LARGE_BLOCKS, expirations)
+    standing(TASKS, (SMALL_BLOCKS, LARGE_BLOCKS), expirations)
 }
 
-/// All tasks run, with so many small and large objects and so many expirations in all. None goes within two ticks.
-pub fn standing(small: usize, large: usize, expirations: usize) -> Memory {
+/// So many tasks run, so many small and large objects stand, and so many expirations in all, set by the tasks in turn,
+/// local and global. None goes within five ticks.
+pub fn standing(tasks: usize, (small, large): (usize, usize), expirations: usize) -> Memory {
     let mut host = Host::<Plain>::new(Memory::fresh(&mut Random::new(1)));
     let mut done = |call: Call| assert!(host.call(&call).is_ok(), "{call:?}");
-    for task in 0..TASKS as u8 {
+    for task in 0..tasks as u8 {
         done(Call::Join { task });
     }
     for count in 0..expirations {
-        let task = (count % TASKS) as u8;
+        let task = (count % tasks) as u8;
         let kind = if count % 2 == 0 { Kind::Local } else { Kind::Global };
         let extension = 5 + (count % 26) as u8;
         let objects = small + large;

@@ -69,7 +69,7 @@ fn frame(memory: &mut Memory, (small, large): (usize, usize), line: &[u8], room:
 
 #[test]
 fn a_store_of_wrong_length_is_14() {
-    let mut memory = standing(3, 2, 10);
+    let mut memory = standing(16, (3, 2), 10);
     for stores in WRONG {
         // A task that there is, and one that there is not: 14 comes first.
         for task in [0, 16] {
@@ -101,7 +101,7 @@ fn a_record_that_is_not_well_formed_is_15_before_14() {
 #[test]
 fn calls_that_touch_no_store_do_not_look() {
     for stores in WRONG {
-        let mut memory = standing(3, 2, 10);
+        let mut memory = standing(16, (3, 2), 10);
         let mut told = |line: &[u8]| frame(&mut memory, stores, line, ANSWER_ROOM);
         assert_eq!(told(b"0202"), (0, b"0000\n".to_vec()));
         assert_eq!(told(b"0102"), (0, b"00\n".to_vec()));
@@ -117,7 +117,7 @@ fn calls_that_touch_no_store_do_not_look() {
 #[test]
 fn an_unknown_kind_is_19_before_all_else() {
     for kind in 2..=255 {
-        for (mut memory, stores) in [(standing(3, 2, 10), (2048, 8192)), (damaged(), (2047, 1))] {
+        for (mut memory, stores) in [(standing(16, (3, 2), 10), (2048, 8192)), (damaged(), (2047, 1))] {
             for task in [0, 16] {
                 assert_eq!(make(&mut memory, stores, task, kind), 19);
                 let before = memory.clone();
@@ -153,7 +153,7 @@ fn a_read_needs_room_for_the_object() {
 /// Room is asked for after all tests of the rules.
 #[test]
 fn a_refused_read_needs_no_room() {
-    let mut memory = standing(1, 0, 1);
+    let mut memory = standing(16, (1, 0), 1);
     memory.pool.given = 2;
     let mut told = |task: u8, handle: u32| {
         let Memory { pool, small, large } = &mut memory;
@@ -164,7 +164,7 @@ fn a_refused_read_needs_no_room() {
 
 #[test]
 fn a_frame_needs_room_for_any_answer() {
-    let mut memory = standing(3, 2, 10);
+    let mut memory = standing(16, (3, 2), 10);
     let before = memory.clone();
     for room in [0, 1, 515, ANSWER_ROOM - 1] {
         // Whatever the line is, it is not looked at.
@@ -180,7 +180,7 @@ fn a_frame_needs_room_for_any_answer() {
 
 #[test]
 fn lines_of_any_length() {
-    let mut memory = standing(3, 2, 10);
+    let mut memory = standing(16, (3, 2), 10);
     let mut told = |line: &[u8]| frame(&mut memory, (2048, 8192), line, ANSWER_ROOM).0;
     for count in [263, 264, 265, 1_000, 50_000] {
         let digits = vec![b'0'; 2 * count];

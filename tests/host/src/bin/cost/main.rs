@@ -1,0 +1,36 @@
+//! Measures the library beside the plain pool and prints tables in Markdown: `cost`. Instructions are counted by
+//! callgrind, under which the program runs itself once more, as `cost count`; nanoseconds are the best of some rounds.
+//!
+//! Before each call the record is put back from a copy, so that each call meets the same state. Callgrind counts
+//! inside `measured` alone, and so not this; of the times, those of putting back alone are taken away.
+
+mod callgrind;
+mod cases;
+mod desk;
+mod malloc;
+mod tables;
+mod times;
+
+use std::process::ExitCode;
+
+fn main() -> ExitCode {
+    if cfg!(debug_assertions) {
+        eprintln!("only for release: cargo run --release --bin cost");
+        return ExitCode::FAILURE;
+    }
+    match std::env::args().nth(1).as_deref() {
+        Some("count") => callgrind::run_all(),
+        None => match callgrind::counts() {
+            Ok(counts) => tables::print(&counts, &times::all()),
+            Err(error) => {
+                eprintln!("cost: {error}");
+                return ExitCode::FAILURE;
+            }
+        },
+        Some(_) => {
+            eprintln!("cost");
+            return ExitCode::from(2);
+        }
+    }
+    ExitCode::SUCCESS
+}

@@ -1,0 +1,147 @@
+//! The tables.
+
+use crate::callgrind::{Count, Counts};
+use crate::cases::{self, Case, STANDING};
+use crate::desk::Entry;
+use crate::malloc;
+use crate::times::Times;
+
+const MOST: usize = STANDING[STANDING.len() - 1];
+
+pub fn print(counts: &Counts, times: &Times) {
+    let cases = cases::all();
+    println!("## Each call, {MOST} expirations standing (255 where the call sets one)\n");
+    calls(&cases, counts, times);
+    println!("\n## Growth: instructions with so many expirations standing\n");
+    growth(&cases, counts);
+    println!("\n## Where the instructions go, {MOST} expirations standing\n");
+    parts(&cases, counts);
+    println!("\n## Functions of the library in one tick, {MOST} expirations standing\n");
+    functions(&cases, counts);
+    println!("\n## Beside malloc\n");
+    mallocs(&cases, counts, times);
+}
+
+fn calls(cases: &[Case], counts: &Counts, times: &Times) {
+    println!("| call | instructions: library | plain | library/plain | plain, work alone | ns: library | plain | library/plain | plain, work alone |");
+    println!("|---|---:|---:|---:|---:|---:|---:|---:|---:|");
+    let mut sums = [0.0; 4];
+    for (place, case) in cases.iter().enumerate().filter(|(_, case)| case.expirations == MOST) {
+        let [library, plain, work] = totals(&counts.cases[place]);
+        let [library_ns, plain_ns, work_ns] = times.cases[place];
+        if case.answer == 0 {
+            let measured = [library, plain, library_ns, plain_ns].map(|value| value.unwrap_or(0.0));
+            if case.entry != Entry::Fit {
+                sums.iter_mut().zip(measured).for_each(|(sum, value)| *sum += value);
+            }
+        }
+        row(case.name, [library, plain, work], [library_ns, plain_ns, work_ns]);
+    }
+    let [library, plain, library_ns, plain_ns] = sums.map(Some);
+    row("all accepted together", [library, plain, None], [library_ns, plain_ns, None]);
+}
+
+fn row(name: &str, [library, plain, work]: [Option<f64>; 3], [library_ns, plain_ns, work_ns]: [Option<f64>; 3]) {
+    println!(
+        "| {name} | {} | {} | {} | {} | {} | {} | {} | {} |",
+        number(library),
+        number(plain),
+        ratio(library, plain),
+        number(work),
+        number(library_ns),
+        number(plain_ns),
+        ratio(library_ns, plain_ns),
+        number(work_ns),
+    );
+}
+
+fn growth(cases: &[Case], counts: &Counts) {
+    let heads = |who: &str| STANDING.map(|count| format!("{who}, {count} | ")).concat();
+    println!("| call | {}{}{}", heads("library"), heads("plain"), heads("library/plain"));
+    println!("|---{}|", "|---:".repeat(3 * STANDING.len()));
+    for case in cases.iter().filter(|case| case.expirations == MOST) {
+        let at = STANDING.map(|count| {
+            let place = cases.iter().position(|other| other.name == case.name && other.expirations == count);
+            place.map_or([None; 3], |place| totals(&counts.cases[place]))
+        });
+        let library = at.map(|[library, ..]| number(library) + " | ").concat();
+        let plain = at.map(|[_, plain, _]| number(plain) + " | ").concat();
+        let ratios = at.map(|[library, plain, _]| ratio(library, plain) + " | ").concat();
+        println!("| {} | {library}{plain}{ratios}", case.name);
+    }
+}
+
+/// The library's instructions beside those of the plain fit test, and those that copy and clear.
+fn parts(cases: &[Case], counts: &Counts) {
+    println!("| call | library | copying | clearing | comparing | the rest | plain | its fit test | its copying and clearing | its rest |");
+    println!("|---|---:|---:|---:|---:|---:|---:|---:|---:|---:|");
+    let place_of = |case: &&Case| case.expirations == MOST && case.entry == Entry::Fit;
+    let fit = cases.iter().position(|case| place_of(&case)).map(|place| totals(&counts.cases[place])[1]);
+    let fit = fit.flatten().unwrap_or(0.0);
+    for (place, case) in cases.iter().enumerate().filter(|(_, case)| case.expirations == MOST) {
+        let [Some(library), Some(plain), _] = &counts.cases[place] else { continue };
+        let copies = |count: &Count| count.within("memcpy") + count.within("memmove");
+        let (copying, clearing) = (copies(library), library.within("memset"));
+        let comparing = library.within("memcmp");
+        let plain_copying = copies(plain) + plain.within("memset");
+        let tested = if case.answer == 15 { plain.total() - plain_copying } else { fit.min(plain.total()) };
+        let values = [
+            library.total(),
+            copying,
+            clearing,
+            comparing,
+            library.total() - copying - clearing - comparing,
+            plain.total(),
+            tested,
+            plain_copying,
+            (plain.total() - tested - plain_copying).max(0.0),
+        ];
+        println!("| {} | {}", case.name, values.map(|value| number(Some(value)) + " | ").concat());
+    }
+}
+
+fn functions(cases: &[Case], counts: &Counts) {
+    println!("| function | instructions of its own |\n|---|---:|");
+    let tick = cases.iter().position(|case| case.name == "tick" && case.expirations == MOST);
+    let Some([Some(count), ..]) = tick.map(|place| &counts.cases[place]) else { return };
+    let mut functions: Vec<_> = count.functions.iter().filter(|(_, &count)| count >= 0.5).collect();
+    functions.sort_by(|one, other| other.1.total_cmp(one.1));
+    for (name, count) in functions.iter().take(12) {
+        println!("| `{name}` | {} |", number(Some(**count)));
+    }
+}
+
+/// The calls of an object's life beside the same without a pool.
+fn mallocs(cases: &[Case], counts: &Counts, times: &Times) {
+    println!("| what | bytes | instructions: library | plain | ns: library | plain |\n|---|---:|---:|---:|---:|---:|");
+    for size in [32, 256] {
+        for call in ["make", "write", "read"] {
+            let name = format!("{call} {size}");
+            let place = cases.iter().position(|case| case.name == name && case.expirations == MOST);
+            let Some(place) = place else { continue };
+            let ([library, plain, _], [library_ns, plain_ns, _]) = (totals(&counts.cases[place]), times.cases[place]);
+            let values = [library, plain, library_ns, plain_ns].map(|value| number(value) + " | ").concat();
+            println!("| {call} | {size} | {values}");
+        }
+    }
+    println!("\n| what | bytes | instructions | ns |\n|---|---:|---:|---:|");
+    for (place, way) in malloc::WAYS.iter().enumerate() {
+        let (count, time) = (counts.mallocs[place].total(), times.mallocs[place]);
+        println!("| {} | {} | {} | {} |", way.name, way.size, number(Some(count)), number(Some(time)));
+    }
+}
+
+fn totals(of_case: &[Option<Count>; 3]) -> [Option<f64>; 3] {
+    of_case.each_ref().map(|count| count.as_ref().map(Count::total))
+}
+
+fn number(value: Option<f64>) -> String {
+    value.map_or_else(|| "-".to_string(), |value| format!("{value:.0}"))
+}
+
+fn ratio(one: Option<f64>, other: Option<f64>) -> String {
+    match (one, other) {
+        (Some(one), Some(other)) if other > 0.0 => format!("{:.2}", one / other),
+        _ => "-".to_string(),
+    }
+}

@@ -1,0 +1,55 @@
+//! Nanoseconds: the best of some rounds, less what putting the record back takes.
+
+use std::hint::black_box;
+use std::time::Instant;
+
+use crate::cases::{self, Case};
+use crate::desk::{action, measured, Action, Desk, SUBJECTS};
+use crate::malloc;
+
+const ROUNDS: usize = 9;
+const REPEATS: usize = 1_000;
+
+/// Of each case a time for each subject that has it, then one for each way of allocation.
+pub struct Times {
+    pub cases: Vec<[Option<f64>; 3]>,
+    pub mallocs: Vec<f64>,
+}
+
+pub fn all() -> Times {
+    let of = |case: &Case| {
+        SUBJECTS.map(|subject| {
+            let action = action(case.entry, subject).filter(|_| case.answer != 15 || subject.tests());
+            action.map(|action| time(case, action))
+        })
+    };
+    Times {
+        cases: cases::all().iter().map(of).collect(),
+        mallocs: malloc::WAYS.iter().map(|way| best(|| malloc::measured(way.action, way.size))).collect(),
+    }
+}
+
+fn time(case: &Case, action: Action) -> f64 {
+    let mut desk = Desk::with(case.memory.clone());
+    let both = best(|| {
+        desk.memory.pool.clone_from(black_box(&case.memory.pool));
+        measured(action, &mut desk, &case.arguments);
+    });
+    let back = best(|| {
+        desk.memory.pool.clone_from(black_box(&case.memory.pool));
+        black_box(&mut desk.memory.pool);
+    });
+    (both - back).max(0.0)
+}
+
+fn best(mut step: impl FnMut()) -> f64 {
+    let mut best = f64::INFINITY;
+    for _ in 0..ROUNDS {
+        let start = Instant::now();
+        for _ in 0..REPEATS {
+            step();
+        }
+        best = best.min(start.elapsed().as_nanos() as f64 / REPEATS as f64);
+    }
+    best
+}
