@@ -1,38 +1,44 @@
 //! The test of well-formedness, one pass over each table.
 
+use core::ops::RangeInclusive;
+
 use crate::limits::{
     BLOCKS, GLOBAL_EXTRA, LARGE_SIZE, LOCAL_EXTRA, LONGEST_EXTENSION, SMALL_BLOCKS, SMALL_SIZE, TASKS,
 };
 use crate::record::{BlockEntry, Pool, TaskEntry, ABSENT, FREE, GLOBAL, LOCAL, RUNNING, WAITING};
 
-/// Which blocks expirations name. An entry can name 256 blocks, of which the last 160 are none.
-type Named = [bool; 256];
+/// A flag for each number that one byte can be.
+type Flags = [bool; 256];
 
 pub fn is_well_formed(pool: &Pool) -> bool {
-    let mut named = [false; 256];
+    let (small, large) = pool.blocks.split_at(SMALL_BLOCKS);
+    let mut named: Flags = [false; 256];
     fit_tasks(&pool.tasks)
         && fit_expirations(pool, &mut named)
-        && fit_blocks(&pool.blocks, pool.given, &named)
-        && named[BLOCKS..].iter().all(|&named| !named)
+        && names_none(&named[BLOCKS..])
+        && fit_blocks(small, &named[..SMALL_BLOCKS], pool.given, 1..=SMALL_SIZE as u32)
+        && fit_blocks(large, &named[SMALL_BLOCKS..BLOCKS], pool.given, SMALL_SIZE as u32 + 1..=LARGE_SIZE as u32)
+        && distinct(&pool.blocks)
 }
 
 /// Each entry is fit, and if any task runs, one of them has not ticked.
 fn fit_tasks(tasks: &[TaskEntry; TASKS]) -> bool {
-    let (mut fit, mut running, mut pending) = (true, false, false);
+    let (mut ticked, mut pending) = (false, false);
     for task in tasks {
-        let runs = task.state == RUNNING;
-        running |= runs;
-        pending |= runs & (task.ticked == 0);
-        fit &= task.state <= WAITING;
-        fit &= task.ticked <= u16::from(runs);
-        fit &= (task.state != ABSENT) | (task.clock == 0);
+        match (task.state, task.ticked) {
+            (ABSENT, 0) if task.clock == 0 => {}
+            (RUNNING, 0) => pending = true,
+            (RUNNING, 1) => ticked = true,
+            (WAITING, 0) => {}
+            _ => return false,
+        }
     }
-    fit & (pending | !running)
+    pending | !ticked
 }
 
 /// Each expiration lies ahead of a clock that goes on. The blocks are only noted here, so that one comparison
 /// tells both that each named block is in use and that each block in use is named.
-fn fit_expirations(pool: &Pool, named: &mut Named) -> bool {
+fn fit_expirations(pool: &Pool, named: &mut Flags) -> bool {
     for entry in &pool.expirations {
         let fit = match entry.kind {
             FREE => continue,
@@ -57,35 +63,35 @@ fn is_ahead(due: u32, now: u32, extra: u32) -> bool {
     units.wrapping_sub(1) < u32::from(LONGEST_EXTENSION) + extra
 }
 
-/// The blocks in use are those that are named, with a length of their store's and a handle of their own. Only
-/// where an earlier handle has the same remainder are the earlier blocks looked through.
-fn fit_blocks(blocks: &[BlockEntry; BLOCKS], given: u32, named: &Named) -> bool {
-    let mut met = [false; 256];
-    for (place, block) in blocks.iter().enumerate() {
-        let used = block.handle != 0;
-        if used != named[place] {
-            return false;
-        }
-        if !used {
-            continue;
-        }
-        let remainder = usize::from(block.handle as u8);
-        if met[remainder] && blocks[..place].iter().any(|earlier| earlier.handle == block.handle) {
-            return false;
-        }
-        met[remainder] = true;
-        if !(is_sized_for(place, block.length) & (block.handle <= given)) {
-            return false;
-        }
-    }
-    true
+fn names_none(named: &[bool]) -> bool {
+    !named.iter().fold(false, |any, &named| any | named)
 }
 
-fn is_sized_for(place: usize, length: u32) -> bool {
-    let length = length as usize;
-    if place < SMALL_BLOCKS {
-        (1..=SMALL_SIZE).contains(&length)
-    } else {
-        (SMALL_SIZE + 1..=LARGE_SIZE).contains(&length)
+/// The blocks in use are those that are named, with a length of their store's range and a handle that was given. There is
+/// no way out before the end, so that several blocks are tested at once.
+fn fit_blocks(blocks: &[BlockEntry], named: &[bool], given: u32, lengths: RangeInclusive<u32>) -> bool {
+    let mut fit = true;
+    for (block, &named) in blocks.iter().zip(named) {
+        let used = block.handle != 0;
+        fit &= used == named;
+        fit &= !used | (lengths.contains(&block.length) & (block.handle <= given));
     }
+    fit
+}
+
+/// No two blocks in use have one handle. Only where an earlier handle has the same last byte are the earlier blocks
+/// looked through.
+fn distinct(blocks: &[BlockEntry; BLOCKS]) -> bool {
+    let mut met: Flags = [false; 256];
+    for (place, block) in blocks.iter().enumerate() {
+        if block.handle == 0 {
+            continue;
+        }
+        let met = &mut met[usize::from(block.handle as u8)];
+        if *met && blocks[..place].iter().any(|earlier| earlier.handle == block.handle) {
+            return false;
+        }
+        *met = true;
+    }
+    true
 }

@@ -88,12 +88,12 @@ pub fn write(
 }
 
 pub fn report(pool: &Pool) -> Figures {
-    let used = |blocks: &[BlockEntry]| blocks.iter().filter(|block| block.handle != 0).count();
+    let used = |blocks: &[BlockEntry]| blocks.iter().map(|block| u8::from(block.handle != 0)).sum();
     let (small, large) = pool.blocks.split_at(SMALL_BLOCKS);
     Figures {
-        small: used(small) as u8,
-        large: used(large) as u8,
-        expirations: pool.expirations.iter().filter(|entry| entry.kind != FREE).count() as u16,
+        small: used(small),
+        large: used(large),
+        expirations: pool.expirations.iter().map(|entry| u16::from(entry.kind != FREE)).sum(),
         given: pool.given,
     }
 }

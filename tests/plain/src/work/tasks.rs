@@ -1,6 +1,6 @@
 //! The calls on tasks, the advance test, and the expirations that they end.
 
-use crate::limits::{EXPIRATIONS, TASKS};
+use crate::limits::TASKS;
 use crate::record::{
     ExpirationEntry, Pool, TaskEntry, ABSENT, ABSENT_TASK, FREE, FREE_BLOCK, FREE_EXPIRATION, GLOBAL, LOCAL, RUNNING,
     WAITING,
@@ -25,8 +25,9 @@ pub fn leave(pool: &mut Pool, task: u8) -> Result<bool, u8> {
     *entry = ABSENT_TASK;
     let advanced = advance(pool);
     let global = pool.global;
+    let leaver = u16::from(task);
     end(pool, |entry| match entry.kind {
-        LOCAL => entry.setter == u16::from(task),
+        LOCAL => entry.setter == leaver,
         GLOBAL => entry.due == global,
         _ => false,
     });
@@ -64,8 +65,9 @@ pub fn tick(pool: &mut Pool, task: u8) -> Result<bool, u8> {
     let advanced = advance(pool);
     let global = pool.global;
     // Where global time stands still, no global expiration is due by it.
+    let setter = u16::from(task);
     end(pool, |entry| match entry.kind {
-        LOCAL => entry.due == clock && entry.setter == u16::from(task),
+        LOCAL => entry.due == clock && entry.setter == setter,
         GLOBAL => entry.due == global,
         _ => false,
     });
@@ -106,11 +108,12 @@ fn advance(pool: &mut Pool) -> bool {
 /// Ends these expirations, and frees the blocks that have none left. Most calls end none.
 fn end(pool: &mut Pool, ends: impl Fn(&ExpirationEntry) -> bool) {
     let Some(first) = pool.expirations.iter().position(&ends) else { return };
-    let mut held = [false; EXPIRATIONS];
-    for entry in &pool.expirations[..first] {
+    let (before, rest) = pool.expirations.split_at_mut(first);
+    let mut held = [false; 256];
+    for entry in before {
         held[usize::from(entry.block)] |= entry.kind != FREE;
     }
-    for entry in &mut pool.expirations[first..] {
+    for entry in rest {
         if ends(entry) {
             *entry = FREE_EXPIRATION;
         }

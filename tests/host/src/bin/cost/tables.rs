@@ -71,13 +71,13 @@ fn growth(cases: &[Case], counts: &Counts) {
     }
 }
 
-/// The library's instructions beside those of the plain fit test, and those that copy and clear.
+/// What copies, clears and compares is what is done in the C library's functions for it. The fit test of the library
+/// has no entry of its own: a tick that is refused with 1 is little else.
 fn parts(cases: &[Case], counts: &Counts) {
     println!("| call | library | copying | clearing | comparing | the rest | plain | its fit test | its copying and clearing | its rest |");
     println!("|---|---:|---:|---:|---:|---:|---:|---:|---:|---:|");
-    let place_of = |case: &&Case| case.expirations == MOST && case.entry == Entry::Fit;
-    let fit = cases.iter().position(|case| place_of(&case)).map(|place| totals(&counts.cases[place])[1]);
-    let fit = fit.flatten().unwrap_or(0.0);
+    let fit = cases.iter().position(|case| case.expirations == MOST && case.entry == Entry::Fit);
+    let fit = fit.and_then(|place| totals(&counts.cases[place])[1]).unwrap_or(0.0);
     for (place, case) in cases.iter().enumerate().filter(|(_, case)| case.expirations == MOST) {
         let [Some(library), Some(plain), _] = &counts.cases[place] else { continue };
         let copies = |count: &Count| count.within("memcpy") + count.within("memmove");
@@ -136,7 +136,7 @@ fn totals(of_case: &[Option<Count>; 3]) -> [Option<f64>; 3] {
 }
 
 fn number(value: Option<f64>) -> String {
-    value.map_or_else(|| "-".to_string(), |value| format!("{value:.0}"))
+    value.map_or_else(|| "-".to_string(), |value| format!("{}", value.round() as i64))
 }
 
 fn ratio(one: Option<f64>, other: Option<f64>) -> String {
