@@ -1,5 +1,12 @@
 //! The linked library as tests and measures use it: its entries, a host that makes calls and watches what they
-//! touch, and the record read as a ledger.
+//! touch, the record read as a ledger, and records to begin from.
+//!
+//! `RAMSUMMER_LIB` names the folder of another archive than the project's own:
+//!
+//! ```text
+//! RAMSUMMER_LIB=FOLDER cargo test --offline
+//! RAMSUMMER_LIB=FOLDER cargo run --release --offline --bin cost
+//! ```
 
 pub mod entries;
 pub mod host;

@@ -149,17 +149,22 @@ fn one_byte_of_a_full_record() {
 
 #[test]
 fn one_byte_of_a_mixed_record() {
-    overwrite_each_byte(after(Profile::Everyday, 3, 900));
+    overwrite_each_byte(mixed());
 }
 
-/// Its clocks stand at the end of 32 bits.
 #[test]
 fn one_byte_of_a_late_record() {
-    overwrite_each_byte(late(after(Profile::Crowd, 8, 1_500)));
+    overwrite_each_byte(late());
 }
 
-/// The same record with all clocks put forward, and what goes by them.
-fn late(mut memory: Memory) -> Memory {
+/// Tasks of every state, 28 small and 14 large objects, 53 expirations; all four calls are accepted.
+fn mixed() -> Memory {
+    after(Profile::Everyday, 4, 1_500)
+}
+
+/// 57 objects and 75 expirations, with all clocks put forward to the end of 32 bits, and what goes by them.
+fn late() -> Memory {
+    let mut memory = after(Profile::Everyday, 6, 900);
     let ahead = (u32::MAX - 7).wrapping_sub(memory.pool.global);
     memory.pool.global = memory.pool.global.wrapping_add(ahead);
     for task in memory.pool.tasks.iter_mut().filter(|task| task.state != ABSENT) {
@@ -172,11 +177,19 @@ fn late(mut memory: Memory) -> Memory {
     memory
 }
 
+#[test]
+fn undamaged_records() {
+    for (whole, expected) in [(mixed(), [0; 4]), (late(), [0; 4]), (full(256), [0, 0, 0, 9])] {
+        let Pair { calls, mut library, .. } = Pair::of(whole);
+        let told = calls.map(|call| library.call(&call).err().unwrap_or(0));
+        assert_eq!(told, expected);
+    }
+}
+
 /// Entries copied over others, flags and counters put to likely values, a few at a time. Here the rules' words judge.
 #[test]
 fn likely_damages() {
-    let wholes =
-        [full(256), full(96), after(Profile::Everyday, 3, 900), late(after(Profile::Crowd, 8, 1_500))].map(Pair::of);
+    let wholes = [full(256), full(96), mixed(), late()].map(Pair::of);
     let mut random = Random::new(11);
     for mut pair in wholes {
         let calls = pair.calls;

@@ -1,5 +1,6 @@
 //! Instructions: every case under callgrind in one run of this program, with the counts written out after each.
 
+use std::cell::RefCell;
 use std::collections::BTreeMap;
 use std::fs;
 use std::hint::black_box;
@@ -7,9 +8,9 @@ use std::io;
 use std::path::{Path, PathBuf};
 use std::process::{Command, Stdio};
 
-use crate::cases::{self, Case};
-use crate::desk::{action, measured, Desk, SUBJECTS};
-use crate::malloc;
+use crate::cases::{measure, Case, Measures};
+use crate::desk::{measured, Action, Desk};
+use crate::malloc::{self, Way};
 
 /// How often each call is made.
 const REPEATS: u64 = 10;
@@ -31,37 +32,26 @@ impl Count {
     }
 }
 
-/// Of each case a count for each subject that has it, then one for each way of allocation.
-pub struct Counts {
-    pub cases: Vec<[Option<Count>; 3]>,
-    pub mallocs: Vec<Count>,
-}
-
-/// Makes all calls, in the order in which they are read back.
+/// Makes all calls, and has the counts written out after each case.
 pub fn run_all() {
-    for case in cases::all() {
-        for subject in SUBJECTS {
-            if let Some(action) = action(case.entry, subject).filter(|_| case.answer != 15 || subject.tests()) {
-                run(&case, action);
-                case_is_done();
-            }
-        }
-    }
-    for way in malloc::WAYS {
-        for _ in 0..REPEATS {
-            malloc::measured(way.action, way.size);
-        }
-        case_is_done();
-    }
+    measure(run, run_way);
 }
 
-fn run(case: &Case, action: crate::desk::Action) {
+fn run(case: &Case, action: Action) {
     let mut desk = Desk::with(case.memory.clone());
     for _ in 0..REPEATS {
         desk.memory.pool.clone_from(&case.memory.pool);
         let answer = measured(action, &mut desk, &case.arguments);
         assert_eq!(answer, case.answer, "{}, {} expirations", case.name, case.expirations);
     }
+    case_is_done();
+}
+
+fn run_way(way: &Way) {
+    for _ in 0..REPEATS {
+        malloc::measured(way.action, way.size);
+    }
+    case_is_done();
 }
 
 /// Callgrind writes its counts out where this is called, and begins again.
@@ -70,34 +60,37 @@ fn case_is_done() {
     black_box(());
 }
 
-/// Runs this program under callgrind.
-pub fn counts() -> io::Result<Counts> {
+/// Runs this program under callgrind and reads its counts, one file for each case.
+pub fn counts() -> io::Result<Measures<Count>> {
     let folder = Folder::new()?;
     let file = folder.0.join("counts");
     let mut valgrind = Command::new("valgrind");
     valgrind.args(["--tool=callgrind", "--collect-atstart=no", "--compress-strings=no", "--compress-pos=no"]);
     valgrind.args(["--toggle-collect=*measured*", "--dump-before=*case_is_done*"]);
     valgrind.arg(format!("--callgrind-out-file={}", file.display()));
-    let status = valgrind.arg(std::env::current_exe()?).arg("count").stderr(Stdio::null()).status()?;
+    valgrind.arg(std::env::current_exe()?).arg("count").stderr(Stdio::null());
+    let status = valgrind.status().map_err(|error| io::Error::other(format!("valgrind: {error}")))?;
     if !status.success() {
         return Err(io::Error::other(format!("{valgrind:?}: {status}")));
     }
-    let mut parts = (1..).map(|part| read(&folder.0.join(format!("counts.{part}"))));
-    let mut next = || parts.next().expect("without end");
-    let mut counts = Counts { cases: Vec::new(), mallocs: Vec::new() };
-    for case in cases::all() {
-        let mut of_case = [None, None, None];
-        for (place, subject) in of_case.iter_mut().zip(SUBJECTS) {
-            if action(case.entry, subject).is_some() && (case.answer != 15 || subject.tests()) {
-                *place = Some(next()?);
-            }
-        }
-        counts.cases.push(of_case);
-    }
-    for _ in malloc::WAYS {
-        counts.mallocs.push(next()?);
-    }
-    Ok(counts)
+    let parts = (1..).map(|part| folder.0.join(format!("counts.{part}"))).take_while(|path| path.exists());
+    let counts: Vec<Count> = parts.map(|path| read(&path)).collect::<io::Result<_>>()?;
+    in_order(counts).ok_or_else(|| io::Error::other("callgrind has not written out every case"))
+}
+
+/// The counts, in the order in which the cases were run, put where they belong.
+fn in_order(counts: Vec<Count>) -> Option<Measures<Count>> {
+    let counts = RefCell::new(counts.into_iter());
+    let next = || counts.borrow_mut().next();
+    let Measures { cases, ways } = measure(|_, _| next(), |_| next());
+    let complete = |of_case: [Option<Option<Count>>; 3]| match of_case {
+        [Some(None), ..] | [_, Some(None), _] | [.., Some(None)] => None,
+        counted => Some(counted.map(Option::flatten)),
+    };
+    Some(Measures {
+        cases: cases.into_iter().map(complete).collect::<Option<_>>()?,
+        ways: ways.into_iter().collect::<Option<_>>()?,
+    })
 }
 
 /// The counts of one part: a line `fn=` names a function, and the lines of numbers after it are its own, but for the

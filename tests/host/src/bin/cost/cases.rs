@@ -6,7 +6,8 @@ use plain::record::{GLOBAL, LOCAL, RUNNING, WAITING};
 use reference::call::Call;
 use reference::frame::encode;
 
-use crate::desk::{Arguments, Entry};
+use crate::desk::{action, Action, Arguments, Entry, Subject, SUBJECTS};
+use crate::malloc::{Way, WAYS};
 
 /// How many expirations stand. Where a call sets one more, 255 stand for 256.
 pub const STANDING: [usize; 4] = [0, 64, 128, 256];
@@ -25,6 +26,25 @@ pub struct Case {
     pub arguments: Arguments,
     /// The number of the answer.
     pub answer: u8,
+}
+
+impl Case {
+    /// The function to measure, if the subject has it: the work alone does not test the record.
+    fn action(&self, subject: Subject) -> Option<Action> {
+        action(self.entry, subject).filter(|_| self.answer != 15 || subject != Subject::Work)
+    }
+}
+
+/// Something measured of each case, for each subject that has it, and of each way of allocation.
+pub struct Measures<T> {
+    pub cases: Vec<[Option<T>; 3]>,
+    pub ways: Vec<T>,
+}
+
+/// Measures all, always in the same order.
+pub fn measure<T>(mut case: impl FnMut(&Case, Action) -> T, way: impl FnMut(&Way) -> T) -> Measures<T> {
+    let mut of = |of: &Case| SUBJECTS.map(|subject| of.action(subject).map(|action| case(of, action)));
+    Measures { cases: all().iter().map(&mut of).collect(), ways: WAYS.iter().map(way).collect() }
 }
 
 /// All cases, each the same for every subject.

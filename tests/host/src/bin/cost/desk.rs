@@ -49,13 +49,6 @@ pub enum Subject {
     Work,
 }
 
-impl Subject {
-    /// Whether it tests the record.
-    pub fn tests(self) -> bool {
-        self != Subject::Work
-    }
-}
-
 pub const SUBJECTS: [Subject; 3] = [Subject::Library, Subject::Plain, Subject::Work];
 
 #[derive(Clone, Copy, Debug, PartialEq, Eq)]

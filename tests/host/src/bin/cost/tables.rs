@@ -1,14 +1,13 @@
 //! The tables.
 
-use crate::callgrind::{Count, Counts};
-use crate::cases::{self, Case, STANDING};
+use crate::callgrind::Count;
+use crate::cases::{self, Case, Measures, STANDING};
 use crate::desk::Entry;
 use crate::malloc;
-use crate::times::Times;
 
 const MOST: usize = STANDING[STANDING.len() - 1];
 
-pub fn print(counts: &Counts, times: &Times) {
+pub fn print(counts: &Measures<Count>, times: &Measures<f64>) {
     let cases = cases::all();
     println!("## Each call, {MOST} expirations standing (255 where the call sets one)\n");
     calls(&cases, counts, times);
@@ -22,7 +21,7 @@ pub fn print(counts: &Counts, times: &Times) {
     mallocs(&cases, counts, times);
 }
 
-fn calls(cases: &[Case], counts: &Counts, times: &Times) {
+fn calls(cases: &[Case], counts: &Measures<Count>, times: &Measures<f64>) {
     println!("| call | instructions: library | plain | library/plain | plain, work alone | ns: library | plain | library/plain | plain, work alone |");
     println!("|---|---:|---:|---:|---:|---:|---:|---:|---:|");
     let mut sums = [0.0; 4];
@@ -55,7 +54,7 @@ fn row(name: &str, [library, plain, work]: [Option<f64>; 3], [library_ns, plain_
     );
 }
 
-fn growth(cases: &[Case], counts: &Counts) {
+fn growth(cases: &[Case], counts: &Measures<Count>) {
     let heads = |who: &str| STANDING.map(|count| format!("{who}, {count} | ")).concat();
     println!("| call | {}{}{}", heads("library"), heads("plain"), heads("library/plain"));
     println!("|---{}|", "|---:".repeat(3 * STANDING.len()));
@@ -73,7 +72,7 @@ fn growth(cases: &[Case], counts: &Counts) {
 
 /// What copies, clears and compares is what is done in the C library's functions for it. The fit test of the library
 /// has no entry of its own: a tick that is refused with 1 is little else.
-fn parts(cases: &[Case], counts: &Counts) {
+fn parts(cases: &[Case], counts: &Measures<Count>) {
     println!("| call | library | copying | clearing | comparing | the rest | plain | its fit test | its copying and clearing | its rest |");
     println!("|---|---:|---:|---:|---:|---:|---:|---:|---:|---:|");
     let fit = cases.iter().position(|case| case.expirations == MOST && case.entry == Entry::Fit);
@@ -100,7 +99,7 @@ fn parts(cases: &[Case], counts: &Counts) {
     }
 }
 
-fn functions(cases: &[Case], counts: &Counts) {
+fn functions(cases: &[Case], counts: &Measures<Count>) {
     println!("| function | instructions of its own |\n|---|---:|");
     let tick = cases.iter().position(|case| case.name == "tick" && case.expirations == MOST);
     let Some([Some(count), ..]) = tick.map(|place| &counts.cases[place]) else { return };
@@ -112,7 +111,7 @@ fn functions(cases: &[Case], counts: &Counts) {
 }
 
 /// The calls of an object's life beside the same without a pool.
-fn mallocs(cases: &[Case], counts: &Counts, times: &Times) {
+fn mallocs(cases: &[Case], counts: &Measures<Count>, times: &Measures<f64>) {
     println!("| what | bytes | instructions: library | plain | ns: library | plain |\n|---|---:|---:|---:|---:|---:|");
     for size in [32, 256] {
         for call in ["make", "write", "read"] {
@@ -126,7 +125,7 @@ fn mallocs(cases: &[Case], counts: &Counts, times: &Times) {
     }
     println!("\n| what | bytes | instructions | ns |\n|---|---:|---:|---:|");
     for (place, way) in malloc::WAYS.iter().enumerate() {
-        let (count, time) = (counts.mallocs[place].total(), times.mallocs[place]);
+        let (count, time) = (counts.ways[place].total(), times.ways[place]);
         println!("| {} | {} | {} | {} |", way.name, way.size, number(Some(count)), number(Some(time)));
     }
 }

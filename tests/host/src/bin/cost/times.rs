@@ -3,30 +3,15 @@
 use std::hint::black_box;
 use std::time::Instant;
 
-use crate::cases::{self, Case};
-use crate::desk::{action, measured, Action, Desk, SUBJECTS};
+use crate::cases::{measure, Case, Measures};
+use crate::desk::{measured, Action, Desk};
 use crate::malloc;
 
 const ROUNDS: usize = 9;
 const REPEATS: usize = 1_000;
 
-/// Of each case a time for each subject that has it, then one for each way of allocation.
-pub struct Times {
-    pub cases: Vec<[Option<f64>; 3]>,
-    pub mallocs: Vec<f64>,
-}
-
-pub fn all() -> Times {
-    let of = |case: &Case| {
-        SUBJECTS.map(|subject| {
-            let action = action(case.entry, subject).filter(|_| case.answer != 15 || subject.tests());
-            action.map(|action| time(case, action))
-        })
-    };
-    Times {
-        cases: cases::all().iter().map(of).collect(),
-        mallocs: malloc::WAYS.iter().map(|way| best(|| malloc::measured(way.action, way.size))).collect(),
-    }
+pub fn all() -> Measures<f64> {
+    measure(time, |way| best(|| malloc::measured(way.action, way.size)))
 }
 
 fn time(case: &Case, action: Action) -> f64 {
