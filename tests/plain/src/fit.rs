@@ -67,8 +67,8 @@ fn names_none(named: &[bool]) -> bool {
     !named.iter().fold(false, |any, &named| any | named)
 }
 
-/// The blocks in use are those that are named, with a length of their store's range and a handle that was given. There is
-/// no way out before the end, so that several blocks are tested at once.
+/// The blocks in use are those that are named, with a length of their store's range and a handle that was given. There
+/// is no way out before the end, so that several blocks are tested at once.
 fn fit_blocks(blocks: &[BlockEntry], named: &[bool], given: u32, lengths: RangeInclusive<u32>) -> bool {
     let mut fit = true;
     for (block, &named) in blocks.iter().zip(named) {

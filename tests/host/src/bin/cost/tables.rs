@@ -22,7 +22,8 @@ pub fn print(counts: &Measures<Count>, times: &Measures<f64>) {
 }
 
 fn calls(cases: &[Case], counts: &Measures<Count>, times: &Measures<f64>) {
-    println!("| call | instructions: library | plain | library/plain | plain, work alone | ns: library | plain | library/plain | plain, work alone |");
+    let heads = "library | plain | library/plain | plain, work alone |";
+    println!("| call | instructions: {heads} ns: {heads}");
     println!("|---|---:|---:|---:|---:|---:|---:|---:|---:|");
     let mut sums = [0.0; 4];
     for (place, case) in cases.iter().enumerate().filter(|(_, case)| case.expirations == MOST) {
@@ -73,7 +74,8 @@ fn growth(cases: &[Case], counts: &Measures<Count>) {
 /// What copies, clears and compares is what is done in the C library's functions for it. The fit test of the library
 /// has no entry of its own: a tick that is refused with 1 is little else.
 fn parts(cases: &[Case], counts: &Measures<Count>) {
-    println!("| call | library | copying | clearing | comparing | the rest | plain | its fit test | its copying and clearing | its rest |");
+    let plain = "plain | its fit test | its copying and clearing | its rest |";
+    println!("| call | library | copying | clearing | comparing | the rest | {plain}");
     println!("|---|---:|---:|---:|---:|---:|---:|---:|---:|---:|");
     let fit = cases.iter().position(|case| case.expirations == MOST && case.entry == Entry::Fit);
     let fit = fit.and_then(|place| totals(&counts.cases[place])[1]).unwrap_or(0.0);

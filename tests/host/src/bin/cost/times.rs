@@ -7,7 +7,7 @@ use crate::cases::{measure, Case, Measures};
 use crate::desk::{measured, Action, Desk};
 use crate::malloc;
 
-const ROUNDS: usize = 9;
+const ROUNDS: usize = 20;
 const REPEATS: usize = 1_000;
 
 pub fn all() -> Measures<f64> {
