@@ -1,0 +1,110 @@
+/*
+ * A logger of sixteen tasks, and the weekend on which the sensor of one is dead. examples/logger.rs is the same in Rust.
+ *
+ * Each cycle every task makes a block for its reading, task 0 reads them all, and every task ticks. The readings are
+ * for another task, so their expirations are global: due once every running task has ticked twice.
+ */
+#include <stdbool.h>
+#include <stdio.h>
+#include <string.h>
+
+#include "ramsummer.h"
+#include "ramsummer_text.h"
+
+/* The sensor of WAITER gives nothing in the cycles FIRST_DEAD to LAST_DEAD. */
+enum { READER = 0, WAITER = 7, CYCLES = 10, FIRST_DEAD = 3, LAST_DEAD = 8, READINGS = 4 * 16 + 6 * 15, LENGTH = 4 };
+
+static ramsummer_pool pool;
+static uint8_t small[RAMSUMMER_SMALL], large[RAMSUMMER_LARGE];
+
+/* A pool's record and stores, as make, read and write take them. */
+#define POOL &pool, small, sizeof small, large, sizeof large
+
+static bool at_work(uint8_t task, uint8_t cycle) { return task != WAITER || cycle < FIRST_DEAD || cycle > LAST_DEAD; }
+
+/* What a sensor says: the task, the cycle, and the water level in centimetres. */
+static void sense(uint8_t task, uint8_t cycle, uint8_t reading[LENGTH]) {
+    uint16_t level = 1000 + 20 * task + cycle;
+    reading[0] = task;
+    reading[1] = cycle;
+    reading[2] = level >> 8;
+    reading[3] = level & 0xFF;
+}
+
+/* The task makes a block and writes its reading to it. */
+static uint8_t write_reading(uint8_t task, uint8_t cycle, uint32_t *handle) {
+    uint8_t reading[LENGTH];
+    uint8_t refusal = ramsummer_make(POOL, task, RAMSUMMER_GLOBAL, 0, LENGTH, handle);
+    if (refusal) return refusal;
+    sense(task, cycle, reading);
+    return ramsummer_write(POOL, task, *handle, 0, reading, LENGTH);
+}
+
+/* Task 0 reads it, and counts it where it is as it was written. */
+static uint8_t read_reading(uint8_t task, uint8_t cycle, uint32_t handle, unsigned *read) {
+    uint8_t expected[LENGTH], found[LENGTH];
+    uint32_t length;
+    uint8_t refusal = ramsummer_read(POOL, READER, handle, found, sizeof found, &length);
+    if (refusal) return refusal;
+    sense(task, cycle, expected);
+    *read += length == LENGTH && memcmp(found, expected, LENGTH) == 0;
+    return RAMSUMMER_DONE;
+}
+
+/* One cycle of the tasks at work. Read says how many readings task 0 has read as they were written. */
+static uint8_t run(uint8_t cycle, unsigned *read) {
+    uint32_t handles[RAMSUMMER_TASKS];
+    uint8_t refusal = RAMSUMMER_DONE, advanced, task;
+    for (task = 0; task < RAMSUMMER_TASKS && !refusal; task++)
+        if (at_work(task, cycle)) refusal = write_reading(task, cycle, &handles[task]);
+    for (task = 0; task < RAMSUMMER_TASKS && !refusal; task++)
+        if (at_work(task, cycle)) refusal = read_reading(task, cycle, handles[task], read);
+    for (task = 0; task < RAMSUMMER_TASKS && !refusal; task++)
+        if (at_work(task, cycle)) refusal = ramsummer_tick(&pool, task, &advanced);
+    return refusal;
+}
+
+/* The cure: global time goes on without a task that waits. */
+static uint8_t wait_or_go_on(uint8_t cycle) {
+    uint8_t advanced;
+    if (cycle == FIRST_DEAD) return ramsummer_block(&pool, WAITER, &advanced);
+    if (cycle == LAST_DEAD + 1) return ramsummer_resume(&pool, WAITER);
+    return RAMSUMMER_DONE;
+}
+
+static uint8_t print_cycle(uint8_t cycle, unsigned read) {
+    uint8_t small_objects, large_objects;
+    uint16_t expirations;
+    uint32_t given;
+    uint8_t refusal = ramsummer_report(&pool, &small_objects, &large_objects, &expirations, &given);
+    if (!refusal)
+        printf("cycle %2d: %u readings, global time %2u, %d blocks in use\n", cycle, read, (unsigned)pool.global,
+               small_objects);
+    return refusal;
+}
+
+/* All cycles from a fresh pool, up to the first refusal. Total is the count of readings. */
+static uint8_t log_all(bool with_block, unsigned *total) {
+    uint8_t refusal = ramsummer_fresh(&pool), task, cycle;
+    *total = 0;
+    for (task = 0; task < RAMSUMMER_TASKS && !refusal; task++) refusal = ramsummer_join(&pool, task);
+    for (cycle = 1; cycle <= CYCLES && !refusal; cycle++) {
+        unsigned read = 0;
+        if (with_block) refusal = wait_or_go_on(cycle);
+        if (!refusal) refusal = run(cycle, &read);
+        if (refusal) printf("cycle %2d: refused with %d, %s\n", cycle, refusal, ramsummer_text(refusal));
+        else refusal = print_cycle(cycle, read);
+        *total += read;
+    }
+    return refusal;
+}
+
+int main(void) {
+    uint8_t fault, cure;
+    unsigned total;
+    printf("Task %d waits for its sensor without block:\n", WAITER);
+    fault = log_all(false, &total);
+    printf("Task %d calls block before it waits:\n", WAITER);
+    cure = log_all(true, &total);
+    return fault == RAMSUMMER_NO_FREE_BLOCK && cure == RAMSUMMER_DONE && total == READINGS ? 0 : 1;
+}

@@ -1,0 +1,172 @@
+/*
+ * Ramsummer: the C interface of the proved memory pool, libhost.a (x86-64). C99, C11 and C++.
+ *
+ * What a caller owes, for every call:
+ *   - each pointer is non-null and aligned, also where its count is 0, and leads to as many bytes as its length says;
+ *   - what two pointers of one call lead to does not overlap;
+ *   - a pool and its stores are used by one thread at a time.
+ * All the rest is tested: any record, any bytes and any number may be passed, and what is wrong is refused.
+ *
+ * Each call returns 0 where it was carried out, else the number of its refusal (enum ramsummer_answer). After a
+ * refusal the pool, the stores and what the pointers lead to are as before; ramsummer_frame alone also writes the
+ * answer line of a refusal.
+ */
+#ifndef RAMSUMMER_H
+#define RAMSUMMER_H
+
+#include <stddef.h>
+#include <stdint.h>
+
+#ifdef __cplusplus
+extern "C" {
+#endif
+
+/* Sizes in bytes. */
+#define RAMSUMMER_SMALL 2048  /* the small store: 64 blocks of 32, for objects of 1 to 32 bytes */
+#define RAMSUMMER_LARGE 8192  /* the large store: 32 blocks of 256, for objects of 33 to 256 bytes */
+#define RAMSUMMER_LONGEST 256 /* the longest object: room for any read */
+#define RAMSUMMER_LINE 531    /* the room that ramsummer_frame asks for; an answer line has at most 515 bytes */
+#define RAMSUMMER_RECORD 2952 /* the record, ramsummer_pool */
+
+/* Counts. */
+#define RAMSUMMER_TASKS 16         /* tasks are 0 to 15 */
+#define RAMSUMMER_BLOCKS 96        /* 64 small ones, then 32 large ones */
+#define RAMSUMMER_EXPIRATIONS 256  /* as many stand at most, in all */
+#define RAMSUMMER_MAX_EXTENSION 30 /* the longest extension of an expiration */
+
+/* By which time an expiration is due. */
+enum ramsummer_kind {
+    RAMSUMMER_LOCAL = 0, /* the task's own clock: due after extension + 1 of its ticks */
+    RAMSUMMER_GLOBAL = 1 /* the common time of all running tasks: due after extension + 2 advances */
+};
+
+/* What a call returns. */
+enum ramsummer_answer {
+    RAMSUMMER_DONE = 0,
+    RAMSUMMER_NO_SUCH_TASK = 1,         /* task above 15 */
+    RAMSUMMER_TASK_PRESENT = 2,         /* join: the task is not absent */
+    RAMSUMMER_TASK_ABSENT = 3,          /* the task has not joined */
+    RAMSUMMER_TASK_WAITING = 4,         /* the task has blocked and not resumed */
+    RAMSUMMER_TASK_RUNNING = 5,         /* resume: the task is running */
+    RAMSUMMER_EXTENSION_TOO_LONG = 6,   /* extension above 30 */
+    RAMSUMMER_LENGTH_OUT_OF_RANGE = 7,  /* length 0 or above 256 */
+    RAMSUMMER_HANDLES_SPENT = 8,        /* all 4,294,967,295 handles are given */
+    RAMSUMMER_NO_FREE_BLOCK = 9,        /* no free block in the store for this length */
+    RAMSUMMER_NO_FREE_EXPIRATION = 10,  /* 256 expirations stand */
+    RAMSUMMER_HANDLE_NOT_GIVEN = 11,    /* handle 0, or above the count given */
+    RAMSUMMER_OBJECT_GONE = 12,         /* the object's last expiration has passed */
+    RAMSUMMER_OUTSIDE_OBJECT = 13,      /* write: offset plus count above the object's length */
+    RAMSUMMER_WRONG_STORE_LENGTH = 14,  /* a store is not RAMSUMMER_SMALL or RAMSUMMER_LARGE long */
+    RAMSUMMER_NOT_WELL_FORMED = 15,     /* the record is damaged; tested first by every call but fresh */
+    RAMSUMMER_NOT_HEXADECIMAL = 16,     /* frame: another character, or an odd count of digits */
+    RAMSUMMER_UNKNOWN_OPERATION = 17,   /* frame: no or an unknown operation */
+    RAMSUMMER_WRONG_FRAME_LENGTH = 18,  /* frame: wrong length for its operation */
+    RAMSUMMER_UNKNOWN_KIND = 19,        /* kind above 1; tested before all else */
+    RAMSUMMER_BUFFER_TOO_SHORT = 255    /* read, frame: no room for the answer */
+};
+
+/* A task. State 0 is absent, 1 running, 2 waiting; ticked is 1 where it has ticked in this period of global time. */
+typedef struct ramsummer_task_entry {
+    uint16_t state;
+    uint16_t ticked;
+    uint32_t clock;
+} ramsummer_task_entry;
+
+/* A block and the object in it. Handle 0 is a free block. */
+typedef struct ramsummer_block_entry {
+    uint32_t handle;
+    uint32_t length;
+} ramsummer_block_entry;
+
+/* An expiration. Kind 0 is a free entry, 1 local, 2 global; due is a time by the setter's clock or by global time. */
+typedef struct ramsummer_expiration_entry {
+    uint8_t kind;
+    uint8_t block;
+    uint16_t setter;
+    uint32_t due;
+} ramsummer_expiration_entry;
+
+/* The record of a pool. A fresh one is all zeros. */
+typedef struct ramsummer_pool {
+    ramsummer_task_entry tasks[RAMSUMMER_TASKS];
+    uint32_t global; /* global time */
+    uint32_t given;  /* handles given so far */
+    ramsummer_block_entry blocks[RAMSUMMER_BLOCKS];
+    ramsummer_expiration_entry expirations[RAMSUMMER_EXPIRATIONS];
+} ramsummer_pool;
+
+/* The library knows the record by these places. C99 and old C++ cannot test them while they compile. */
+#if defined(__cplusplus) && __cplusplus >= 201103L
+#define RAMSUMMER_ASSERT(claim) static_assert(claim, #claim)
+#elif !defined(__cplusplus) && defined(__STDC_VERSION__) && __STDC_VERSION__ >= 201112L
+#define RAMSUMMER_ASSERT(claim) _Static_assert(claim, #claim)
+#endif
+#ifdef RAMSUMMER_ASSERT
+RAMSUMMER_ASSERT(sizeof(ramsummer_pool) == RAMSUMMER_RECORD);
+RAMSUMMER_ASSERT(sizeof(ramsummer_task_entry) == 8);
+RAMSUMMER_ASSERT(sizeof(ramsummer_block_entry) == 8);
+RAMSUMMER_ASSERT(sizeof(ramsummer_expiration_entry) == 8);
+RAMSUMMER_ASSERT(offsetof(ramsummer_task_entry, ticked) == 2);
+RAMSUMMER_ASSERT(offsetof(ramsummer_task_entry, clock) == 4);
+RAMSUMMER_ASSERT(offsetof(ramsummer_block_entry, length) == 4);
+RAMSUMMER_ASSERT(offsetof(ramsummer_expiration_entry, block) == 1);
+RAMSUMMER_ASSERT(offsetof(ramsummer_expiration_entry, setter) == 2);
+RAMSUMMER_ASSERT(offsetof(ramsummer_expiration_entry, due) == 4);
+RAMSUMMER_ASSERT(offsetof(ramsummer_pool, global) == 128);
+RAMSUMMER_ASSERT(offsetof(ramsummer_pool, given) == 132);
+RAMSUMMER_ASSERT(offsetof(ramsummer_pool, blocks) == 136);
+RAMSUMMER_ASSERT(offsetof(ramsummer_pool, expirations) == 904);
+#undef RAMSUMMER_ASSERT
+#endif
+
+/* Makes the record that of a fresh pool, whatever it held. Always 0. The stores may hold any bytes. */
+uint8_t ramsummer_fresh(ramsummer_pool *pool);
+
+/* Absent to running, with clock 0. */
+uint8_t ramsummer_join(ramsummer_pool *pool, uint8_t task);
+
+/* To absent; the local expirations that this task set go. Advanced is 1 if global time advanced, else 0. */
+uint8_t ramsummer_leave(ramsummer_pool *pool, uint8_t task, uint8_t *advanced);
+
+/* Running to waiting: global time goes on without this task. Advanced as for leave. */
+uint8_t ramsummer_block(ramsummer_pool *pool, uint8_t task, uint8_t *advanced);
+
+/* Waiting to running. */
+uint8_t ramsummer_resume(ramsummer_pool *pool, uint8_t task);
+
+/* One unit of the task's local time; once all running tasks have ticked, one of global time. Advanced as for leave. */
+uint8_t ramsummer_tick(ramsummer_pool *pool, uint8_t task, uint8_t *advanced);
+
+/* A new object of zero bytes with one expiration. Handle is set to its number. */
+uint8_t ramsummer_make(ramsummer_pool *pool, uint8_t *small_store, size_t small_length, uint8_t *large_store,
+                       size_t large_length, uint8_t task, uint8_t kind, uint8_t extension, uint16_t length,
+                       uint32_t *handle);
+
+/* One more expiration for the object; those that it has stay. */
+uint8_t ramsummer_refresh(ramsummer_pool *pool, uint8_t task, uint8_t kind, uint8_t extension, uint32_t handle);
+
+/* The object's bytes go to the start of out, and length says how many; the rest of out stays. */
+uint8_t ramsummer_read(ramsummer_pool *pool, const uint8_t *small_store, size_t small_length,
+                       const uint8_t *large_store, size_t large_length, uint8_t task, uint32_t handle, uint8_t *out,
+                       size_t out_length, uint32_t *length);
+
+/* Replaces count bytes of the object from offset on. */
+uint8_t ramsummer_write(ramsummer_pool *pool, uint8_t *small_store, size_t small_length, uint8_t *large_store,
+                        size_t large_length, uint8_t task, uint32_t handle, uint8_t offset, const uint8_t *bytes,
+                        size_t count);
+
+/* Small and large objects that stand, expirations that stand, handles given so far. */
+uint8_t ramsummer_report(ramsummer_pool *pool, uint8_t *small_objects, uint8_t *large_objects, uint16_t *expirations,
+                         uint32_t *given);
+
+/* Carries out one call frame. Line is without its LF; the answer line goes to the start of out with its LF, and length
+ * says how many bytes. The number is the one that the answer line starts with. */
+uint8_t ramsummer_frame(ramsummer_pool *pool, uint8_t *small_store, size_t small_length, uint8_t *large_store,
+                        size_t large_length, const uint8_t *line, size_t line_length, uint8_t *out, size_t out_length,
+                        uint32_t *length);
+
+#ifdef __cplusplus
+}
+#endif
+
+#endif

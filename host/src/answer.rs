@@ -1,0 +1,34 @@
+//! What the calls answer that have more to say than a number: report and frame.
+
+use crate::Refusal;
+use std::fmt;
+
+/// The figures of a report.
+#[derive(Clone, Copy, Debug, Default, PartialEq, Eq)]
+pub struct Report {
+    /// Objects that stand in the small store, 64 at most.
+    pub small: u8,
+    /// Objects that stand in the large store, 32 at most.
+    pub large: u8,
+    /// Expirations that stand, 256 at most.
+    pub expirations: u16,
+    /// Handles given so far.
+    pub given: u32,
+}
+
+impl fmt::Display for Report {
+    /// The figures on one line, such as `small 2, large 0, expirations 3, given 7`.
+    fn fmt(&self, f: &mut fmt::Formatter<'_>) -> fmt::Result {
+        let Report { small, large, expirations, given } = self;
+        write!(f, "small {small}, large {large}, expirations {expirations}, given {given}")
+    }
+}
+
+/// The answer to a frame: whether its call was carried out, and the answer line, which says that too.
+#[derive(Clone, Copy, Debug, PartialEq, Eq)]
+pub struct Answer<'out> {
+    /// Whether the frame's call was carried out.
+    pub outcome: Result<(), Refusal>,
+    /// The answer line with its LF; empty where the outcome is [`Refusal::BufferTooShort`].
+    pub line: &'out [u8],
+}

@@ -1,0 +1,20 @@
+//! The two kinds of expirations.
+
+/// By which time an expiration is due.
+#[repr(u8)]
+#[derive(Clone, Copy, Debug, PartialEq, Eq, PartialOrd, Ord, Hash)]
+pub enum Kind {
+    /// By the setting task's local time (document 01: an own date). With extension e it is due after e + 1 of this
+    /// task's ticks: for what the task alone uses.
+    Local = 0,
+    /// By global time (document 01: a common date). With extension e it is due after e + 2 advances, to which each
+    /// running task has to tick: for what others use too.
+    Global = 1,
+}
+
+impl Kind {
+    /// The number that the library and a frame have for it.
+    pub const fn number(self) -> u8 {
+        self as u8
+    }
+}

@@ -1,0 +1,266 @@
+//! The pool: a record and two stores, owned or borrowed, and the calls on them.
+
+use crate::{sys, Answer, Handle, Kind, Record, Refusal, Report};
+use std::borrow::BorrowMut;
+use std::fmt;
+
+/// The length of the small store: 64 blocks of 32 bytes, for objects of 1 to 32 bytes.
+pub const SMALL: usize = 2048;
+
+/// The length of the large store: 32 blocks of 256 bytes, for objects of 33 to 256 bytes.
+pub const LARGE: usize = 8192;
+
+/// The length of the longest object: room for any read.
+pub const LONGEST: usize = 256;
+
+/// The room that [`Pool::frame`] asks for. An answer line has at most 515 bytes.
+pub const LINE: usize = 531;
+
+/// A memory pool: its record and its two stores, which it owns ([`Pool::new`]) or borrows ([`Pool::over`]).
+///
+/// Tasks are 0 to 15. Each call is carried out, or refused without any change.
+///
+/// ```
+/// use ramsummer::{Kind, Pool, Refusal};
+///
+/// let mut pool = Pool::new();
+/// pool.join(0)?;
+/// let handle = pool.make(0, Kind::Local, 0, 4)?;
+/// pool.write(0, handle, 1, &[0xA5])?;
+/// assert_eq!(pool.read_to_vec(0, handle)?, [0, 0xA5, 0, 0]);
+/// pool.tick(0)?;
+/// assert_eq!(pool.read_to_vec(0, handle), Err(Refusal::ObjectGone));
+/// # Ok::<(), Refusal>(())
+/// ```
+#[derive(Clone, PartialEq, Eq)]
+pub struct Pool<R = Box<Record>, S = Box<[u8]>, L = S> {
+    record: R,
+    small: S,
+    large: L,
+}
+
+impl Pool {
+    /// A fresh pool that owns its record and stores.
+    pub fn new() -> Self {
+        Pool::over(Box::default(), vec![0; SMALL].into(), vec![0; LARGE].into())
+    }
+}
+
+impl Default for Pool {
+    /// A fresh pool that owns its record and stores.
+    fn default() -> Self {
+        Self::new()
+    }
+}
+
+impl<R, S, L> Pool<R, S, L>
+where
+    R: BorrowMut<Record>,
+    S: AsRef<[u8]> + AsMut<[u8]>,
+    L: AsRef<[u8]> + AsMut<[u8]>,
+{
+    /// A pool over this record and these stores, each owned or borrowed.
+    ///
+    /// The stores are [`SMALL`] and [`LARGE`] bytes long; the calls that use them refuse others. A record that was kept
+    /// over a restart may be damaged; a report tells.
+    ///
+    /// ```
+    /// use ramsummer::{Pool, Record, Refusal, LARGE, SMALL};
+    ///
+    /// let (mut record, mut small, mut large) = (Record::fresh(), [0; SMALL], [0; LARGE]);
+    /// record.tasks[5].clock = 1; // damaged: task 5 is absent
+    /// let mut pool = Pool::over(&mut record, &mut small, &mut large);
+    /// if pool.report() == Err(Refusal::NotWellFormed) {
+    ///     pool.fresh();
+    /// }
+    /// pool.join(5)?;
+    /// # Ok::<(), Refusal>(())
+    /// ```
+    pub fn over(record: R, small: S, large: L) -> Self {
+        Pool { record, small, large }
+    }
+
+    /// The record and the small and the large store, handed back.
+    pub fn into_parts(self) -> (R, S, L) {
+        (self.record, self.small, self.large)
+    }
+
+    /// The record.
+    pub fn record(&self) -> &Record {
+        self.record.borrow()
+    }
+
+    /// The small store.
+    pub fn small(&self) -> &[u8] {
+        self.small.as_ref()
+    }
+
+    /// The large store.
+    pub fn large(&self) -> &[u8] {
+        self.large.as_ref()
+    }
+
+    /// Makes the record that of a fresh pool, whatever it held. The stores stay as they are.
+    pub fn fresh(&mut self) {
+        sys::fresh(self.record.borrow_mut())
+    }
+
+    /// Absent to running, with clock 0.
+    pub fn join(&mut self, task: u8) -> Result<(), Refusal> {
+        sys::join(self.record.borrow_mut(), task)
+    }
+
+    /// To absent; the local expirations that this task set go. Answers whether global time advanced.
+    pub fn leave(&mut self, task: u8) -> Result<bool, Refusal> {
+        sys::leave(self.record.borrow_mut(), task)
+    }
+
+    /// Running to waiting: global time goes on without this task. Answers whether global time advanced.
+    ///
+    /// A task calls it before it waits for something that may not come: while it runs and does not tick, global time
+    /// stands, and no object with a global expiration goes.
+    ///
+    /// ```
+    /// let mut pool = ramsummer::Pool::new();
+    /// pool.join(0)?;
+    /// pool.join(1)?;
+    /// assert_eq!(pool.tick(0), Ok(false)); // task 1 has not ticked
+    /// assert_eq!(pool.block(1), Ok(true)); // and need not any more
+    /// # Ok::<(), ramsummer::Refusal>(())
+    /// ```
+    pub fn block(&mut self, task: u8) -> Result<bool, Refusal> {
+        sys::block(self.record.borrow_mut(), task)
+    }
+
+    /// Waiting to running.
+    pub fn resume(&mut self, task: u8) -> Result<(), Refusal> {
+        sys::resume(self.record.borrow_mut(), task)
+    }
+
+    /// One unit of the task's local time; once all running tasks have ticked, one of global time. Answers whether
+    /// global time advanced.
+    pub fn tick(&mut self, task: u8) -> Result<bool, Refusal> {
+        sys::tick(self.record.borrow_mut(), task)
+    }
+
+    /// A new object of `length` zero bytes, 1 to [`LONGEST`], with one expiration. The extension is 0 to 30.
+    ///
+    /// ```
+    /// use ramsummer::{Kind, Pool, Refusal};
+    ///
+    /// let mut pool = Pool::new();
+    /// pool.join(0)?;
+    /// for _ in 0..64 {
+    ///     pool.make(0, Kind::Local, 30, 32)?;
+    /// }
+    /// assert_eq!(pool.make(0, Kind::Local, 30, 32), Err(Refusal::NoFreeBlock));
+    /// assert!(pool.make(0, Kind::Local, 30, 33).is_ok()); // of the large store
+    /// # Ok::<(), Refusal>(())
+    /// ```
+    pub fn make(&mut self, task: u8, kind: Kind, extension: u8, length: u16) -> Result<Handle, Refusal> {
+        let (record, small, large) = self.parts();
+        sys::make(record, small, large, task, kind, extension, length)
+    }
+
+    /// One more expiration for the object; those that it has stay. The extension is 0 to 30.
+    ///
+    /// ```
+    /// use ramsummer::{Kind, Pool};
+    ///
+    /// let mut pool = Pool::new();
+    /// pool.join(0)?;
+    /// let handle = pool.make(0, Kind::Local, 0, 4)?;
+    /// pool.refresh(0, Kind::Local, 1, handle)?;
+    /// pool.tick(0)?;
+    /// assert!(pool.read_to_vec(0, handle).is_ok()); // it would be gone by now
+    /// # Ok::<(), ramsummer::Refusal>(())
+    /// ```
+    pub fn refresh(&mut self, task: u8, kind: Kind, extension: u8, handle: Handle) -> Result<(), Refusal> {
+        sys::refresh(self.record.borrow_mut(), task, kind, extension, handle)
+    }
+
+    /// The object's bytes, copied to the start of `out`; the rest of `out` stays.
+    ///
+    /// ```
+    /// use ramsummer::{Kind, Pool, LONGEST};
+    ///
+    /// let mut pool = Pool::new();
+    /// pool.join(0)?;
+    /// let handle = pool.make(0, Kind::Local, 0, 4)?;
+    /// let mut room = [0; LONGEST];
+    /// assert_eq!(pool.read(0, handle, &mut room)?, [0, 0, 0, 0]);
+    /// # Ok::<(), ramsummer::Refusal>(())
+    /// ```
+    pub fn read<'out>(&mut self, task: u8, handle: Handle, out: &'out mut [u8]) -> Result<&'out [u8], Refusal> {
+        let (record, small, large) = self.parts();
+        let length = sys::read(record, small, large, task, handle, out)?;
+        Ok(&out[..length])
+    }
+
+    /// The object's bytes, in a vector.
+    pub fn read_to_vec(&mut self, task: u8, handle: Handle) -> Result<Vec<u8>, Refusal> {
+        self.read(task, handle, &mut [0; LONGEST]).map(<[u8]>::to_vec)
+    }
+
+    /// Replaces as many of the object's bytes, from `offset` on.
+    pub fn write(&mut self, task: u8, handle: Handle, offset: u8, bytes: &[u8]) -> Result<(), Refusal> {
+        let (record, small, large) = self.parts();
+        sys::write(record, small, large, task, handle, offset, bytes)
+    }
+
+    /// The pool's figures. The only refusal is that of a record that is not well-formed.
+    ///
+    /// The library is lent a copy of the record, so that a pool can be asked that is only looked at.
+    ///
+    /// ```
+    /// let mut pool = ramsummer::Pool::new();
+    /// pool.join(0)?;
+    /// pool.make(0, ramsummer::Kind::Global, 0, 200)?;
+    /// assert_eq!(pool.report()?.to_string(), "small 0, large 1, expirations 1, given 1");
+    /// # Ok::<(), ramsummer::Refusal>(())
+    /// ```
+    pub fn report(&self) -> Result<Report, Refusal> {
+        sys::report(&mut self.record().clone())
+    }
+
+    /// Carries out one call frame: a line of hexadecimal without its LF. The answer line goes to the start of `out`,
+    /// which is at least [`LINE`] long.
+    ///
+    /// ```
+    /// use ramsummer::{Pool, Refusal, LINE};
+    ///
+    /// let mut pool = Pool::new();
+    /// let mut room = [0; LINE];
+    /// assert_eq!(pool.frame(b"0100", &mut room).line, b"00\n"); // task 0 joins
+    /// let answer = pool.frame(b"0100", &mut room); // and again
+    /// assert_eq!(answer.line, b"02\n");
+    /// assert_eq!(answer.outcome, Err(Refusal::TaskPresent));
+    /// ```
+    pub fn frame<'out>(&mut self, line: &[u8], out: &'out mut [u8]) -> Answer<'out> {
+        let (record, small, large) = self.parts();
+        let (outcome, length) = sys::frame(record, small, large, line, out);
+        Answer { outcome, line: &out[..length] }
+    }
+
+    fn parts(&mut self) -> (&mut Record, &mut [u8], &mut [u8]) {
+        (self.record.borrow_mut(), self.small.as_mut(), self.large.as_mut())
+    }
+}
+
+impl<R: BorrowMut<Record>, S, L> fmt::Debug for Pool<R, S, L> {
+    /// The record, and not the ten thousand bytes of the stores.
+    fn fmt(&self, f: &mut fmt::Formatter<'_>) -> fmt::Result {
+        f.debug_struct("Pool").field("record", self.record.borrow()).finish_non_exhaustive()
+    }
+}
+
+impl<R: BorrowMut<Record>, S, L> fmt::Display for Pool<R, S, L> {
+    /// Global time and the report's figures on one line, or why there is no report.
+    fn fmt(&self, f: &mut fmt::Formatter<'_>) -> fmt::Result {
+        let record = self.record.borrow();
+        match sys::report(&mut record.clone()) {
+            Ok(report) => write!(f, "global time {}, {report}", record.global),
+            Err(refusal) => write!(f, "{refusal}"),
+        }
+    }
+}

@@ -1,0 +1,128 @@
+//! Why a call was refused: the numbers of document 01, and that of a buffer too short.
+
+use std::error::Error;
+use std::fmt;
+
+/// Why a call was refused. A refused call changes nothing.
+///
+/// ```
+/// use ramsummer::{Pool, Refusal};
+///
+/// let refusal = Pool::new().tick(0).unwrap_err();
+/// assert_eq!(refusal, Refusal::TaskAbsent);
+/// assert_eq!(refusal.number(), 3);
+/// assert_eq!(refusal.to_string(), "the task has not joined");
+/// ```
+#[repr(u8)]
+#[derive(Clone, Copy, Debug, PartialEq, Eq, PartialOrd, Ord, Hash)]
+pub enum Refusal {
+    /// Task above 15.
+    NoSuchTask = 1,
+    /// Join: the task is not absent.
+    TaskPresent = 2,
+    /// The task has not joined.
+    TaskAbsent = 3,
+    /// The task has blocked and not resumed.
+    TaskWaiting = 4,
+    /// Resume: the task is running.
+    TaskRunning = 5,
+    /// Extension above 30.
+    ExtensionTooLong = 6,
+    /// Length 0 or above 256.
+    LengthOutOfRange = 7,
+    /// All 4,294,967,295 handles are given.
+    HandlesSpent = 8,
+    /// No free block in the store for this length.
+    NoFreeBlock = 9,
+    /// 256 expirations stand.
+    NoFreeExpiration = 10,
+    /// Handle 0, or above the count given.
+    HandleNotGiven = 11,
+    /// The object's last expiration has passed.
+    ObjectGone = 12,
+    /// Write: offset plus count above the object's length.
+    OutsideObject = 13,
+    /// A store of another length than [`SMALL`](crate::SMALL) or [`LARGE`](crate::LARGE).
+    WrongStoreLength = 14,
+    /// The record is damaged.
+    NotWellFormed = 15,
+    /// Frame: another character, or an odd count of digits.
+    NotHexadecimal = 16,
+    /// Frame: no or an unknown operation.
+    UnknownOperation = 17,
+    /// Frame: wrong length for its operation.
+    WrongFrameLength = 18,
+    /// Frame: kind above 1.
+    UnknownKind = 19,
+    /// Read, frame: no room for the answer in the caller's buffer. It is no refusal of document 01.
+    BufferTooShort = 255,
+}
+
+impl Refusal {
+    /// All refusals, in order of number.
+    pub const ALL: [Refusal; 20] = [
+        Refusal::NoSuchTask,
+        Refusal::TaskPresent,
+        Refusal::TaskAbsent,
+        Refusal::TaskWaiting,
+        Refusal::TaskRunning,
+        Refusal::ExtensionTooLong,
+        Refusal::LengthOutOfRange,
+        Refusal::HandlesSpent,
+        Refusal::NoFreeBlock,
+        Refusal::NoFreeExpiration,
+        Refusal::HandleNotGiven,
+        Refusal::ObjectGone,
+        Refusal::OutsideObject,
+        Refusal::WrongStoreLength,
+        Refusal::NotWellFormed,
+        Refusal::NotHexadecimal,
+        Refusal::UnknownOperation,
+        Refusal::WrongFrameLength,
+        Refusal::UnknownKind,
+        Refusal::BufferTooShort,
+    ];
+
+    /// The number that the library and an answer line have for it.
+    pub const fn number(self) -> u8 {
+        self as u8
+    }
+
+    /// The refusal of this number, if there is one.
+    pub fn from_number(number: u8) -> Option<Self> {
+        Self::ALL.into_iter().find(|refusal| refusal.number() == number)
+    }
+
+    const fn sentence(self) -> &'static str {
+        match self {
+            Refusal::NoSuchTask => "there is no such task: tasks are 0 to 15",
+            Refusal::TaskPresent => "the task has joined already",
+            Refusal::TaskAbsent => "the task has not joined",
+            Refusal::TaskWaiting => "the task is waiting",
+            Refusal::TaskRunning => "the task is running",
+            Refusal::ExtensionTooLong => "the extension is above 30",
+            Refusal::LengthOutOfRange => "the length is 0 or above 256",
+            Refusal::HandlesSpent => "all handles are given",
+            Refusal::NoFreeBlock => "no block is free in the store for this length",
+            Refusal::NoFreeExpiration => "256 expirations stand, and no more may",
+            Refusal::HandleNotGiven => "the handle was never given",
+            Refusal::ObjectGone => "the object is gone: its last expiration has passed",
+            Refusal::OutsideObject => "the bytes reach beyond the object's end",
+            Refusal::WrongStoreLength => "a store has the wrong length",
+            Refusal::NotWellFormed => "the record is not well-formed",
+            Refusal::NotHexadecimal => "the frame is not hexadecimal, two digits for a byte",
+            Refusal::UnknownOperation => "the frame names no known operation",
+            Refusal::WrongFrameLength => "the frame has the wrong length for its operation",
+            Refusal::UnknownKind => "the kind is neither local nor global",
+            Refusal::BufferTooShort => "the buffer is too short for the answer",
+        }
+    }
+}
+
+impl fmt::Display for Refusal {
+    fn fmt(&self, f: &mut fmt::Formatter<'_>) -> fmt::Result {
+        f.pad(self.sentence())
+    }
+}
+
+impl Error for Refusal {}

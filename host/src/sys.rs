@@ -1,0 +1,257 @@
+//! The C interface of the proved library, and one safe function over each of its entries. All unsafe code is here.
+//!
+//! The library asks of a call that its pointers are non-null and aligned, lead to as many bytes as their lengths say,
+//! and do not overlap, and that one thread at a time uses a pool. It tests all the rest. References give all of that: a
+//! `&mut` is the only way to what it leads to, and a slice knows its length. The library keeps no pointer after a call,
+//! and no memory of its own between calls.
+
+use crate::record::RECORD;
+use crate::{Handle, Kind, Record, Refusal, Report};
+
+// As in include/ramsummer.h. A reference to one value is a pointer to C; a slice is a pointer and then a length.
+extern "C" {
+    fn ramsummer_fresh(pool: &mut Record) -> u8;
+    fn ramsummer_join(pool: &mut Record, task: u8) -> u8;
+    fn ramsummer_leave(pool: &mut Record, task: u8, advanced: &mut u8) -> u8;
+    fn ramsummer_block(pool: &mut Record, task: u8, advanced: &mut u8) -> u8;
+    fn ramsummer_resume(pool: &mut Record, task: u8) -> u8;
+    fn ramsummer_tick(pool: &mut Record, task: u8, advanced: &mut u8) -> u8;
+    fn ramsummer_make(
+        pool: &mut Record,
+        small: *mut u8,
+        small_length: usize,
+        large: *mut u8,
+        large_length: usize,
+        task: u8,
+        kind: u8,
+        extension: u8,
+        length: u16,
+        handle: &mut u32,
+    ) -> u8;
+    fn ramsummer_refresh(pool: &mut Record, task: u8, kind: u8, extension: u8, handle: u32) -> u8;
+    fn ramsummer_read(
+        pool: &mut Record,
+        small: *const u8,
+        small_length: usize,
+        large: *const u8,
+        large_length: usize,
+        task: u8,
+        handle: u32,
+        out: *mut u8,
+        out_length: usize,
+        length: &mut u32,
+    ) -> u8;
+    fn ramsummer_write(
+        pool: &mut Record,
+        small: *mut u8,
+        small_length: usize,
+        large: *mut u8,
+        large_length: usize,
+        task: u8,
+        handle: u32,
+        offset: u8,
+        bytes: *const u8,
+        count: usize,
+    ) -> u8;
+    fn ramsummer_report(
+        pool: &mut Record,
+        small: &mut u8,
+        large: &mut u8,
+        expirations: &mut u16,
+        given: &mut u32,
+    ) -> u8;
+    fn ramsummer_frame(
+        pool: &mut Record,
+        small: *mut u8,
+        small_length: usize,
+        large: *mut u8,
+        large_length: usize,
+        line: *const u8,
+        line_length: usize,
+        out: *mut u8,
+        out_length: usize,
+        length: &mut u32,
+    ) -> u8;
+}
+
+/// The number that a call returns, as a result.
+fn outcome(number: u8) -> Result<(), Refusal> {
+    match number {
+        0 => Ok(()),
+        _ => Err(Refusal::from_number(number).unwrap_or_else(|| panic!("the library returned {number}"))),
+    }
+}
+
+pub(crate) fn fresh(pool: &mut Record) {
+    // SAFETY: one pointer, from a reference.
+    let number = unsafe { ramsummer_fresh(pool) };
+    debug_assert_eq!(number, 0);
+}
+
+pub(crate) fn join(pool: &mut Record, task: u8) -> Result<(), Refusal> {
+    // SAFETY: one pointer, from a reference.
+    outcome(unsafe { ramsummer_join(pool, task) })
+}
+
+pub(crate) fn leave(pool: &mut Record, task: u8) -> Result<bool, Refusal> {
+    let mut advanced = 0;
+    // SAFETY: both pointers are from references, and `advanced` is a variable of this function.
+    outcome(unsafe { ramsummer_leave(pool, task, &mut advanced) })?;
+    Ok(advanced != 0)
+}
+
+pub(crate) fn block(pool: &mut Record, task: u8) -> Result<bool, Refusal> {
+    let mut advanced = 0;
+    // SAFETY: both pointers are from references, and `advanced` is a variable of this function.
+    outcome(unsafe { ramsummer_block(pool, task, &mut advanced) })?;
+    Ok(advanced != 0)
+}
+
+pub(crate) fn resume(pool: &mut Record, task: u8) -> Result<(), Refusal> {
+    // SAFETY: one pointer, from a reference.
+    outcome(unsafe { ramsummer_resume(pool, task) })
+}
+
+pub(crate) fn tick(pool: &mut Record, task: u8) -> Result<bool, Refusal> {
+    let mut advanced = 0;
+    // SAFETY: both pointers are from references, and `advanced` is a variable of this function.
+    outcome(unsafe { ramsummer_tick(pool, task, &mut advanced) })?;
+    Ok(advanced != 0)
+}
+
+pub(crate) fn make(
+    pool: &mut Record,
+    small: &mut [u8],
+    large: &mut [u8],
+    task: u8,
+    kind: Kind,
+    extension: u8,
+    length: u16,
+) -> Result<Handle, Refusal> {
+    let mut handle = 0;
+    // SAFETY: the record and both stores are three `&mut`, so they do not overlap, and each store comes with its own
+    // length; `handle` is a variable of this function.
+    outcome(unsafe {
+        ramsummer_make(
+            pool,
+            small.as_mut_ptr(),
+            small.len(),
+            large.as_mut_ptr(),
+            large.len(),
+            task,
+            kind.number(),
+            extension,
+            length,
+            &mut handle,
+        )
+    })?;
+    Ok(Handle::from(handle))
+}
+
+pub(crate) fn refresh(pool: &mut Record, task: u8, kind: Kind, extension: u8, handle: Handle) -> Result<(), Refusal> {
+    // SAFETY: one pointer, from a reference.
+    outcome(unsafe { ramsummer_refresh(pool, task, kind.number(), extension, handle.into()) })
+}
+
+/// How many bytes of `out` the object has filled.
+pub(crate) fn read(
+    pool: &mut Record,
+    small: &[u8],
+    large: &[u8],
+    task: u8,
+    handle: Handle,
+    out: &mut [u8],
+) -> Result<usize, Refusal> {
+    let mut length = 0;
+    // SAFETY: the record and `out` are `&mut`, so nothing overlaps them; the stores are only read, and each slice comes
+    // with its own length; `length` is a variable of this function.
+    outcome(unsafe {
+        ramsummer_read(
+            pool,
+            small.as_ptr(),
+            small.len(),
+            large.as_ptr(),
+            large.len(),
+            task,
+            handle.into(),
+            out.as_mut_ptr(),
+            out.len(),
+            &mut length,
+        )
+    })?;
+    Ok(length as usize)
+}
+
+pub(crate) fn write(
+    pool: &mut Record,
+    small: &mut [u8],
+    large: &mut [u8],
+    task: u8,
+    handle: Handle,
+    offset: u8,
+    bytes: &[u8],
+) -> Result<(), Refusal> {
+    // SAFETY: the record and both stores are three `&mut`, so nothing overlaps them; `bytes` is only read; each slice
+    // comes with its own length.
+    outcome(unsafe {
+        ramsummer_write(
+            pool,
+            small.as_mut_ptr(),
+            small.len(),
+            large.as_mut_ptr(),
+            large.len(),
+            task,
+            handle.into(),
+            offset,
+            bytes.as_ptr(),
+            bytes.len(),
+        )
+    })
+}
+
+pub(crate) fn report(pool: &mut Record) -> Result<Report, Refusal> {
+    let mut report = Report::default();
+    let Report { small, large, expirations, given } = &mut report;
+    // SAFETY: five `&mut`; the figures are four fields of a variable of this function.
+    outcome(unsafe { ramsummer_report(pool, small, large, expirations, given) })?;
+    Ok(report)
+}
+
+/// What became of the frame's call, and how many bytes of `out` the answer line has.
+pub(crate) fn frame(
+    pool: &mut Record,
+    small: &mut [u8],
+    large: &mut [u8],
+    line: &[u8],
+    out: &mut [u8],
+) -> (Result<(), Refusal>, usize) {
+    let mut length = 0;
+    // SAFETY: the record, both stores and `out` are four `&mut`, so nothing overlaps them; `line` is only read; each
+    // slice comes with its own length; `length` is a variable of this function.
+    let number = unsafe {
+        ramsummer_frame(
+            pool,
+            small.as_mut_ptr(),
+            small.len(),
+            large.as_mut_ptr(),
+            large.len(),
+            line.as_ptr(),
+            line.len(),
+            out.as_mut_ptr(),
+            out.len(),
+            &mut length,
+        )
+    };
+    (outcome(number), length as usize)
+}
+
+pub(crate) fn record_bytes(record: &Record) -> &[u8; RECORD] {
+    // SAFETY: a record is `repr(C)`, RECORD bytes long and without padding (src/record.rs tests its layout while it is
+    // compiled), so each of its bytes has a value; bytes may stand at any address.
+    unsafe { &*std::ptr::from_ref(record).cast() }
+}
+
+pub(crate) fn record_of(bytes: &[u8; RECORD]) -> Record {
+    // SAFETY: a record has the size of the array and holds only numbers, so any bytes are one.
+    unsafe { std::mem::transmute(*bytes) }
+}

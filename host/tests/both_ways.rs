@@ -1,0 +1,99 @@
+//! The same calls by the typed functions and by frames: the answers are the same, and after each the tasks, the times and
+//! the figures. So no argument goes astray on the way to the library. The place of a block or expiration is left open by
+//! document 01 and not compared.
+
+use ramsummer::{Handle, Kind, Pool, Refusal, Report, TaskEntry, LINE, TASKS};
+use std::collections::BTreeSet;
+
+/// Numbers that look random and are the same in each run.
+struct Random(u64);
+
+impl Random {
+    fn below(&mut self, bound: u64) -> u64 {
+        self.0 = self.0.wrapping_mul(6_364_136_223_846_793_005).wrapping_add(1_442_695_040_888_963_407);
+        (self.0 >> 33) % bound
+    }
+
+    /// Mostly one of the few; now and then any byte.
+    fn byte(&mut self, few: u64) -> u8 {
+        let bound = if self.below(20) == 0 { 256 } else { few };
+        self.below(bound) as u8
+    }
+}
+
+fn hexadecimal(bytes: &[u8]) -> String {
+    bytes.iter().map(|byte| format!("{byte:02X}")).collect()
+}
+
+/// The answer line that document 01 has for what a typed function gave.
+fn line<T>(answer: Result<T, Refusal>, data: impl FnOnce(T) -> String) -> String {
+    match answer {
+        Ok(value) => format!("00{}\n", data(value)),
+        Err(refusal) => format!("{:02X}\n", refusal.number()),
+    }
+}
+
+/// One call by its typed function: its frame, and the answer line.
+fn call(pool: &mut Pool, random: &mut Random) -> (String, String) {
+    let nothing = |()| String::new();
+    let flag = |advanced| format!("{:02X}", u8::from(advanced));
+    let task = random.byte(4);
+    let kind = if random.below(2) == 0 { Kind::Local } else { Kind::Global };
+    let extension = random.byte(6);
+    let handle = u32::from(random.byte(2)).wrapping_add(pool.record().given).wrapping_sub(random.below(12) as u32);
+    let named = Handle::from(handle);
+    let dated = format!("{task:02X}{:02X}{extension:02X}", kind.number());
+    match random.below(24) {
+        0 => (format!("01{task:02X}"), line(pool.join(task), nothing)),
+        1 => (format!("02{task:02X}"), line(pool.leave(task), flag)),
+        2 => (format!("03{task:02X}"), line(pool.block(task), flag)),
+        3..=4 => (format!("04{task:02X}"), line(pool.resume(task), nothing)),
+        5..=7 => (format!("05{task:02X}"), line(pool.tick(task), flag)),
+        8..=13 => {
+            let length = random.below(66) as u16 * 4;
+            let made = pool.make(task, kind, extension, length);
+            (format!("06{dated}{length:04X}"), line(made, |handle| format!("{:08X}", u32::from(handle))))
+        }
+        14..=16 => (format!("07{dated}{handle:08X}"), line(pool.refresh(task, kind, extension, named), nothing)),
+        17..=19 => {
+            let read = pool.read_to_vec(task, named);
+            (format!("08{task:02X}{handle:08X}"), line(read, |bytes| hexadecimal(&bytes)))
+        }
+        20..=22 => {
+            let offset = random.byte(9);
+            let bytes: Vec<u8> = (0..random.below(20)).map(|_| random.below(256) as u8).collect();
+            let written = pool.write(task, named, offset, &bytes);
+            (format!("09{task:02X}{handle:08X}{offset:02X}{}", hexadecimal(&bytes)), line(written, nothing))
+        }
+        _ => {
+            let figures = line(pool.report(), |report| {
+                format!("{:02X}{:02X}{:04X}{:08X}", report.small, report.large, report.expirations, report.given)
+            });
+            ("0A".to_string(), figures)
+        }
+    }
+}
+
+fn state(pool: &Pool) -> ([TaskEntry; TASKS], u32, Result<Report, Refusal>) {
+    (pool.record().tasks, pool.record().global, pool.report())
+}
+
+#[test]
+fn typed_calls_and_frames_do_the_same() {
+    let (mut random, mut typed, mut framed) = (Random(1), Pool::new(), Pool::new());
+    let mut seen = BTreeSet::new();
+    for _ in 0..20_000 {
+        let (frame, expected) = call(&mut typed, &mut random);
+        let mut room = [0; LINE];
+        let answer = framed.frame(frame.as_bytes(), &mut room);
+        assert_eq!(String::from_utf8_lossy(answer.line), expected, "{frame}");
+        assert_eq!(state(&typed), state(&framed), "{frame}");
+        seen.insert((frame[..2].to_string(), expected[..2].to_string()));
+    }
+    let done = seen.iter().filter(|(_, answer)| answer == "00").count();
+    assert_eq!(done, 10, "each operation was carried out");
+    let refusals: BTreeSet<_> =
+        seen.iter().map(|(_, answer)| answer.as_str()).filter(|answer| *answer != "00").collect();
+    let expected = ["01", "02", "03", "04", "05", "06", "07", "09", "0B", "0C", "0D"];
+    assert!(refusals.is_superset(&expected.into()), "{refusals:?}");
+}

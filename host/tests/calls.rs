@@ -1,0 +1,212 @@
+//! Each call through the safe interface: what it answers, each of its refusals, and that a refusal changes nothing.
+
+use ramsummer::{Handle, Kind, Pool, Record, Refusal, Report, LARGE, LONGEST, RECORD, SMALL};
+
+/// A pool in which task 0 runs, 1 waits and 2 is absent.
+fn pool() -> Pool {
+    let mut pool = Pool::new();
+    pool.join(0).unwrap();
+    pool.join(1).unwrap();
+    pool.block(1).unwrap();
+    pool
+}
+
+fn refused<T>(pool: &mut Pool, refusal: Refusal, call: impl FnOnce(&mut Pool) -> Result<T, Refusal>) {
+    let before = pool.clone();
+    assert_eq!(call(pool).err(), Some(refusal));
+    assert!(*pool == before, "{refusal:?} changed the record or a store");
+}
+
+#[test]
+fn an_object_lasts_until_its_last_expiration() {
+    let mut pool = pool();
+    let handle = pool.make(0, Kind::Local, 0, 4).unwrap();
+    pool.refresh(0, Kind::Global, 0, handle).unwrap();
+    pool.write(0, handle, 3, &[7]).unwrap();
+    assert_eq!(pool.tick(0), Ok(true));
+    assert_eq!(pool.read_to_vec(0, handle).unwrap(), [0, 0, 0, 7]);
+    assert_eq!(pool.report(), Ok(Report { small: 1, large: 0, expirations: 1, given: 1 }));
+    assert_eq!(pool.tick(0), Ok(true));
+    refused(&mut pool, Refusal::ObjectGone, |pool| pool.read_to_vec(0, handle));
+    assert_eq!(pool.report(), Ok(Report { small: 0, large: 0, expirations: 0, given: 1 }));
+}
+
+#[test]
+fn the_calls_say_whether_global_time_advanced() {
+    let mut pool = pool();
+    pool.resume(1).unwrap();
+    pool.join(2).unwrap();
+    assert_eq!(pool.tick(0), Ok(false));
+    assert_eq!(pool.tick(1), Ok(false));
+    assert_eq!(pool.block(2), Ok(true));
+    assert_eq!(pool.tick(0), Ok(false));
+    assert_eq!(pool.leave(1), Ok(true));
+    assert_eq!(pool.block(0), Ok(false));
+    assert_eq!(pool.record().global, 2);
+}
+
+#[test]
+fn the_length_chooses_the_store() {
+    let mut pool = pool();
+    let small = pool.make(0, Kind::Local, 0, 32).unwrap();
+    let large = pool.make(0, Kind::Local, 0, 256).unwrap();
+    assert_eq!((u32::from(small), u32::from(large)), (1, 2));
+    pool.write(0, small, 0, &[1; 32]).unwrap();
+    pool.write(0, large, 0, &[2; 256]).unwrap();
+    assert_eq!(pool.small().iter().filter(|byte| **byte == 1).count(), 32);
+    assert_eq!(pool.large().iter().filter(|byte| **byte == 2).count(), 256);
+    assert_eq!(pool.read_to_vec(0, large).unwrap(), [2; 256]);
+}
+
+#[test]
+fn a_read_fills_the_start_of_its_room() {
+    let mut pool = pool();
+    let handle = pool.make(0, Kind::Local, 0, 3).unwrap();
+    pool.write(0, handle, 0, &[1, 2, 3]).unwrap();
+    let mut room = [9; 5];
+    assert_eq!(pool.read(0, handle, &mut room), Ok(&[1, 2, 3][..]));
+    assert_eq!(room, [1, 2, 3, 9, 9]);
+    let mut exact = [9; 3];
+    assert_eq!(pool.read(0, handle, &mut exact), Ok(&[1, 2, 3][..]));
+    let mut short = [9; 2];
+    refused(&mut pool, Refusal::BufferTooShort, |pool| pool.read(0, handle, &mut short).map(<[u8]>::len));
+    assert_eq!(short, [9, 9]);
+    refused(&mut pool, Refusal::BufferTooShort, |pool| pool.read(0, handle, &mut []).map(<[u8]>::len));
+    refused(&mut pool, Refusal::TaskWaiting, |pool| pool.read(1, handle, &mut []).map(<[u8]>::len));
+}
+
+#[test]
+fn tasks_are_tested() {
+    let mut pool = pool();
+    let handle = pool.make(0, Kind::Local, 0, 3).unwrap();
+    refused(&mut pool, Refusal::TaskPresent, |pool| pool.join(0));
+    refused(&mut pool, Refusal::TaskPresent, |pool| pool.join(1));
+    refused(&mut pool, Refusal::TaskRunning, |pool| pool.resume(0));
+    for (task, refusal) in [(16, Refusal::NoSuchTask), (255, Refusal::NoSuchTask), (2, Refusal::TaskAbsent)] {
+        refused(&mut pool, refusal, |pool| pool.leave(task));
+        refused(&mut pool, refusal, |pool| pool.resume(task));
+    }
+    refused(&mut pool, Refusal::NoSuchTask, |pool| pool.join(16));
+    for (task, refusal) in [(16, Refusal::NoSuchTask), (2, Refusal::TaskAbsent), (1, Refusal::TaskWaiting)] {
+        refused(&mut pool, refusal, |pool| pool.block(task));
+        refused(&mut pool, refusal, |pool| pool.tick(task));
+        refused(&mut pool, refusal, |pool| pool.make(task, Kind::Local, 0, 1));
+        refused(&mut pool, refusal, |pool| pool.refresh(task, Kind::Local, 0, handle));
+        refused(&mut pool, refusal, |pool| pool.read_to_vec(task, handle));
+        refused(&mut pool, refusal, |pool| pool.write(task, handle, 0, &[1]));
+    }
+}
+
+#[test]
+fn arguments_are_tested() {
+    let mut pool = pool();
+    let handle = pool.make(0, Kind::Local, 0, 4).unwrap();
+    for kind in [Kind::Local, Kind::Global] {
+        refused(&mut pool, Refusal::ExtensionTooLong, |pool| pool.make(0, kind, 31, 1));
+        refused(&mut pool, Refusal::ExtensionTooLong, |pool| pool.refresh(0, kind, 31, handle));
+    }
+    for length in [0, 257, u16::MAX] {
+        refused(&mut pool, Refusal::LengthOutOfRange, |pool| pool.make(0, Kind::Local, 0, length));
+    }
+    for number in [0, 2, u32::MAX] {
+        let handle = Handle::from(number);
+        refused(&mut pool, Refusal::HandleNotGiven, |pool| pool.read_to_vec(0, handle));
+        refused(&mut pool, Refusal::HandleNotGiven, |pool| pool.write(0, handle, 0, &[]));
+        refused(&mut pool, Refusal::HandleNotGiven, |pool| pool.refresh(0, Kind::Local, 0, handle));
+    }
+    pool.write(0, handle, 4, &[]).unwrap();
+    refused(&mut pool, Refusal::OutsideObject, |pool| pool.write(0, handle, 4, &[1]));
+    refused(&mut pool, Refusal::OutsideObject, |pool| pool.write(0, handle, 0, &[1; 70_000]));
+}
+
+#[test]
+fn blocks_and_expirations_run_out() {
+    let mut pool = pool();
+    for length in [32, 33] {
+        let blocks = if length == 32 { 64 } else { 32 };
+        for _ in 0..blocks {
+            pool.make(0, Kind::Local, 1, length).unwrap();
+        }
+        refused(&mut pool, Refusal::NoFreeBlock, |pool| pool.make(0, Kind::Local, 1, length));
+    }
+    pool.leave(0).unwrap();
+    pool.join(0).unwrap();
+    let handle = pool.make(0, Kind::Local, 1, 1).unwrap();
+    for _ in 1..256 {
+        pool.refresh(0, Kind::Global, 30, handle).unwrap();
+    }
+    refused(&mut pool, Refusal::NoFreeExpiration, |pool| pool.refresh(0, Kind::Local, 1, handle));
+    refused(&mut pool, Refusal::NoFreeExpiration, |pool| pool.make(0, Kind::Local, 1, 1));
+}
+
+#[test]
+fn handles_run_out() {
+    let mut record = pool().record().clone();
+    record.given = u32::MAX - 1;
+    let mut pool = Pool::over(record.into(), vec![0; SMALL].into(), vec![0; LARGE].into());
+    assert_eq!(pool.make(0, Kind::Local, 0, 1), Ok(Handle::from(u32::MAX)));
+    refused(&mut pool, Refusal::HandlesSpent, |pool| pool.make(0, Kind::Local, 0, 1));
+}
+
+#[test]
+fn stores_of_another_length_are_refused() {
+    for (small, large) in [(SMALL - 1, LARGE), (SMALL, LARGE + 1), (0, 0), (LARGE, SMALL)] {
+        let record = pool().record().clone().into();
+        let mut pool: Pool = Pool::over(record, vec![0; small].into(), vec![0; large].into());
+        let handle = Handle::from(1);
+        refused(&mut pool, Refusal::WrongStoreLength, |pool| pool.make(16, Kind::Local, 0, 1));
+        refused(&mut pool, Refusal::WrongStoreLength, |pool| pool.read_to_vec(16, handle));
+        refused(&mut pool, Refusal::WrongStoreLength, |pool| pool.write(16, handle, 0, &[]));
+        refused(&mut pool, Refusal::NoSuchTask, |pool| pool.tick(16));
+    }
+}
+
+#[test]
+fn a_damaged_record_is_refused_until_it_is_fresh() {
+    let damaged = Record::from_bytes(&[0xA5; RECORD]);
+    let mut pool = Pool::over(damaged.into(), vec![0; SMALL].into(), vec![0; LARGE].into());
+    let handle = Handle::from(1);
+    refused(&mut pool, Refusal::NotWellFormed, |pool| pool.join(16));
+    refused(&mut pool, Refusal::NotWellFormed, |pool| pool.leave(16));
+    refused(&mut pool, Refusal::NotWellFormed, |pool| pool.block(16));
+    refused(&mut pool, Refusal::NotWellFormed, |pool| pool.resume(16));
+    refused(&mut pool, Refusal::NotWellFormed, |pool| pool.tick(16));
+    refused(&mut pool, Refusal::NotWellFormed, |pool| pool.make(16, Kind::Local, 0, 1));
+    refused(&mut pool, Refusal::NotWellFormed, |pool| pool.refresh(16, Kind::Local, 0, handle));
+    refused(&mut pool, Refusal::NotWellFormed, |pool| pool.read_to_vec(16, handle));
+    refused(&mut pool, Refusal::NotWellFormed, |pool| pool.write(16, handle, 0, &[]));
+    refused(&mut pool, Refusal::NotWellFormed, |pool| pool.report());
+    assert_eq!(pool.to_string(), "the record is not well-formed");
+    pool.fresh();
+    assert_eq!(*pool.record(), Record::fresh());
+    assert_eq!(*pool.record().as_bytes(), [0; RECORD]);
+    pool.join(15).unwrap();
+}
+
+#[test]
+fn a_borrowed_pool_works_on_what_it_borrows() {
+    let (mut record, mut small, mut large) = (Record::fresh(), [0xEE; SMALL], [0xEE; LARGE]);
+    let mut pool = Pool::over(&mut record, &mut small, &mut large);
+    pool.join(0).unwrap();
+    let handle = pool.make(0, Kind::Global, 3, LONGEST as u16).unwrap();
+    pool.write(0, handle, 255, &[1]).unwrap();
+    assert_eq!(pool.to_string(), "global time 0, small 0, large 1, expirations 1, given 1");
+    assert_eq!(record.given, 1);
+    assert_eq!(small, [0xEE; SMALL]);
+    assert_eq!(large.iter().map(|byte| u32::from(*byte)).sum::<u32>(), 0xEE * (8192 - 256) + 1);
+}
+
+#[test]
+fn an_owned_pool_hands_its_parts_back() {
+    let (record, small, large) = pool().into_parts();
+    assert_eq!(record.tasks.map(|task| task.state)[..3], [1, 2, 0]);
+    assert_eq!((small.len(), large.len()), (SMALL, LARGE));
+}
+
+#[test]
+fn a_pool_can_be_printed_and_sent_to_a_thread() {
+    let mut pool = Pool::default();
+    assert!(format!("{pool:?}").starts_with("Pool { record: Record { tasks: [TaskEntry { state: 0"));
+    let pool = std::thread::spawn(move || pool.join(0).map(|()| pool)).join().unwrap().unwrap();
+    assert_eq!(pool.to_string(), "global time 0, small 0, large 0, expirations 0, given 0");
+}

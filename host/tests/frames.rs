@@ -1,0 +1,83 @@
+//! Call frames through the safe interface: document 01's worked example, the refusals of a frame, and its room.
+
+use ramsummer::{Kind, Pool, Record, Refusal, LARGE, LINE, SMALL};
+
+/// The answer line without its LF. The outcome has to be the number that the line starts with.
+fn answer(pool: &mut Pool, line: &str) -> String {
+    let mut room = [0; LINE];
+    let answer = pool.frame(line.as_bytes(), &mut room);
+    let text = String::from_utf8(answer.line.to_vec()).unwrap();
+    let number = answer.outcome.map_or_else(Refusal::number, |()| 0);
+    assert!(text.starts_with(&format!("{number:02X}")), "{number} with the line {text}");
+    text.strip_suffix('\n').unwrap().to_string()
+}
+
+#[test]
+fn the_worked_example() {
+    let mut pool = Pool::new();
+    for (frame, expected) in [
+        ("0100", "00"),
+        ("060000000004", "0000000001"),
+        ("09000000000101A5", "00"),
+        ("080000000001", "0000A50000"),
+        ("0500", "0001"),
+        ("080000000001", "0C"),
+        ("0A", "000000000000000001"),
+    ] {
+        assert_eq!(answer(&mut pool, frame), expected, "{frame}");
+    }
+}
+
+#[test]
+fn refused_frames_change_nothing() {
+    let mut pool = Pool::new();
+    let before = pool.clone();
+    for (frame, expected) in [
+        ("0", "10"),
+        ("0a", "10"),
+        ("01 00", "10"),
+        ("0100\n", "10"),
+        ("", "11"),
+        ("00", "11"),
+        ("0B", "11"),
+        ("01", "12"),
+        ("060002000004", "13"),
+        ("0110", "01"),
+        ("0500", "03"),
+    ] {
+        assert_eq!(answer(&mut pool, frame), expected, "{frame}");
+    }
+    assert!(pool == before);
+}
+
+#[test]
+fn a_frame_tests_the_record_and_the_stores() {
+    let mut pool: Pool = Pool::over(Box::default(), Box::default(), Box::default());
+    assert_eq!(answer(&mut pool, "060000000004"), "0E");
+    let mut record = Record::fresh();
+    record.global = 7;
+    record.tasks[0].ticked = 1;
+    let mut pool = Pool::over(record.into(), vec![0; SMALL].into(), vec![0; LARGE].into());
+    assert_eq!(answer(&mut pool, "0A"), "0F");
+    assert_eq!(answer(&mut pool, "0A0"), "10");
+}
+
+#[test]
+fn a_room_too_short_is_left_alone() {
+    let mut pool = Pool::new();
+    let before = pool.clone();
+    let mut room = [9; LINE - 1];
+    let answer = pool.frame(b"0100", &mut room);
+    assert_eq!((answer.outcome, answer.line), (Err(Refusal::BufferTooShort), &[][..]));
+    assert_eq!(room, [9; LINE - 1]);
+    assert!(pool == before);
+}
+
+#[test]
+fn the_longest_answer_has_room() {
+    let mut pool = Pool::new();
+    pool.join(0).unwrap();
+    let handle = pool.make(0, Kind::Local, 0, 256).unwrap();
+    pool.write(0, handle, 0, &[0x5C; 256]).unwrap();
+    assert_eq!(answer(&mut pool, "080000000001"), format!("00{}", "5C".repeat(256)));
+}

@@ -1,0 +1,129 @@
+//! The C headers say the same as this crate, and docs/REFUSALS.md too: sizes, places, counts, names, numbers, sentences.
+
+use ramsummer::{BlockEntry, ExpirationEntry, Kind, Record, Refusal, TaskEntry};
+use std::mem::{offset_of, size_of};
+use std::path::{Path, PathBuf};
+use std::process::{Command, Output};
+
+/// The C compiler's answer, or none where there is no compiler for this.
+fn cc(arguments: &[&str]) -> Option<Output> {
+    let output = Command::new("cc").arg("-I").arg(host().join("include")).args(arguments).output();
+    if output.is_err() {
+        eprintln!("cc is not here: the test of the C headers was left out");
+    }
+    output.ok()
+}
+
+fn host() -> &'static Path {
+    Path::new(env!("CARGO_MANIFEST_DIR"))
+}
+
+/// `TaskAbsent` as the header has it: `RAMSUMMER_TASK_ABSENT`.
+fn c_name(name: &str) -> String {
+    name.chars().fold("RAMSUMMER".into(), |text, letter| match letter {
+        'A'..='Z' => text + "_" + &letter.to_string(),
+        _ => text + &letter.to_uppercase().to_string(),
+    })
+}
+
+/// Expressions in C, and what this crate has for each.
+fn claims() -> Vec<(String, usize)> {
+    let mut claims: Vec<(String, usize)> = [
+        ("RAMSUMMER_SMALL", ramsummer::SMALL),
+        ("RAMSUMMER_LARGE", ramsummer::LARGE),
+        ("RAMSUMMER_LONGEST", ramsummer::LONGEST),
+        ("RAMSUMMER_LINE", ramsummer::LINE),
+        ("RAMSUMMER_RECORD", ramsummer::RECORD),
+        ("RAMSUMMER_TASKS", ramsummer::TASKS),
+        ("RAMSUMMER_BLOCKS", ramsummer::BLOCKS),
+        ("RAMSUMMER_EXPIRATIONS", ramsummer::EXPIRATIONS),
+        ("RAMSUMMER_DONE", 0),
+        ("RAMSUMMER_LOCAL", Kind::Local.number().into()),
+        ("RAMSUMMER_GLOBAL", Kind::Global.number().into()),
+        ("sizeof(ramsummer_task_entry)", size_of::<TaskEntry>()),
+        ("sizeof(ramsummer_block_entry)", size_of::<BlockEntry>()),
+        ("sizeof(ramsummer_expiration_entry)", size_of::<ExpirationEntry>()),
+        ("sizeof(ramsummer_pool)", size_of::<Record>()),
+        ("offsetof(ramsummer_task_entry, state)", offset_of!(TaskEntry, state)),
+        ("offsetof(ramsummer_task_entry, ticked)", offset_of!(TaskEntry, ticked)),
+        ("offsetof(ramsummer_task_entry, clock)", offset_of!(TaskEntry, clock)),
+        ("offsetof(ramsummer_block_entry, handle)", offset_of!(BlockEntry, handle)),
+        ("offsetof(ramsummer_block_entry, length)", offset_of!(BlockEntry, length)),
+        ("offsetof(ramsummer_expiration_entry, kind)", offset_of!(ExpirationEntry, kind)),
+        ("offsetof(ramsummer_expiration_entry, block)", offset_of!(ExpirationEntry, block)),
+        ("offsetof(ramsummer_expiration_entry, setter)", offset_of!(ExpirationEntry, setter)),
+        ("offsetof(ramsummer_expiration_entry, due)", offset_of!(ExpirationEntry, due)),
+        ("offsetof(ramsummer_pool, tasks)", offset_of!(Record, tasks)),
+        ("offsetof(ramsummer_pool, global)", offset_of!(Record, global)),
+        ("offsetof(ramsummer_pool, given)", offset_of!(Record, given)),
+        ("offsetof(ramsummer_pool, blocks)", offset_of!(Record, blocks)),
+        ("offsetof(ramsummer_pool, expirations)", offset_of!(Record, expirations)),
+    ]
+    .map(|(expression, value)| (expression.to_string(), value))
+    .into();
+    claims.extend(Refusal::ALL.map(|refusal| (c_name(&format!("{refusal:?}")), refusal.number().into())));
+    claims
+}
+
+/// A program in C that prints the value of each expression on a line, and then each refusal's sentence.
+fn program(claims: &[(String, usize)]) -> String {
+    let values = claims.iter().map(|(expression, _)| format!("printf(\"%zu\\n\", (size_t)({expression}));\n"));
+    let sentences = Refusal::ALL.map(|refusal| format!("puts(ramsummer_text({}));\n", refusal.number()));
+    let body: String = values.chain(sentences).collect();
+    format!("#include <stdio.h>\n#include \"ramsummer_text.h\"\nint main(void) {{\n{body}return 0;\n}}\n")
+}
+
+fn written(name: &str, text: &str) -> PathBuf {
+    let path = Path::new(env!("CARGO_TARGET_TMPDIR")).join(name);
+    std::fs::write(&path, text).unwrap();
+    path
+}
+
+#[test]
+fn the_headers_have_the_numbers_and_sentences_of_this_crate() {
+    let claims = claims();
+    let source = written("header.c", &program(&claims));
+    let binary = source.with_extension("out");
+    let built = cc(&["-std=c99", "-Wall", "-Werror", source.to_str().unwrap(), "-o", binary.to_str().unwrap()]);
+    let Some(built) = built else { return };
+    assert!(built.status.success(), "{}", String::from_utf8_lossy(&built.stderr));
+    let printed = String::from_utf8(Command::new(binary).output().unwrap().stdout).unwrap();
+    let (values, sentences): (Vec<_>, Vec<_>) = printed.lines().partition(|line| line.parse::<usize>().is_ok());
+    assert_eq!(values.len(), claims.len());
+    for ((expression, value), printed) in claims.iter().zip(values) {
+        assert_eq!(printed, value.to_string(), "{expression}");
+    }
+    assert_eq!(sentences, Refusal::ALL.map(|refusal| refusal.to_string()));
+}
+
+#[test]
+fn the_headers_compile_as_c_and_as_cpp() {
+    let source = written("include.c", "#include \"ramsummer_text.h\"\n");
+    for (language, standard) in [("c", "c99"), ("c", "c11"), ("c++", "c++98"), ("c++", "c++11"), ("c++", "c++17")] {
+        let standard = format!("-std={standard}");
+        let options = ["-Wall", "-Wextra", "-Werror", "-pedantic", "-fsyntax-only", "-x", language, &standard];
+        let Some(checked) = cc(&[&options[..], &[source.to_str().unwrap()]].concat()) else { return };
+        let said = String::from_utf8_lossy(&checked.stderr);
+        if said.contains("cc1plus") {
+            eprintln!("cc has no C++ here: {standard} was left out");
+        } else {
+            assert!(checked.status.success(), "{standard}: {said}");
+        }
+    }
+}
+
+#[test]
+fn the_refusals_are_those_of_the_documents() {
+    let table = std::fs::read_to_string(host().join("../docs/REFUSALS.md")).unwrap();
+    for refusal in Refusal::ALL.into_iter().filter(|refusal| *refusal != Refusal::BufferTooShort) {
+        assert!(table.contains(&format!("| {} | {refusal:?} |", refusal.number())), "{refusal:?}");
+    }
+}
+
+#[test]
+fn numbers_and_refusals_go_both_ways() {
+    for number in 0..=255 {
+        let back = Refusal::from_number(number).map(Refusal::number);
+        assert_eq!(back, matches!(number, 1..=19 | 255).then_some(number));
+    }
+}

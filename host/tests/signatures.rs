@@ -1,0 +1,82 @@
+//! The three declarations of the C interface agree: include/ramsummer.h, src/sys.rs and, where it stands beside this
+//! crate, the proved source that exports it.
+
+use std::collections::BTreeMap;
+use std::fs;
+use std::path::Path;
+
+/// Each entry's name with the types of its parameters, written as Rust's raw ones.
+type Signatures = BTreeMap<String, Vec<String>>;
+
+/// The parameters of each entry that `opening` stands before, each put into its forms by `form`.
+fn signatures(text: &str, opening: &str, form: fn(&str) -> Vec<String>) -> Signatures {
+    let opening = format!("{opening} ramsummer_");
+    let entries = text.split(&opening).skip(1).map(|rest| {
+        let (name, rest) = rest.split_once('(').unwrap();
+        let (parameters, _) = rest.split_once(')').unwrap();
+        let parameters = parameters.split(',').map(str::trim).filter(|parameter| !parameter.is_empty());
+        (name.trim().to_string(), parameters.flat_map(form).collect())
+    });
+    entries.collect()
+}
+
+/// `const uint8_t *line`
+fn c_form(parameter: &str) -> Vec<String> {
+    let kept = parameter.trim_end_matches(|letter: char| letter.is_alphanumeric() || letter == '_').trim();
+    let (pointer, value) = match (kept.strip_prefix("const "), kept.strip_suffix('*')) {
+        (Some(constant), _) => ("*const ", constant.trim_end_matches('*')),
+        (None, Some(mutable)) => ("*mut ", mutable),
+        (None, None) => ("", kept),
+    };
+    let value = match value.trim() {
+        "ramsummer_pool" => "Record",
+        "size_t" => "usize",
+        "uint8_t" => "u8",
+        "uint16_t" => "u16",
+        "uint32_t" => "u32",
+        other => panic!("{other} in {parameter}"),
+    };
+    vec![format!("{pointer}{value}")]
+}
+
+/// `line: *const u8`, or a reference
+fn rust_form(parameter: &str) -> Vec<String> {
+    let (_, kind) = parameter.split_once(": ").unwrap();
+    vec![kind.replace('&', "*")]
+}
+
+/// `line: &[u8]`, which is passed as a pointer and a length
+fn source_form(parameter: &str) -> Vec<String> {
+    let (_, kind) = parameter.split_once(": ").unwrap();
+    match kind {
+        "&[u8]" => vec!["*const u8".into(), "usize".into()],
+        "&mut [u8]" => vec!["*mut u8".into(), "usize".into()],
+        "&mut Pool" => vec!["*mut Record".into()],
+        _ => rust_form(parameter),
+    }
+}
+
+fn header() -> Signatures {
+    signatures(include_str!("../include/ramsummer.h"), "uint8_t", c_form)
+}
+
+/// The text of all files of the proved source, if it is here.
+fn source() -> Option<String> {
+    let folder = Path::new(env!("CARGO_MANIFEST_DIR")).join("../crates/host/src");
+    let files = fs::read_dir(folder).ok()?;
+    Some(files.map(|file| fs::read_to_string(file.unwrap().path()).unwrap()).collect())
+}
+
+#[test]
+fn the_header_and_the_crate_agree() {
+    assert_eq!(header().len(), 12);
+    assert_eq!(signatures(include_str!("../src/sys.rs"), "fn", rust_form), header());
+}
+
+#[test]
+fn the_header_and_the_proved_source_agree() {
+    match source() {
+        Some(source) => assert_eq!(signatures(&source, "fn", source_form), header()),
+        None => eprintln!("crates/host is not here: its entries were not compared with the header"),
+    }
+}
