@@ -145,10 +145,10 @@ uint8_t ramsummer_make(ramsummer_pool *pool, uint8_t *small_store, size_t small_
 /* One more expiration for the object; those that it has stay. */
 uint8_t ramsummer_refresh(ramsummer_pool *pool, uint8_t task, uint8_t kind, uint8_t extension, uint32_t handle);
 
-/* The object's bytes go to the start of out, and length says how many; the rest of out stays. */
+/* The object's bytes go to the start of out, and count says how many; the rest of out stays. */
 uint8_t ramsummer_read(ramsummer_pool *pool, const uint8_t *small_store, size_t small_length,
                        const uint8_t *large_store, size_t large_length, uint8_t task, uint32_t handle, uint8_t *out,
-                       size_t out_length, uint32_t *length);
+                       size_t out_length, size_t *count);
 
 /* Replaces count bytes of the object from offset on. */
 uint8_t ramsummer_write(ramsummer_pool *pool, uint8_t *small_store, size_t small_length, uint8_t *large_store,
@@ -159,11 +159,11 @@ uint8_t ramsummer_write(ramsummer_pool *pool, uint8_t *small_store, size_t small
 uint8_t ramsummer_report(ramsummer_pool *pool, uint8_t *small_objects, uint8_t *large_objects, uint16_t *expirations,
                          uint32_t *given);
 
-/* Carries out one call frame. Line is without its LF; the answer line goes to the start of out with its LF, and length
+/* Carries out one call frame. Line is without its LF; the answer line goes to the start of out with its LF, and count
  * says how many bytes. The number is the one that the answer line starts with. */
 uint8_t ramsummer_frame(ramsummer_pool *pool, uint8_t *small_store, size_t small_length, uint8_t *large_store,
                         size_t large_length, const uint8_t *line, size_t line_length, uint8_t *out, size_t out_length,
-                        uint32_t *length);
+                        size_t *count);
 
 #ifdef __cplusplus
 }

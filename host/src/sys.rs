@@ -39,7 +39,7 @@ extern "C" {
         handle: u32,
         out: *mut u8,
         out_length: usize,
-        length: &mut u32,
+        count: &mut usize,
     ) -> u8;
     fn ramsummer_write(
         pool: &mut Record,
@@ -70,7 +70,7 @@ extern "C" {
         line_length: usize,
         out: *mut u8,
         out_length: usize,
-        length: &mut u32,
+        count: &mut usize,
     ) -> u8;
 }
 
@@ -162,9 +162,9 @@ pub(crate) fn read(
     handle: Handle,
     out: &mut [u8],
 ) -> Result<usize, Refusal> {
-    let mut length = 0;
+    let mut count = 0;
     // SAFETY: the record and `out` are `&mut`, so nothing overlaps them; the stores are only read, and each slice comes
-    // with its own length; `length` is a variable of this function.
+    // with its own length; `count` is a variable of this function.
     outcome(unsafe {
         ramsummer_read(
             pool,
@@ -176,10 +176,10 @@ pub(crate) fn read(
             handle.into(),
             out.as_mut_ptr(),
             out.len(),
-            &mut length,
+            &mut count,
         )
     })?;
-    Ok(length as usize)
+    Ok(count)
 }
 
 pub(crate) fn write(
@@ -225,9 +225,9 @@ pub(crate) fn frame(
     line: &[u8],
     out: &mut [u8],
 ) -> (Result<(), Refusal>, usize) {
-    let mut length = 0;
+    let mut count = 0;
     // SAFETY: the record, both stores and `out` are four `&mut`, so nothing overlaps them; `line` is only read; each
-    // slice comes with its own length; `length` is a variable of this function.
+    // slice comes with its own length; `count` is a variable of this function.
     let number = unsafe {
         ramsummer_frame(
             pool,
@@ -239,10 +239,10 @@ pub(crate) fn frame(
             line.len(),
             out.as_mut_ptr(),
             out.len(),
-            &mut length,
+            &mut count,
         )
     };
-    (outcome(number), length as usize)
+    (outcome(number), count)
 }
 
 pub(crate) fn record_bytes(record: &Record) -> &[u8; RECORD] {

@@ -27,7 +27,7 @@ struct Out {
     handle: u32,
     bytes: [u8; LARGE_SIZE],
     line: [u8; ANSWER_ROOM],
-    length: u32,
+    count: usize,
     small: u8,
     large: u8,
     expirations: u16,
@@ -40,7 +40,7 @@ const UNTOLD: Out = Out {
     handle: 0xA5A5_A5A5,
     bytes: [0xA5; LARGE_SIZE],
     line: [0xA5; ANSWER_ROOM],
-    length: 0xA5A5_A5A5,
+    count: 0xA5A5_A5A5,
     small: 0xA5,
     large: 0xA5,
     expirations: 0xA5A5,
@@ -69,12 +69,12 @@ impl<E: Entries> Host<E> {
     pub fn line(&mut self, line: &[u8], call: Option<&Call>) -> (u8, &[u8]) {
         self.prepare();
         let Host { memory: Memory { pool, small, large }, out, .. } = self;
-        let number = E::frame(pool, small, large, line, &mut out.line, &mut out.length);
+        let number = E::frame(pool, small, large, line, &mut out.line, &mut out.count);
         match call {
             Some(call) if number == 0 => self.check_memory(call),
             _ => assert!(self.memory == self.before, "refusal {number} of {line:?} changes memory"),
         }
-        let (answer, rest) = self.out.line.split_at(self.out.length as usize);
+        let (answer, rest) = self.out.line.split_at(self.out.count);
         assert!(rest.iter().all(|&byte| byte == 0xA5), "the room behind the answer stays");
         (number, answer)
     }
@@ -96,7 +96,7 @@ impl<E: Entries> Host<E> {
                 E::make(pool, small, large, task, code(kind), extension, length, &mut out.handle)
             }
             Call::Refresh { task, kind, extension, handle } => E::refresh(pool, task, code(kind), extension, handle),
-            Call::Read { task, handle } => E::read(pool, small, large, task, handle, &mut out.bytes, &mut out.length),
+            Call::Read { task, handle } => E::read(pool, small, large, task, handle, &mut out.bytes, &mut out.count),
             Call::Write { task, handle, offset, bytes } => E::write(pool, small, large, task, handle, offset, bytes),
             Call::Report => E::report(pool, &mut out.small, &mut out.large, &mut out.expirations, &mut out.given),
         }
@@ -136,7 +136,7 @@ impl<E: Entries> Host<E> {
             }
             Call::Make { .. } => Accepted::Handle(out.handle),
             Call::Read { .. } => {
-                let (bytes, rest) = out.bytes.split_at(out.length as usize);
+                let (bytes, rest) = out.bytes.split_at(out.count);
                 assert!(rest.iter().all(|&byte| byte == 0xA5), "the room behind the bytes stays");
                 Accepted::Bytes(bytes)
             }

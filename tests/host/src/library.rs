@@ -38,7 +38,7 @@ extern "C" {
         handle: u32,
         out: *mut u8,
         out_length: usize,
-        length: *mut u32,
+        count: *mut usize,
     ) -> u8;
     fn ramsummer_write(
         pool: *mut Pool,
@@ -63,7 +63,7 @@ extern "C" {
         line_length: usize,
         out: *mut u8,
         out_length: usize,
-        length: *mut u32,
+        count: *mut usize,
     ) -> u8;
 }
 
@@ -129,12 +129,12 @@ impl Entries for Library {
         task: u8,
         handle: u32,
         out: &mut [u8],
-        length: &mut u32,
+        count: &mut usize,
     ) -> u8 {
         let (small, small_length) = (small.as_ptr(), small.len());
         let (large, large_length) = (large.as_ptr(), large.len());
         let (out, out_length) = (out.as_mut_ptr(), out.len());
-        unsafe { ramsummer_read(pool, small, small_length, large, large_length, task, handle, out, out_length, length) }
+        unsafe { ramsummer_read(pool, small, small_length, large, large_length, task, handle, out, out_length, count) }
     }
 
     #[inline]
@@ -159,13 +159,13 @@ impl Entries for Library {
     }
 
     #[inline]
-    fn frame(pool: &mut Pool, small: &mut [u8], large: &mut [u8], line: &[u8], out: &mut [u8], length: &mut u32) -> u8 {
+    fn frame(pool: &mut Pool, small: &mut [u8], large: &mut [u8], line: &[u8], out: &mut [u8], count: &mut usize) -> u8 {
         let (small, small_length) = (small.as_mut_ptr(), small.len());
         let (large, large_length) = (large.as_mut_ptr(), large.len());
         let (line, line_length) = (line.as_ptr(), line.len());
         let (out, out_length) = (out.as_mut_ptr(), out.len());
         unsafe {
-            ramsummer_frame(pool, small, small_length, large, large_length, line, line_length, out, out_length, length)
+            ramsummer_frame(pool, small, small_length, large, large_length, line, line_length, out, out_length, count)
         }
     }
 }

@@ -11,6 +11,7 @@ use reference::call::{Accepted, Call, Kind};
 use reference::random::Random;
 
 const UNTOLD: u32 = 0xA5A5_A5A5;
+const COUNT_UNTOLD: usize = UNTOLD as usize;
 
 /// Lengths of the stores that are wrong.
 const WRONG: [(usize, usize); 7] =
@@ -36,10 +37,10 @@ fn make(memory: &mut Memory, (small, large): (usize, usize), task: u8, kind: u8)
 /// Reads object 1.
 fn read(memory: &mut Memory, (small, large): (usize, usize), task: u8) -> u8 {
     let (small, large) = (vec![7; small], vec![7; large]);
-    let (mut out, mut length) = ([9; 256], UNTOLD);
+    let (mut out, mut count) = ([9; 256], COUNT_UNTOLD);
     let before = memory.pool.clone();
-    let number = Library::read(&mut memory.pool, &small, &large, task, 1, &mut out, &mut length);
-    assert!(number != 0 && memory.pool == before && length == UNTOLD && out == [9; 256]);
+    let number = Library::read(&mut memory.pool, &small, &large, task, 1, &mut out, &mut count);
+    assert!(number != 0 && memory.pool == before && count == COUNT_UNTOLD && out == [9; 256]);
     number
 }
 
@@ -56,14 +57,14 @@ fn write(memory: &mut Memory, (small, large): (usize, usize), task: u8) -> u8 {
 /// One line, with these stores and this room for the answer.
 fn frame(memory: &mut Memory, (small, large): (usize, usize), line: &[u8], room: usize) -> (u8, Vec<u8>) {
     let (mut small, mut large) = (vec![7; small], vec![7; large]);
-    let (mut out, mut length) = (vec![9; room], UNTOLD);
-    let number = Library::frame(&mut memory.pool, &mut small, &mut large, line, &mut out, &mut length);
+    let (mut out, mut count) = (vec![9; room], COUNT_UNTOLD);
+    let number = Library::frame(&mut memory.pool, &mut small, &mut large, line, &mut out, &mut count);
     if number == 255 {
-        assert!(length == UNTOLD && out.iter().all(|&byte| byte == 9));
+        assert!(count == COUNT_UNTOLD && out.iter().all(|&byte| byte == 9));
         return (number, Vec::new());
     }
-    assert!(out[length as usize..].iter().all(|&byte| byte == 9));
-    out.truncate(length as usize);
+    assert!(out[count..].iter().all(|&byte| byte == 9));
+    out.truncate(count);
     (number, out)
 }
 
@@ -136,14 +137,14 @@ fn a_read_needs_room_for_the_object() {
     for (handle, size) in [(1, 32), (65, 256)] {
         for room in [0, 1, size - 1, size, size + 1] {
             let before = memory.clone();
-            let (mut out, mut length) = (vec![9; room], UNTOLD);
+            let (mut out, mut count) = (vec![9; room], COUNT_UNTOLD);
             let Memory { pool, small, large } = &mut memory;
-            let number = Library::read(pool, small, large, 0, handle, &mut out, &mut length);
+            let number = Library::read(pool, small, large, 0, handle, &mut out, &mut count);
             assert!(memory == before);
             if room < size {
-                assert!(number == 255 && length == UNTOLD && out.iter().all(|&byte| byte == 9));
+                assert!(number == 255 && count == COUNT_UNTOLD && out.iter().all(|&byte| byte == 9));
             } else {
-                assert!(number == 0 && length as usize == size && out[size..].iter().all(|&byte| byte == 9));
+                assert!(number == 0 && count == size && out[size..].iter().all(|&byte| byte == 9));
                 assert_eq!(out[..size], memory.block(handle as usize - 1)[..size]);
             }
         }

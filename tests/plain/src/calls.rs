@@ -81,7 +81,7 @@ pub fn refresh(pool: &mut Pool, task: u8, kind: u8, extension: u8, handle: u32) 
     number_of(work::refresh(pool, (task, kind, extension), handle))
 }
 
-pub fn read(pool: &Pool, small: &[u8], large: &[u8], task: u8, handle: u32, out: &mut [u8], length: &mut u32) -> u8 {
+pub fn read(pool: &Pool, small: &[u8], large: &[u8], task: u8, handle: u32, out: &mut [u8], count: &mut usize) -> u8 {
     if !is_well_formed(pool) {
         return NOT_WELL_FORMED;
     }
@@ -91,7 +91,7 @@ pub fn read(pool: &Pool, small: &[u8], large: &[u8], task: u8, handle: u32, out:
     };
     let Some(part) = out.get_mut(..bytes.len()) else { return SHORT_BUFFER };
     part.copy_from_slice(bytes);
-    *length = bytes.len() as u32;
+    *count = bytes.len();
     ACCEPTED
 }
 
@@ -112,13 +112,13 @@ pub fn report(pool: &Pool, small: &mut u8, large: &mut u8, expirations: &mut u16
 }
 
 /// One frame, without its LF. The answer line goes to the start of `out`, a refusal's too.
-pub fn frame(pool: &mut Pool, small: &mut [u8], large: &mut [u8], line: &[u8], out: &mut [u8], length: &mut u32) -> u8 {
+pub fn frame(pool: &mut Pool, small: &mut [u8], large: &mut [u8], line: &[u8], out: &mut [u8], count: &mut usize) -> u8 {
     if out.len() < ANSWER_ROOM {
         return SHORT_BUFFER;
     }
     let mut room = [0; LONGEST_FRAME + 1];
     let reply = decode(line, &mut room).and_then(|request| carry_out(pool, small, large, request));
-    *length = answer(reply, out) as u32;
+    *count = answer(reply, out);
     number_of(reply.map(drop))
 }
 

@@ -15,13 +15,13 @@ pub struct Desk {
     advanced: u8,
     handle: u32,
     out: [u8; ANSWER_ROOM],
-    length: u32,
+    count: usize,
     figures: (u8, u8, u16, u32),
 }
 
 impl Desk {
     pub fn with(memory: Memory) -> Desk {
-        Desk { memory, advanced: 0, handle: 0, out: [0; ANSWER_ROOM], length: 0, figures: (0, 0, 0, 0) }
+        Desk { memory, advanced: 0, handle: 0, out: [0; ANSWER_ROOM], count: 0, figures: (0, 0, 0, 0) }
     }
 }
 
@@ -104,7 +104,7 @@ fn entry_of<E: Entries>(entry: Entry) -> Action {
         Entry::Refresh => |desk, with| E::refresh(&mut desk.memory.pool, with.task, 0, with.extension, with.handle),
         Entry::Read => |desk, with| {
             let Memory { pool, small, large } = &mut desk.memory;
-            E::read(pool, small, large, with.task, with.handle, &mut desk.out, &mut desk.length)
+            E::read(pool, small, large, with.task, with.handle, &mut desk.out, &mut desk.count)
         },
         Entry::Write => |desk, with| {
             let Memory { pool, small, large } = &mut desk.memory;
@@ -116,7 +116,7 @@ fn entry_of<E: Entries>(entry: Entry) -> Action {
         },
         Entry::Frame => |desk, with| {
             let Memory { pool, small, large } = &mut desk.memory;
-            E::frame(pool, small, large, &with.line, &mut desk.out, &mut desk.length)
+            E::frame(pool, small, large, &with.line, &mut desk.out, &mut desk.count)
         },
         Entry::Fit => fit,
     }
