@@ -43,11 +43,11 @@ static uint8_t write_reading(uint8_t task, uint8_t cycle, uint32_t *handle) {
 /* Task 0 reads it, and counts it where it is as it was written. */
 static uint8_t read_reading(uint8_t task, uint8_t cycle, uint32_t handle, unsigned *read) {
     uint8_t expected[LENGTH], found[LENGTH];
-    uint32_t length;
-    uint8_t refusal = ramsummer_read(POOL, READER, handle, found, sizeof found, &length);
+    size_t count;
+    uint8_t refusal = ramsummer_read(POOL, READER, handle, found, sizeof found, &count);
     if (refusal) return refusal;
     sense(task, cycle, expected);
-    *read += length == LENGTH && memcmp(found, expected, LENGTH) == 0;
+    *read += count == LENGTH && memcmp(found, expected, LENGTH) == 0;
     return RAMSUMMER_DONE;
 }
 

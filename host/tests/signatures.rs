@@ -15,6 +15,7 @@ fn signatures(text: &str, opening: &str, form: fn(&str) -> Vec<String>) -> Signa
         let (name, rest) = rest.split_once('(').unwrap();
         let (parameters, _) = rest.split_once(')').unwrap();
         let parameters = parameters.split(',').map(str::trim).filter(|parameter| !parameter.is_empty());
+        let (name, _) = name.split_once('<').unwrap_or((name, ""));
         (name.trim().to_string(), parameters.flat_map(form).collect())
     });
     entries.collect()
@@ -45,10 +46,10 @@ fn rust_form(parameter: &str) -> Vec<String> {
     vec![kind.replace('&', "*")]
 }
 
-/// `line: &[u8]`, which is passed as a pointer and a length
+/// `line: &[u8]` or `line: &'a [u8]`, which is passed as a pointer and a length
 fn source_form(parameter: &str) -> Vec<String> {
     let (_, kind) = parameter.split_once(": ").unwrap();
-    match kind {
+    match kind.replace("&'a ", "&").as_str() {
         "&[u8]" => vec!["*const u8".into(), "usize".into()],
         "&mut [u8]" => vec!["*mut u8".into(), "usize".into()],
         "&mut Pool" => vec!["*mut Record".into()],
