@@ -23,8 +23,15 @@ pub trait Entries {
         handle: &mut u32,
     ) -> u8;
     fn refresh(pool: &mut Pool, task: u8, kind: u8, extension: u8, handle: u32) -> u8;
-    fn read(pool: &mut Pool, small: &[u8], large: &[u8], task: u8, handle: u32, out: &mut [u8], count: &mut usize)
-        -> u8;
+    fn read(
+        pool: &mut Pool,
+        small: &[u8],
+        large: &[u8],
+        task: u8,
+        handle: u32,
+        out: &mut [u8],
+        count: &mut usize,
+    ) -> u8;
     fn write(
         pool: &mut Pool,
         small: &mut [u8],
@@ -35,7 +42,8 @@ pub trait Entries {
         bytes: &[u8],
     ) -> u8;
     fn report(pool: &mut Pool, small: &mut u8, large: &mut u8, expirations: &mut u16, given: &mut u32) -> u8;
-    fn frame(pool: &mut Pool, small: &mut [u8], large: &mut [u8], line: &[u8], out: &mut [u8], count: &mut usize) -> u8;
+    fn frame(pool: &mut Pool, small: &mut [u8], large: &mut [u8], line: &[u8], out: &mut [u8], count: &mut usize)
+        -> u8;
 }
 
 /// The plain pool.
@@ -124,7 +132,14 @@ impl Entries for Plain {
     }
 
     #[inline]
-    fn frame(pool: &mut Pool, small: &mut [u8], large: &mut [u8], line: &[u8], out: &mut [u8], count: &mut usize) -> u8 {
+    fn frame(
+        pool: &mut Pool,
+        small: &mut [u8],
+        large: &mut [u8],
+        line: &[u8],
+        out: &mut [u8],
+        count: &mut usize,
+    ) -> u8 {
         calls::frame(pool, small, large, line, out, count)
     }
 }

@@ -159,7 +159,14 @@ impl Entries for Library {
     }
 
     #[inline]
-    fn frame(pool: &mut Pool, small: &mut [u8], large: &mut [u8], line: &[u8], out: &mut [u8], count: &mut usize) -> u8 {
+    fn frame(
+        pool: &mut Pool,
+        small: &mut [u8],
+        large: &mut [u8],
+        line: &[u8],
+        out: &mut [u8],
+        count: &mut usize,
+    ) -> u8 {
         let (small, small_length) = (small.as_mut_ptr(), small.len());
         let (large, large_length) = (large.as_mut_ptr(), large.len());
         let (line, line_length) = (line.as_ptr(), line.len());

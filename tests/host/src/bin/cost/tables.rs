@@ -7,7 +7,11 @@ use crate::malloc;
 
 const MOST: usize = STANDING[STANDING.len() - 1];
 
-pub fn print(counts: &Measures<Count>, times: &Measures<f64>) {
+/// What a call of the library may take of the plain pool's instructions.
+const LIMIT: f64 = 2.0;
+
+/// Prints all, and says whether no call takes more than [`LIMIT`] times the plain pool's instructions.
+pub fn print(counts: &Measures<Count>, times: &Measures<f64>) -> bool {
     let cases = cases::all();
     println!("## Each call, {MOST} expirations standing (255 where the call sets one)\n");
     calls(&cases, counts, times);
@@ -19,6 +23,19 @@ pub fn print(counts: &Measures<Count>, times: &Measures<f64>) {
     functions(&cases, counts);
     println!("\n## Beside malloc\n");
     mallocs(&cases, counts, times);
+    let (worst, name) = worst(&cases, counts);
+    println!("\nThe highest ratio on a well-formed record, {MOST} expirations standing: {worst:.2} ({name}); the limit is {LIMIT}.");
+    worst <= LIMIT
+}
+
+/// The highest ratio of library to plain on a well-formed record with all expirations standing, and of which call.
+fn worst(cases: &[Case], counts: &Measures<Count>) -> (f64, &'static str) {
+    let fit = cases.iter().enumerate().filter(|(_, case)| case.expirations == MOST && case.answer != 15);
+    let ratios = fit.filter_map(|(place, case)| match totals(&counts.cases[place]) {
+        [Some(library), Some(plain), _] => Some((library / plain, case.name)),
+        _ => None,
+    });
+    ratios.fold((0.0, ""), |worst, next| if next.0 > worst.0 { next } else { worst })
 }
 
 fn calls(cases: &[Case], counts: &Measures<Count>, times: &Measures<f64>) {
