@@ -112,7 +112,14 @@ pub fn report(pool: &Pool, small: &mut u8, large: &mut u8, expirations: &mut u16
 }
 
 /// One frame, without its LF. The answer line goes to the start of `out`, a refusal's too.
-pub fn frame(pool: &mut Pool, small: &mut [u8], large: &mut [u8], line: &[u8], out: &mut [u8], count: &mut usize) -> u8 {
+pub fn frame(
+    pool: &mut Pool,
+    small: &mut [u8],
+    large: &mut [u8],
+    line: &[u8],
+    out: &mut [u8],
+    count: &mut usize,
+) -> u8 {
     if out.len() < ANSWER_ROOM {
         return SHORT_BUFFER;
     }

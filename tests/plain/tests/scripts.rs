@@ -13,7 +13,7 @@ fn output(script: &[u8]) -> Vec<u8> {
     let mut output = Vec::new();
     for line in lines(script) {
         calls::frame(&mut pool, &mut small, &mut large, line, &mut out, &mut length);
-        output.extend(&out[..length as usize]);
+        output.extend(&out[..length]);
     }
     output
 }
