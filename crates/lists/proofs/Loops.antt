@@ -4,7 +4,7 @@ use Prim.Native.Nat.{ℕ, suc, _+_, _≤_, _<_}
 use native.Mathlib.Nat.{zero-add}
 use native.Mathlib.Numerals.{add-one}
 use native.Mathlib.Omega.{arith}
-use mathlib.Core.Bool.{Bool, true, false, not, _||_, or-true, or-false}
+use mathlib.Core.Bool.{Bool, true, false, not, _&&_, _||_, and-true, and-assoc, or-true, or-false}
 use mathlib.Core.List.{List, [], _∷_, _++_, map, append-assoc, append-nil, map-append, map-id}
 use mathlib.Core.Path.{_≡_, refl, sym, _∙_, ap, ap₂}
 use lib.Dec.{eqb}
@@ -159,6 +159,15 @@ module _ {ℓ} {A : Type ℓ} (p : ℕ → A → Bool) {xs : List A} {n i : ℕ}
 
   pub allFrom-stop : {v r : Bool} → Scanned v xs n i (allFrom i p) → i < n → r ≡ p i (getD xs i d) → not r ≡ true → false ≡ v
   allFrom-stop {r = r} s h e t = scanned-stop false d s h (λ ys. rw (← e, not-true r t))
+
+  -- the same with no way out before the end: so far it is fit or not
+  pub kept-turn : {v r : Bool} (fit : Bool) → Scanned v xs n i (λ ys. fit && allFrom i p ys) → i < n → r ≡ p i (getD xs i d)
+      → Scanned v xs n (i + 1) (λ ys. (fit && r) && allFrom (i + 1) p ys)
+  kept-turn fit s h e = scanned-turn _ d s h (λ ys. rw (e, add-one) (sym (and-assoc fit (p i (getD xs i d)) _)))
+
+pub kept-end {ℓ} : {A : Type ℓ} (p : ℕ → A → Bool) (fit : Bool) {v : Bool} {xs : List A} {n i : ℕ} → Scanned v xs n i (λ ys. fit && allFrom i p ys)
+    → n ≤ i → fit ≡ v
+kept-end p fit s h = sym (and-true fit) ∙ scanned-end s h
 
 module _ {ℓ} {A : Type ℓ} (p : ℕ → A → Bool) where
   -- after i turns of n: each of the first m flags says whether p holds, at its place, of one of the first i elements

@@ -1,6 +1,6 @@
 -- Laws of tables read as lists, and of entries set, for any element type.
 use Prim.Native.Nat.{ℕ, zero, suc, _+_, _≤_, _<_}
-use mathlib.Core.Bool.{Bool, true, and-eq-true-iff, cond, _&&_}
+use mathlib.Core.Bool.{Bool, true, and-assoc, and-eq-true-iff, cond, _&&_}
 use mathlib.Core.List.{List, [], _∷_, _++_, map, append-assoc, map-append, map-id}
 use mathlib.Core.Logic.{_≢_}
 use mathlib.Core.Path.{_≡_, refl, ap₂, sym, _∙_, ap}
@@ -167,6 +167,26 @@ module _ {ℓ} {A : Type ℓ} where
   allFrom-set p (x ∷ xs) (suc i) a h e =
       let (head, tail) = and-eq-true-iff (p 0 x) _ .0 e in
       rw (head, allFrom-suc 0 p (set xs i a)) (allFrom-set (λ j. p (suc j)) xs i a h (rw (allFrom-suc 0 p xs) at tail))
+
+  -- all pass with their places where each does, and each does where all do
+  pub allFrom-each : (p : ℕ → A → Bool) (d : A) (i : ℕ) (xs : List A) → ((k : ℕ) → k < length xs → p (i + k) (getD xs k d) ≡ true)
+      → allFrom i p xs ≡ true
+  allFrom-each p d i [] h = refl
+  allFrom-each p d i (x ∷ xs) h =
+      let head : p i x ≡ true = rw (add-zero i) at (h 0 (omega arith)) in
+      rw head (allFrom-each p d (suc i) xs (λ k l. rw (suc-add i k, ← add-suc i k) (h (suc k) (omega arith))))
+
+  pub allFrom-within : (p : ℕ → A → Bool) (d : A) (i : ℕ) (xs : List A) → allFrom i p xs ≡ true → (k : ℕ) → k < length xs
+      → p (i + k) (getD xs k d) ≡ true
+  allFrom-within p d i [] e k l = absurd (omega arith)
+  allFrom-within p d i (x ∷ xs) e zero l = rw (add-zero i) (and-eq-true-iff (p i x) _ .0 e .0)
+  allFrom-within p d i (x ∷ xs) e (suc k) l =
+      rw (add-suc i k, ← suc-add i k) (allFrom-within p d (suc i) xs (and-eq-true-iff (p i x) _ .0 e .1) k (omega arith))
+
+  pub allFrom-append : (p : ℕ → A → Bool) (i : ℕ) (xs ys : List A) → allFrom i p (xs ++ ys) ≡ (allFrom i p xs && allFrom (i + length xs) p ys)
+  allFrom-append p i [] ys = rw (add-zero i)
+  allFrom-append p i (x ∷ xs) ys =
+      rw (allFrom-append p (suc i) xs ys, suc-add i (length xs), ← add-suc i (length xs)) (sym (and-assoc (p i x) _ _))
 
   -- what each entry passes after f if it passed p, all pass
   pub allFrom-mapFrom : (p q : ℕ → A → Bool) (f : ℕ → A → A) → ((i : ℕ) (x : A) → p i x ≡ true → q i (f i x) ≡ true)

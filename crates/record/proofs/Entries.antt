@@ -1,48 +1,22 @@
--- An expiration entry tested by clamped indices, the flag that it sets, and blocks tested by flags.
-use Prim.Native.Nat.{ℕ, _<_}
+-- The flag that an expiration entry sets, and an entry tested by its numbers.
+use Prim.Native.Nat.{ℕ, _%_, _<_}
+use native.Mathlib.Nat.{mod-eq-of-lt}
 use native.Mathlib.Omega.{arith}
-use mathlib.Core.Bool.{Bool, true, false, cond, _&&_, and-false, and-eq-true-iff}
+use mathlib.Core.Bool.{Bool, true, false, false≢true, cond, _&&_, and-eq-true-iff}
 use mathlib.Core.List.{List}
-use mathlib.Core.Path.{_≡_, refl, sym}
-use borrow.Author.Tests.{ltb-true, ltb-false, ne-eqb}
+use mathlib.Core.Path.{_≡_, sym}
+use borrow.Author.Tests.{lt-ltb, ltb-true, ltb-false, ne-eqb}
 use lib.Dec.{eqb, ltb}
-use lib.ListN.{length, getD, List·getD-eq-default}
-use Rattle.lists.specs.Tables.{allFrom}
+use lib.ListN.{getD}
 use Rattle.lists.proofs.Cases.{by-test}
-use Rattle.lists.proofs.Implied.{allFrom-same}
 use Rattle.ledger.specs.Limits.{taskCount}
-use Rattle.record.specs.Codes.{dueOf, isDated, setterOf, absentEntry, freeBlock}
-use Rattle.record.specs.WellFormed.{isUsed, isFitDue, isFitEntry, isNaming, isFitBlock}
-use Rattle.record.specs.Checks.{Clamped, isNamingUsed, slotOf, Marks, isFitBlockIn}
+use Rattle.record.specs.Codes.{dueOf, isDated, absentEntry}
+use Rattle.record.specs.WellFormed.{isFitDue, isNaming}
+use Rattle.record.specs.Checks.{isFitBy, isFitAlone, slotOf}
 use Rattle.record.specs.declared.TaskEntry.{TaskEntry}
-use Rattle.record.specs.declared.BlockEntry.{BlockEntry}
 use Rattle.record.specs.declared.ExpirationEntry.{ExpirationEntry}
 use Rattle.record.specs.declared.GlobalTime.{GlobalTime}
 use Rattle.record.specs.declared.Due.{Due}
-use Rattle.record.specs.declared.Due.the-variants.{Free, Local, Global, Unknown}
-
--- a setter that is no task is refused by itself
-setter-clamped : (tasks : List TaskEntry) (global : GlobalTime) (used : Bool) (due : Due) (s : ℕ) → Clamped 16 (setterOf due) s
-    → isFitDue (getD tasks s absentEntry) global used due ≡ isFitDue (getD tasks (setterOf due) absentEntry) global used due
-unfolding isFitDue taskCount
-setter-clamped tasks global used Free s e = refl
-setter-clamped tasks global used (Local setter at) s e = by-test (ltb setter 16) (λ t. rw (e .so, t)) (λ t. rw (t, and-false used))
-setter-clamped tasks global used (Global at) s e = refl
-setter-clamped tasks global used Unknown s e = refl
-
--- past the last block is none in use
-used-clamped : (blocks : List BlockEntry) (block k : ℕ) → length blocks ≡ 96 → Clamped 96 block k
-    → isNamingUsed block (getD blocks k freeBlock) ≡ isUsed (getD blocks block freeBlock)
-used-clamped blocks block k h e =
-    by-test (ltb block 96)
-    (λ t. rw (e .so, t))
-    (λ t. rw (t, List·getD-eq-default blocks freeBlock {n = block} (omega (arith, ltb-false block 96 t))))
-
--- the test of an entry by clamped indices
-pub fit-clamped : (tasks : List TaskEntry) (global : GlobalTime) (blocks : List BlockEntry) (e : ExpirationEntry) {s k : ℕ} → length blocks ≡ 96
-    → Clamped 16 (setterOf (dueOf e)) s → Clamped 96 (e .block) k
-    → isFitDue (getD tasks s absentEntry) global (isNamingUsed (e .block) (getD blocks k freeBlock)) (dueOf e) ≡ isFitEntry tasks global blocks e
-fit-clamped tasks global blocks e {s} {k} h cs ck = rw (used-clamped blocks (e .block) k h ck) (setter-clamped tasks global _ (dueOf e) s cs)
 
 flag-by : (dated : Bool) (b k : ℕ) → k < 96 → (dated && eqb b k) ≡ eqb (cond (dated && ltb b 96) b 96) k
 flag-by false b k h = sym (ne-eqb 96 k (omega arith))
@@ -64,8 +38,35 @@ slot-below block due =
     (λ t. rw t (omega (arith, ltb-true block 96 (and-eq-true-iff (isDated due) _ .0 t .1))))
     (λ t. rw t (omega arith))
 
--- where the flags say which blocks are named, the test by flags is 01's
-pub blocks-by-flags : (given : ℕ) {named : List Bool} {xs : List ExpirationEntry} (blocks : List BlockEntry) → length blocks ≡ 96
-    → Marks named xs → allFrom 0 (isFitBlockIn given named) blocks ≡ allFrom 0 (isFitBlock given xs) blocks
-unfolding isFitBlock
-blocks-by-flags given blocks e m = allFrom-same _ _ 96 (λ k h b. rw (m .so k h)) 0 blocks (omega arith)
+-- an entry in use, tested by its numbers, with the task at the remainder of its setter
+pub by-numbers : (tasks : List TaskEntry) (global : GlobalTime) (e : ExpirationEntry) {s : ℕ} → s ≡ e .setter % 16 → e .block < 256
+    → eqb (e .kind) 0 ≡ false
+    → (let setter = getD tasks s absentEntry in
+    isFitBy (setter .state) (setter .clock .0) global (e .kind) (e .setter) (e .due) ≡ isFitAlone tasks global e)
+unfolding isFitBy isFitDue dueOf taskCount
+by-numbers tasks global e r l z =
+    by-test (eqb (e .kind) 1)
+    (λ t.
+    by-test (ltb (e .setter) 16)
+    (λ u. rw (z, t, u, lt-ltb (e .block) 256 l, r, mod-eq-of-lt (ltb-true (e .setter) 16 u)))
+    (λ u. rw (z, t, u, lt-ltb (e .block) 256 l)))
+    (λ t. by-test (eqb (e .kind) 2) (λ u. rw (z, t, u, lt-ltb (e .block) 256 l)) (λ u. rw (z, t, u)))
+
+-- one that is fit names its block
+pub names-its-block : (tasks : List TaskEntry) (global : GlobalTime) (e : ExpirationEntry) {at : ℕ} → at ≡ e .block → eqb (e .kind) 0 ≡ false
+    → isFitAlone tasks global e ≡ true → (k : ℕ) → isNaming k e ≡ eqb at k
+unfolding isFitDue dueOf
+names-its-block tasks global e r z f k =
+    rw r
+    (by-test (eqb (e .kind) 1)
+    (λ t. rw (z, t))
+    (λ t. by-test (eqb (e .kind) 2) (λ u. rw (z, t, u)) (λ u. absurd (false≢true (rw (z, t, u) at f)))))
+
+-- a free one is fit, and names none
+pub free-fits : (tasks : List TaskEntry) (global : GlobalTime) (e : ExpirationEntry) → eqb (e .kind) 0 ≡ true → true ≡ isFitAlone tasks global e
+unfolding isFitDue dueOf
+free-fits tasks global e z = rw z
+
+pub free-names-none : (e : ExpirationEntry) → eqb (e .kind) 0 ≡ true → (k : ℕ) → isNaming k e ≡ false
+unfolding dueOf
+free-names-none e z k = rw z

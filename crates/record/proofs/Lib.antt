@@ -4,6 +4,7 @@ pub mod Exists
 pub mod FreshReads
 pub mod Types
 pub mod Entries
+pub mod Named
 pub mod Handles
 pub mod States
 pub mod Times

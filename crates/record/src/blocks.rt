@@ -2,16 +2,20 @@
 ghost use Prim.Native.Nat.{_≤_};
 ghost use mathlib.Core.List.{map};
 ghost use mathlib.Core.Path.{_≡_};
-ghost use lib.ListN.{take};
+ghost use lib.ListN.{take, drop};
 ghost use Rattle.lists.specs.Tests.{any};
 ghost use Rattle.lists.specs.Tables.{allFrom};
 ghost use Rattle.record.specs.WellFormed.{isUsed, isSizedFor, isDistinct, handleOf};
-ghost use Rattle.record.specs.Checks.{isFitBlockBy, isFitBlockIn, hasHandle};
+ghost use Rattle.record.specs.Checks.{isFitBlockBy, isFitBlockIn, isUnset, isNamedRight, hasHandle};
 use super::BLOCK_COUNT;
 use super::BlockEntry;
+use super::expirations::BYTES;
 use ledger::LARGE_SIZE;
 use ledger::LIMITS;
 use ledger::SMALL_SIZE;
+
+// The small store's blocks; the large one's follow.
+const SMALL_COUNT: usize = LIMITS.small_blocks;
 
 pub fn is_used(b: BlockEntry) -> bool
     ensures { λ r. ⌜ r ≡ isUsed b ⌝ }
@@ -22,34 +26,62 @@ pub fn is_used(b: BlockEntry) -> bool
 fn is_sized_for(block: usize, length: u32) -> bool
     ensures { λ r. ⌜ r ≡ isSizedFor block length ⌝ }
 {
-    if block < LIMITS.small_blocks {
+    if block < SMALL_COUNT {
         (1 <= length) & (length <= SMALL_SIZE)
     } else {
         (SMALL_SIZE < length) & (length <= LARGE_SIZE)
     }
 }
 
-// One block, by whether an expiration names it.
-fn fits_block(given: u32, block: usize, named: bool, b: BlockEntry) -> bool
-    ensures { λ r. ⌜ r ≡ isFitBlockBy given block named b ⌝ }
+// One block, by whether an expiration names it: if so it is in use, and if not it is free.
+fn fits_block(given: u32, block: usize, named: bool, handle: u32, length: u32) -> bool
+    ensures { λ r. ⌜ r ≡ isFitBlockBy given block named handle length ⌝ }
 {
-    !is_used(b) | (named & is_sized_for(block, b.length) & (b.handle <= given))
+    let used = handle != 0;
+    (used == named) & (!used | (is_sized_for(block, length) & (handle <= given)))
 }
 
-pub fn check_blocks(
-    given: u32,
-    named: [bool; BLOCK_COUNT + 1],
-    blocks: [BlockEntry; BLOCK_COUNT],
-) -> bool
-    ensures { λ r. ⌜ r ≡ allFrom 0 (isFitBlockIn given named) blocks ⌝ }
+// The blocks of the small store. There is no way out before the end, so that several blocks are tested at once.
+fn check_small(given: u32, named: [bool; BYTES], blocks: [BlockEntry; BLOCK_COUNT]) -> bool
+    ensures { λ r. ⌜ r ≡ allFrom 0 (isFitBlockIn given named) (take 64 blocks) ⌝ }
 {
-    for i in 0..BLOCK_COUNT {
-        let b = blocks[i];
-        if !fits_block(given, i, named[i], b) {
-            return false;
-        }
+    let mut fit = true;
+    for i in 0..SMALL_COUNT {
+        let handle = blocks[i].handle;
+        let length = blocks[i].length;
+        fit = fit & fits_block(given, i, named[i], handle, length);
     }
-    true
+    fit
+}
+
+// Those of the large one.
+fn check_large(given: u32, named: [bool; BYTES], blocks: [BlockEntry; BLOCK_COUNT]) -> bool
+    ensures { λ r. ⌜ r ≡ allFrom 64 (isFitBlockIn given named) (drop 64 blocks) ⌝ }
+{
+    let mut fit = true;
+    for i in SMALL_COUNT..BLOCK_COUNT {
+        let handle = blocks[i].handle;
+        let length = blocks[i].length;
+        fit = fit & fits_block(given, i, named[i], handle, length);
+    }
+    fit
+}
+
+// No expiration names a block past the last.
+fn names_none(named: [bool; BYTES]) -> bool
+    ensures { λ r. ⌜ r ≡ allFrom 96 isUnset (drop 96 (take 256 named)) ⌝ }
+{
+    let mut none = true;
+    for i in BLOCK_COUNT..BYTES {
+        none = none & !named[i];
+    }
+    none
+}
+
+pub fn check_blocks(given: u32, named: [bool; BYTES], blocks: [BlockEntry; BLOCK_COUNT]) -> bool
+    ensures { λ r. ⌜ r ≡ isNamedRight given named blocks ⌝ }
+{
+    check_small(given, named, blocks) & check_large(given, named, blocks) & names_none(named)
 }
 
 // Whether one of the first count blocks has this handle.

@@ -1,24 +1,27 @@
 // Tests of expiration entries, and which blocks they name.
-ghost use Prim.Native.Nat.{_<_};
+ghost use Prim.Native.Nat.{_<_, _%_};
 ghost use mathlib.Core.Path.{_≡_};
-ghost use Rattle.record.specs.WellFormed.{isAhead, isFitDue};
-ghost use Rattle.record.specs.Checks.{Clamped, isNamingUsed, slotOf, ExpirationsChecked};
+ghost use Rattle.record.specs.WellFormed.{isAhead};
+ghost use Rattle.record.specs.Checks.{Clamped, isFitBy, FlagFor, slotOf, ExpirationsChecked};
 use super::BLOCK_COUNT;
-use super::BlockEntry;
 use super::Due;
 use super::EXPIRATION_COUNT;
 use super::ExpirationEntry;
 use super::GlobalTime;
+use super::LocalTime;
 use super::TaskEntry;
-use super::blocks::is_used;
-use super::codes::due_of;
+use super::codes::FREE;
+use super::codes::GLOBAL;
+use super::codes::LOCAL;
 use super::codes::global_left;
 use super::codes::is_dated;
 use super::codes::local_left;
-use super::codes::setter_of;
 use super::tasks::is_absent;
 use ledger::LIMITS;
 use ledger::TASK_COUNT;
+
+// As many as a byte has values.
+pub const BYTES: usize = 256;
 
 fn is_ahead(most: u32, left: u32) -> bool
     ensures { λ r. ⌜ r ≡ isAhead most left ⌝ }
@@ -26,22 +29,26 @@ fn is_ahead(most: u32, left: u32) -> bool
     (1 <= left) & (left <= most)
 }
 
-// One expiration, by the entry of its setter and whether it names a block in use.
-fn fits_due(setter: TaskEntry, global: GlobalTime, used: bool, due: Due) -> bool
-    ensures { λ r. ⌜ r ≡ isFitDue setter global used due ⌝ }
+// An expiration that is in use, by the state and the clock of its setter. Whether its block is in use is not looked at here.
+fn fits_alone(state: u16, clock: u32, global: GlobalTime, kind: u8, setter: u16, due: u32) -> bool
+    ensures { λ r. ⌜ r ≡ isFitBy state clock global kind setter due ⌝ }
 {
-    match due {
-        Due::Free => true,
-        Due::Local { setter: task, at } => {
-            let now = setter.clock;
-            used
-                & ((task as usize) < TASK_COUNT)
-                & !is_absent(setter)
-                & is_ahead(LIMITS.extension + 1, local_left(at, now))
+    if kind == LOCAL {
+        if TASK_COUNT <= (setter as usize) {
+            return false;
         }
-        Due::Global(at) => used & is_ahead(LIMITS.extension + 2, global_left(at, global)),
-        Due::Unknown => false,
+        if is_absent(state) {
+            return false;
+        }
+        return is_ahead(
+            LIMITS.extension + 1,
+            local_left(LocalTime(due), LocalTime(clock)),
+        );
     }
+    if kind == GLOBAL {
+        return is_ahead(LIMITS.extension + 2, global_left(GlobalTime(due), global));
+    }
+    false
 }
 
 // An index below count: i, or 0 where i is none.
@@ -50,13 +57,6 @@ pub fn clamped(count: usize, i: usize) -> usize
     ensures { λ r. ⌜ Clamped count i r ⌝ }
 {
     if i < count { i } else { 0 }
-}
-
-// Whether a number names a block in use; b is the entry at its clamped index.
-fn names_used(block: u8, b: BlockEntry) -> bool
-    ensures { λ r. ⌜ r ≡ isNamingUsed block b ⌝ }
-{
-    ((block as usize) < BLOCK_COUNT) & is_used(b)
 }
 
 // The flag that an expiration sets: its block's, or the one past the last where it names none.
@@ -70,35 +70,51 @@ pub fn slot(block: u8, due: Due) -> usize
     }
 }
 
-// Whether all expirations are fit, and if so the blocks that they name.
+// The task to read for a setter; one that is no task is refused.
+fn task_for(setter: u16) -> usize
+    ensures { λ r. ⌜ r ≡ setter % 16 ⌝ }
+{
+    (setter as usize) % TASK_COUNT
+}
+
+// The flag of a block's number.
+fn flag_for(block: u8) -> usize
+    ensures { λ r. ⌜ FlagFor block r ⌝ }
+{
+    block as usize
+}
+
+// Whether all expirations are fit by themselves, and if so the numbers of blocks that they name, which are bytes.
 pub struct Checked {
     pub fit: bool,
-    pub named: [bool; BLOCK_COUNT + 1],
+    pub named: [bool; BYTES],
 }
 
 pub fn check_expirations(
     xs: [ExpirationEntry; EXPIRATION_COUNT],
     tasks: [TaskEntry; TASK_COUNT],
     global: GlobalTime,
-    blocks: [BlockEntry; BLOCK_COUNT],
 ) -> Checked
-    ensures { λ r. ⌜ ExpirationsChecked tasks global blocks xs r ⌝ }
+    ensures { λ r. ⌜ ExpirationsChecked tasks global xs r ⌝ }
 {
-    let mut named = [false; BLOCK_COUNT + 1];
+    let mut named = [false; BYTES];
     for i in 0..EXPIRATION_COUNT {
-        let e = xs[i];
-        let due = due_of(e);
-        let s = clamped(TASK_COUNT, setter_of(due));
-        let setter = tasks[s];
-        let k = clamped(BLOCK_COUNT, e.block as usize);
-        let b = blocks[k];
-        if !fits_due(setter, global, names_used(e.block, b), due) {
+        let kind = xs[i].kind;
+        if kind == FREE {
+            continue;
+        }
+        let setter = xs[i].setter;
+        let s = task_for(setter);
+        let state = tasks[s].state;
+        let clock = tasks[s].clock.0;
+        let due = xs[i].due;
+        let at = flag_for(xs[i].block);
+        if !fits_alone(state, clock, global, kind, setter, due) {
             return Checked {
                 fit: false,
                 named: named,
             };
         }
-        let at = slot(e.block, due);
         named[at] = true;
     }
     Checked {

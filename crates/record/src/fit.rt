@@ -19,13 +19,13 @@ pub fn is_well_formed(p: Pool) -> bool
     if all_ticked(tasks) {
         return false;
     }
-    let blocks = p.blocks;
     let xs = p.expirations;
     let global = p.global;
-    let checked = check_expirations(xs, tasks, global, blocks);
+    let checked = check_expirations(xs, tasks, global);
     if !checked.fit {
         return false;
     }
     let named = checked.named;
+    let blocks = p.blocks;
     check_blocks(p.given, named, blocks) & distinct(blocks)
 }

@@ -17,10 +17,10 @@ pub fn is_running(e: TaskEntry) -> bool
     e.state == RUNNING
 }
 
-pub fn is_absent(e: TaskEntry) -> bool
-    ensures { λ r. ⌜ r ≡ isAbsent (stateOf (e .state)) ⌝ }
+pub fn is_absent(state: u16) -> bool
+    ensures { λ r. ⌜ r ≡ isAbsent (stateOf state) ⌝ }
 {
-    (e.state != RUNNING) & (e.state != WAITING)
+    (state != RUNNING) & (state != WAITING)
 }
 
 // Running, and not ticked.
@@ -36,7 +36,7 @@ fn fits_task(e: TaskEntry) -> bool
     (e.state < 3)
         & (e.ticked < 2)
         & ((e.ticked != 1) | is_running(e))
-        & (!is_absent(e) | (e.clock.0 == 0))
+        & (!is_absent(e.state) | (e.clock.0 == 0))
 }
 
 pub fn all_fit_tasks(tasks: [TaskEntry; TASK_COUNT]) -> bool

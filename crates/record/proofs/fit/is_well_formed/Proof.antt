@@ -1,7 +1,7 @@
 -- The parts in their order: each is refused at its own return.
 use mathlib.Core.Bool.{true, not, _&&_}
 use mathlib.Core.List.{map}
-use mathlib.Core.Path.{_≡_}
+use mathlib.Core.Path.{_≡_, sym, _∙_}
 use borrow.Author.Needs.{needs}
 use borrow.Author.Tests.{not-true, not-false}
 use lib.ListN.{length, length-map}
@@ -9,7 +9,7 @@ use Rattle.lists.specs.Tests.{all}
 use Rattle.ledger.specs.Tasks.{allTicked}
 use Rattle.record.specs.Codes.{taskOf}
 use Rattle.record.specs.WellFormed.{isFitTask, isWellFormed}
-use Rattle.record.proofs.Entries.{blocks-by-flags}
+use Rattle.record.proofs.Named.{not-alone, named-right}
 use Rattle.record.proofs.fit.is_well_formed.Statement.{statement}
 use Rattle.record.proofs.fit.is_well_formed.Tie as tie
 
@@ -37,18 +37,25 @@ unticked c = rw (all-fit (c .before .before), ← c .before .all-ticked .ensures
 returns-3 : tie.Need-returns-3
 unfolding isWellFormed
 returns-3 c =
+    let start = c .before .before .before .before .before .before .before .before .before .before in
+    let p = start .args .p in
     let checked = c .before .before .check-expirations in
-    rw (unticked (c .before .before .before .before .before .before), ← checked .ensures .fit, not-true (checked .result .fit) (c .if3 .taken))
+    let alone = sym (checked .ensures .fit) ∙ not-true (checked .result .fit) (c .if3 .taken) in
+    let refused = not-alone (p .tasks) (p .global) (p .given) (p .blocks) (p .expirations) (sized start) alone in
+    rw (unticked (c .before .before .before .before .before), refused)
 
 returns-4 : tie.Need-returns-4
 unfolding isWellFormed
 returns-4 c =
-    let start = c .before .before .before .before .before .before .before .before .before .before .before .before .before .before in
-    let checked = c .before .before .before .before .before .check-expirations in
-    let fit : checked .result .fit ≡ true = not-false _ (c .before .before .before .if3 .left) in
-    let flags = blocks-by-flags (start .args .p .given) (start .args .p .blocks) (sized start) (checked .ensures .marks fit) in
-    let tasks = unticked (c .before .before .before .before .before .before .before .before .before) in
-    rw (tasks, ← checked .ensures .fit, fit, c .before .check-blocks .ensures, c .distinct .ensures, flags)
+    let else3 = c .before .before .before .before in
+    let else2 = else3 .before .before .before .before .before in
+    let start = else2 .before .before .before .before .before in
+    let p = start .args .p in
+    let checked = else3 .before .before .check-expirations in
+    let fit : checked .result .fit ≡ true = not-false _ (else3 .if3 .left) in
+    let alone = sym (checked .ensures .fit) ∙ fit in
+    let right = named-right (p .tasks) (p .global) (p .given) (p .blocks) (p .expirations) (sized start) (checked .ensures .names fit) alone in
+    rw (unticked else2, c .before .check-blocks .ensures, c .distinct .ensures, right)
 
 pub is-well-formed-spec : {M : Type 1} → statement M
 is-well-formed-spec =

@@ -5,4 +5,4 @@ use Rattle.record.proofs.tasks.is_absent.Tie as tie
 
 pub is-absent-spec : {M : Type 1} → statement M
 is-absent-spec =
-    tie.close (tie.spec (λ c. absent-code (c .before .before .args .e .state)))
+    tie.close (tie.spec (λ c. absent-code (c .args .state)))
