@@ -9,4 +9,5 @@ pub mod ReadObjects
 pub mod Follow
 pub mod Sweeping
 pub mod Standing
+pub mod Asking
 pub mod Types

@@ -1,18 +1,22 @@
 -- A record after an event, by what was planned. Where nothing ends, a sweep shows no more than the new task entries and the new time.
-use Prim.Native.Nat.{ℕ, zero, suc, _+_, _<_}
+use Prim.Native.Nat.{ℕ, zero, suc, _+_, _%_, _<_}
 use native.Mathlib.Numerals.{add-one}
-use mathlib.Core.Bool.{true, false, or-false}
+use native.Mathlib.Omega.{arith}
+use mathlib.Core.Bool.{Bool, true, false, not, _&&_, _||_, or-false}
 use mathlib.Core.List.{List, [], _∷_, map, map-id}
 use mathlib.Core.Path.{_≡_, refl, sym, _∙_}
-use borrow.Author.Tests.{eqb-true, not-false}
+use borrow.Author.Tests.{eqb-true, eq-eqb, ne-eqb, ltb-true, ltb-false, not-false}
+use lib.Dec.{eqb, ltb}
 use lib.ListN.{length, getD, take, drop, take-append-drop}
 use lib.Seq.{take-suc}
+use Rattle.lists.specs.Tests.{all}
 use Rattle.lists.specs.Tables.{mapFrom}
 use Rattle.lists.proofs.All.{all-imp, all-true, all-append, none→All, map-same}
 use Rattle.lists.proofs.Cases.{by-test}
 use Rattle.lists.proofs.Counts.{any-append}
-use Rattle.lists.proofs.Tests.{passes-map}
+use Rattle.lists.proofs.Tests.{passes-map, passes-at}
 use Rattle.ledger.specs.Ledger.{Ledger}
+use Rattle.ledger.specs.Limits.{taskCount}
 use Rattle.ledger.specs.Tasks.{isTested}
 use Rattle.ledger.specs.declared.Event.{Event}
 use Rattle.ledger.specs.declared.Verdict.{Verdict}
@@ -26,8 +30,8 @@ use Rattle.record.specs.declared.ExpirationEntry.{ExpirationEntry}
 use Rattle.record.specs.declared.GlobalTime.{GlobalTime}
 use Rattle.record.specs.declared.Pool.{Pool}
 use Rattle.record.proofs.Facts.{Fit, fit-parts, fit-whole}
-use Rattle.tasks.specs.Steps.{verdictAt, isKept, keptEntry, keptBlock, swept, withTimes, poolAfter, answerAfter, outcomeBy, scheduled, plannedAfter, plannedBy, planned, carriedOut}
-use Rattle.tasks.specs.Sweep.{isEnded, endsAny, endsBy, isFree, areFreeFrom}
+use Rattle.tasks.specs.Steps.{verdictAt, isLasting, isKept, keptEntry, keptBlock, swept, withTimes, poolAfter, answerAfter, outcomeBy, scheduled, plannedAfter, plannedBy, planned, carriedOut}
+use Rattle.tasks.specs.Sweep.{isEnded, endsAny, isKnown, endsBy, isFree, areFreeFrom}
 use Rattle.tasks.proofs.KeptBlocks.{kept-block}
 use Rattle.tasks.proofs.FitSwept.{named-fits}
 use Rattle.tasks.proofs.ReadObjects.{freed-shown, none-freed}
@@ -122,3 +126,38 @@ pub ends-next : (leaver : ℕ) (tasks : List TaskEntry) (global : GlobalTime) (x
     → endsAny leaver tasks global i xs ≡ false → endsAny leaver tasks global (i + 1) xs ≡ isEnded leaver tasks global (getD xs i freeEntry)
 unfolding endsAny
 ends-next leaver tasks global xs i h e = rw (add-one, take-suc xs i freeEntry h, any-append, e) (or-false (isEnded leaver tasks global (getD xs i freeEntry)))
+
+-- by the fields of an entry: none left is no unit, and one in no use stands
+pub none-left : (n : ℕ) → eqb n 0 ≡ not (ltb 0 n)
+none-left n =
+    by-test (ltb 0 n)
+    (λ l. rw (l, ne-eqb n 0 (λ z. omega (arith, ltb-true 0 n l))))
+    (λ l. rw (l, eq-eqb n 0 (omega (arith, ltb-false 0 n l))))
+
+pub left-or-none : (gone : Bool) (n : ℕ) → (gone || eqb n 0) ≡ not (not gone && ltb 0 n)
+left-or-none true n = refl
+left-or-none false n = none-left n
+
+pub undated-stands : (leaver : ℕ) (setter : TaskEntry) (global : GlobalTime) (e : ExpirationEntry) → eqb (e .kind) 1 ≡ false → eqb (e .kind) 2 ≡ false
+    → isLasting leaver setter global (dueOf e) ≡ true
+unfolding dueOf
+undated-stands leaver setter global e local common = by-test (eqb (e .kind) 0) (λ free. rw free) (λ free. rw (free, local, common))
+
+-- an entry whose setter's number is a task's, asked by the entry at that number
+known-ends : (leaver : ℕ) (tasks : List TaskEntry) (global : GlobalTime) (e : ExpirationEntry) → isKnown e ≡ true
+    → not (isLasting leaver (getD tasks (e .setter % 16) absentEntry) global (dueOf e)) ≡ isEnded leaver tasks global e
+unfolding dueOf taskCount
+known-ends leaver tasks global e known =
+    by-test (eqb (e .kind) 1)
+    (λ local.
+    let kind = eqb-true (e .kind) 1 local in
+    let same : e .setter % 16 ≡ e .setter = omega (arith, ltb-true (e .setter) 16 (rw kind at known)) in rw (same, kind))
+    (λ other.
+    by-test (eqb (e .kind) 0) (λ free. rw free)
+    (λ used. by-test (eqb (e .kind) 2) (λ common. rw (used, other, common)) (λ neither. rw (used, other, neither))))
+
+pub known-asked : (leaver : ℕ) (tasks : List TaskEntry) (global : GlobalTime) (xs : List ExpirationEntry) → all isKnown xs ≡ true → (i : ℕ)
+    → let e = getD xs i freeEntry in
+    not (isLasting leaver (getD tasks (e .setter % 16) absentEntry) global (dueOf e)) ≡ isEnded leaver tasks global e
+unfolding dueOf taskCount
+known-asked leaver tasks global xs known i = known-ends leaver tasks global (getD xs i freeEntry) (passes-at isKnown xs i freeEntry known refl)

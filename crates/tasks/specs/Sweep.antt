@@ -8,6 +8,8 @@ use lib.Dec.{eqb, ltb}
 use lib.ListN.{getD, take, drop}
 use Rattle.lists.specs.Tests.{any, all}
 use Rattle.ledger.specs.Limits.{taskCount}
+use Rattle.ledger.specs.declared.Event.{Event}
+use Rattle.ledger.specs.declared.Event.the-variants.{Join, Leave, Block, Resume, Tick}
 use Rattle.record.specs.Codes.{dueOf, setterOf, absentEntry, freeBlock}
 use Rattle.record.specs.declared.TaskEntry.{TaskEntry}
 use Rattle.record.specs.declared.BlockEntry.{BlockEntry}
@@ -21,6 +23,18 @@ isEnded leaver tasks global e = not (isKept leaver tasks global e)
 -- one of the entries below the bound ends
 unfoldable pub endsAny : ℕ → List TaskEntry → GlobalTime → ℕ → List ExpirationEntry → Bool
 endsAny leaver tasks global bound xs = any (isEnded leaver tasks global) (take bound xs)
+
+-- the setter's number is a task's
+abbrev pub isKnown : ExpirationEntry → Bool
+isKnown e = ltb (setterOf (dueOf e)) taskCount
+
+-- an event may end an expiration of a well-formed record, by the global time before and after it
+abbrev pub mayEnd : Event → GlobalTime → GlobalTime → Bool
+mayEnd Join before after = true
+mayEnd Leave before after = true
+mayEnd Block before after = not (eqb (before .0) (after .0))
+mayEnd Resume before after = true
+mayEnd Tick before after = true
 
 -- this entry where the number is a task's, else an absent one's
 abbrev pub entryIf : ℕ → TaskEntry → TaskEntry

@@ -25,6 +25,8 @@ use record::TaskEntry;
 use record::codes::state_of;
 use record::tasks::all_ticked;
 pub use sweep::ends;
+pub use sweep::ends_any;
+pub use sweep::may_end;
 pub use sweep::setter_at;
 pub use sweep::swept;
 pub use sweep::swept_within;

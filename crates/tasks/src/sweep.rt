@@ -1,10 +1,14 @@
 // The end of expirations that are due or were a leaver's own, and of blocks that none names any more: one pass over each table.
+ghost use Prim.Native.Nat.{_≤_};
+ghost use mathlib.Core.Bool.{true, not};
 ghost use mathlib.Core.Path.{_≡_};
+ghost use Rattle.lists.specs.Tests.{all};
 ghost use Rattle.lists.specs.Tables.{mapFrom};
 ghost use Rattle.tasks.specs.Steps.{isLasting, swept};
 ghost use Rattle.record.specs.Checks.{Clamped};
 ghost use Rattle.record.specs.Codes.{dueOf, setterOf};
-ghost use Rattle.tasks.specs.Sweep.{endsBy, entryIf, areFree, Bounds, keptByFlag};
+ghost use Rattle.tasks.specs.Sweep.{endsBy, endsAny, isKnown, mayEnd, entryIf, areFree, Bounds, keptByFlag};
+use ledger::Event;
 use ledger::TASK_COUNT;
 use record::ABSENT_TASK;
 use record::BLOCK_COUNT;
@@ -15,9 +19,12 @@ use record::ExpirationEntry;
 use record::FREE_BLOCK;
 use record::FREE_EXPIRATION;
 use record::GlobalTime;
+use record::LocalTime;
 use record::Pool;
 use record::TaskEntry;
 use record::codes::FREE;
+use record::codes::GLOBAL;
+use record::codes::LOCAL;
 use record::codes::due_of;
 use record::codes::global_left;
 use record::codes::local_left;
@@ -60,6 +67,55 @@ pub fn ends(e: ExpirationEntry, setter: TaskEntry, global: GlobalTime, leaver: u
 {
     let due = due_of(e);
     !is_lasting(leaver, entry_if(setter_of(due), setter), global, due)
+}
+
+// The same by its fields, where the entry is its setter's own.
+fn ends_by(e: ExpirationEntry, setter: TaskEntry, global: GlobalTime, leaver: u16) -> bool
+    ensures { λ r. ⌜ r ≡ not (isLasting leaver setter global (dueOf e)) ⌝ }
+{
+    if e.kind == LOCAL {
+        let now = setter.clock;
+        return (e.setter == leaver) | (local_left(LocalTime(e.due), now) == 0);
+    }
+    if e.kind == GLOBAL {
+        return global_left(GlobalTime(e.due), global) == 0;
+    }
+    false
+}
+
+// Whether one of the entries below the bound ends, where each setter's number is a task's.
+pub fn ends_any(
+    xs: [ExpirationEntry; EXPIRATION_COUNT],
+    bound: usize,
+    tasks: [TaskEntry; TASK_COUNT],
+    global: GlobalTime,
+    leaver: u16,
+) -> bool
+    requires { ⌜ (bound ≤ 256) × (all isKnown xs ≡ true) ⌝ }
+    ensures { λ r. ⌜ r ≡ endsAny leaver tasks global bound xs ⌝ }
+{
+    for i in 0..bound {
+        let e = xs[i];
+        let s = e.setter as usize % TASK_COUNT;
+        let setter = tasks[s];
+        if ends_by(e, setter, global, leaver) {
+            return true;
+        }
+    }
+    false
+}
+
+// Whether an event can end an expiration of a well-formed record: a block that leaves the global time moves no clock.
+pub fn may_end(event: Event, before: GlobalTime, after: GlobalTime) -> bool
+    ensures { λ r. ⌜ r ≡ mayEnd event before after ⌝ }
+{
+    match event {
+        Event::Join => true,
+        Event::Leave => true,
+        Event::Block => before.0 != after.0,
+        Event::Resume => true,
+        Event::Tick => true,
+    }
 }
 
 fn are_free(a: ExpirationEntry, b: ExpirationEntry, c: ExpirationEntry, d: ExpirationEntry) -> bool
