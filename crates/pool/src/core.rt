@@ -1,11 +1,14 @@
 // The calls of a well-formed record with stores of 01's lengths: what follows the tests of 15 and 14.
+ghost use mathlib.Core.Bool.{true};
 ghost use mathlib.Core.Path.{_≡_};
-ghost use Rattle.ledger.specs.declared.Call.the-variants.{Make, Write};
+ghost use Rattle.ledger.specs.declared.Call.the-variants.{Schedule, Make, Write};
 ghost use Rattle.ledger.specs.declared.Request.the-variants.{Use};
-ghost use Rattle.pool.specs.Contract.{Ready, Makes, Writes};
+ghost use Rattle.record.specs.WellFormed.{isWellFormed};
+ghost use Rattle.pool.specs.Contract.{Ready, Follows, Makes, Writes};
 ghost use Rattle.pool.specs.Served.{Serves, withoutBytes, whereFound};
 use ledger::Answer;
 use ledger::Call;
+use ledger::Event;
 use ledger::Kind;
 use ledger::Request;
 use objects::Found;
@@ -15,6 +18,11 @@ use record::Outcome;
 use record::Pool;
 use stores::clear_place;
 use stores::write_place;
+use tasks::ends_any;
+use tasks::may_end;
+use tasks::plan;
+use tasks::swept_within;
+use tasks::used_bound;
 
 // What a call gives back. The bytes of a read are the first `length` of `block`; length is 0 for every other answer.
 pub struct Called {
@@ -46,6 +54,40 @@ fn where_found(found: Found, p: Pool) -> Called
             block: block,
             length: length,
         },
+    }
+}
+
+// Join, leave, block, resume and tick. The record is swept only where an expiration ends; else only tasks and time are new.
+pub fn schedule(mut p: Pool, event: Event, task: u8) -> Outcome
+    requires { ⌜ isWellFormed p ≡ true ⌝ }
+    ensures { λ r. ⌜ Follows (Use (Schedule event task)) p (r .answer) (r .pool) ⌝ }
+{
+    let before = p.tasks;
+    let now = p.global;
+    let planned = plan(before, now, event, task);
+    let answer = planned.answer;
+    let tasks = planned.tasks;
+    let global = planned.global;
+    let leaver = planned.leaver;
+    p.tasks = tasks;
+    p.global = global;
+    if !(planned.sweeps & may_end(event, now, global)) {
+        return Outcome {
+            answer: answer,
+            pool: p,
+        };
+    }
+    let xs = p.expirations;
+    let bound = used_bound(xs);
+    if !ends_any(xs, bound, tasks, global, leaver) {
+        return Outcome {
+            answer: answer,
+            pool: p,
+        };
+    }
+    Outcome {
+        answer: answer,
+        pool: swept_within(p, bound, tasks, global, leaver),
     }
 }
 
@@ -105,7 +147,7 @@ fn serve(p: Pool, small: &mut [u8], large: &mut [u8], call: Call, bytes: &[u8]) 
 {
     match call {
         Call::Schedule { event, task } => {
-            let done = tasks::schedule(p, event, task);
+            let done = schedule(p, event, task);
             let answer = done.answer;
             let pool = done.pool;
             without_bytes(answer, pool)

@@ -26,7 +26,7 @@ fn schedule(p: Pool, event: Event, task: u8) -> Outcome
             pool: p,
         };
     }
-    tasks::schedule(p, event, task)
+    core::schedule(p, event, task)
 }
 
 pub fn join(p: Pool, task: u8) -> Outcome

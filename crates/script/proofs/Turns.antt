@@ -9,7 +9,6 @@ use lib.Dec.{ltb}
 use lib.ListN.{length, getD, take, replicate}
 use lib.Seq.{length-take-le}
 use Rattle.lists.proofs.Cases.{by-test}
-use Rattle.ledger.specs.Objects.{plain}
 use Rattle.ledger.specs.declared.Answer.{Answer}
 use Rattle.ledger.specs.declared.Answer.the-variants.{Done, Handle, Bytes, Counted}
 use Rattle.ledger.specs.declared.Answer.the-variants.{Refused as RefusedAnswer}
@@ -35,7 +34,7 @@ use Rattle.tasks.specs.Steps.{withTimes, swept, planned, poolBy}
 use Rattle.tasks.specs.Sweep.{areFreeFrom, Bounds, endsAny, endsBy}
 use Rattle.tasks.specs.declared.Planned.{Planned}
 use Rattle.tasks.proofs.Types.{typed-scheduled}
-use Rattle.tasks.proofs.Standing.{scheduled-as-planned, standing-reads, standing-fits, swept-free-from, ends-as, ends-none, ends-next}
+use Rattle.tasks.proofs.Standing.{scheduled-as-planned, swept-free-from, ends-as, ends-none, ends-next}
 use Rattle.objects.specs.Steps.{freePlace, makeVerdict, refreshVerdict, writeVerdict, entryBy, entryFor, withObject, withEntry, madePool, refreshedPool}
 use Rattle.objects.specs.Outcomes.{makePlan, refreshPlan, foundIn, foundForWriteIn, madeBy, foundBy}
 use Rattle.objects.specs.declared.Plan.{Plan}
@@ -45,12 +44,12 @@ use Rattle.objects.specs.declared.Found.the-variants.{Refused as RefusedFound}
 use Rattle.objects.specs.Usage.{usageOf}
 use Rattle.objects.proofs.Chosen.{make-takes}
 use Rattle.objects.proofs.Planned.{found-in, found-for-write-in}
-use Rattle.pool.specs.Contract.{replyFound, Obeys, Follows, Locates, Writes}
+use Rattle.pool.specs.Contract.{replyFound, Follows, Locates, Writes}
 use Rattle.pool.specs.Served.{withoutBytes, whereFound, replyOf, Serves}
 use Rattle.pool.proofs.Outcomes.{refresh-refused, refresh-done}
 use Rattle.pool.proofs.Meets.{block-in, make-kept, make-cleared, locates, write-kept, write-found}
 use Rattle.pool.proofs.Reported.{report-obeys}
-use Rattle.pool.proofs.Scheduled.{schedule-obeys}
+use Rattle.pool.proofs.Scheduled.{unswept-follows, swept-follows, standing-follows}
 use Rattle.pool.proofs.Served.{schedule-serves, refresh-serves, report-serves, make-serves, read-serves, write-serves}
 use Rattle.frames.specs.Answers.{answerLine}
 use Rattle.frames.specs.Frames.{Decodes}
@@ -152,32 +151,22 @@ module _ {line old new : List ℕ} {frame : Frame} (d : Decodes line old frame n
   -- an event by its plan: carried out on the record, or with nothing swept where nothing ends
   module _ {event : Event} {task : ℕ} {count : ℕ} (e : frame ≡ Frame.Request (Use (Schedule event task)) count) {plan : Planned}
       (planned-so : plan ≡ planned event task (p .tasks) (p .global)) where
-    as-planned : (small large : List ℕ) → Obeys (Use (Schedule event task)) [] p small large (plain (plan .answer)) (poolBy plan p) small large
-    as-planned small large = rw planned-so (rw (scheduled-as-planned event task p) at (schedule-obeys event task p types (run .fit) small large))
-
     carried-turn : {p′ : Pool} → Follows (Use (Schedule event task)) p (plan .answer) p′ → {none : List ℕ} → none ≡ []
         → Turn line p small large p′ small large (answerLine (plan .answer) none)
     carried-turn f z = plain-turn e (schedule-serves _ p small large event task (plan .answer) _ f) z
 
     pub unswept-turn : plan .sweeps ≡ false → {none : List ℕ} → none ≡ []
         → Turn line p small large (withTimes (plan .tasks) (plan .global) p) small large (answerLine (plan .answer) none)
-    unswept-turn s z = carried-turn (λ small large. rw s at (as-planned small large)) z
+    unswept-turn s z = carried-turn (unswept-follows types (run .fit) planned-so s) z
 
     pub swept-turn : plan .sweeps ≡ true → {none : List ℕ} → none ≡ []
         → Turn line p small large (swept (plan .leaver) (plan .tasks) (plan .global) p) small large (answerLine (plan .answer) none)
-    swept-turn s z = carried-turn (λ small large. rw s at (as-planned small large)) z
+    swept-turn s z = carried-turn (swept-follows types (run .fit) planned-so s) z
 
     pub standing-turn : plan .sweeps ≡ true → (bound : ℕ) → areFreeFrom bound (p .expirations) ≡ true
         → endsAny (plan .leaver) (plan .tasks) (plan .global) bound (p .expirations) ≡ false → {none : List ℕ} → none ≡ []
         → Turn line p small large (withTimes (plan .tasks) (plan .global) p) small large (answerLine (plan .answer) none)
-    standing-turn s bound free none-ends z =
-        let t = swept-turn s z in
-        record {
-          fit = λ w. standing-fits (plan .leaver) (plan .tasks) (plan .global) bound p w free none-ends (t .fit w);
-          sizes = t .sizes;
-          leaves = λ L reads. standing-reads (plan .leaver) (plan .tasks) (plan .global) bound p (run .fit) free none-ends small large _ (t .leaves L reads);
-          answers = t .answers;
-        }
+    standing-turn s bound free none-ends z = carried-turn (standing-follows types (run .fit) planned-so s bound free none-ends) z
 
     -- the record's type is kept
     typed-planned : Typed (poolBy plan p)
@@ -250,12 +239,6 @@ module _ (leaver : ℕ) (tasks : List TaskEntry) (global : GlobalTime) (bound : 
     asked-all t e =
         by-test (ltb asked bound) (λ l. absurd (true≢false (sym (rw (l, e)) ∙ t)))
         (λ l. let same : bound ≡ asked = omega (arith, ltb-false asked bound l, a .within) in rw same (sym (a .so) ∙ e))
-
--- a sweep does not look at the times that the record had
-pub swept-again : (leaver : ℕ) (tasks : List TaskEntry) (global : GlobalTime) (p : Pool)
-    → swept leaver tasks global (withTimes tasks global p) ≡ swept leaver tasks global p
-unfolding swept
-swept-again leaver tasks global p = refl
 
 -- what is set in place is what the record's make and refresh set
 pub made-in-place : (task : ℕ) (kind : Kind) (extension size : ℕ) (p : Pool) {plan : Plan} {entry : ExpirationEntry}

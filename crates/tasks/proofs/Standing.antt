@@ -49,6 +49,12 @@ pub scheduled-as-planned : (event : Event) (task : ℕ) (p : Pool)
 unfolding scheduled planned
 scheduled-as-planned event task p = by-verdict (verdictAt event task (p .tasks)) event task p
 
+-- a sweep does not look at the times that the record had
+pub swept-again : (leaver : ℕ) (tasks : List TaskEntry) (global : GlobalTime) (p : Pool)
+    → swept leaver tasks global (withTimes tasks global p) ≡ swept leaver tasks global p
+unfolding swept
+swept-again leaver tasks global p = refl
+
 module _ (leaver : ℕ) (tasks : List TaskEntry) (global : GlobalTime) where
   abbrev Stays : ExpirationEntry → Type 0
   Stays e = keptEntry leaver tasks global e ≡ e

@@ -3,7 +3,6 @@ use borrow.Author.Needs.{needs}
 use mathlib.Core.Path.{refl}
 use Rattle.record.proofs.Types.{typed}
 use Rattle.pool.proofs.Meets.{refresh-meets, locates}
-use Rattle.pool.proofs.Scheduled.{schedule-obeys}
 use Rattle.pool.proofs.Served.{schedule-serves, make-serves, refresh-serves, read-serves, write-serves}
 use Rattle.pool.proofs.core.serve.Statement.{statement}
 use Rattle.pool.proofs.core.serve.Tie as tie
@@ -16,9 +15,7 @@ write-requires c κs = rw (c .before .before .before .call5 .given .1) at (c .be
 
 returns : tie.Need-returns
 returns c =
-    let start = c .before .before .before .before .before .before .before .before .before in
-    rw (c .before .before .before .before .call .given .1, c .without-bytes .ensures, c .before .before .schedule .ensures)
-    (schedule-serves _ _ _ _ _ _ _ _ (schedule-obeys _ _ _ (typed _ _ (start .good .0)) (start .pre .fit)))
+    rw (c .before .before .before .before .call .given .1, c .without-bytes .ensures) (schedule-serves _ _ _ _ _ _ _ _ (c .before .before .schedule .ensures))
 
 returns-2 : tie.Need-returns-2
 returns-2 c = rw (c .before .before .before .before .before .before .before .before .before .before .call2 .given .1, c .without-bytes2 .ensures) (make-serves _ _ _ _ _ _ _ _ _ _ _ (c .before .before .before .before .before .before .make .ensures))
@@ -44,7 +41,7 @@ serve-spec =
     tie.close
     (tie.spec
     (λ c. search needs)
-    (λ c κs. search needs)
+    (λ c κs. c .before .before .before .before .before .before .pre .fit)
     (λ c κs. search needs)
     (λ c. search needs)
     make-requires

@@ -13,6 +13,7 @@ use Rattle.ledger.specs.declared.Request.{Request}
 use Rattle.ledger.specs.declared.Request.the-variants.{Use}
 use Rattle.record.specs.declared.Pool.{Pool}
 use Rattle.record.proofs.Types.{typed}
+use Rattle.tasks.proofs.Standing.{swept-again}
 use Rattle.objects.proofs.Planned.{make-planned, make-within, refresh-planned, refresh-within}
 use Rattle.objects.proofs.Types.{typed-made, typed-refreshed}
 use Rattle.frames.specs.Answers.{answerLine}
@@ -23,7 +24,7 @@ use Rattle.script.proofs.Showing.{short-line}
 use Rattle.script.proofs.Carrying.{bytes-in}
 use Rattle.script.proofs.Bounded.{bounds-set}
 use Rattle.script.proofs.Running.{Running, InPlace, Turn, refused-turn, run-starts, run-line, run-room, run-nears, run-turns, run-ends}
-use Rattle.script.proofs.Turns.{report-turn, refresh-refused-turn, refresh-done-turn, make-refused-turn, make-done-turn, make-clears, read-shows, read-turn, write-room, write-turn, unswept-turn, swept-turn, standing-turn, unswept-in-place, standing-in-place, swept-in-place, swept-again, made-in-place, refreshed-in-place, made-place, found-room, planned-sixteen, Asked, asked-none, asked-below, asked-next, asked-all}
+use Rattle.script.proofs.Turns.{report-turn, refresh-refused-turn, refresh-done-turn, make-refused-turn, make-done-turn, make-clears, read-shows, read-turn, write-room, write-turn, unswept-turn, swept-turn, standing-turn, unswept-in-place, standing-in-place, swept-in-place, made-in-place, refreshed-in-place, made-place, found-room, planned-sixteen, Asked, asked-none, asked-below, asked-next, asked-all}
 use Rattle.script.proofs.scripts.run_on.Statement.{statement}
 use Rattle.script.proofs.scripts.run_on.Tie as tie
 
