@@ -112,6 +112,11 @@ module _ {ℓ} {A : Type ℓ} (p : A → Bool) {xs : List A} {n i : ℕ} (d : A)
   pub all-stop : {v r : Bool} → Scanned v xs n i (all p) → i < n → r ≡ p (getD xs i d) → not r ≡ true → false ≡ v
   all-stop {r = r} s h e t = scanned-stop false d s h (λ ys. rw (← e, not-true r t))
 
+  -- the same with no way out before the end: so far all pass or not
+  pub all-kept : {v r : Bool} (fit : Bool) → Scanned v xs n i (λ ys. fit && all p ys) → i < n → r ≡ p (getD xs i d)
+      → Scanned v xs n (i + 1) (λ ys. (fit && r) && all p ys)
+  all-kept fit s h e = scanned-turn _ d s h (λ ys. rw e (sym (and-assoc fit (p (getD xs i d)) (all p ys))))
+
   -- a search, left at the first element that passes
   pub any-turn : {v r : Bool} → Scanned v xs n i (any p) → i < n → r ≡ p (getD xs i d) → r ≡ false → Scanned v xs n (i + 1) (any p)
   any-turn s h e t = scanned-turn (any p) d s h (λ ys. rw (← e, t))
@@ -164,6 +169,10 @@ module _ {ℓ} {A : Type ℓ} (p : ℕ → A → Bool) {xs : List A} {n i : ℕ}
   pub kept-turn : {v r : Bool} (fit : Bool) → Scanned v xs n i (λ ys. fit && allFrom i p ys) → i < n → r ≡ p i (getD xs i d)
       → Scanned v xs n (i + 1) (λ ys. (fit && r) && allFrom (i + 1) p ys)
   kept-turn fit s h e = scanned-turn _ d s h (λ ys. rw (e, add-one) (sym (and-assoc fit (p i (getD xs i d)) _)))
+
+pub all-kept-end {ℓ} : {A : Type ℓ} (p : A → Bool) (fit : Bool) {v : Bool} {xs : List A} {n i : ℕ} → Scanned v xs n i (λ ys. fit && all p ys) → n ≤ i
+    → fit ≡ v
+all-kept-end p fit s h = sym (and-true fit) ∙ scanned-end s h
 
 pub kept-end {ℓ} : {A : Type ℓ} (p : ℕ → A → Bool) (fit : Bool) {v : Bool} {xs : List A} {n i : ℕ} → Scanned v xs n i (λ ys. fit && allFrom i p ys)
     → n ≤ i → fit ≡ v

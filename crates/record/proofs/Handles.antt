@@ -3,8 +3,8 @@ use Prim.Native.Nat.{ℕ, _+_, _%_, _<_}
 use native.Mathlib.Numerals.{add-one}
 use mathlib.Core.Bool.{Bool, true, false, false≢true, not, _&&_, _||_, or-true, or-false, and-false, and-assoc, and-eq-true-iff}
 use mathlib.Core.List.{List, [], _∷_, _++_, map, map-append}
-use mathlib.Core.Path.{_≡_, refl, sym, ap, _∙_}
-use borrow.Author.Tests.{eqb-true, eqb-false, eq-eqb, ne-eqb, not-true}
+use mathlib.Core.Path.{_≡_, refl, sym, _∙_}
+use borrow.Author.Tests.{eqb-true, eqb-false, eq-eqb, ne-eqb}
 use lib.Dec.{eqb}
 use lib.ListN.{length, getD, take, take-append-drop}
 use lib.Seq.{take-suc}
@@ -79,33 +79,28 @@ module _ (blocks : List BlockEntry) (i h : ℕ) (within : i < length blocks) (e 
       (sym (rw (n, and-false (isDistinct (map handleOf (take i blocks)))) at one-more)
       ∙ distinct-first (map handleOf (take (i + 1) blocks)) _ (rw (← take-append-drop (i + 1) blocks, map-append) at t))))
 
--- a block whose handle has this remainder
+-- a block in use whose handle has this remainder
 abbrev pub hasRest : ℕ → BlockEntry → Bool
-hasRest k b = eqb (handleOf b % 256) k
+hasRest k b = not (eqb (handleOf b) 0) && eqb (handleOf b % 256) k
 
--- where no earlier handle has its remainder, a handle is new
-unmet : (handle : ℕ) (bs : List BlockEntry) → any (hasRest (handle % 256)) bs ≡ false → any (hasHandle handle) bs ≡ false
-unmet handle bs e =
-    any-none (hasHandle handle) (hasRest (handle % 256))
-    (λ b t. eq-eqb _ _ (ap (λ (n : ℕ). n % 256) (sym (eqb-true handle (handleOf b) t)))) bs e
-
-unmet-new : (z met a : Bool) → (not z && met) ≡ false → (met ≡ false → a ≡ false) → (z || not a) ≡ true
-unmet-new true met a e f = refl
-unmet-new false met a e f = rw (f e)
-
--- the flag of the handle's remainder is not set, or it is no handle
-pub new-unmet : (handle : ℕ) (bs : List BlockEntry) {met : Bool} → met ≡ any (hasRest (handle % 256)) bs → (not (eqb handle 0) && met) ≡ false
-    → isNewIn bs handle ≡ true
+-- a handle is new where it is none
+pub new-free : (handle : ℕ) (bs : List BlockEntry) → eqb handle 0 ≡ true → isNewIn bs handle ≡ true
 unfolding isNewIn
-new-unmet handle bs {met} m e = unmet-new (eqb handle 0) met _ e (λ t. unmet handle bs (sym m ∙ t))
+new-free handle bs z = rw z
 
--- it was met, but not in one of the blocks
+-- and where it is in none of the blocks
 pub new-met : (handle : ℕ) (bs : List BlockEntry) → any (hasHandle handle) bs ≡ false → isNewIn bs handle ≡ true
 unfolding isNewIn
 new-met handle bs e = rw e (or-true (eqb handle 0))
 
--- it was met, in one of the blocks
-pub not-new : (handle : ℕ) (bs : List BlockEntry) (met : Bool) → (not (eqb handle 0) && met) ≡ true → any (hasHandle handle) bs ≡ true
-    → isNewIn bs handle ≡ false
+-- so it is where none of them has its remainder
+pub new-unmet : (handle : ℕ) (bs : List BlockEntry) → eqb handle 0 ≡ false → any (hasRest (handle % 256)) bs ≡ false → isNewIn bs handle ≡ true
+new-unmet handle bs z e =
+    new-met handle bs
+    (any-none (hasHandle handle) (hasRest (handle % 256))
+    (λ b t. rw (← eqb-true handle (handleOf b) t, z, eq-eqb (handle % 256) (handle % 256) refl)) bs e)
+
+-- it is in one of the blocks
+pub not-new : (handle : ℕ) (bs : List BlockEntry) → eqb handle 0 ≡ false → any (hasHandle handle) bs ≡ true → isNewIn bs handle ≡ false
 unfolding isNewIn
-not-new handle bs met e r = rw (not-true (eqb handle 0) (and-eq-true-iff (not (eqb handle 0)) met .0 e .0), r)
+not-new handle bs z r = rw (z, r)

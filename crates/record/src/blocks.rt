@@ -104,16 +104,17 @@ pub fn distinct(blocks: [BlockEntry; BLOCK_COUNT]) -> bool
 {
     let mut seen = [false; 256];
     for i in 0..BLOCK_COUNT {
-        let b = blocks[i];
-        let handle = b.handle;
+        let handle = blocks[i].handle;
+        if handle == 0 {
+            continue;
+        }
         let at = (handle % 256) as usize;
-        let met = seen[at];
-        seen[at] = true;
-        if (handle != 0) & met {
+        if seen[at] {
             if repeats(blocks, i, handle) {
                 return false;
             }
         }
+        seen[at] = true;
     }
     true
 }
