@@ -4,19 +4,20 @@ use native.Mathlib.Nat.{mod-eq-of-lt}
 use native.Mathlib.Omega.{arith}
 use mathlib.Core.Bool.{Bool, true, false, false≢true, cond, _&&_, and-eq-true-iff}
 use mathlib.Core.List.{List}
-use mathlib.Core.Path.{_≡_, sym}
+use mathlib.Core.Path.{_≡_, sym, _∙_}
 use borrow.Author.Tests.{lt-ltb, ltb-true, ltb-false, ne-eqb}
 use lib.Dec.{eqb, ltb}
 use lib.ListN.{getD}
 use Rattle.lists.proofs.Cases.{by-test}
 use Rattle.ledger.specs.Limits.{taskCount}
 use Rattle.record.specs.Codes.{dueOf, isDated, absentEntry}
-use Rattle.record.specs.WellFormed.{isFitDue, isNaming}
+use Rattle.record.specs.WellFormed.{isFitTask, isFitDue, isNaming}
 use Rattle.record.specs.Checks.{isFitBy, isFitAlone, slotOf}
 use Rattle.record.specs.declared.TaskEntry.{TaskEntry}
 use Rattle.record.specs.declared.ExpirationEntry.{ExpirationEntry}
 use Rattle.record.specs.declared.GlobalTime.{GlobalTime}
 use Rattle.record.specs.declared.Due.{Due}
+use Rattle.record.proofs.States.{absent-is-0}
 
 flag-by : (dated : Bool) (b k : ℕ) → k < 96 → (dated && eqb b k) ≡ eqb (cond (dated && ltb b 96) b 96) k
 flag-by false b k h = sym (ne-eqb 96 k (omega arith))
@@ -39,16 +40,18 @@ slot-below block due =
     (λ t. rw t (omega arith))
 
 -- an entry in use, tested by its numbers, with the task at the remainder of its setter
-pub by-numbers : (tasks : List TaskEntry) (global : GlobalTime) (e : ExpirationEntry) {s : ℕ} → s ≡ e .setter % 16 → e .block < 256
-    → eqb (e .kind) 0 ≡ false
+pub by-numbers : (tasks : List TaskEntry) (global : GlobalTime) (e : ExpirationEntry) {s : ℕ} → s ≡ e .setter % 16
+    → isFitTask (getD tasks s absentEntry) ≡ true → e .block < 256 → eqb (e .kind) 0 ≡ false
     → (let setter = getD tasks s absentEntry in
     isFitBy (setter .state) (setter .clock .0) global (e .kind) (e .setter) (e .due) ≡ isFitAlone tasks global e)
 unfolding isFitBy isFitDue dueOf taskCount
-by-numbers tasks global e r l z =
+by-numbers tasks global e {s} r f l z =
     by-test (eqb (e .kind) 1)
     (λ t.
     by-test (ltb (e .setter) 16)
-    (λ u. rw (z, t, u, lt-ltb (e .block) 256 l, r, mod-eq-of-lt (ltb-true (e .setter) 16 u)))
+    (λ u.
+    let same : s ≡ e .setter = r ∙ mod-eq-of-lt (ltb-true (e .setter) 16 u) in
+    rw (z, t, u, lt-ltb (e .block) 256 l, ← same, absent-is-0 (getD tasks s absentEntry) f))
     (λ u. rw (z, t, u, lt-ltb (e .block) 256 l)))
     (λ t. by-test (eqb (e .kind) 2) (λ u. rw (z, t, u, lt-ltb (e .block) 256 l)) (λ u. rw (z, t, u)))
 

@@ -8,7 +8,7 @@ use lib.ListN.{length, getD, take, drop}
 use Rattle.lists.specs.Tests.{any, all}
 use Rattle.lists.specs.Tables.{allFrom}
 use Rattle.ledger.specs.Limits.{limits, taskCount}
-use Rattle.ledger.specs.Tasks.{isAbsent, isRunning}
+use Rattle.ledger.specs.Tasks.{isRunning}
 use Rattle.record.specs.Codes.{stateOf, dueOf, isDated, setterOf, leftAt, absentEntry}
 use Rattle.record.specs.WellFormed.{isAhead, isFitDue, isNaming, isSizedFor, handleOf}
 use Rattle.record.specs.declared.TaskEntry.{TaskEntry}
@@ -30,11 +30,11 @@ pub record Clamped (count i r : ℕ) : Type 0 where
   pub so : r ≡ cond (ltb i count) i 0
   pub below : r < count
 
--- an expiration in use by the numbers of its entry, and by the state and the clock of its setter
+-- an expiration in use by the numbers of its entry, and by the state, which is known, and the clock of its setter
 unfoldable pub isFitBy : ℕ → ℕ → GlobalTime → ℕ → ℕ → ℕ → Bool
 isFitBy state clock global kind setter due =
     cond (eqb kind 1)
-    (ltb setter taskCount && not (isAbsent (stateOf state)) && isAhead (limits .extension + 1) (leftAt due clock))
+    (ltb setter taskCount && not (eqb state 0) && isAhead (limits .extension + 1) (leftAt due clock))
     (eqb kind 2 && isAhead (limits .extension + 2) (leftAt due (global .0)))
 
 -- an entry by itself: it names some byte

@@ -1,7 +1,9 @@
 // Tests of expiration entries, and which blocks they name.
 ghost use Prim.Native.Nat.{_<_, _%_};
 ghost use mathlib.Core.Path.{_≡_};
-ghost use Rattle.record.specs.WellFormed.{isAhead};
+ghost use mathlib.Core.Bool.{true};
+ghost use Rattle.lists.specs.Tests.{all};
+ghost use Rattle.record.specs.WellFormed.{isAhead, isFitTask};
 ghost use Rattle.record.specs.Checks.{Clamped, isFitBy, FlagFor, slotOf, ExpirationsChecked};
 use super::BLOCK_COUNT;
 use super::Due;
@@ -10,13 +12,13 @@ use super::ExpirationEntry;
 use super::GlobalTime;
 use super::LocalTime;
 use super::TaskEntry;
+use super::codes::ABSENT;
 use super::codes::FREE;
 use super::codes::GLOBAL;
 use super::codes::LOCAL;
 use super::codes::global_left;
 use super::codes::is_dated;
 use super::codes::local_left;
-use super::tasks::is_absent;
 use ledger::LIMITS;
 use ledger::TASK_COUNT;
 
@@ -29,7 +31,7 @@ fn is_ahead(most: u32, left: u32) -> bool
     (1 <= left) & (left <= most)
 }
 
-// An expiration that is in use, by the state and the clock of its setter. Whether its block is in use is not looked at here.
+// An expiration that is in use, by the state, which is known, and the clock of its setter. Whether its block is in use is not looked at here.
 fn fits_alone(state: u16, clock: u32, global: GlobalTime, kind: u8, setter: u16, due: u32) -> bool
     ensures { λ r. ⌜ r ≡ isFitBy state clock global kind setter due ⌝ }
 {
@@ -37,7 +39,7 @@ fn fits_alone(state: u16, clock: u32, global: GlobalTime, kind: u8, setter: u16,
         if TASK_COUNT <= (setter as usize) {
             return false;
         }
-        if is_absent(state) {
+        if state == ABSENT {
             return false;
         }
         return is_ahead(
@@ -95,6 +97,7 @@ pub fn check_expirations(
     tasks: [TaskEntry; TASK_COUNT],
     global: GlobalTime,
 ) -> Checked
+    requires { ⌜ all isFitTask tasks ≡ true ⌝ }
     ensures { λ r. ⌜ ExpirationsChecked tasks global xs r ⌝ }
 {
     let mut named = [false; BYTES];

@@ -8,8 +8,9 @@ use borrow.Author.Tests.{eq-eqb, ne-eqb, not-false}
 use lib.ListN.{getD}
 use Rattle.lists.specs.Tests.{all}
 use Rattle.lists.proofs.Loops.{Scanned, scanned-start, all-turn, all-stop, scanned-end, Marked, marked-start, marked-turn, marked-none, marked-end}
-use Rattle.record.specs.Codes.{freeEntry}
-use Rattle.record.specs.WellFormed.{isNaming}
+use Rattle.lists.proofs.Tests.{passes-at}
+use Rattle.record.specs.Codes.{absentEntry, freeEntry}
+use Rattle.record.specs.WellFormed.{isFitTask, isNaming}
 use Rattle.record.specs.Checks.{isFitAlone}
 use Rattle.record.specs.declared.ExpirationEntry.{ExpirationEntry}
 use Rattle.record.proofs.Entries.{by-numbers, names-its-block, free-fits, free-names-none}
@@ -50,12 +51,15 @@ turn c = c .before .before .before .before
 
 -- what the test ensures of that entry
 tested : (c : tie.After-fits-alone Inv-loop μ-loop) → c .fits-alone .result ≡ isFit (turn c .before .before) (entry (turn c))
+unfolding isFitTask
 tested c =
     let args = turn c .before .before .args in
     let e = entry (turn c) in
     let block : e .block < 256 = rw (c .before .flag-for .ensures .so) at (c .before .flag-for .ensures .below) in
     let used = ne-eqb (e .kind) 0 (c .before .before .before .if1 .left) in
-    c .fits-alone .ensures ∙ by-numbers (args .t2) (args .global) e (c .before .before .task-for .ensures) block used
+    let task = c .before .before .task-for in
+    let setter = passes-at isFitTask (args .t2) (task .result) absentEntry (turn c .before .before .pre) refl in
+    c .fits-alone .ensures ∙ by-numbers (args .t2) (args .global) e (task .ensures) setter block used
 
 returns : tie.Need-returns Inv-loop μ-loop
 returns c =

@@ -12,17 +12,15 @@ fits-alone-spec =
     tie.close
     (tie.spec
     (λ c. rw (eq-eqb _ _ (c .before .if1 .taken), le-ltb _ _ (c .if2 .taken)))
-    (λ c κs. search needs)
     (λ c.
-    let known = lt-ltb _ _ (c .before .before .if2 .left) in
-    rw (eq-eqb _ _ (c .before .before .before .if1 .taken), known, ← c .before .is-absent .ensures, c .if3 .taken))
+    rw (eq-eqb _ _ (c .before .before .if1 .taken), lt-ltb _ _ (c .before .if2 .left), eq-eqb _ _ (c .if3 .taken)))
     (λ c. search needs)
     (λ c κs. search needs)
     (λ c κs. search needs)
     (λ c.
     let present = c .before .before .before in
-    let known = lt-ltb _ _ (present .before .before .if2 .left) in
-    rw (eq-eqb _ _ (present .before .before .before .if1 .taken), known, ← present .before .is-absent .ensures, present .if3 .left, c .is-ahead .ensures, c .before .local-left .ensures))
+    let known = lt-ltb _ _ (present .before .if2 .left) in
+    rw (eq-eqb _ _ (present .before .before .if1 .taken), known, ne-eqb _ _ (present .if3 .left), c .is-ahead .ensures, c .before .local-left .ensures))
     (λ c. search needs)
     (λ c κs. search needs)
     (λ c κs. search needs)

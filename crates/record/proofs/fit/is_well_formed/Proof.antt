@@ -65,7 +65,7 @@ is-well-formed-spec =
     returns
     (λ c κs. search needs)
     returns-2
-    (λ c κs. search needs)
+    (λ c κs. all-fit (c .before .before .before .before))
     returns-3
     (λ c κs. search needs)
     (λ c κs. search needs)
