@@ -22,7 +22,7 @@ use Rattle.ledger.specs.declared.Event.{Event}
 use Rattle.ledger.specs.declared.Verdict.{Verdict}
 use Rattle.ledger.specs.declared.Verdict.the-variants.{Accepted, Refused}
 use Rattle.record.specs.Checks.{Clamped}
-use Rattle.record.specs.Codes.{dueOf, setterOf, absentEntry, freeEntry}
+use Rattle.record.specs.Codes.{dueOf, setterOf, leftAt, absentEntry, freeEntry}
 use Rattle.record.specs.Reading.{recordView, Reads}
 use Rattle.record.specs.WellFormed.{isWellFormed}
 use Rattle.record.specs.declared.TaskEntry.{TaskEntry}
@@ -31,7 +31,7 @@ use Rattle.record.specs.declared.GlobalTime.{GlobalTime}
 use Rattle.record.specs.declared.Pool.{Pool}
 use Rattle.record.proofs.Facts.{Fit, fit-parts, fit-whole}
 use Rattle.tasks.specs.Steps.{verdictAt, isLasting, isKept, keptEntry, keptBlock, swept, withTimes, poolAfter, answerAfter, outcomeBy, scheduled, plannedAfter, plannedBy, planned, carriedOut}
-use Rattle.tasks.specs.Sweep.{isEnded, endsAny, isKnown, endsBy, isFree, areFreeFrom}
+use Rattle.tasks.specs.Sweep.{isEnded, endsAny, isKnown, endsBy, endsByFields, isFree, areFreeFrom}
 use Rattle.tasks.proofs.KeptBlocks.{kept-block}
 use Rattle.tasks.proofs.FitSwept.{named-fits}
 use Rattle.tasks.proofs.ReadObjects.{freed-shown, none-freed}
@@ -133,37 +133,34 @@ pub ends-next : (leaver : ℕ) (tasks : List TaskEntry) (global : GlobalTime) (x
 unfolding endsAny
 ends-next leaver tasks global xs i h e = rw (add-one, take-suc xs i freeEntry h, any-append, e) (or-false (isEnded leaver tasks global (getD xs i freeEntry)))
 
--- by the fields of an entry: none left is no unit, and one in no use stands
-pub none-left : (n : ℕ) → eqb n 0 ≡ not (ltb 0 n)
+-- none left is no unit
+none-left : (n : ℕ) → eqb n 0 ≡ not (ltb 0 n)
 none-left n =
     by-test (ltb 0 n)
     (λ l. rw (l, ne-eqb n 0 (λ z. omega (arith, ltb-true 0 n l))))
     (λ l. rw (l, eq-eqb n 0 (omega (arith, ltb-false 0 n l))))
 
-pub left-or-none : (gone : Bool) (n : ℕ) → (gone || eqb n 0) ≡ not (not gone && ltb 0 n)
-left-or-none true n = refl
-left-or-none false n = none-left n
+gone-or-none-left : (gone : Bool) (n : ℕ) → (gone || eqb n 0) ≡ not (not gone && ltb 0 n)
+gone-or-none-left true n = refl
+gone-or-none-left false n = none-left n
 
-pub undated-stands : (leaver : ℕ) (setter : TaskEntry) (global : GlobalTime) (e : ExpirationEntry) → eqb (e .kind) 1 ≡ false → eqb (e .kind) 2 ≡ false
-    → isLasting leaver setter global (dueOf e) ≡ true
-unfolding dueOf
-undated-stands leaver setter global e local common = by-test (eqb (e .kind) 0) (λ free. rw free) (λ free. rw (free, local, common))
-
--- an entry whose setter's number is a task's, asked by the entry at that number
-known-ends : (leaver : ℕ) (tasks : List TaskEntry) (global : GlobalTime) (e : ExpirationEntry) → isKnown e ≡ true
-    → not (isLasting leaver (getD tasks (e .setter % 16) absentEntry) global (dueOf e)) ≡ isEnded leaver tasks global e
+-- an entry whose setter's number is a task's, asked by its fields
+fields-end : (leaver : ℕ) (tasks : List TaskEntry) (global : GlobalTime) (e : ExpirationEntry) → isKnown e ≡ true
+    → endsByFields (e .kind) (e .setter) (e .due) leaver (getD tasks (e .setter % 16) absentEntry .clock) global ≡ isEnded leaver tasks global e
 unfolding dueOf taskCount
-known-ends leaver tasks global e known =
+fields-end leaver tasks global e known =
     by-test (eqb (e .kind) 1)
     (λ local.
     let kind = eqb-true (e .kind) 1 local in
-    let same : e .setter % 16 ≡ e .setter = omega (arith, ltb-true (e .setter) 16 (rw kind at known)) in rw (same, kind))
+    let same : e .setter % 16 ≡ e .setter = omega (arith, ltb-true (e .setter) 16 (rw kind at known)) in
+    rw (same, kind) (gone-or-none-left (eqb (e .setter) leaver) (leftAt (e .due) (getD tasks (e .setter) absentEntry .clock .0))))
     (λ other.
-    by-test (eqb (e .kind) 0) (λ free. rw free)
-    (λ used. by-test (eqb (e .kind) 2) (λ common. rw (used, other, common)) (λ neither. rw (used, other, neither))))
+    by-test (eqb (e .kind) 2)
+    (λ common. let kind = eqb-true (e .kind) 2 common in rw kind (none-left (leftAt (e .due) (global .0))))
+    (λ neither. rw (other, neither) (by-test (eqb (e .kind) 0) (λ free. rw free) (λ used. rw used))))
 
-pub known-asked : (leaver : ℕ) (tasks : List TaskEntry) (global : GlobalTime) (xs : List ExpirationEntry) → all isKnown xs ≡ true → (i : ℕ)
+pub fields-asked : (leaver : ℕ) (tasks : List TaskEntry) (global : GlobalTime) (xs : List ExpirationEntry) → all isKnown xs ≡ true → (i : ℕ)
     → let e = getD xs i freeEntry in
-    not (isLasting leaver (getD tasks (e .setter % 16) absentEntry) global (dueOf e)) ≡ isEnded leaver tasks global e
+    endsByFields (e .kind) (e .setter) (e .due) leaver (getD tasks (e .setter % 16) absentEntry .clock) global ≡ isEnded leaver tasks global e
 unfolding dueOf taskCount
-known-asked leaver tasks global xs known i = known-ends leaver tasks global (getD xs i freeEntry) (passes-at isKnown xs i freeEntry known refl)
+fields-asked leaver tasks global xs known i = fields-end leaver tasks global (getD xs i freeEntry) (passes-at isKnown xs i freeEntry known refl)

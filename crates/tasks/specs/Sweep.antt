@@ -1,7 +1,7 @@
 -- What a sweep is asked first, whether any expiration ends; and what its parts hand to one another: the setter's entry by a clamped index, whether
 -- entries are free, and which blocks are still named.
 use Prim.Native.Nat.{ℕ, _≤_}
-use mathlib.Core.Bool.{Bool, true, false, cond, not, _&&_}
+use mathlib.Core.Bool.{Bool, true, false, cond, not, _&&_, _||_}
 use mathlib.Core.List.{List}
 use mathlib.Core.Path.{_≡_}
 use lib.Dec.{eqb, ltb}
@@ -10,10 +10,11 @@ use Rattle.lists.specs.Tests.{any, all}
 use Rattle.ledger.specs.Limits.{taskCount}
 use Rattle.ledger.specs.declared.Event.{Event}
 use Rattle.ledger.specs.declared.Event.the-variants.{Join, Leave, Block, Resume, Tick}
-use Rattle.record.specs.Codes.{dueOf, setterOf, absentEntry, freeBlock}
+use Rattle.record.specs.Codes.{dueOf, setterOf, leftAt, absentEntry, freeBlock}
 use Rattle.record.specs.declared.TaskEntry.{TaskEntry}
 use Rattle.record.specs.declared.BlockEntry.{BlockEntry}
 use Rattle.record.specs.declared.ExpirationEntry.{ExpirationEntry}
+use Rattle.record.specs.declared.LocalTime.{LocalTime}
 use Rattle.record.specs.declared.GlobalTime.{GlobalTime}
 use Rattle.tasks.specs.Steps.{isLasting, isKept}
 
@@ -23,6 +24,11 @@ isEnded leaver tasks global e = not (isKept leaver tasks global e)
 -- one of the entries below the bound ends
 unfoldable pub endsAny : ℕ → List TaskEntry → GlobalTime → ℕ → List ExpirationEntry → Bool
 endsAny leaver tasks global bound xs = any (isEnded leaver tasks global) (take bound xs)
+
+-- the same by the fields of an entry and its setter's clock
+abbrev pub endsByFields : ℕ → ℕ → ℕ → ℕ → LocalTime → GlobalTime → Bool
+endsByFields kind setter due leaver now global =
+    cond (eqb kind 1) (eqb setter leaver || eqb (leftAt due (now .0)) 0) (eqb kind 2 && eqb (leftAt due (global .0)) 0)
 
 -- the setter's number is a task's
 abbrev pub isKnown : ExpirationEntry → Bool

@@ -1,7 +1,7 @@
-// The calls of tasks on a record by value: join, leave, block, resume and tick, which differ only in their event.
+// What the calls of tasks decide: join, leave, block, resume and tick, which differ only in their event.
 ghost use Prim.Native.Nat.{_<_};
 ghost use mathlib.Core.Path.{_≡_};
-ghost use Rattle.tasks.specs.Steps.{unswept, plannedAfter, planned, scheduled};
+ghost use Rattle.tasks.specs.Steps.{unswept, plannedAfter, planned};
 
 mod moves;
 mod sweep;
@@ -19,8 +19,6 @@ use moves::judge;
 use moves::leaver;
 use moves::moved;
 use record::GlobalTime;
-use record::Outcome;
-use record::Pool;
 use record::TaskEntry;
 use record::codes::state_of;
 use record::tasks::all_ticked;
@@ -28,7 +26,6 @@ pub use sweep::ends;
 pub use sweep::ends_any;
 pub use sweep::may_end;
 pub use sweep::setter_at;
-pub use sweep::swept;
 pub use sweep::swept_within;
 pub use sweep::used_bound;
 
@@ -89,30 +86,5 @@ pub fn plan(tasks: [TaskEntry; TASK_COUNT], global: GlobalTime, event: Event, ta
     match judge(event, state_of(e.state)) {
         Verdict::Accepted => accepted(tasks, global, event, task),
         Verdict::Refused(r) => unswept(Answer::Refused(r), tasks, global),
-    }
-}
-
-// Any event on any record.
-pub fn schedule(mut p: Pool, event: Event, task: u8) -> Outcome
-    ensures { λ r. ⌜ r ≡ scheduled event task p ⌝ }
-{
-    let before = p.tasks;
-    let now = p.global;
-    let planned = plan(before, now, event, task);
-    let answer = planned.answer;
-    let tasks = planned.tasks;
-    let global = planned.global;
-    if planned.sweeps {
-        let leaver = planned.leaver;
-        return Outcome {
-            answer: answer,
-            pool: swept(p, tasks, global, leaver),
-        };
-    }
-    p.tasks = tasks;
-    p.global = global;
-    Outcome {
-        answer: answer,
-        pool: p,
     }
 }

@@ -1,13 +1,13 @@
 // The end of expirations that are due or were a leaver's own, and of blocks that none names any more: one pass over each table.
-ghost use Prim.Native.Nat.{_≤_};
-ghost use mathlib.Core.Bool.{true, not};
+ghost use Prim.Native.Nat.{_%_, _≤_};
+ghost use mathlib.Core.Bool.{true};
 ghost use mathlib.Core.Path.{_≡_};
 ghost use Rattle.lists.specs.Tests.{all};
 ghost use Rattle.lists.specs.Tables.{mapFrom};
 ghost use Rattle.tasks.specs.Steps.{isLasting, swept};
 ghost use Rattle.record.specs.Checks.{Clamped};
 ghost use Rattle.record.specs.Codes.{dueOf, setterOf};
-ghost use Rattle.tasks.specs.Sweep.{endsBy, endsAny, isKnown, mayEnd, entryIf, areFree, Bounds, keptByFlag};
+ghost use Rattle.tasks.specs.Sweep.{endsBy, endsByFields, endsAny, isKnown, mayEnd, entryIf, areFree, Bounds, keptByFlag};
 use ledger::Event;
 use ledger::TASK_COUNT;
 use record::ABSENT_TASK;
@@ -69,18 +69,24 @@ pub fn ends(e: ExpirationEntry, setter: TaskEntry, global: GlobalTime, leaver: u
     !is_lasting(leaver, entry_if(setter_of(due), setter), global, due)
 }
 
-// The same by its fields, where the entry is its setter's own.
-fn ends_by(e: ExpirationEntry, setter: TaskEntry, global: GlobalTime, leaver: u16) -> bool
-    ensures { λ r. ⌜ r ≡ not (isLasting leaver setter global (dueOf e)) ⌝ }
+// The same by its fields and its setter's clock.
+fn ends_by(kind: u8, setter: u16, due: u32, now: LocalTime, global: GlobalTime, leaver: u16) -> bool
+    ensures { λ r. ⌜ r ≡ endsByFields kind setter due leaver now global ⌝ }
 {
-    if e.kind == LOCAL {
-        let now = setter.clock;
-        return (e.setter == leaver) | (local_left(LocalTime(e.due), now) == 0);
+    if kind == LOCAL {
+        return (setter == leaver) | (local_left(LocalTime(due), now) == 0);
     }
-    if e.kind == GLOBAL {
-        return global_left(GlobalTime(e.due), global) == 0;
+    if kind == GLOBAL {
+        return global_left(GlobalTime(due), global) == 0;
     }
     false
+}
+
+// Where a task's entry stands.
+fn place_of(setter: u16) -> usize
+    ensures { λ r. ⌜ r ≡ setter % 16 ⌝ }
+{
+    setter as usize % TASK_COUNT
 }
 
 // Whether one of the entries below the bound ends, where each setter's number is a task's.
@@ -95,10 +101,11 @@ pub fn ends_any(
     ensures { λ r. ⌜ r ≡ endsAny leaver tasks global bound xs ⌝ }
 {
     for i in 0..bound {
-        let e = xs[i];
-        let s = e.setter as usize % TASK_COUNT;
-        let setter = tasks[s];
-        if ends_by(e, setter, global, leaver) {
+        let setter = xs[i].setter;
+        let s = place_of(setter);
+        let entry = tasks[s];
+        let now = entry.clock;
+        if ends_by(xs[i].kind, setter, xs[i].due, now, global, leaver) {
             return true;
         }
     }
@@ -193,12 +200,4 @@ pub fn swept_within(
         blocks: used,
         expirations: xs,
     }
-}
-
-// The record with these tasks and this time, swept.
-pub fn swept(p: Pool, tasks: [TaskEntry; TASK_COUNT], global: GlobalTime, leaver: u16) -> Pool
-    ensures { λ r. ⌜ r ≡ swept leaver tasks global p ⌝ }
-{
-    let xs = p.expirations;
-    swept_within(p, used_bound(xs), tasks, global, leaver)
 }

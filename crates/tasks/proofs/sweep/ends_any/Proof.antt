@@ -8,7 +8,7 @@ use Rattle.lists.specs.Tests.{any}
 use Rattle.lists.proofs.Loops.{Scanned, scanned-from, any-turn, any-stop, scanned-end}
 use Rattle.record.specs.Codes.{freeEntry}
 use Rattle.tasks.specs.Sweep.{isEnded, endsAny}
-use Rattle.tasks.proofs.Standing.{known-asked}
+use Rattle.tasks.proofs.Standing.{fields-asked}
 use Rattle.tasks.proofs.sweep.ends_any.Statement.{statement}
 use Rattle.tasks.proofs.sweep.ends_any.Tie as tie
 
@@ -26,7 +26,7 @@ asked : (c : tie.After-ends-by Inv-loop μ-loop)
 asked c =
     let start = c .before .before .before .before .before .before in
     let a = start .args in
-    c .ends-by .ensures ∙ known-asked (a .leaver) (a .t3) (a .global) (a .t1) (start .pre .1) (c .before .before .before .before .before .loop .i)
+    rw (c .before .before .before .place-of .ensures) at (c .ends-by .ensures) ∙ fields-asked (a .leaver) (a .t3) (a .global) (a .t1) (start .pre .1) (c .before .before .before .before .before .loop .i)
 
 returns : tie.Need-returns Inv-loop μ-loop
 unfolding endsAny
@@ -48,6 +48,10 @@ ends-any-spec =
     Inv-loop
     μ-loop
     (λ c. scanned-from _ _ _ 0 (omega arith) (omega (arith, c .pre .0)))
+    (λ c. search needs)
+    (λ c. search needs)
+    (λ c κs. search needs)
+    (λ c. search needs)
     (λ c. search needs)
     (λ c. search needs)
     (λ c. search needs)
