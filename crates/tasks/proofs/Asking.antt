@@ -1,13 +1,13 @@
 -- What a well-formed record tells before its expirations are asked: each setter's number is a task's, and nothing ends at a block that leaves the
 -- global time, as all are ahead and no clock moves.
-use Prim.Native.Nat.{ℕ, _+_}
+use Prim.Native.Nat.{ℕ}
 use native.Mathlib.Omega.{arith}
 use mathlib.Core.Bool.{Bool, true, false, not, true≢false}
 use mathlib.Core.List.{List, map}
 use mathlib.Core.Path.{_≡_, refl, sym, ap, _∙_}
 use borrow.Author.Tests.{not-false, eqb-true, ne-eqb, lt-ltb}
-use lib.Dec.{eqb, ltb}
-use lib.ListN.{getD, set, take, drop, take-append-drop, List·getD-map}
+use lib.Dec.{ltb}
+use lib.ListN.{getD, take, drop, take-append-drop, List·getD-map}
 use Rattle.lists.specs.Tests.{any, all}
 use Rattle.lists.proofs.All.{all-imp, all-true, All→none, at-set}
 use Rattle.lists.proofs.Cases.{or-false-parts}

@@ -30,7 +30,7 @@ use Rattle.record.specs.declared.ExpirationEntry.{ExpirationEntry}
 use Rattle.record.specs.declared.GlobalTime.{GlobalTime}
 use Rattle.record.specs.declared.Pool.{Pool}
 use Rattle.record.proofs.Facts.{Fit, fit-parts, fit-whole}
-use Rattle.tasks.specs.Steps.{verdictAt, isLasting, isKept, keptEntry, keptBlock, swept, withTimes, poolAfter, answerAfter, outcomeBy, scheduled, plannedAfter, plannedBy, planned, carriedOut}
+use Rattle.tasks.specs.Steps.{verdictAt, isKept, keptEntry, keptBlock, swept, withTimes, poolAfter, answerAfter, outcomeBy, scheduled, plannedAfter, plannedBy, planned, carriedOut}
 use Rattle.tasks.specs.Sweep.{isEnded, endsAny, isKnown, endsBy, endsByFields, isFree, areFreeFrom}
 use Rattle.tasks.proofs.KeptBlocks.{kept-block}
 use Rattle.tasks.proofs.FitSwept.{named-fits}
