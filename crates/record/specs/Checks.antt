@@ -30,7 +30,7 @@ pub record Clamped (count i r : ℕ) : Type 0 where
   pub so : r ≡ cond (ltb i count) i 0
   pub below : r < count
 
--- an expiration in use by the numbers of its entry, and by the state, which is known, and the clock of its setter
+-- an expiration in use by the numbers of its entry, and by its setter's state, a known code, and clock
 unfoldable pub isFitBy : ℕ → ℕ → GlobalTime → ℕ → ℕ → ℕ → Bool
 isFitBy state clock global kind setter due =
     cond (eqb kind 1)
@@ -41,6 +41,11 @@ isFitBy state clock global kind setter due =
 abbrev pub isFitAlone : List TaskEntry → GlobalTime → ExpirationEntry → Bool
 isFitAlone tasks global e = isFitDue (getD tasks (setterOf (dueOf e)) absentEntry) global (ltb (e .block) 256) (dueOf e)
 
+-- r is the number of a block, and a byte
+pub record FlagFor (block r : ℕ) : Type 0 where
+  pub so : r ≡ block
+  pub below : r < 256
+
 -- which of 97 flags an entry sets: its block's, or the last where it is not in use or names none of the 96
 unfoldable pub slotOf : ℕ → Due → ℕ
 slotOf block due = cond (isDated due && ltb block 96) block 96
@@ -49,12 +54,7 @@ slotOf block due = cond (isDated due && ltb block 96) block 96
 pub record Marks (named : List Bool) (xs : List ExpirationEntry) : Type 0 where
   pub so : (block : ℕ) → block < 96 → getD named block false ≡ any (isNaming block) xs
 
--- r is the number of a block, and a byte
-pub record FlagFor (block r : ℕ) : Type 0 where
-  pub so : r ≡ block
-  pub below : r < 256
-
--- the same of all numbers that a byte can be
+-- the same of all bytes
 pub record Names (named : List Bool) (xs : List ExpirationEntry) : Type 0 where
   pub size : 256 ≤ length named
   pub so : (k : ℕ) → k < 256 → getD named k false ≡ any (isNaming k) xs

@@ -22,7 +22,7 @@ use super::codes::local_left;
 use ledger::LIMITS;
 use ledger::TASK_COUNT;
 
-// As many as a byte has values.
+// The numbers that a byte can be.
 pub const BYTES: usize = 256;
 
 fn is_ahead(most: u32, left: u32) -> bool
@@ -31,7 +31,7 @@ fn is_ahead(most: u32, left: u32) -> bool
     (1 <= left) & (left <= most)
 }
 
-// An expiration that is in use, by the state, which is known, and the clock of its setter. Whether its block is in use is not looked at here.
+// An expiration in use, by its setter's state, a known code, and clock. Whether its block is in use is not looked at here.
 fn fits_alone(state: u16, clock: u32, global: GlobalTime, kind: u8, setter: u16, due: u32) -> bool
     ensures { λ r. ⌜ r ≡ isFitBy state clock global kind setter due ⌝ }
 {
