@@ -72,8 +72,8 @@ pub fn slot(block: u8, due: Due) -> usize
     }
 }
 
-// The task to read for a setter; one that is no task is refused.
-fn task_for(setter: u16) -> usize
+// The task to read for a setter, where its number is a task's; another one is refused.
+pub fn task_for(setter: u16) -> usize
     ensures { λ r. ⌜ r ≡ setter % 16 ⌝ }
 {
     (setter as usize) % TASK_COUNT

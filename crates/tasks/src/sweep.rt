@@ -1,5 +1,5 @@
 // The end of expirations that are due or were a leaver's own, and of blocks that none names any more: one pass over each table.
-ghost use Prim.Native.Nat.{_%_, _≤_};
+ghost use Prim.Native.Nat.{_≤_};
 ghost use mathlib.Core.Bool.{true};
 ghost use mathlib.Core.Path.{_≡_};
 ghost use Rattle.lists.specs.Tests.{all};
@@ -31,6 +31,7 @@ use record::codes::local_left;
 use record::codes::setter_of;
 use record::expirations::clamped;
 use record::expirations::slot;
+use record::expirations::task_for;
 
 // Whether an expiration stands on, by the entry of its setter and the global time.
 fn is_lasting(leaver: u16, setter: TaskEntry, global: GlobalTime, due: Due) -> bool
@@ -82,13 +83,6 @@ fn ends_by(kind: u8, setter: u16, due: u32, now: LocalTime, global: GlobalTime, 
     false
 }
 
-// Where a task's entry stands.
-fn place_of(setter: u16) -> usize
-    ensures { λ r. ⌜ r ≡ setter % 16 ⌝ }
-{
-    setter as usize % TASK_COUNT
-}
-
 // Whether one of the entries below the bound ends, where each setter's number is a task's.
 pub fn ends_any(
     xs: [ExpirationEntry; EXPIRATION_COUNT],
@@ -102,7 +96,7 @@ pub fn ends_any(
 {
     for i in 0..bound {
         let setter = xs[i].setter;
-        let s = place_of(setter);
+        let s = task_for(setter);
         let entry = tasks[s];
         let now = entry.clock;
         if ends_by(xs[i].kind, setter, xs[i].due, now, global, leaver) {

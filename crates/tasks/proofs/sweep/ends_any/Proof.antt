@@ -26,7 +26,7 @@ asked : (c : tie.After-ends-by Inv-loop μ-loop)
 asked c =
     let start = c .before .before .before .before .before .before in
     let a = start .args in
-    rw (c .before .before .before .place-of .ensures) at (c .ends-by .ensures) ∙ fields-asked (a .leaver) (a .t3) (a .global) (a .t1) (start .pre .1) (c .before .before .before .before .before .loop .i)
+    rw (c .before .before .before .task-for .ensures) at (c .ends-by .ensures) ∙ fields-asked (a .leaver) (a .t3) (a .global) (a .t1) (start .pre .1) (c .before .before .before .before .before .loop .i)
 
 returns : tie.Need-returns Inv-loop μ-loop
 unfolding endsAny
