@@ -28,7 +28,8 @@ use Rattle.script.specs.declared.Executed.{Executed}
 abbrev pub tooShort : ℕ
 tooShort = 255
 
--- What a lent number holds after an answer: what the answer tells, or what it held.
+-- 01: "acceptance with its data: whether common time advanced for leave, block and tick, the number for make, the bytes for read, nothing for the others", and the four figures of
+-- report. What a lent number holds after an answer: what the answer tells, or what it held.
 abbrev pub advancedAfter : Answer → ℕ → ℕ
 advancedAfter (Refused why) old = old
 advancedAfter Done old = old

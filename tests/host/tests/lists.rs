@@ -157,7 +157,7 @@ impl Census {
     fn note(&mut self, call: &Call, answer: Answer) {
         self.note_refusal(answer);
         if let Ok(accepted) = answer {
-            self.accepted[operation(call)] += 1;
+            self.accepted[call.place()] += 1;
             self.advances += usize::from(accepted == reference::call::Accepted::Advanced(true));
         }
     }
@@ -192,21 +192,6 @@ impl Census {
         println!("refused, by number, {:?}", self.refused);
         println!("wraps of clocks {}, of global time {}", self.clock_wraps, self.global_wraps);
         println!("most small, large, expirations {:?}", self.most);
-    }
-}
-
-fn operation(call: &Call) -> usize {
-    match call {
-        Call::Join { .. } => 0,
-        Call::Leave { .. } => 1,
-        Call::Block { .. } => 2,
-        Call::Resume { .. } => 3,
-        Call::Tick { .. } => 4,
-        Call::Make { .. } => 5,
-        Call::Refresh { .. } => 6,
-        Call::Read { .. } => 7,
-        Call::Write { .. } => 8,
-        Call::Report => 9,
     }
 }
 

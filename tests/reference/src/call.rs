@@ -21,6 +21,24 @@ pub enum Call<'a> {
     Report,
 }
 
+impl Call<'_> {
+    /// The call's place among the ten, in the order of their operations, from 0.
+    pub fn place(&self) -> usize {
+        match self {
+            Call::Join { .. } => 0,
+            Call::Leave { .. } => 1,
+            Call::Block { .. } => 2,
+            Call::Resume { .. } => 3,
+            Call::Tick { .. } => 4,
+            Call::Make { .. } => 5,
+            Call::Refresh { .. } => 6,
+            Call::Read { .. } => 7,
+            Call::Write { .. } => 8,
+            Call::Report => 9,
+        }
+    }
+}
+
 /// Why a call or a frame is refused; the value is the number in the answer.
 #[derive(Clone, Copy, Debug, PartialEq, Eq)]
 #[repr(u8)]

@@ -50,7 +50,7 @@ impl Census {
         match answer {
             Err(refusal) => self.refused[refusal as usize] += 1,
             Ok(accepted) => {
-                self.accepted[operation(call)] += 1;
+                self.accepted[call.place()] += 1;
                 self.advances += usize::from(accepted == Accepted::Advanced(true));
                 if let Call::Write { bytes, .. } = call {
                     self.empty_writes += usize::from(bytes.is_empty());
@@ -80,21 +80,6 @@ impl Census {
         println!("most small, large, expirations: {}, {}, {}", self.most_small, self.most_large, self.most_expirations);
         println!("writes of no byte, of 256: {}, {}", self.empty_writes, self.whole_writes);
         println!("longest output: {}", self.longest_output);
-    }
-}
-
-fn operation(call: &Call) -> usize {
-    match call {
-        Call::Join { .. } => 0,
-        Call::Leave { .. } => 1,
-        Call::Block { .. } => 2,
-        Call::Resume { .. } => 3,
-        Call::Tick { .. } => 4,
-        Call::Make { .. } => 5,
-        Call::Refresh { .. } => 6,
-        Call::Read { .. } => 7,
-        Call::Write { .. } => 8,
-        Call::Report => 9,
     }
 }
 
