@@ -26,7 +26,7 @@ extern "C" {
 #define RAMSUMMER_LARGE 8192  /* the large store: 32 blocks of 256, for objects of 33 to 256 bytes */
 #define RAMSUMMER_LONGEST 256 /* the longest object: room for any read */
 #define RAMSUMMER_LINE 531    /* the room that ramsummer_frame asks for; an answer line has at most 515 bytes */
-#define RAMSUMMER_RECORD 2952 /* the record, ramsummer_pool */
+#define RAMSUMMER_RECORD 2248 /* the record, ramsummer_pool */
 
 /* Counts. */
 #define RAMSUMMER_TASKS 16         /* tasks are 0 to 15 */
@@ -72,27 +72,22 @@ typedef struct ramsummer_task_entry {
     uint32_t clock;
 } ramsummer_task_entry;
 
-/* A block and the object in it. Handle 0 is a free block. */
-typedef struct ramsummer_block_entry {
-    uint32_t handle;
-    uint32_t length;
-} ramsummer_block_entry;
-
-/* An expiration. Kind 0 is a free entry, 1 local, 2 global; due is a time by the setter's clock or by global time. */
-typedef struct ramsummer_expiration_entry {
-    uint8_t kind;
-    uint8_t block;
-    uint16_t setter;
-    uint32_t due;
-} ramsummer_expiration_entry;
-
-/* The record of a pool. A fresh one is all zeros. */
+/*
+ * The record of a pool. A fresh one is all zeros.
+ *
+ * Block i has the object handles[i] of lengths[i] bytes; handle 0 is a free block. Expiration i belongs to the object in
+ * block named[i], and is due when the clock clocks[i] reads dues[i]: 16 + t is the local time of task t, 32 global time,
+ * and 0 a free entry. The other fields of a free block or entry have no meaning and may hold anything.
+ */
 typedef struct ramsummer_pool {
     ramsummer_task_entry tasks[RAMSUMMER_TASKS];
-    uint32_t global; /* global time */
-    uint32_t given;  /* handles given so far */
-    ramsummer_block_entry blocks[RAMSUMMER_BLOCKS];
-    ramsummer_expiration_entry expirations[RAMSUMMER_EXPIRATIONS];
+    uint32_t global;                       /* global time */
+    uint32_t given;                        /* handles given so far */
+    uint32_t handles[RAMSUMMER_BLOCKS];    /* those of the small store's blocks, then those of the large one's */
+    uint16_t lengths[RAMSUMMER_BLOCKS];
+    uint8_t clocks[RAMSUMMER_EXPIRATIONS]; /* in no order */
+    uint8_t named[RAMSUMMER_EXPIRATIONS];
+    uint32_t dues[RAMSUMMER_EXPIRATIONS];
 } ramsummer_pool;
 
 /* The library knows the record by these places. C99 and old C++ cannot test them while they compile. */
@@ -104,18 +99,15 @@ typedef struct ramsummer_pool {
 #ifdef RAMSUMMER_ASSERT
 RAMSUMMER_ASSERT(sizeof(ramsummer_pool) == RAMSUMMER_RECORD);
 RAMSUMMER_ASSERT(sizeof(ramsummer_task_entry) == 8);
-RAMSUMMER_ASSERT(sizeof(ramsummer_block_entry) == 8);
-RAMSUMMER_ASSERT(sizeof(ramsummer_expiration_entry) == 8);
 RAMSUMMER_ASSERT(offsetof(ramsummer_task_entry, ticked) == 2);
 RAMSUMMER_ASSERT(offsetof(ramsummer_task_entry, clock) == 4);
-RAMSUMMER_ASSERT(offsetof(ramsummer_block_entry, length) == 4);
-RAMSUMMER_ASSERT(offsetof(ramsummer_expiration_entry, block) == 1);
-RAMSUMMER_ASSERT(offsetof(ramsummer_expiration_entry, setter) == 2);
-RAMSUMMER_ASSERT(offsetof(ramsummer_expiration_entry, due) == 4);
 RAMSUMMER_ASSERT(offsetof(ramsummer_pool, global) == 128);
 RAMSUMMER_ASSERT(offsetof(ramsummer_pool, given) == 132);
-RAMSUMMER_ASSERT(offsetof(ramsummer_pool, blocks) == 136);
-RAMSUMMER_ASSERT(offsetof(ramsummer_pool, expirations) == 904);
+RAMSUMMER_ASSERT(offsetof(ramsummer_pool, handles) == 136);
+RAMSUMMER_ASSERT(offsetof(ramsummer_pool, lengths) == 520);
+RAMSUMMER_ASSERT(offsetof(ramsummer_pool, clocks) == 712);
+RAMSUMMER_ASSERT(offsetof(ramsummer_pool, named) == 968);
+RAMSUMMER_ASSERT(offsetof(ramsummer_pool, dues) == 1224);
 #undef RAMSUMMER_ASSERT
 #endif
 

@@ -44,5 +44,5 @@ pub use answer::{Answer, Report};
 pub use handle::Handle;
 pub use kind::Kind;
 pub use pool::{Pool, LARGE, LINE, LONGEST, SMALL};
-pub use record::{BlockEntry, ExpirationEntry, Record, TaskEntry, BLOCKS, EXPIRATIONS, RECORD, TASKS};
+pub use record::{Record, TaskEntry, BLOCKS, EXPIRATIONS, RECORD, TASKS};
 pub use refusal::Refusal;

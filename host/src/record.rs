@@ -13,7 +13,7 @@ pub const BLOCKS: usize = 96;
 pub const EXPIRATIONS: usize = 256;
 
 /// The size of a record in bytes.
-pub const RECORD: usize = 2952;
+pub const RECORD: usize = 2248;
 
 /// A task. State 0 is absent, 1 running, 2 waiting.
 #[repr(C)]
@@ -27,34 +27,14 @@ pub struct TaskEntry {
     pub clock: u32,
 }
 
-/// A block of a store and the object in it.
-#[repr(C)]
-#[derive(Clone, Copy, Debug, Default, PartialEq, Eq)]
-pub struct BlockEntry {
-    /// The object's handle; 0 where the block is free.
-    pub handle: u32,
-    /// The object's length.
-    pub length: u32,
-}
-
-/// An expiration of an object.
-#[repr(C)]
-#[derive(Clone, Copy, Debug, Default, PartialEq, Eq)]
-pub struct ExpirationEntry {
-    /// 0 a free entry, 1 local, 2 global. (A call's [`Kind`](crate::Kind) counts from 0.)
-    pub kind: u8,
-    /// The object's block: 0 to 63 are the small store's, 64 to 95 the large one's.
-    pub block: u8,
-    /// The task that set it, whose clock a local one is due by.
-    pub setter: u16,
-    /// When it is due: by the setter's local time, or by global time.
-    pub due: u32,
-}
-
 /// All that a pool knows, but for the objects' bytes, which are in the stores.
 ///
 /// It holds nothing but numbers, and any numbers may be in it: each call tests first whether the record is well-formed,
 /// and refuses with [`NotWellFormed`](crate::Refusal::NotWellFormed) where it is not.
+///
+/// Block `i` and the object in it are `handles[i]` and `lengths[i]`; blocks 0 to 63 are the small store's, 64 to 95 the
+/// large one's. Expiration `i` is `clocks[i]`, `named[i]` and `dues[i]`; they stand in no order. The other fields of a
+/// free block or expiration have no meaning, and may hold anything.
 #[repr(C)]
 #[derive(Clone, Debug, PartialEq, Eq)]
 pub struct Record {
@@ -64,23 +44,28 @@ pub struct Record {
     pub global: u32,
     /// The count of handles given so far.
     pub given: u32,
-    /// The blocks of the small store, then those of the large one.
-    pub blocks: [BlockEntry; BLOCKS],
-    /// The expirations, in no order.
-    pub expirations: [ExpirationEntry; EXPIRATIONS],
+    /// The handle of the object in each block; 0 where the block is free.
+    pub handles: [u32; BLOCKS],
+    /// The length of the object in each block.
+    pub lengths: [u16; BLOCKS],
+    /// The clock that each expiration goes by: 16 and the number of a task for the task's local time, 32 for global time,
+    /// and 0 where the entry is free. (A call's [`Kind`](crate::Kind) is another number.)
+    pub clocks: [u8; EXPIRATIONS],
+    /// The block with the object that each expiration belongs to.
+    pub named: [u8; EXPIRATIONS],
+    /// What the clock of each expiration reads when it is due.
+    pub dues: [u32; EXPIRATIONS],
 }
 
 // The library knows the record by these places; the header has the same numbers.
 const _: () = {
-    assert!(size_of::<TaskEntry>() == 8 && size_of::<BlockEntry>() == 8 && size_of::<ExpirationEntry>() == 8);
+    assert!(size_of::<TaskEntry>() == 8);
     assert!(offset_of!(TaskEntry, state) == 0 && offset_of!(TaskEntry, ticked) == 2);
     assert!(offset_of!(TaskEntry, clock) == 4);
-    assert!(offset_of!(BlockEntry, handle) == 0 && offset_of!(BlockEntry, length) == 4);
-    assert!(offset_of!(ExpirationEntry, kind) == 0 && offset_of!(ExpirationEntry, block) == 1);
-    assert!(offset_of!(ExpirationEntry, setter) == 2 && offset_of!(ExpirationEntry, due) == 4);
     assert!(size_of::<Record>() == RECORD && align_of::<Record>() == 4);
     assert!(offset_of!(Record, tasks) == 0 && offset_of!(Record, global) == 128 && offset_of!(Record, given) == 132);
-    assert!(offset_of!(Record, blocks) == 136 && offset_of!(Record, expirations) == 904);
+    assert!(offset_of!(Record, handles) == 136 && offset_of!(Record, lengths) == 520);
+    assert!(offset_of!(Record, clocks) == 712 && offset_of!(Record, named) == 968 && offset_of!(Record, dues) == 1224);
 };
 
 impl Record {
@@ -90,8 +75,11 @@ impl Record {
             tasks: [TaskEntry { state: 0, ticked: 0, clock: 0 }; TASKS],
             global: 0,
             given: 0,
-            blocks: [BlockEntry { handle: 0, length: 0 }; BLOCKS],
-            expirations: [ExpirationEntry { kind: 0, block: 0, setter: 0, due: 0 }; EXPIRATIONS],
+            handles: [0; BLOCKS],
+            lengths: [0; BLOCKS],
+            clocks: [0; EXPIRATIONS],
+            named: [0; EXPIRATIONS],
+            dues: [0; EXPIRATIONS],
         }
     }
 

@@ -1,6 +1,6 @@
 //! Each call through the safe interface: what it answers, each of its refusals, and that a refusal changes nothing.
 
-use ramsummer::{Handle, Kind, Pool, Record, Refusal, Report, LARGE, LONGEST, RECORD, SMALL};
+use ramsummer::{Handle, Kind, Pool, Record, Refusal, Report, BLOCKS, EXPIRATIONS, LARGE, LONGEST, RECORD, SMALL};
 
 /// A pool in which task 0 runs, 1 waits and 2 is absent.
 fn pool() -> Pool {
@@ -181,6 +181,45 @@ fn a_damaged_record_is_refused_until_it_is_fresh() {
     assert_eq!(*pool.record(), Record::fresh());
     assert_eq!(*pool.record().as_bytes(), [0; RECORD]);
     pool.join(15).unwrap();
+}
+
+/// Wherever the library puts an entry.
+#[test]
+fn the_record_shows_objects_and_expirations() {
+    let mut pool = pool();
+    pool.tick(0).unwrap();
+    pool.resume(1).unwrap();
+    pool.tick(1).unwrap();
+    let handle = pool.make(1, Kind::Local, 3, 40).unwrap();
+    pool.refresh(0, Kind::Global, 4, handle).unwrap();
+    let record = pool.record().clone();
+    let block = record.handles.iter().position(|number| *number == u32::from(handle)).unwrap();
+    assert!((64..96).contains(&block));
+    assert_eq!(record.lengths[block], 40);
+    let entry = |clock| record.clocks.iter().position(|other| *other == clock).unwrap();
+    let (local, global) = (entry(16 + 1), entry(32));
+    assert_eq!([record.named[local], record.named[global]], [block as u8; 2]);
+    assert_eq!(record.dues[local], record.tasks[1].clock + 3 + 1);
+    assert_eq!(record.dues[global], record.global + 4 + 2);
+    pool.leave(1).unwrap();
+    assert_eq!((pool.record().clocks[local], pool.record().clocks[global]), (0, 32));
+}
+
+#[test]
+fn what_else_stands_in_free_entries_has_no_meaning() {
+    let record =
+        Record { lengths: [999; BLOCKS], named: [255; EXPIRATIONS], dues: [7; EXPIRATIONS], ..Record::fresh() };
+    let mut pool: Pool = Pool::over(record.into(), vec![0; SMALL].into(), vec![0; LARGE].into());
+    pool.join(0).unwrap();
+    let handle = pool.make(0, Kind::Local, 0, 2).unwrap();
+    assert_eq!(pool.read_to_vec(0, handle).unwrap(), [0, 0]);
+    assert_eq!(pool.report(), Ok(Report { small: 1, large: 0, expirations: 1, given: 1 }));
+    for clock in [1, 15, 16 + 1, 33, 255] {
+        let mut record = Record::fresh();
+        record.clocks[9] = clock;
+        let mut pool: Pool = Pool::over(record.into(), vec![0; SMALL].into(), vec![0; LARGE].into());
+        refused(&mut pool, Refusal::NotWellFormed, |pool| pool.join(0));
+    }
 }
 
 #[test]

@@ -1,6 +1,6 @@
 //! The C headers say the same as this crate, and docs/REFUSALS.md too: sizes, places, counts, names, numbers, sentences.
 
-use ramsummer::{BlockEntry, ExpirationEntry, Kind, Record, Refusal, TaskEntry};
+use ramsummer::{Kind, Record, Refusal, TaskEntry};
 use std::mem::{offset_of, size_of};
 use std::path::{Path, PathBuf};
 use std::process::{Command, Output};
@@ -41,23 +41,18 @@ fn claims() -> Vec<(String, usize)> {
         ("RAMSUMMER_LOCAL", Kind::Local.number().into()),
         ("RAMSUMMER_GLOBAL", Kind::Global.number().into()),
         ("sizeof(ramsummer_task_entry)", size_of::<TaskEntry>()),
-        ("sizeof(ramsummer_block_entry)", size_of::<BlockEntry>()),
-        ("sizeof(ramsummer_expiration_entry)", size_of::<ExpirationEntry>()),
         ("sizeof(ramsummer_pool)", size_of::<Record>()),
         ("offsetof(ramsummer_task_entry, state)", offset_of!(TaskEntry, state)),
         ("offsetof(ramsummer_task_entry, ticked)", offset_of!(TaskEntry, ticked)),
         ("offsetof(ramsummer_task_entry, clock)", offset_of!(TaskEntry, clock)),
-        ("offsetof(ramsummer_block_entry, handle)", offset_of!(BlockEntry, handle)),
-        ("offsetof(ramsummer_block_entry, length)", offset_of!(BlockEntry, length)),
-        ("offsetof(ramsummer_expiration_entry, kind)", offset_of!(ExpirationEntry, kind)),
-        ("offsetof(ramsummer_expiration_entry, block)", offset_of!(ExpirationEntry, block)),
-        ("offsetof(ramsummer_expiration_entry, setter)", offset_of!(ExpirationEntry, setter)),
-        ("offsetof(ramsummer_expiration_entry, due)", offset_of!(ExpirationEntry, due)),
         ("offsetof(ramsummer_pool, tasks)", offset_of!(Record, tasks)),
         ("offsetof(ramsummer_pool, global)", offset_of!(Record, global)),
         ("offsetof(ramsummer_pool, given)", offset_of!(Record, given)),
-        ("offsetof(ramsummer_pool, blocks)", offset_of!(Record, blocks)),
-        ("offsetof(ramsummer_pool, expirations)", offset_of!(Record, expirations)),
+        ("offsetof(ramsummer_pool, handles)", offset_of!(Record, handles)),
+        ("offsetof(ramsummer_pool, lengths)", offset_of!(Record, lengths)),
+        ("offsetof(ramsummer_pool, clocks)", offset_of!(Record, clocks)),
+        ("offsetof(ramsummer_pool, named)", offset_of!(Record, named)),
+        ("offsetof(ramsummer_pool, dues)", offset_of!(Record, dues)),
     ]
     .map(|(expression, value)| (expression.to_string(), value))
     .into();

@@ -12,12 +12,12 @@ use Rattle.lists.specs.Tests.{All}
 use Rattle.lists.proofs.Cases.{refuted}
 use Rattle.ledger.specs.declared.Refusal.the-variants.{UnknownOperation, WrongFrameLength, UnknownKind}
 use Rattle.ledger.specs.declared.Request.{Request}
-use Rattle.frames.specs.Fields.{fieldAt, fieldsAt}
+use Rattle.text.specs.Fields.{fieldAt, fieldsAt}
 use Rattle.frames.specs.Frames.{Operation, widthsOf, headSize, mostBytes, isSizeOf, requestOf, frameAs, operations, operationNumber, operationIn, frameBy, frameIn}
-use Rattle.frames.specs.Hex.{bytesOf}
+use Rattle.text.specs.Hex.{bytesOf}
 use Rattle.frames.specs.declared.Frame.{Frame}
-use Rattle.frames.proofs.Digits.{within, length-bytes}
-use Rattle.frames.proofs.Fields.{field-one}
+use Rattle.text.proofs.Digits.{within, length-bytes}
+use Rattle.text.proofs.Fields.{field-one}
 
 -- the sizes of an operation
 pub sizes : (o : Operation) (size : ℕ) → isSizeOf o size ≡ true → (headSize o ≤ size) × (size ≤ headSize o + mostBytes o)

@@ -13,11 +13,11 @@ use Rattle.lists.proofs.Blocks.{take-new}
 use Rattle.lists.proofs.Cases.{by-test}
 use Rattle.ledger.specs.declared.Refusal.{Refusal}
 use Rattle.ledger.specs.declared.Request.{Request}
-use Rattle.frames.specs.Fields.{fieldsAt}
+use Rattle.text.specs.Fields.{fieldsAt}
 use Rattle.frames.specs.Frames.{Operation, widthsOf, headSize, mostBytes, isSizeOf, requestOf, frameWith, frameAs, operations, operationIn, frameBy, frameIn, frameOf, payloadOf, Decodes, schedule, make, refresh, read, write, report}
-use Rattle.frames.specs.Hex.{isHex, bytesOf}
+use Rattle.text.specs.Hex.{isHex, bytesOf}
 use Rattle.frames.specs.declared.Frame.{Frame}
-use Rattle.frames.proofs.Digits.{length-bytes}
+use Rattle.text.proofs.Digits.{length-bytes}
 use Rattle.frames.proofs.Frames.{sizes}
 
 apart : {refusal : Refusal} {request : Request} {count : ℕ} → Frame.Refused refusal ≡ Frame.Request request count → ⊥

@@ -14,12 +14,12 @@ use Rattle.ledger.specs.declared.Event.the-variants.{Join, Leave, Block, Resume
 use Rattle.ledger.specs.declared.Kind.the-variants.{Local, Global}
 use Rattle.ledger.specs.declared.Request.{Request}
 use Rattle.ledger.specs.declared.Request.the-variants.{Use, Report}
-use Rattle.frames.specs.Fields.{inFields, FitFields}
+use Rattle.text.specs.Fields.{inFields, FitFields}
 use Rattle.frames.specs.Frames.{Operation, schedule, make, refresh, read, write, report, operations, operationNumber, operationIn, widthsOf, headSize, mostBytes, requestOf, frameAs, frameBy, frameIn, frameOf, payloadOf, operationOf, valuesOf, lineOf, RoundTrip}
-use Rattle.frames.specs.Hex.{isHex, bytesOf}
+use Rattle.text.specs.Hex.{isHex, bytesOf}
 use Rattle.frames.specs.declared.Frame.{Frame}
-use Rattle.frames.proofs.Digits.{within, hex-hex, bytes-hex}
-use Rattle.frames.proofs.Fields.{fields-in, fields-below, length-in-fields}
+use Rattle.text.proofs.Digits.{within, hex-hex, bytes-hex}
+use Rattle.text.proofs.Fields.{fields-in, fields-below, length-in-fields}
 
 -- an operation is found by its number, which is a byte
 found : (o : Operation) → (operationIn operations (operationNumber o) ≡ some o) × (operationNumber o < 256)

@@ -1,8 +1,8 @@
 -- Document 01, "Call frames": the line of an answer.
 use Prim.Native.Nat.{ℕ}
 use mathlib.Core.List.{List, [], _∷_, _++_}
-use Rattle.frames.specs.Fields.{inFields}
-use Rattle.frames.specs.Hex.{hexOf}
+use Rattle.text.specs.Fields.{inFields}
+use Rattle.text.specs.Hex.{hexOf}
 use Rattle.ledger.specs.Numbers.{answerNumber, answerValues}
 use Rattle.ledger.specs.declared.Answer.{Answer}
 use Rattle.ledger.specs.declared.Answer.the-variants.{Refused, Done, Advanced, Handle, Bytes, Counted}

@@ -6,8 +6,8 @@ use mathlib.Core.Option.{Option, none, some}
 use mathlib.Core.Path.{_≡_}
 use lib.Dec.{eqb}
 use lib.ListN.{length, getD, drop}
-use Rattle.frames.specs.Fields.{fieldsAt, inFields, total, FitFields}
-use Rattle.frames.specs.Hex.{isWithin, isHex, bytesOf, hexOf}
+use Rattle.text.specs.Fields.{fieldsAt, inFields, total, FitFields}
+use Rattle.text.specs.Hex.{isWithin, isHex, bytesOf, hexOf}
 use Rattle.lists.specs.Blocks.{overwritten}
 use Rattle.lists.specs.Tests.{All}
 use Rattle.frames.specs.declared.Frame.{Frame}

@@ -1,6 +1,2 @@
-pub mod Hex
-pub mod Fields
 pub mod Frames
 pub mod Answers
-pub mod Lines
-pub mod Reader

@@ -1,15 +1,15 @@
 // The line of an answer.
-use super::hex::put_byte;
-use super::hex::put_hex;
 use ledger::Answer;
 use ledger::Usage;
 use ledger::number_of;
+use text::hex::put_byte;
+use text::hex::put_hex;
 ghost use Prim.Native.Nat.{_+_, _*_, _≤_};
 ghost use mathlib.Core.Path.{_≡_};
 ghost use lib.ListN.{length};
 ghost use Rattle.frames.specs.Answers.{answerHead, answerLine};
-ghost use Rattle.frames.specs.Fields.{inBytes};
-ghost use Rattle.frames.specs.Hex.{hexOf, Placed};
+ghost use Rattle.text.specs.Fields.{inBytes};
+ghost use Rattle.text.specs.Hex.{hexOf, Placed};
 ghost use Rattle.ledger.specs.declared.Answer.the-variants.{Counted};
 
 // A number in four bytes, high byte first.

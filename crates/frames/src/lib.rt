@@ -1,19 +1,11 @@
-// Document 01, "Call frames": the lines of a script, the request of a line, and the line of an answer.
+// Document 01, "Call frames": the request of a line, and the line of an answer.
 use ledger::Refusal;
 use ledger::Request;
 
 mod answers;
-mod hex;
-mod lines;
-mod reader;
 mod requests;
 
 pub use answers::encode_answer;
-pub use lines::Line;
-pub use lines::line_at;
-pub use lines::line_end;
-pub use reader::Reader;
-pub use reader::step;
 pub use requests::KindByte;
 pub use requests::decode;
 pub use requests::kind_of;

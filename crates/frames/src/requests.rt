@@ -1,21 +1,21 @@
 // The frame of a line. The fields of an operation stand at fixed places, and its number at place 0.
 use super::Frame;
-use super::hex::byte_at;
-use super::hex::is_hex;
-use super::hex::short_at;
-use super::hex::spell_last;
-use super::hex::word_at;
 use ledger::Call;
 use ledger::Event;
 use ledger::Kind;
 use ledger::Refusal;
 use ledger::Request;
+use text::hex::byte_at;
+use text::hex::is_hex;
+use text::hex::short_at;
+use text::hex::spell_last;
+use text::hex::word_at;
 ghost use Prim.Native.Nat.{_≤_};
 ghost use mathlib.Core.Bool.{true};
 ghost use mathlib.Core.Path.{_≡_};
 ghost use lib.ListN.{length};
 ghost use Rattle.frames.specs.Frames.{Decodes, kindOf, frameAs, frameIn, frameOf, schedule, make, refresh, read, write, report};
-ghost use Rattle.frames.specs.Hex.{isHex, bytesOf};
+ghost use Rattle.text.specs.Hex.{isHex, bytesOf};
 
 // The kind that a byte names: 00 is own, 01 common.
 pub enum KindByte {

@@ -9,8 +9,8 @@ use Rattle.ledger.specs.declared.Request.{Request}
 use Rattle.record.specs.declared.Pool.{Pool}
 use Rattle.pool.specs.Demands.{Runs}
 use Rattle.pool.proofs.Demands.{demand2}
-use Rattle.pool.specs.Served.{Serves, replyOf}
-use Rattle.pool.specs.declared.core.Called.{Called}
+use Rattle.calls.specs.Served.{Serves, replyOf}
+use Rattle.calls.specs.declared.Called.{Called}
 use Rattle.frames.specs.declared.Frame.{Frame}
 use Rattle.script.specs.Execution.{Performs}
 use Rattle.host.specs.Demands.{Gives, EachGives, HostRuns, HostDemand2}

@@ -13,12 +13,13 @@ use Rattle.ledger.specs.declared.Kind.{Kind}
 use Rattle.ledger.specs.declared.Request.{Request}
 use Rattle.ledger.specs.declared.Request.the-variants.{Use, Report}
 use Rattle.ledger.specs.declared.Usage.{Usage}
-use Rattle.record.specs.Reading.{freshPool, Reads}
+use Rattle.record.specs.Reading.{freshPool}
+use Rattle.record.specs.Pools.{Reads}
 use Rattle.record.specs.declared.Pool.{Pool}
-use Rattle.pool.specs.Contract.{Obeys}
+use Rattle.calls.specs.Contract.{Obeys}
 use Rattle.frames.specs.Frames.{frameOf, payloadOf}
 use Rattle.frames.specs.declared.Frame.{Frame}
-use Rattle.host.specs.Entries.{Does, Moves, Reports, MakesOne, WritesTo, CopiesOut, Carries}
+use Rattle.numbered.specs.Entries.{Does, Moves, Reports, MakesOne, WritesTo, CopiesOut, Carries}
 
 -- The number of a reply that the pool's contract allows, with the record and stores that it leaves.
 pub record Gives (request : Request) (new : List ℕ) (p : Pool) (small large : List ℕ) (number : ℕ) (p′ : Pool) (small′ large′ : List ℕ) : Type 0 where

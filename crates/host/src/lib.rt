@@ -6,17 +6,14 @@ ghost use Rattle.ledger.specs.declared.Event.the-variants.{Join, Leave, Block, 
 ghost use Rattle.ledger.specs.declared.Request.the-variants.{Use};
 ghost use Rattle.record.specs.Reading.{freshPool};
 ghost use Rattle.frames.specs.Frames.{kindOf};
-ghost use Rattle.host.specs.Entries.{Does, Moves, Reports, MakesBy, RefreshesBy, WritesTo, CopiesOut, Carries};
-
-mod calls;
-
+ghost use Rattle.numbered.specs.Entries.{Does, Moves, Reports, MakesBy, RefreshesBy, WritesTo, CopiesOut, Carries};
 use record::Pool;
 
 #[no_mangle]
 pub extern "C" fn ramsummer_fresh(p: &mut Pool) -> u8
     ensures { λ r. ⌜ (r ≡ 0) × (now (p .exit) ≡ freshPool) ⌝ }
 {
-    let r = calls::renew(*p);
+    let r = numbered::renew(*p);
     *p = r.pool;
     r.number
 }
@@ -25,7 +22,7 @@ pub extern "C" fn ramsummer_fresh(p: &mut Pool) -> u8
 pub extern "C" fn ramsummer_join(p: &mut Pool, task: u8) -> u8
     ensures { λ r. ⌜ Does (Use (Schedule Join task)) (now (p .entry)) r (now (p .exit)) ⌝ }
 {
-    let r = calls::join(*p, task);
+    let r = numbered::join(*p, task);
     *p = r.pool;
     r.number
 }
@@ -34,7 +31,7 @@ pub extern "C" fn ramsummer_join(p: &mut Pool, task: u8) -> u8
 pub extern "C" fn ramsummer_leave(p: &mut Pool, task: u8, advanced: &mut u8) -> u8
     ensures { λ r. ⌜ Moves Leave task (now (p .entry)) (now (advanced .entry)) r (now (p .exit)) (now (advanced .exit)) ⌝ }
 {
-    let r = calls::leave(*p, task, advanced);
+    let r = numbered::leave(*p, task, advanced);
     *p = r.pool;
     r.number
 }
@@ -43,7 +40,7 @@ pub extern "C" fn ramsummer_leave(p: &mut Pool, task: u8, advanced: &mut u8) -> 
 pub extern "C" fn ramsummer_block(p: &mut Pool, task: u8, advanced: &mut u8) -> u8
     ensures { λ r. ⌜ Moves Block task (now (p .entry)) (now (advanced .entry)) r (now (p .exit)) (now (advanced .exit)) ⌝ }
 {
-    let r = calls::block(*p, task, advanced);
+    let r = numbered::block(*p, task, advanced);
     *p = r.pool;
     r.number
 }
@@ -52,7 +49,7 @@ pub extern "C" fn ramsummer_block(p: &mut Pool, task: u8, advanced: &mut u8) -> 
 pub extern "C" fn ramsummer_resume(p: &mut Pool, task: u8) -> u8
     ensures { λ r. ⌜ Does (Use (Schedule Resume task)) (now (p .entry)) r (now (p .exit)) ⌝ }
 {
-    let r = calls::resume(*p, task);
+    let r = numbered::resume(*p, task);
     *p = r.pool;
     r.number
 }
@@ -61,7 +58,7 @@ pub extern "C" fn ramsummer_resume(p: &mut Pool, task: u8) -> u8
 pub extern "C" fn ramsummer_tick(p: &mut Pool, task: u8, advanced: &mut u8) -> u8
     ensures { λ r. ⌜ Moves Tick task (now (p .entry)) (now (advanced .entry)) r (now (p .exit)) (now (advanced .exit)) ⌝ }
 {
-    let r = calls::tick(*p, task, advanced);
+    let r = numbered::tick(*p, task, advanced);
     *p = r.pool;
     r.number
 }
@@ -79,7 +76,7 @@ pub extern "C" fn ramsummer_make(
 ) -> u8
     ensures { λ r. ⌜ MakesBy (kindOf kind) task extension size (now (p .entry)) (now (small .entry)) (now (large .entry)) (now (handle .entry)) r (now (p .exit)) (now (small .exit)) (now (large .exit)) (now (handle .exit)) ⌝ }
 {
-    let r = calls::make(*p, small, large, task, kind, extension, size, handle);
+    let r = numbered::make(*p, small, large, task, kind, extension, size, handle);
     *p = r.pool;
     r.number
 }
@@ -94,7 +91,7 @@ pub extern "C" fn ramsummer_refresh(
 ) -> u8
     ensures { λ r. ⌜ RefreshesBy (kindOf kind) task extension handle (now (p .entry)) r (now (p .exit)) ⌝ }
 {
-    let r = calls::refresh(*p, task, kind, extension, handle);
+    let r = numbered::refresh(*p, task, kind, extension, handle);
     *p = r.pool;
     r.number
 }
@@ -112,7 +109,7 @@ pub extern "C" fn ramsummer_read<'a>(
 ) -> u8
     ensures { λ r. ⌜ CopiesOut task handle (now (p .entry)) (now (small .entry)) (now (large .entry)) (now (out .entry)) (now (count .entry)) r (now (out .exit)) (now (count .exit)) × (now (p .exit) ≡ now (p .entry)) ⌝ }
 {
-    calls::read(*p, small, large, task, handle, out, count)
+    numbered::read(*p, small, large, task, handle, out, count)
 }
 
 // The record stays.
@@ -128,7 +125,7 @@ pub extern "C" fn ramsummer_write(
 ) -> u8
     ensures { λ r. ⌜ WritesTo task handle offset (now (bytes .entry)) (now (p .entry)) (now (small .entry)) (now (large .entry)) r (now (small .exit)) (now (large .exit)) × (now (p .exit) ≡ now (p .entry)) ⌝ }
 {
-    calls::write(*p, small, large, task, handle, offset, bytes)
+    numbered::write(*p, small, large, task, handle, offset, bytes)
 }
 
 // The record stays.
@@ -142,7 +139,7 @@ pub extern "C" fn ramsummer_report(
 ) -> u8
     ensures { λ r. ⌜ Reports (now (p .entry)) (record { small = now (small .entry); large = now (large .entry); expirations = now (expirations .entry); given = now (given .entry) }) r (record { small = now (small .exit); large = now (large .exit); expirations = now (expirations .exit); given = now (given .exit) }) × (now (p .exit) ≡ now (p .entry)) ⌝ }
 {
-    calls::report(*p, small, large, expirations, given)
+    numbered::report(*p, small, large, expirations, given)
 }
 
 // One line without its LF; the line of its answer goes to the start of a buffer of at least 531 bytes, and how many to `count`.
@@ -157,7 +154,7 @@ pub extern "C" fn ramsummer_frame(
 ) -> u8
     ensures { λ r. ⌜ Carries (now (line .entry)) (now (p .entry)) (now (small .entry)) (now (large .entry)) (now (out .entry)) (now (count .entry)) r (now (p .exit)) (now (small .exit)) (now (large .exit)) (now (out .exit)) (now (count .exit)) ⌝ }
 {
-    let r = calls::frame(*p, small, large, line, out, count);
+    let r = numbered::frame(*p, small, large, line, out, count);
     *p = r.pool;
     r.number
 }

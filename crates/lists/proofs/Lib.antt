@@ -13,3 +13,4 @@ pub mod Blocks
 pub mod Copies
 pub mod Implied
 pub mod Searches
+pub mod Columns

@@ -128,6 +128,12 @@ module _ {ℓ} {A : Type ℓ} where
   mapFrom-same f g n h i [] l = refl
   mapFrom-same f g n h i (x ∷ xs) l = rw (h i (omega arith) x, mapFrom-same f g n h (suc i) xs (omega arith))
 
+  -- entries that pass a test and so are left as they are
+  pub mapFrom-kept : (f : ℕ → A → A) (p : ℕ → A → Bool) → ((i : ℕ) (x : A) → p i x ≡ true → f i x ≡ x)
+      → (i : ℕ) (xs : List A) → allFrom i p xs ≡ true → mapFrom i f xs ≡ xs
+  mapFrom-kept f p h i [] e = refl
+  mapFrom-kept f p h i (x ∷ xs) e = let (head, tail) = and-eq-true-iff _ _ .0 e in ap₂ _∷_ (h i x head) (mapFrom-kept f p h (suc i) xs tail)
+
   -- the entry at an index, made anew, where the default stays as it is
   pub getD-mapFrom : (d : A) (f : ℕ → A → A) → ((i : ℕ) → f i d ≡ d) → (xs : List A) (i : ℕ)
       → getD (mapFrom 0 f xs) i d ≡ f i (getD xs i d)

@@ -1,3 +1,4 @@
 pub mod Tests
 pub mod Tables
 pub mod Blocks
+pub mod Columns

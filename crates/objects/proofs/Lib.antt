@@ -1,13 +1,2 @@
-pub mod StoreBytes
-pub mod Finding
 pub mod Searching
-pub mod Rooms
-pub mod Verdicts
-pub mod Taken
-pub mod FitMade
-pub mod ReadMade
-pub mod ReadWritten
-pub mod Chosen
-pub mod Planned
-pub mod Follow
-pub mod Types
+pub mod Laws

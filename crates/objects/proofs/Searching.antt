@@ -1,24 +1,54 @@
--- A search for the place of the first element that passes, at a turn of four that all fail.
-use Prim.Native.Nat.{ℕ, _+_, _<_}
+-- Loops for any element type: a search that goes past a group in which none passes, and a test of any that goes on to the end.
+use Prim.Native.Nat.{ℕ, suc, _+_, _≤_, _<_}
+use native.Mathlib.Nat.{add-zero}
 use native.Mathlib.Omega.{arith}
-use mathlib.Core.Bool.{Bool, false, _||_}
-use mathlib.Core.List.{List}
-use mathlib.Core.Path.{_≡_, sym, _∙_}
-use lib.ListN.{getD}
+use mathlib.Core.Bool.{Bool, false, _||_, or-assoc, or-false}
+use mathlib.Core.List.{List, [], _∷_, _++_}
+use mathlib.Core.Path.{_≡_, sym, ap, _∙_}
+use lib.Dec.{eqb}
+use lib.ListN.{length, take, drop, getD, length-take, length-drop, take-append-drop}
+use lib.Seq.{take-take, drop-append-le}
+use Rattle.lists.specs.Tests.{any}
 use Rattle.lists.specs.Tables.{firstFrom}
 use Rattle.lists.proofs.Cases.{or-false-parts}
-use Rattle.lists.proofs.Loops.{Scanned, first-turn}
+use Rattle.lists.proofs.Loops.{Scanned, scanned-turn, scanned-end}
 
-module _ {ℓ} {A : Type ℓ} (p : A → Bool) (d : A) {xs : List A} {n v : ℕ} where
-  first-next : (i j : ℕ) → Scanned v xs n i (firstFrom i p) → j ≡ i + 1 → i < n → p (getD xs i d) ≡ false → Scanned v xs n j (firstFrom j p)
-  first-next i j s e h f = rw e (first-turn p d s h f)
+-- this handle
+abbrev pub isOf : ℕ → ℕ → Bool
+isOf handle h = eqb h handle
 
-  pub first-four : (i j k l m : ℕ) {r : Bool} → Scanned v xs n i (firstFrom i p) → j ≡ i + 1 → k ≡ j + 1 → l ≡ k + 1 → m ≡ l + 1 → l < n
-      → r ≡ (p (getD xs i d) || p (getD xs j d) || p (getD xs k d) || p (getD xs l d)) → r ≡ false → Scanned v xs n m (firstFrom m p)
-  first-four i j k l m s ij jk kl lm h e f =
-      let (abc, fourth) = or-false-parts _ _ (sym e ∙ f) in
-      let (ab, third) = or-false-parts _ _ abc in
-      let (first, second) = or-false-parts _ _ ab in
-      first-next l m
-      (first-next k l (first-next j k (first-next i j s ij (omega arith) first) jk (omega arith) second) kl (omega arith) third)
-      lm h fourth
+-- the elements from i up to n: those up to j, and those from there
+split-at {ℓ} : {A : Type ℓ} (xs : List A) (i j n : ℕ) → i ≤ j → j ≤ n → n ≤ length xs
+    → drop i (take n xs) ≡ drop i (take j xs) ++ drop j (take n xs)
+split-at xs i j n ij jn h =
+    ap (drop i) (sym (take-append-drop j (take n xs)) ∙ ap (λ ys. ys ++ drop j (take n xs)) (take-take j n xs jn))
+    ∙ drop-append-le i (take j xs) (drop j (take n xs)) (simp length-take (omega arith))
+
+module _ {ℓ} {A : Type ℓ} (p : A → Bool) where
+  -- those in which none passes are passed over
+  first-front : (i : ℕ) (xs ys : List A) → any p xs ≡ false → firstFrom i p (xs ++ ys) ≡ firstFrom (i + length xs) p ys
+  first-front i [] ys e = rw add-zero
+  first-front i (x ∷ xs) ys e =
+      let (here, rest) = or-false-parts (p x) (any p xs) e in
+      rw (here, first-front (suc i) xs ys rest) (ap (λ (k : ℕ). firstFrom k p ys) (omega arith))
+
+  module _ {xs : List A} {n i : ℕ} where
+    pub first-past-group : {v : ℕ} (j : ℕ) → Scanned v xs n i (firstFrom i p) → i ≤ j → j ≤ n → any p (drop i (take j xs)) ≡ false
+        → Scanned v xs n j (firstFrom j p)
+    first-past-group j s ij jn e =
+        let end : i + length (drop i (take j xs)) ≡ j = simp (length-drop, length-take) (omega (arith, s .size)) in
+        record {
+          size = s .size;
+          within = jn;
+          so =
+              s .so ∙ ap (firstFrom i p) (split-at xs i j n ij jn (s .size)) ∙ first-front i (drop i (take j xs)) (drop j (take n xs)) e
+              ∙ ap (λ (k : ℕ). firstFrom k p (drop j (take n xs))) end;
+        }
+
+    -- so far some passes or not
+    pub any-kept : {v r : Bool} (d : A) (some : Bool) → Scanned v xs n i (λ ys. some || any p ys) → i < n → r ≡ p (getD xs i d)
+        → Scanned v xs n (i + 1) (λ ys. (some || r) || any p ys)
+    any-kept d some s h e = scanned-turn _ d s h (λ ys. rw e (sym (or-assoc some (p (getD xs i d)) (any p ys))))
+
+    pub any-kept-end : {v : Bool} (some : Bool) → Scanned v xs n i (λ ys. some || any p ys) → n ≤ i → some ≡ v
+    any-kept-end some s h = sym (or-false some) ∙ scanned-end s h

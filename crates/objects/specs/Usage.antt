@@ -1,19 +1,22 @@
--- What report counts of a record.
+-- What report counts, by the handles of the blocks and how many expirations stand.
+use Prim.Native.Nat.{ℕ}
+use mathlib.Core.Bool.{Bool, not}
+use mathlib.Core.List.{List}
+use lib.Dec.{eqb}
 use lib.ListN.{take, drop}
 use Rattle.lists.specs.Tests.{count}
 use Rattle.ledger.specs.Limits.{limits}
 use Rattle.ledger.specs.declared.Usage.{Usage}
-use Rattle.record.specs.Codes.{dueOf, isDated}
-use Rattle.record.specs.WellFormed.{isUsed}
-use Rattle.record.specs.declared.ExpirationEntry.{ExpirationEntry}
-use Rattle.record.specs.declared.Pool.{Pool}
 
--- blocks in use of either store, entries in use, handles given
-unfoldable pub usageOf : Pool → Usage
-usageOf p =
+-- the handle of a block in use
+abbrev pub isGiven : ℕ → Bool
+isGiven handle = not (eqb handle 0)
+
+unfoldable pub usageIn : ℕ → List ℕ → ℕ → Usage
+usageIn given handles standing =
     record {
-      small = count isUsed (take (limits .smallBlocks) (p .blocks));
-      large = count isUsed (drop (limits .smallBlocks) (p .blocks));
-      expirations = count (λ (e : ExpirationEntry). isDated (dueOf e)) (p .expirations);
-      given = p .given;
+      small = count isGiven (take (limits .smallBlocks) handles);
+      large = count isGiven (drop (limits .smallBlocks) handles);
+      expirations = standing;
+      given = given;
     }

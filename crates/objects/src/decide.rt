@@ -1,5 +1,8 @@
 // What a call decides, on the tables that it reads: nothing is changed here.
 ghost use mathlib.Core.Path.{_≡_};
+ghost use lib.ListN.{length};
+ghost use Rattle.record.specs.Tables.{blocksOf, SizedBlocks};
+ghost use Rattle.steps.specs.Objects.{placeIn, freePlaceIn};
 ghost use Rattle.objects.specs.Outcomes.{makePlan, refreshPlan, foundIn, foundForWriteIn};
 use super::Found;
 use super::Plan;
@@ -10,100 +13,96 @@ use super::refusals::reaches_past;
 use super::refusals::refresh_verdict;
 use super::refusals::task_verdict;
 use super::search::free_place;
-use super::search::free_slot;
 use super::search::locate;
 use ledger::Refusal;
-use ledger::TASK_COUNT;
 use ledger::Verdict;
 use record::BLOCK_COUNT;
-use record::BlockEntry;
-use record::EXPIRATION_COUNT;
-use record::ExpirationEntry;
-use record::TaskEntry;
+use record::Head;
 
-// A make, with the first free block and the first free entry.
+// A make, with the first free block, where so many expirations stand.
 pub fn plan_make(
-    tasks: [TaskEntry; TASK_COUNT],
-    given: u32,
-    blocks: [BlockEntry; BLOCK_COUNT],
-    xs: [ExpirationEntry; EXPIRATION_COUNT],
+    h: Head,
+    handles: &[u32; BLOCK_COUNT],
+    standing: u16,
     task: u8,
     extension: u8,
-    length: u16,
+    size: u16,
 ) -> Plan
-    ensures { λ r. ⌜ r ≡ makePlan task extension length tasks given blocks xs ⌝ }
+    requires { ⌜ length (now handles) ≡ 96 ⌝ }
+    ensures { λ r. ⌜ r ≡ makePlan task extension size h (freePlaceIn size (now (handles .entry))) standing ⌝ }
 {
-    let length = length as u32;
-    let place = free_place(blocks, length);
-    let slot = free_slot(xs);
-    let verdict = make_verdict(task, extension, length, tasks, given, place, slot);
+    let size = size as u32;
+    let place = free_place(handles, size);
+    let count = standing as usize;
+    let tasks = h.tasks;
+    let verdict = make_verdict(task, extension, size, tasks, h.given, place, count);
     Plan {
         verdict: verdict,
         place: place,
-        slot: slot,
     }
 }
 
-// A refresh, with the object's block and the first free entry.
+// A refresh, with the object's block, where so many expirations stand.
 pub fn plan_refresh(
-    tasks: [TaskEntry; TASK_COUNT],
-    given: u32,
-    blocks: [BlockEntry; BLOCK_COUNT],
-    xs: [ExpirationEntry; EXPIRATION_COUNT],
+    h: Head,
+    handles: &[u32; BLOCK_COUNT],
+    standing: u16,
     task: u8,
     extension: u8,
     handle: u32,
 ) -> Plan
-    ensures { λ r. ⌜ r ≡ refreshPlan task extension handle tasks given blocks xs ⌝ }
+    requires { ⌜ length (now handles) ≡ 96 ⌝ }
+    ensures { λ r. ⌜ r ≡ refreshPlan task extension handle h (placeIn handle (now (handles .entry))) standing ⌝ }
 {
-    let located = locate(blocks, handle);
-    let place = located.place;
-    let slot = free_slot(xs);
-    let verdict = refresh_verdict(task, extension, handle, tasks, given, place, slot);
+    let place = locate(handles, handle);
+    let count = standing as usize;
+    let tasks = h.tasks;
+    let verdict = refresh_verdict(task, extension, handle, tasks, h.given, place, count);
     Plan {
         verdict: verdict,
         place: place,
-        slot: slot,
     }
 }
 
 // The object that is read.
-pub fn find_in(
-    tasks: [TaskEntry; TASK_COUNT],
-    given: u32,
-    blocks: [BlockEntry; BLOCK_COUNT],
+pub fn find<'a>(
+    h: Head,
+    handles: &'a [u32; BLOCK_COUNT],
+    lengths: &'a [u16; BLOCK_COUNT],
     task: u8,
     handle: u32,
 ) -> Found
-    ensures { λ r. ⌜ r ≡ foundIn task handle tasks given blocks ⌝ }
+    requires { ⌜ SizedBlocks (now handles) (now lengths) ⌝ }
+    ensures { λ r. ⌜ r ≡ foundIn task handle h (blocksOf (now (handles .entry)) (now (lengths .entry))) ⌝ }
 {
-    let located = locate(blocks, handle);
-    let place = located.place;
+    let place = locate(handles, handle);
+    let tasks = h.tasks;
     match and_then(
         task_verdict(task, tasks),
-        found_verdict(handle, given, place),
+        found_verdict(handle, h.given, place),
     ) {
         Verdict::Refused(why) => Found::Refused(why),
         Verdict::Accepted => Found::At {
             block: place,
-            length: located.length,
+            length: lengths[place],
         },
     }
 }
 
 // The object that is written: count bytes from offset lie within its length.
-pub fn find_for_write_in(
-    tasks: [TaskEntry; TASK_COUNT],
-    given: u32,
-    blocks: [BlockEntry; BLOCK_COUNT],
+pub fn find_for_write<'a>(
+    h: Head,
+    handles: &'a [u32; BLOCK_COUNT],
+    lengths: &'a [u16; BLOCK_COUNT],
     task: u8,
     handle: u32,
     offset: u8,
     count: usize,
 ) -> Found
-    ensures { λ r. ⌜ r ≡ foundForWriteIn task handle offset count tasks given blocks ⌝ }
+    requires { ⌜ SizedBlocks (now handles) (now lengths) ⌝ }
+    ensures { λ r. ⌜ r ≡ foundForWriteIn task handle offset count h (blocksOf (now (handles .entry)) (now (lengths .entry))) ⌝ }
 {
-    match find_in(tasks, given, blocks, task, handle) {
+    match find(h, handles, lengths, task, handle) {
         Found::Refused(why) => Found::Refused(why),
         Found::At { block, length } => {
             if reaches_past(length, offset, count) {

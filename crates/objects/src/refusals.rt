@@ -2,7 +2,7 @@
 ghost use Prim.Native.Nat.{_+_};
 ghost use lib.Dec.{ltb};
 ghost use mathlib.Core.Path.{_≡_};
-ghost use Rattle.objects.specs.Steps.{andThen, refuseIf, byState, taskVerdict, extensionVerdict, foundVerdict, slotVerdict, makeVerdictBy, refreshVerdictBy};
+ghost use Rattle.steps.specs.Objects.{andThen, refuseIf, byState, taskVerdict, extensionVerdict, foundVerdict, roomVerdict, makeVerdictBy, refreshVerdictBy};
 use super::search::end_for;
 use ledger::LARGE_SIZE;
 use ledger::LIMITS;
@@ -78,10 +78,10 @@ pub fn found_verdict(handle: u32, given: u32, place: usize) -> Verdict
 }
 
 // 10
-fn slot_verdict(slot: usize) -> Verdict
-    ensures { λ r. ⌜ r ≡ slotVerdict slot ⌝ }
+fn room_verdict(standing: usize) -> Verdict
+    ensures { λ r. ⌜ r ≡ roomVerdict standing ⌝ }
 {
-    refuse_if(EXPIRATION_COUNT <= slot, Refusal::NoFreeExpiration)
+    refuse_if(EXPIRATION_COUNT <= standing, Refusal::NoFreeExpiration)
 }
 
 // 7, 8, 9 between the others, in 01's order
@@ -92,9 +92,9 @@ pub fn make_verdict(
     tasks: [TaskEntry; TASK_COUNT],
     given: u32,
     place: usize,
-    slot: usize,
+    standing: usize,
 ) -> Verdict
-    ensures { λ r. ⌜ r ≡ makeVerdictBy task extension length tasks given place slot ⌝ }
+    ensures { λ r. ⌜ r ≡ makeVerdictBy task extension length tasks given place standing ⌝ }
 {
     and_then(
         task_verdict(task, tasks),
@@ -109,7 +109,7 @@ pub fn make_verdict(
                     refuse_if(u32::MAX <= given, Refusal::HandlesSpent),
                     and_then(
                         refuse_if(end_for(length) <= place, Refusal::NoFreeBlock),
-                        slot_verdict(slot),
+                        room_verdict(standing),
                     ),
                 ),
             ),
@@ -125,21 +125,21 @@ pub fn refresh_verdict(
     tasks: [TaskEntry; TASK_COUNT],
     given: u32,
     place: usize,
-    slot: usize,
+    standing: usize,
 ) -> Verdict
-    ensures { λ r. ⌜ r ≡ refreshVerdictBy task extension handle tasks given place slot ⌝ }
+    ensures { λ r. ⌜ r ≡ refreshVerdictBy task extension handle tasks given place standing ⌝ }
 {
     and_then(
         task_verdict(task, tasks),
         and_then(
             extension_verdict(extension),
-            and_then(found_verdict(handle, given, place), slot_verdict(slot)),
+            and_then(found_verdict(handle, given, place), room_verdict(standing)),
         ),
     )
 }
 
 // 13: offset plus count above the length, with no sum that could wrap.
-pub fn reaches_past(length: u32, offset: u8, count: usize) -> bool
+pub fn reaches_past(length: u16, offset: u8, count: usize) -> bool
     ensures { λ r. ⌜ r ≡ ltb length (offset + count) ⌝ }
 {
     let length = length as usize;

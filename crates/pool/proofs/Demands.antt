@@ -8,11 +8,10 @@ use Rattle.ledger.specs.Objects.{Reply}
 use Rattle.ledger.specs.Ledger.{Ledger, Sent, fresh, replies, afterAll, afterRequest}
 use Rattle.ledger.specs.Heap.{sent}
 use Rattle.ledger.proofs.Demand3.{demand3}
-use Rattle.record.specs.Reading.{Reads}
-use Rattle.record.specs.WellFormed.{isWellFormed}
+use Rattle.record.specs.Pools.{isWellFormed, Reads}
 use Rattle.record.specs.declared.Pool.{Pool}
 use Rattle.record.proofs.FreshReads.{fresh-reads, fresh-well-formed}
-use Rattle.pool.specs.Contract.{areWhole}
+use Rattle.calls.specs.Contract.{areWhole}
 use Rattle.pool.specs.Demands.{Runs, done, call, Demand2, PoolDemand3}
 
 -- from any well-formed record that reads as a ledger, with whole stores

@@ -1,7 +1,3 @@
+pub mod Sizes
+pub mod ByValue
 pub mod Demands
-pub mod Promises
-pub mod Outcomes
-pub mod Scheduled
-pub mod Meets
-pub mod Reported
-pub mod Served

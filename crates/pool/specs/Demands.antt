@@ -8,9 +8,10 @@ use lib.ListN.{length}
 use Rattle.ledger.specs.Objects.{Reply, freshMemory}
 use Rattle.ledger.specs.Ledger.{Sent, fresh, replies, afterAll}
 use Rattle.ledger.specs.Heap.{Used, sent, heapReplies, allInTimeAndBounds}
-use Rattle.record.specs.Reading.{freshPool, Reads}
+use Rattle.record.specs.Reading.{freshPool}
+use Rattle.record.specs.Pools.{Reads}
 use Rattle.record.specs.declared.Pool.{Pool}
-use Rattle.pool.specs.Contract.{Obeys}
+use Rattle.calls.specs.Contract.{Obeys}
 
 -- A list of calls is run: each gets record and stores as the last one left them.
 pub data Runs : Pool → List ℕ → List ℕ → List Sent → List Reply → Pool → List ℕ → List ℕ → Type 0 where

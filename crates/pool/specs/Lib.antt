@@ -1,3 +1,1 @@
-pub mod Contract
 pub mod Demands
-pub mod Served

@@ -1,8 +1,8 @@
 // The program: a script on standard input, one answer a line on standard output.
 use libc::STDIN_FILENO;
 use libc::STDOUT_FILENO;
-use pool::stored::LARGE_BYTES;
-use pool::stored::SMALL_BYTES;
+use pool::LARGE_BYTES;
+use pool::SMALL_BYTES;
 use record::fresh;
 use script::run_on;
 

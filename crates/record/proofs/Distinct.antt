@@ -14,7 +14,7 @@ use Rattle.lists.proofs.Counts.{any-map}
 use Rattle.lists.proofs.Pairwise.{Pairwise}
 use Rattle.record.specs.Codes.{freeBlock}
 use Rattle.record.specs.WellFormed.{isDistinct, handleOf}
-use Rattle.record.specs.declared.BlockEntry.{BlockEntry}
+use Rattle.record.specs.Tables.{BlockEntry}
 
 -- two blocks have two handles, if the first has any
 abbrev pub Apart : BlockEntry → BlockEntry → Type 0

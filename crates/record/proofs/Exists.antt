@@ -26,19 +26,17 @@ use Rattle.record.specs.Codes.{taskOf}
 use Rattle.record.specs.Reading.{isSmallBlock, isWholeSmall, isWholeLarge, isWhole, blockBytes, objectIn, recordView, Typed, Reads}
 use Rattle.record.specs.WellFormed.{isNaming, isSizedFor, isFitBlock, isWellFormed}
 use Rattle.record.specs.declared.TaskEntry.{TaskEntry}
-use Rattle.record.specs.declared.BlockEntry.{BlockEntry}
-use Rattle.record.specs.declared.ExpirationEntry.{ExpirationEntry}
-use Rattle.record.specs.declared.Pool.{Pool}
+use Rattle.record.specs.Tables.{BlockEntry, ExpirationEntry, Tables}
 use Rattle.record.proofs.Facts.{fit-parts}
 use Rattle.record.proofs.Distinct.{Apart, apart-blocks}
 
 -- due with these units left
-dueBy : Clocks → Left → Due
-dueBy clocks (localLeft setter units) = byLocal setter (taskAt clocks setter .clock + units)
-dueBy clocks (globalLeft units) = byGlobal (clocks .global + units)
+dueIn : Clocks → Left → Due
+dueIn clocks (localLeft setter units) = byLocal setter (taskAt clocks setter .clock + units)
+dueIn clocks (globalLeft units) = byGlobal (clocks .global + units)
 
-left-due : (clocks : Clocks) (left : Left) → leftOf clocks (dueBy clocks left) ≡ left
-unfolding dueBy leftOf remaining
+left-due : (clocks : Clocks) (left : Left) → leftOf clocks (dueIn clocks left) ≡ left
+unfolding dueIn leftOf remaining
 left-due clocks (localLeft setter units) = rw add-sub-cancel-left
 left-due clocks (globalLeft units) = rw add-sub-cancel-left
 
@@ -51,7 +49,7 @@ ledgerOf v =
     let clocks : Clocks = record { tasks = v .tasks; global = v .global } in
     record {
       memory = record { clocks = clocks; given = v .given; objects = sortBy handleOfObject (v .objects) };
-      expirations = map (λ (s : Shown). record { handle = s .handle; due = dueBy clocks (s .left) }) (v .expirations);
+      expirations = map (λ (s : Shown). record { handle = s .handle; due = dueIn clocks (s .left) }) (v .expirations);
     }
 
 -- it does, where the view holds nothing that a ledger does not show: no counter past its range, no bytes of a store that is not whole
@@ -122,7 +120,7 @@ module _ (small large : List ℕ) where
       let others = all-imp (λ c a. a (eqb-false (b .handle) 0 z)) bs d in
       rw z (handles-read (λ (h : ℕ). b .handle ≢ h) (suc i) bs others, objects-apart (suc i) bs ds))
 
-pub every-fit-record-reads : (p : Pool) → Typed p → isWellFormed p ≡ true → (small large : List ℕ)
+pub every-fit-record-reads : (p : Tables) → Typed p → isWellFormed p ≡ true → (small large : List ℕ)
     → (L : Ledger) × Reads p small large L
 unfolding recordView ledgerOf
 every-fit-record-reads p range e small large =

@@ -19,16 +19,16 @@ use Rattle.record.specs.declared.TaskEntry.{TaskEntry}
 use Rattle.record.specs.declared.LocalTime.{LocalTime}
 use Rattle.record.specs.declared.GlobalTime.{GlobalTime}
 use Rattle.record.specs.declared.Due.the-variants.{Local, Global}
-use Rattle.record.specs.declared.Pool.{Pool}
+use Rattle.record.specs.Tables.{Tables}
 
-pub record Fit (p : Pool) : Type 0 where
+pub record Fit (p : Tables) : Type 0 where
   pub tasks : all isFitTask (p .tasks) ≡ true
   pub unticked : allTicked (map taskOf (p .tasks)) ≡ false
   pub entries : all (isFitEntry (p .tasks) (p .global) (p .blocks)) (p .expirations) ≡ true
   pub blocks : allFrom 0 (isFitBlock (p .given) (p .expirations)) (p .blocks) ≡ true
   pub distinct : isDistinct (map handleOf (p .blocks)) ≡ true
 
-pub fit-parts : (p : Pool) → isWellFormed p ≡ true → Fit p
+pub fit-parts : (p : Tables) → isWellFormed p ≡ true → Fit p
 unfolding isWellFormed
 fit-parts p e =
     let (abcd, distinct) = and-eq-true-iff _ _ .0 e in
@@ -37,7 +37,7 @@ fit-parts p e =
     let (tasks, unticked) = and-eq-true-iff _ _ .0 ab in
     record { tasks = tasks; unticked = not-true _ unticked; entries = entries; blocks = blocks; distinct = distinct }
 
-pub fit-whole : (p : Pool) → Fit p → isWellFormed p ≡ true
+pub fit-whole : (p : Tables) → Fit p → isWellFormed p ≡ true
 unfolding isWellFormed
 fit-whole p f = rw (f .tasks, f .unticked, f .entries, f .blocks, f .distinct)
 
@@ -80,13 +80,13 @@ fit-global setter global used at e =
     record { naming = naming; ahead = leb-true _ _ ahead; within = leb-true _ _ within }
 
 -- and a block in use of a well-formed record
-pub record FitUsed (p : Pool) (block : ℕ) : Type 0 where
+pub record FitUsed (p : Tables) (block : ℕ) : Type 0 where
   pub used : getD (p .blocks) block freeBlock .handle ≢ 0
   pub named : any (isNaming block) (p .expirations) ≡ true
   pub sized : isSizedFor block (getD (p .blocks) block freeBlock .length) ≡ true
   pub numbered : getD (p .blocks) block freeBlock .handle ≤ p .given
 
-pub fit-used : {p : Pool} → Fit p → (block : ℕ) → eqb (getD (p .blocks) block freeBlock .handle) 0 ≡ false → FitUsed p block
+pub fit-used : {p : Tables} → Fit p → (block : ℕ) → eqb (getD (p .blocks) block freeBlock .handle) 0 ≡ false → FitUsed p block
 unfolding isFitBlock
 fit-used {p} f block used =
     let fits = allFrom-at (isFitBlock (p .given) (p .expirations)) freeBlock (λ i. refl) (p .blocks) (f .blocks) block in

@@ -1,10 +1,9 @@
+pub mod Columns
+pub mod Asked
 pub mod Facts
 pub mod Distinct
 pub mod Exists
 pub mod FreshReads
 pub mod Types
-pub mod Entries
-pub mod Named
-pub mod Handles
 pub mod States
 pub mod Times

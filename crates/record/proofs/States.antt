@@ -12,9 +12,8 @@ use Rattle.lists.proofs.Counts.{any-map, all-mapped}
 use Rattle.lists.proofs.Implied.{all-not-any}
 use Rattle.ledger.specs.Tasks.{Task, isAbsent, isRunning, allTicked}
 use Rattle.ledger.specs.declared.State.the-variants.{Absent, Running, Waiting}
-use Rattle.record.specs.Codes.{stateOf, taskOf}
+use Rattle.record.specs.Codes.{stateOf, taskOf, isRunningEntry, isPendingEntry}
 use Rattle.record.specs.WellFormed.{isFitTask}
-use Rattle.record.specs.Checks.{isRunningEntry, isPendingEntry}
 use Rattle.record.specs.declared.TaskEntry.{TaskEntry}
 
 running-by : (one two : Bool) → one ≡ isRunning (cond one Running (cond two Waiting Absent))

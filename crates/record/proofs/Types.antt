@@ -1,8 +1,8 @@
 -- What the types of the record's fields give of every value: the lengths of its tables and the range of its counters.
 use native.Mathlib.Omega.{arith}
 use mathlib.Core.List.{List, [], _∷_, map}
-use mathlib.Core.Path.{sym, _∙_}
-use lib.ListN.{length-map}
+use mathlib.Core.Path.{_≡_, sym, _∙_}
+use lib.ListN.{length, length-map}
 use base.Fml.{Fml}
 use denote.Array.{each}
 use denote.Laws.{Is}
@@ -10,26 +10,32 @@ use denote.Shadow.{shadow}
 use mir.Val.{Val}
 use Rattle.lists.specs.Tests.{All}
 use Rattle.ledger.specs.Limits.{counterRange}
-use Rattle.record.specs.Reading.{Typed}
-use Rattle.record.specs.declared.Pool.{Pool}
-use Rattle.record.proofs.Pool.{the-row}
+use Rattle.record.specs.Reading.{HeadTyped, Typed}
+use Rattle.record.specs.Tables.{BlockEntry, ExpirationEntry, tablesBy}
+use Rattle.record.specs.declared.Head.{Head}
+use Rattle.record.proofs.Head.{the-row as the-head}
 
 -- what each element's own type gives
-each-all : {A d : Type 0} (f : d → List Val → Fml) (g : A → d) (P : A → Type 0) → ((x : A) (us : List Val) → shadow (f (g x) us) → P x)
+pub each-all : {A d : Type 0} (f : d → List Val → Fml) (g : A → d) (P : A → Type 0) → ((x : A) (us : List Val) → shadow (f (g x) us) → P x)
     → (xs : List A) (us : List Val) → shadow (each d f (map g xs) us) → All P xs
 each-all f g P h [] us s = tt
 each-all f g P h (x ∷ xs) [] s = absurd s
 each-all f g P h (x ∷ xs) (u ∷ us) s = (h x (u ∷ []) (s .0), each-all f g P h xs us (s .1))
 
-pub typed : (p : Pool) (vs : List Val) → Is the-row p vs → Typed p
+pub head-typed : (h : Head) (vs : List Val) → Is the-head h vs → HeadTyped h
 unfolding counterRange
-typed p vs t =
-    let (tasks, (global, (given, (blocks, (expirations, end))))) = t .1 .1 in
+head-typed h vs t =
+    let (tasks, (global, (given, end))) = t .1 .1 in
     record {
-      tasks = sym (length-map (p .tasks) _) ∙ tasks .1 .0 .1;
-      blocks = sym (length-map (p .blocks) _) ∙ blocks .1 .0 .1;
-      expirations = sym (length-map (p .expirations) _) ∙ expirations .1 .0 .1;
-      clocks = each-all _ _ _ (λ x us s. omega arith) (p .tasks) _ (tasks .1 .1);
+      tasks = sym (length-map (h .tasks) _) ∙ tasks .1 .0 .1;
+      clocks = each-all _ _ _ (λ x us s. omega arith) (h .tasks) _ (tasks .1 .1);
       global = omega arith;
       given = omega arith;
     }
+
+-- with tables of as many entries as 01 has
+pub typed-by : {h : Head} (blocks : List BlockEntry) (xs : List ExpirationEntry) → HeadTyped h → length blocks ≡ 96 → length xs ≡ 256
+    → Typed (tablesBy h blocks xs)
+unfolding tablesBy
+typed-by blocks xs t b x =
+    record { tasks = t .tasks; blocks = b; expirations = x; clocks = t .clocks; global = t .global; given = t .given }

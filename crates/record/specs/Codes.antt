@@ -1,14 +1,15 @@
 -- What the numbers of a record's entries mean.
 use Prim.Native.Nat.{ℕ, _+_, _-_, _%_}
-use mathlib.Core.Bool.{Bool, true, false, cond}
-use lib.Dec.{eqb}
+use mathlib.Core.Bool.{Bool, true, false, cond, not, _&&_}
+use lib.Dec.{eqb, leb, ltb}
 use Rattle.ledger.specs.Limits.{counterRange}
-use Rattle.ledger.specs.Tasks.{Task}
+use Rattle.ledger.specs.Tasks.{Task, isRunning}
 use Rattle.ledger.specs.declared.State.{State}
 use Rattle.ledger.specs.declared.State.the-variants.{Absent, Running, Waiting}
 use Rattle.record.specs.declared.TaskEntry.{TaskEntry}
-use Rattle.record.specs.declared.BlockEntry.{BlockEntry}
-use Rattle.record.specs.declared.ExpirationEntry.{ExpirationEntry}
+use Rattle.record.specs.Tables.{BlockEntry, ExpirationEntry}
+use Rattle.record.specs.declared.GlobalTime.{GlobalTime}
+use Rattle.record.specs.declared.LocalTime.{LocalTime}
 use Rattle.record.specs.declared.Due.{Due}
 use Rattle.record.specs.declared.Due.the-variants.{Free, Local, Global, Unknown}
 
@@ -19,11 +20,22 @@ stateOf code = cond (eqb code 1) Running (cond (eqb code 2) Waiting Absent)
 abbrev pub taskOf : TaskEntry → Task
 taskOf e = record { state = stateOf (e .state); ticked = eqb (e .ticked) 1; clock = e .clock .0 }
 
-unfoldable pub dueOf : ExpirationEntry → Due
-dueOf e =
-    cond (eqb (e .kind) 0) Free
-    (cond (eqb (e .kind) 1) (Local (e .setter) (record { 0 = e .due }))
-    (cond (eqb (e .kind) 2) (Global (record { 0 = e .due })) Unknown))
+-- a task that runs, and one that runs and has not ticked
+abbrev pub isRunningEntry : TaskEntry → Bool
+isRunningEntry e = isRunning (stateOf (e .state))
+
+abbrev pub isPendingEntry : TaskEntry → Bool
+isPendingEntry e = isRunningEntry e && not (eqb (e .ticked) 1)
+
+-- an expiration by the code of its clock: 0 none, 16 and the number of a task, or 32 the global time
+unfoldable pub dueBy : ℕ → ℕ → Due
+dueBy clock due =
+    cond (eqb clock 0) Free
+    (cond (eqb clock 32) (Global (record { 0 = due }))
+    (cond (leb 16 clock && ltb clock 32) (Local (clock - 16) (record { 0 = due })) Unknown))
+
+abbrev pub dueOf : ExpirationEntry → Due
+dueOf e = dueBy (e .clock) (e .due)
 
 -- the entry is in use: it has an expiration
 abbrev pub isDated : Due → Bool
@@ -43,6 +55,19 @@ setterOf Unknown = 0
 abbrev pub leftAt : ℕ → ℕ → ℕ
 leftAt due now = (due + (counterRange - now)) % counterRange
 
+-- due now, by this task's clock or by the global time
+abbrev pub isDueLocal : ℕ → LocalTime → Due → Bool
+isDueLocal task now Free = false
+isDueLocal task now (Local setter at) = eqb setter task && eqb (leftAt (at .0) (now .0)) 0
+isDueLocal task now (Global at) = false
+isDueLocal task now Unknown = false
+
+abbrev pub isDueGlobal : GlobalTime → Due → Bool
+isDueGlobal now Free = false
+isDueGlobal now (Local setter at) = false
+isDueGlobal now (Global at) = eqb (leftAt (at .0) (now .0)) 0
+isDueGlobal now Unknown = false
+
 -- what an entry past the end of a table reads as
 abbrev pub absentEntry : TaskEntry
 absentEntry = record { state = 0; ticked = 0; clock = record { 0 = 0 } }
@@ -51,4 +76,11 @@ abbrev pub freeBlock : BlockEntry
 freeBlock = record { handle = 0; length = 0 }
 
 abbrev pub freeEntry : ExpirationEntry
-freeEntry = record { kind = 0; block = 0; setter = 0; due = 0 }
+freeEntry = record { clock = 0; block = 0; due = 0 }
+
+-- a block and an entry that are given up: what else they hold has no meaning
+abbrev pub freedBlock : BlockEntry → BlockEntry
+freedBlock b = record { handle = 0; length = b .length }
+
+abbrev pub freedEntry : ExpirationEntry → ExpirationEntry
+freedEntry e = record { clock = 0; block = e .block; due = e .due }

@@ -1,4 +1,5 @@
+pub mod Tables
 pub mod Codes
 pub mod Reading
 pub mod WellFormed
-pub mod Checks
+pub mod Pools

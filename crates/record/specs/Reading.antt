@@ -14,9 +14,9 @@ use Rattle.ledger.specs.Kept.{Ascending}
 use Rattle.ledger.specs.Ledger.{Ledger}
 use Rattle.record.specs.Codes.{taskOf, dueOf, leftAt, absentEntry, freeBlock, freeEntry}
 use Rattle.record.specs.declared.TaskEntry.{TaskEntry}
-use Rattle.record.specs.declared.BlockEntry.{BlockEntry}
-use Rattle.record.specs.declared.ExpirationEntry.{ExpirationEntry}
+use Rattle.record.specs.Tables.{BlockEntry, ExpirationEntry, Tables}
 use Rattle.record.specs.declared.GlobalTime.{GlobalTime}
+use Rattle.record.specs.declared.Head.{Head}
 use Rattle.record.specs.declared.Pool.{Pool}
 use Rattle.record.specs.declared.Due.{Due}
 use Rattle.record.specs.declared.Due.the-variants.{Free, Local, Global, Unknown}
@@ -58,7 +58,7 @@ objectIn small large block b =
     cond (eqb (b .handle) 0) []
     (record { handle = b .handle; size = b .length; bytes = blockBytes small large block (b .length) } ∷ [])
 
-unfoldable pub recordView : Pool → List ℕ → List ℕ → View
+unfoldable pub recordView : Tables → List ℕ → List ℕ → View
 recordView p small large =
     record {
       tasks = map taskOf (p .tasks);
@@ -69,7 +69,7 @@ recordView p small large =
     }
 
 -- What the record's type gives of every value: "sixteen task entries" and the other tables, "each counter is kept in 32 bits".
-pub record Typed (p : Pool) : Type 0 where
+pub record Typed (p : Tables) : Type 0 where
   pub tasks : length (p .tasks) ≡ 16
   pub blocks : length (p .blocks) ≡ 96
   pub expirations : length (p .expirations) ≡ 256
@@ -77,8 +77,15 @@ pub record Typed (p : Pool) : Type 0 where
   pub global : p .global .0 < counterRange
   pub given : p .given < counterRange
 
+-- the same of what goes by value
+pub record HeadTyped (h : Head) : Type 0 where
+  pub tasks : length (h .tasks) ≡ 16
+  pub clocks : All (λ (e : TaskEntry). e .clock .0 < counterRange) (h .tasks)
+  pub global : h .global .0 < counterRange
+  pub given : h .given < counterRange
+
 -- The record with these stores reads as this ledger.
-pub record Reads (p : Pool) (small large : List ℕ) (L : Ledger) : Type 0 where
+pub record Reads (p : Tables) (small large : List ℕ) (L : Ledger) : Type 0 where
   pub alike : Alike (recordView p small large) (viewOf (isWhole small large) L)
   -- "standing objects in order of number"
   pub ascending : Ascending (L .memory .objects)
@@ -90,6 +97,9 @@ freshPool =
       tasks = replicate 16 absentEntry;
       global = record { 0 = 0 };
       given = 0;
-      blocks = replicate 96 freeBlock;
-      expirations = replicate 256 freeEntry;
+      handles = replicate 96 0;
+      lengths = replicate 96 0;
+      clocks = replicate 256 0;
+      named = replicate 256 0;
+      dues = replicate 256 0;
     }

@@ -11,10 +11,8 @@ use Rattle.ledger.specs.Tasks.{isAbsent, isRunning, allTicked}
 use Rattle.record.specs.Codes.{stateOf, taskOf, dueOf, isDated, setterOf, leftAt, absentEntry, freeBlock}
 use Rattle.record.specs.Reading.{isSmallBlock}
 use Rattle.record.specs.declared.TaskEntry.{TaskEntry}
-use Rattle.record.specs.declared.BlockEntry.{BlockEntry}
-use Rattle.record.specs.declared.ExpirationEntry.{ExpirationEntry}
+use Rattle.record.specs.Tables.{BlockEntry, ExpirationEntry, Tables}
 use Rattle.record.specs.declared.GlobalTime.{GlobalTime}
-use Rattle.record.specs.declared.Pool.{Pool}
 use Rattle.record.specs.declared.Due.{Due}
 use Rattle.record.specs.declared.Due.the-variants.{Free, Local, Global, Unknown}
 
@@ -69,7 +67,7 @@ abbrev pub handleOf : BlockEntry → ℕ
 handleOf b = b .handle
 
 -- 01: a fit record; "if any task runs, one has no mark"
-unfoldable pub isWellFormed : Pool → Bool
+unfoldable pub isWellFormed : Tables → Bool
 isWellFormed p =
     all isFitTask (p .tasks) && not (allTicked (map taskOf (p .tasks)))
     && all (isFitEntry (p .tasks) (p .global) (p .blocks)) (p .expirations)

@@ -1,8 +1,8 @@
 // What the numbers of an entry mean, and the units left by counters that go on from 4,294,967,295 to 0.
+ghost use Prim.Native.Nat.{_<_};
 ghost use mathlib.Core.Path.{_≡_};
-ghost use Rattle.record.specs.Codes.{stateOf, dueOf, isDated, setterOf, leftAt};
+ghost use Rattle.record.specs.Codes.{stateOf, dueBy, leftAt, isDueLocal, isDueGlobal};
 use super::Due;
-use super::ExpirationEntry;
 use super::GlobalTime;
 use super::LocalTime;
 use ledger::State;
@@ -14,12 +14,12 @@ pub const RUNNING: u16 = 1;
 
 pub const WAITING: u16 = 2;
 
-// The kind of an expiration entry.
+// The clock of an expiration entry: none, LOCAL and the number of the task whose clock it is, or GLOBAL.
 pub const FREE: u8 = 0;
 
-pub const LOCAL: u8 = 1;
+pub const LOCAL: u8 = 16;
 
-pub const GLOBAL: u8 = 2;
+pub const GLOBAL: u8 = 32;
 
 pub fn state_of(code: u16) -> State
     ensures { λ r. ⌜ r ≡ stateOf code ⌝ }
@@ -33,46 +33,38 @@ pub fn state_of(code: u16) -> State
     State::Absent
 }
 
-pub fn due_of(e: ExpirationEntry) -> Due
-    ensures { λ r. ⌜ r ≡ dueOf e ⌝ }
+// The one place where a number of the table becomes a time, by the clock that it goes by.
+pub fn due_by(clock: u8, due: u32) -> Due
+    ensures { λ r. ⌜ r ≡ dueBy clock due ⌝ }
 {
-    if e.kind == FREE {
+    if clock == FREE {
         return Due::Free;
     }
-    if e.kind == LOCAL {
-        return Due::Local {
-            setter: e.setter,
-            at: LocalTime(e.due),
-        };
+    if clock == GLOBAL {
+        return Due::Global(GlobalTime(due));
     }
-    if e.kind == GLOBAL {
-        return Due::Global(GlobalTime(e.due));
+    if (LOCAL <= clock) & (clock < GLOBAL) {
+        return Due::Local {
+            setter: clock - LOCAL,
+            at: LocalTime(due),
+        };
     }
     Due::Unknown
 }
 
-// The entry is in use: it has an expiration.
-pub fn is_dated(due: Due) -> bool
-    ensures { λ r. ⌜ r ≡ isDated due ⌝ }
+// What due_by reads, asked at once: whether an expiration goes by this task's clock and is due,
+pub fn is_due_local(clock: u8, due: u32, task: u8, now: LocalTime) -> bool
+    requires { ⌜ task < 16 ⌝ }
+    ensures { λ r. ⌜ r ≡ isDueLocal task now (dueBy clock due) ⌝ }
 {
-    match due {
-        Due::Free => false,
-        Due::Local { setter: _, at: _ } => true,
-        Due::Global(_) => true,
-        Due::Unknown => false,
-    }
+    (clock == LOCAL + task) & (local_left(LocalTime(due), now) == 0)
 }
 
-// The task whose entry an expiration is tested with.
-pub fn setter_of(due: Due) -> usize
-    ensures { λ r. ⌜ r ≡ setterOf due ⌝ }
+// and whether it goes by the global time and is due.
+pub fn is_due_global(clock: u8, due: u32, now: GlobalTime) -> bool
+    ensures { λ r. ⌜ r ≡ isDueGlobal now (dueBy clock due) ⌝ }
 {
-    match due {
-        Due::Free => 0,
-        Due::Local { setter, at: _ } => setter as usize,
-        Due::Global(_) => 0,
-        Due::Unknown => 0,
-    }
+    (clock == GLOBAL) & (global_left(GlobalTime(due), now) == 0)
 }
 
 // 01: units left of an own date.

@@ -1,17 +1,14 @@
-// The pool's record by value: sixteen task entries, two counters, block entries and expiration entries. It holds nothing but numbers, so every bit
-// pattern of it is a value, which the test of well-formedness (01: a fit record) judges.
+// The pool's record: sixteen task entries, two counters, and the tables of blocks and of expirations, one array for each field. It holds nothing but numbers
+// and no padding, so every bit pattern of it is a value, which the test of well-formedness (01: a fit record) judges, and equal values are equal bytes.
 ghost use mathlib.Core.Path.{_≡_};
 ghost use Rattle.record.specs.Reading.{freshPool};
+ghost use Rattle.record.specs.Tables.{headOf};
 
-pub mod blocks;
 pub mod codes;
-pub mod expirations;
-pub mod fit;
-pub mod tasks;
+pub mod running;
 
 use codes::ABSENT;
 use codes::FREE;
-use ledger::Answer;
 use ledger::LIMITS;
 use ledger::TASK_COUNT;
 
@@ -37,64 +34,54 @@ pub struct TaskEntry {
     pub clock: LocalTime,
 }
 
-// A block of a store and the object in it. Handle (01: number) 0 is a free block.
-#[repr(C)]
-pub struct BlockEntry {
-    pub handle: u32,
-    pub length: u32,
-}
-
-// 01: a date. Kind 0 is a free entry, 1 local (01: own), 2 global (01: common); due is a local or a global time by it. Blocks 0 to 63 are the small
-// store's, 64 to 95 the large one's.
-#[repr(C)]
-pub struct ExpirationEntry {
-    pub kind: u8,
-    pub block: u8,
-    pub setter: u16,
-    pub due: u32,
-}
-
+// Block i has the object `handles[i]` (01: number; 0 is a free block) of `lengths[i]` bytes; blocks 0 to 63 are the small store's, 64 to 95 the large one's.
+// Expiration i (01: date) goes by the clock `clocks[i]`, a code of codes.rt in which 0 is a free entry, belongs to the object in the block `named[i]`, and is due
+// when that clock reads `dues[i]`.
 #[repr(C)]
 pub struct Pool {
     pub tasks: [TaskEntry; TASK_COUNT],
     pub global: GlobalTime,
     pub given: u32,
-    pub blocks: [BlockEntry; BLOCK_COUNT],
-    pub expirations: [ExpirationEntry; EXPIRATION_COUNT],
+    pub handles: [u32; BLOCK_COUNT],
+    pub lengths: [u16; BLOCK_COUNT],
+    pub clocks: [u8; EXPIRATION_COUNT],
+    pub named: [u8; EXPIRATION_COUNT],
+    pub dues: [u32; EXPIRATION_COUNT],
 }
 
-// When an entry's expiration is due: a time by one clock cannot be tested against the other.
+// What of the record goes by value through a call; its tables are lent.
+pub struct Head {
+    pub tasks: [TaskEntry; TASK_COUNT],
+    pub global: GlobalTime,
+    pub given: u32,
+}
+
+// When an expiration is due: a time by one clock cannot be tested against the other.
 pub enum Due {
     Free,
-    Local { setter: u16, at: LocalTime },
+    Local { setter: u8, at: LocalTime },
     Global(GlobalTime),
     Unknown,
 }
 
-// What a call gives back: its answer, and the record that it leaves.
-pub struct Outcome {
-    pub answer: Answer,
-    pub pool: Pool,
-}
-
-// What an entry that is not in use holds.
+// What the entry of an absent task holds.
 pub const ABSENT_TASK: TaskEntry = TaskEntry {
     state: ABSENT,
     ticked: 0,
     clock: LocalTime(0),
 };
 
-pub const FREE_BLOCK: BlockEntry = BlockEntry {
-    handle: 0,
-    length: 0,
-};
-
-pub const FREE_EXPIRATION: ExpirationEntry = ExpirationEntry {
-    kind: FREE,
-    block: 0,
-    setter: 0,
-    due: 0,
-};
+pub fn head_of(p: Pool) -> Head
+    ensures { λ r. ⌜ r ≡ headOf p ⌝ }
+{
+    let tasks = p.tasks;
+    let global = p.global;
+    Head {
+        tasks: tasks,
+        global: global,
+        given: p.given,
+    }
+}
 
 // 01: a fresh pool.
 pub fn fresh() -> Pool
@@ -104,7 +91,10 @@ pub fn fresh() -> Pool
         tasks: [ABSENT_TASK; TASK_COUNT],
         global: GlobalTime(0),
         given: 0,
-        blocks: [FREE_BLOCK; BLOCK_COUNT],
-        expirations: [FREE_EXPIRATION; EXPIRATION_COUNT],
+        handles: [0; BLOCK_COUNT],
+        lengths: [0; BLOCK_COUNT],
+        clocks: [FREE; EXPIRATION_COUNT],
+        named: [0; EXPIRATION_COUNT],
+        dues: [0; EXPIRATION_COUNT],
     }
 }

@@ -11,11 +11,11 @@ use Rattle.ledger.specs.declared.Refusal.{Refusal}
 use Rattle.ledger.specs.declared.Request.{Request}
 use Rattle.record.specs.Reading.{blockBytes}
 use Rattle.record.specs.declared.Pool.{Pool}
-use Rattle.pool.specs.Served.{withoutBytes, Serves}
-use Rattle.pool.specs.declared.core.Called.{Called}
+use Rattle.calls.specs.Served.{withoutBytes, Serves}
+use Rattle.calls.specs.declared.Called.{Called}
 use Rattle.frames.specs.Answers.{answerLine}
 use Rattle.frames.specs.Frames.{frameOf, payloadOf, Decodes}
-use Rattle.frames.specs.Hex.{Placed}
+use Rattle.text.specs.Hex.{Placed}
 use Rattle.frames.specs.declared.Frame.{Frame}
 use Rattle.frames.proofs.Payloads.{requested, payload-front}
 use Rattle.script.specs.Execution.{refusalOf, Performs, Executes}

@@ -7,15 +7,15 @@ use Rattle.ledger.specs.Objects.{Reply}
 use Rattle.ledger.specs.Ledger.{Ledger, fresh}
 use Rattle.ledger.specs.declared.Answer.the-variants.{Refused}
 use Rattle.ledger.specs.declared.Refusal.{Refusal}
-use Rattle.record.specs.Reading.{Reads}
+use Rattle.record.specs.Pools.{Reads}
 use Rattle.record.specs.declared.Pool.{Pool}
 use Rattle.record.proofs.FreshReads.{fresh-reads}
-use Rattle.pool.specs.Served.{replyOf}
-use Rattle.pool.specs.declared.core.Called.{Called}
+use Rattle.calls.specs.Served.{replyOf}
+use Rattle.calls.specs.declared.Called.{Called}
 use Rattle.frames.specs.Frames.{frameOf, payloadOf}
-use Rattle.frames.specs.Lines.{linesOf}
+use Rattle.text.specs.Lines.{linesOf}
 use Rattle.frames.specs.declared.Frame.{Frame}
-use Rattle.frames.proofs.Scripts.{lines-end}
+use Rattle.text.proofs.Scripts.{lines-end}
 use Rattle.script.specs.Execution.{Performs, Executes, Answered, Demand1}
 use Rattle.script.specs.Output.{answersTo, Continues, Written, ended, part, WholeOutput}
 use Rattle.script.proofs.Showing.{shows-none}

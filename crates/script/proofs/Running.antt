@@ -16,21 +16,22 @@ use Rattle.ledger.specs.Ledger.{Ledger}
 use Rattle.ledger.specs.declared.Answer.{Answer}
 use Rattle.ledger.specs.declared.Refusal.{Refusal}
 use Rattle.ledger.specs.declared.Request.{Request}
-use Rattle.record.specs.Reading.{blockBytes, Typed, Reads}
-use Rattle.record.specs.WellFormed.{isWellFormed}
+use Rattle.record.specs.Reading.{blockBytes}
+use Rattle.record.specs.Pools.{isWellFormed, Reads}
+use Rattle.record.specs.Tables.{headOf, pooled}
+use Rattle.record.specs.declared.Head.{Head}
 use Rattle.record.specs.declared.Pool.{Pool}
-use Rattle.tasks.specs.Sweep.{Bounds}
-use Rattle.pool.specs.Contract.{areWhole, Ready}
-use Rattle.pool.specs.Served.{Serves}
-use Rattle.pool.specs.declared.core.Called.{Called}
+use Rattle.calls.specs.Contract.{areWhole, Ready}
+use Rattle.calls.specs.Served.{Serves}
+use Rattle.calls.specs.declared.Called.{Called}
 use Rattle.frames.specs.Answers.{answerLine}
 use Rattle.frames.specs.Frames.{frameOf, payloadOf, Decodes}
-use Rattle.frames.specs.Hex.{Placed}
-use Rattle.frames.specs.Lines.{linesOf, lineAt}
+use Rattle.text.specs.Hex.{Placed}
+use Rattle.text.specs.Lines.{linesOf, lineAt}
 use Rattle.frames.specs.declared.Frame.{Frame}
-use Rattle.frames.proofs.AnswerLines.{placed-on}
+use Rattle.text.proofs.Placing.{placed-on}
 use Rattle.frames.proofs.Payloads.{payload-front}
-use Rattle.frames.proofs.Scripts.{lines-on, next-within}
+use Rattle.text.proofs.Scripts.{lines-on, next-within}
 use Rattle.script.specs.Execution.{refusalOf}
 use Rattle.script.specs.Output.{answerTo, afterLine, answersTo, lineIn, Runnable, Continues}
 
@@ -107,6 +108,12 @@ run-starts out bytes r b =
       buffer = b;
     }
 
+-- with the record's head and its columns taken out
+pub run-starts-lent : {p : Pool} {small large script : List ℕ} {start : ℕ} (out bytes : List ℕ) → Runnable p small large script start → length bytes ≡ 256
+    → {h : Head} → h ≡ headOf p
+    → Running p small large script start out (pooled h (p .handles) (p .lengths) (p .clocks) (p .named) (p .dues)) small large out bytes start 0
+run-starts-lent out bytes r b e = rw e (run-starts out bytes r b)
+
 module _ {p₀ : Pool} {small₀ large₀ script : List ℕ} {start : ℕ} {out₀ : List ℕ} {p : Pool} {small large out bytes : List ℕ} {at written : ℕ}
     (run : Running p₀ small₀ large₀ script start out₀ p small large out bytes at written) where
   -- the test holds: there is a line
@@ -167,8 +174,3 @@ module _ {p₀ : Pool} {small₀ large₀ script : List ℕ} {start : ℕ} {out�
             let fits = le-leb 531 (length out - written) (omega (arith, run .unmoved same, run .size)) in
             absurd (true≢false (sym (rw (line, fits)) ∙ stop)));
       }
-
--- What the changes in place go by: the record's tables have their lengths, and entries from the bound on are free.
-pub record InPlace (p : Pool) (bound : ℕ) : Type 0 where
-  pub types : Typed p
-  pub bounds : Bounds bound (p .expirations)

@@ -15,10 +15,10 @@ use Rattle.ledger.specs.declared.Request.{Request}
 use Rattle.stores.specs.Places.{sizeOf, InBlock}
 use Rattle.record.specs.Reading.{isSmallBlock, isWholeSmall, isWholeLarge, blockBytes}
 use Rattle.record.specs.declared.Pool.{Pool}
-use Rattle.pool.specs.Served.{Serves}
-use Rattle.pool.specs.declared.core.Called.{Called}
+use Rattle.calls.specs.Served.{Serves}
+use Rattle.calls.specs.declared.Called.{Called}
 use Rattle.frames.specs.Answers.{answerLine}
-use Rattle.frames.specs.Hex.{Placed}
+use Rattle.text.specs.Hex.{Placed}
 use Rattle.frames.proofs.AnswerLines.{line-within}
 use Rattle.script.specs.Execution.{Showable}
 

@@ -10,11 +10,11 @@ use Rattle.ledger.specs.declared.Refusal.{Refusal}
 use Rattle.stores.specs.Places.{InBlock}
 use Rattle.record.specs.Reading.{blockBytes}
 use Rattle.record.specs.declared.Pool.{Pool}
-use Rattle.pool.specs.Served.{withoutBytes, replyOf, Serves}
-use Rattle.pool.specs.declared.core.Called.{Called}
+use Rattle.calls.specs.Served.{withoutBytes, replyOf, Serves}
+use Rattle.calls.specs.declared.Called.{Called}
 use Rattle.frames.specs.Answers.{answerLine}
 use Rattle.frames.specs.Frames.{frameOf, payloadOf}
-use Rattle.frames.specs.Hex.{Placed}
+use Rattle.text.specs.Hex.{Placed}
 use Rattle.frames.specs.declared.Frame.{Frame}
 use Rattle.script.specs.declared.Executed.{Executed}
 

@@ -1,4 +1,2 @@
 pub mod Output
 pub mod Execution
-pub mod Finding
-pub mod Bounds

@@ -9,11 +9,11 @@ use Rattle.ledger.specs.Ledger.{Ledger, fresh, replyToRequest, afterRequest}
 use Rattle.ledger.specs.declared.Answer.the-variants.{Refused}
 use Rattle.frames.specs.Answers.{answerLine}
 use Rattle.frames.specs.Frames.{frameOf, payloadOf, Decodes}
-use Rattle.frames.specs.Lines.{linesOf, lineEnd, lineAt}
-use Rattle.frames.specs.Hex.{Placed}
+use Rattle.text.specs.Lines.{linesOf, lineEnd, lineAt}
+use Rattle.text.specs.Hex.{Placed}
 use Rattle.frames.specs.declared.Frame.{Frame}
-use Rattle.record.specs.Reading.{freshPool, Reads}
-use Rattle.record.specs.WellFormed.{isWellFormed}
+use Rattle.record.specs.Reading.{freshPool}
+use Rattle.record.specs.Pools.{isWellFormed, Reads}
 use Rattle.record.specs.declared.Pool.{Pool}
 use Rattle.script.specs.declared.scripts.Ran.{Ran}
 use Rattle.script.specs.declared.scripts.Step.{Step}

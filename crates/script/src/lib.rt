@@ -4,11 +4,9 @@ ghost use mathlib.Core.Path.{_≡_};
 ghost use lib.ListN.{length};
 ghost use Rattle.record.specs.Reading.{blockBytes};
 ghost use Rattle.frames.specs.Answers.{answerLine};
-ghost use Rattle.frames.specs.Hex.{Placed};
+ghost use Rattle.text.specs.Hex.{Placed};
 ghost use Rattle.script.specs.Execution.{refusalOf, Showable, Executes};
 
-mod bounds;
-mod finding;
 mod scripts;
 
 use frames::Frame;
@@ -16,8 +14,8 @@ use frames::decode;
 use frames::encode_answer;
 use ledger::Answer;
 use ledger::answer_number;
-use pool::dispatch::call;
 use record::Pool;
+use requests::call;
 pub use scripts::LONGEST_ANSWER;
 pub use scripts::Ran;
 pub use scripts::run_on;
@@ -56,7 +54,7 @@ fn show<'a>(
     small: &'a [u8],
     large: &'a [u8],
     block: usize,
-    count: u32,
+    count: u16,
     out: &mut [u8],
     at: usize,
 ) -> usize

@@ -1,169 +1,68 @@
--- What an event makes of a record: the steps that the code takes, as functions of the record's entries.
-use Prim.Native.Nat.{ℕ, _+_, _%_}
-use mathlib.Core.Bool.{Bool, true, false, cond, not, _&&_}
+-- What an event decides, by the task entries and the global time alone.
+use Prim.Native.Nat.{ℕ}
+use mathlib.Core.Bool.{Bool, true, false, cond, _&&_}
 use mathlib.Core.List.{List, map}
-use lib.Dec.{eqb, leb, ltb}
-use lib.ListN.{getD, set}
-use Rattle.lists.specs.Tests.{any}
-use Rattle.lists.specs.Tables.{mapFrom}
-use Rattle.ledger.specs.Limits.{taskCount, counterRange}
+use lib.ListN.{getD}
 use Rattle.ledger.specs.Tasks.{isTested, allTicked}
-use Rattle.ledger.specs.declared.State.{State}
-use Rattle.ledger.specs.declared.State.the-variants.{Absent, Running, Waiting}
 use Rattle.ledger.specs.declared.Event.{Event}
 use Rattle.ledger.specs.declared.Event.the-variants.{Join, Leave, Block, Resume, Tick}
 use Rattle.ledger.specs.declared.Answer.{Answer}
 use Rattle.ledger.specs.declared.Answer.the-variants.{Done, Advanced}
 use Rattle.ledger.specs.declared.Answer.the-variants.{Refused as RefusedAnswer}
-use Rattle.ledger.specs.declared.Refusal.the-variants.{NoSuchTask, TaskPresent, TaskAbsent, TaskWaiting, TaskRunning}
-use Rattle.record.specs.Codes.{stateOf, taskOf, dueOf, setterOf, leftAt, absentEntry, freeBlock, freeEntry}
-use Rattle.record.specs.WellFormed.{isNaming}
-use Rattle.record.specs.declared.TaskEntry.{TaskEntry}
-use Rattle.record.specs.declared.BlockEntry.{BlockEntry}
-use Rattle.record.specs.declared.ExpirationEntry.{ExpirationEntry}
-use Rattle.record.specs.declared.GlobalTime.{GlobalTime}
-use Rattle.record.specs.declared.Pool.{Pool}
-use Rattle.record.specs.declared.Outcome.{Outcome}
-use Rattle.record.specs.declared.Due.{Due}
-use Rattle.record.specs.declared.Due.the-variants.{Free, Local, Global, Unknown}
 use Rattle.ledger.specs.declared.Verdict.{Verdict}
 use Rattle.ledger.specs.declared.Verdict.the-variants.{Accepted, Refused}
+use Rattle.record.specs.Codes.{taskOf, absentEntry}
+use Rattle.record.specs.declared.TaskEntry.{TaskEntry}
+use Rattle.record.specs.declared.GlobalTime.{GlobalTime}
+use Rattle.steps.specs.Events.{verdictAt, movedEntry, movedTasks, advancedTasks, advancedTime}
 use Rattle.tasks.specs.declared.Planned.{Planned}
 
--- 01: join 2; leave 3; block and tick 3, 4; resume 3, 5
-abbrev pub verdictOf : Event → State → Verdict
-verdictOf Join Absent = Accepted
-verdictOf Join Running = Refused TaskPresent
-verdictOf Join Waiting = Refused TaskPresent
-verdictOf Leave Absent = Refused TaskAbsent
-verdictOf Leave Running = Accepted
-verdictOf Leave Waiting = Accepted
-verdictOf Block Absent = Refused TaskAbsent
-verdictOf Block Running = Accepted
-verdictOf Block Waiting = Refused TaskWaiting
-verdictOf Resume Absent = Refused TaskAbsent
-verdictOf Resume Running = Refused TaskRunning
-verdictOf Resume Waiting = Accepted
-verdictOf Tick Absent = Refused TaskAbsent
-verdictOf Tick Running = Accepted
-verdictOf Tick Waiting = Refused TaskWaiting
+-- the task leaves, and all its own dates go
+abbrev pub isLeave : Event → Bool
+isLeave Join = false
+isLeave Leave = true
+isLeave Block = false
+isLeave Resume = false
+isLeave Tick = false
 
--- the verdict on an event: first 1, then the tests of the task's state
-abbrev pub verdictAt : Event → ℕ → List TaskEntry → Verdict
-verdictAt event task tasks =
-    cond (leb taskCount task) (Refused NoSuchTask) (verdictOf event (stateOf (getD tasks task absentEntry .state)))
+-- a tested event may end expirations of a well-formed record: a block moves no local time
+abbrev pub mayEnd : Event → Bool → Bool
+mayEnd Join advanced = false
+mayEnd Leave advanced = true
+mayEnd Block advanced = advanced
+mayEnd Resume advanced = false
+mayEnd Tick advanced = true
 
--- a counter's next value: "goes on from 4,294,967,295 to 0"
-abbrev pub nextTime : ℕ → ℕ
-nextTime n = (n + 1) % counterRange
+-- what ends nothing
+abbrev pub unmoved : Answer → List TaskEntry → GlobalTime → Planned
+unmoved answer tasks global =
+    record { answer = answer; tasks = tasks; global = global; local = record { 0 = 0 }; leaves = false; advanced = false; ends = false }
 
--- in this state, the mark cleared
-abbrev pub clearedEntry : ℕ → TaskEntry → TaskEntry
-clearedEntry state e = record { state = state; ticked = 0; clock = e .clock }
+-- an accepted event with an advance test
+abbrev pub testedAfter : Event → ℕ → Bool → List TaskEntry → GlobalTime → TaskEntry → Planned
+testedAfter event task advanced moved global entry =
+    record {
+      answer = Advanced advanced;
+      tasks = advancedTasks advanced moved;
+      global = advancedTime advanced global;
+      local = entry .clock;
+      leaves = isLeave event;
+      advanced = advanced;
+      ends = mayEnd event advanced;
+    }
 
-abbrev pub movedEntry : Event → TaskEntry → TaskEntry
-movedEntry Join e = clearedEntry 1 absentEntry
-movedEntry Block e = clearedEntry 2 e
-movedEntry Resume e = clearedEntry 1 e
-movedEntry Leave e = absentEntry
-movedEntry Tick e = record { state = e .state; ticked = 1; clock = record { 0 = nextTime (e .clock .0) } }
-
-abbrev pub untickedEntry : TaskEntry → TaskEntry
-untickedEntry e = clearedEntry (e .state) e
-
-abbrev pub movedTasks : Event → ℕ → List TaskEntry → List TaskEntry
-movedTasks event task tasks = set tasks task (movedEntry event (getD tasks task absentEntry))
-
--- the entries and the global time after the advance test
-abbrev pub advancedTasks : Bool → List TaskEntry → List TaskEntry
-advancedTasks advanced tasks = cond advanced (map untickedEntry tasks) tasks
-
-abbrev pub advancedTime : Bool → GlobalTime → GlobalTime
-advancedTime advanced global = record { 0 = cond advanced (nextTime (global .0)) (global .0) }
-
--- the task whose own dates go: 16 for none
-abbrev pub leaverOf : Event → ℕ → ℕ
-leaverOf Join task = taskCount
-leaverOf Block task = taskCount
-leaverOf Resume task = taskCount
-leaverOf Leave task = task
-leaverOf Tick task = taskCount
-
--- whether an expiration stands on, by the entry of its setter and the global time as they are then
-abbrev pub isLasting : ℕ → TaskEntry → GlobalTime → Due → Bool
-isLasting leaver setter global Free = true
-isLasting leaver setter global (Local task at) = not (eqb task leaver) && ltb 0 (leftAt (at .0) (setter .clock .0))
-isLasting leaver setter global (Global at) = ltb 0 (leftAt (at .0) (global .0))
-isLasting leaver setter global Unknown = true
-
--- whether an entry stands on
-abbrev pub isKept : ℕ → List TaskEntry → GlobalTime → ExpirationEntry → Bool
-isKept leaver tasks global e = isLasting leaver (getD tasks (setterOf (dueOf e)) absentEntry) global (dueOf e)
-
-abbrev pub keptEntry : ℕ → List TaskEntry → GlobalTime → ExpirationEntry → ExpirationEntry
-keptEntry leaver tasks global e = cond (isKept leaver tasks global e) e freeEntry
-
--- what no expiration names is free
-abbrev pub keptBlock : List ExpirationEntry → ℕ → BlockEntry → BlockEntry
-keptBlock xs block b = cond (any (isNaming block) xs) b freeBlock
-
--- the record with these tasks and this time, its due expirations and the leaver's own ended, its blocks free where none names them
-unfoldable pub swept : ℕ → List TaskEntry → GlobalTime → Pool → Pool
-swept leaver tasks global p =
-    let xs = map (keptEntry leaver tasks global) (p .expirations) in
-    record { tasks = tasks; global = global; given = p .given; blocks = mapFrom 0 (keptBlock xs) (p .blocks); expirations = xs }
-
--- the record with these tasks and this time, all else as it was
-abbrev pub withTimes : List TaskEntry → GlobalTime → Pool → Pool
-withTimes tasks global p =
-    record { tasks = tasks; global = global; given = p .given; blocks = p .blocks; expirations = p .expirations }
-
--- an accepted event
-unfoldable pub poolAfter : Event → ℕ → Pool → Pool
-poolAfter event task p =
-    let tasks = movedTasks event task (p .tasks) in
-    let advanced = allTicked (map taskOf tasks) in
-    cond (isTested event) (swept (leaverOf event task) (advancedTasks advanced tasks) (advancedTime advanced (p .global)) p) (withTimes tasks (p .global) p)
-
-unfoldable pub answerAfter : Event → ℕ → Pool → Answer
-answerAfter event task p = cond (isTested event) (Advanced (allTicked (map taskOf (movedTasks event task (p .tasks))))) Done
-
-abbrev pub outcomeBy : Verdict → Event → ℕ → Pool → Outcome
-outcomeBy Accepted event task p = record { answer = answerAfter event task p; pool = poolAfter event task p }
-outcomeBy (Refused r) event task p = record { answer = RefusedAnswer r; pool = p }
-
--- any event on any record
-unfoldable pub scheduled : Event → ℕ → Pool → Outcome
-scheduled event task p = outcomeBy (verdictAt event task (p .tasks)) event task p
-
--- what no sweep comes after
-abbrev pub unswept : Answer → List TaskEntry → GlobalTime → Planned
-unswept answer tasks global = record { answer = answer; tasks = tasks; global = global; leaver = taskCount; sweeps = false }
-
--- what an accepted event decides: one with an advance test sweeps
+-- any accepted event
 unfoldable pub plannedAfter : Event → ℕ → List TaskEntry → GlobalTime → Planned
 plannedAfter event task tasks global =
     let moved = movedTasks event task tasks in
-    let advanced = isTested event && allTicked (map taskOf moved) in
-    record {
-      answer = cond (isTested event) (Advanced advanced) Done;
-      tasks = advancedTasks advanced moved;
-      global = advancedTime advanced global;
-      leaver = cond (isTested event) (leaverOf event task) taskCount;
-      sweeps = isTested event;
-    }
+    cond (isTested event)
+    (testedAfter event task (allTicked (map taskOf moved)) moved global (movedEntry event (getD tasks task absentEntry)))
+    (unmoved Done moved global)
 
 abbrev pub plannedBy : Verdict → Event → ℕ → List TaskEntry → GlobalTime → Planned
 plannedBy Accepted event task tasks global = plannedAfter event task tasks global
-plannedBy (Refused r) event task tasks global = unswept (RefusedAnswer r) tasks global
+plannedBy (Refused r) event task tasks global = unmoved (RefusedAnswer r) tasks global
 
--- what any event decides, by the task entries and the global time alone
+-- any event
 unfoldable pub planned : Event → ℕ → List TaskEntry → GlobalTime → Planned
 planned event task tasks global = plannedBy (verdictAt event task tasks) event task tasks global
-
--- a plan carried out on a record
-abbrev pub poolBy : Planned → Pool → Pool
-poolBy q p = cond (q .sweeps) (swept (q .leaver) (q .tasks) (q .global) p) (withTimes (q .tasks) (q .global) p)
-
-abbrev pub carriedOut : Planned → Pool → Outcome
-carriedOut q p = record { answer = q .answer; pool = poolBy q p }

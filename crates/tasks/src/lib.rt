@@ -1,54 +1,52 @@
-// What the calls of tasks decide: join, leave, block, resume and tick, which differ only in their event.
+// What an event (join, leave, block, resume or tick of a task) decides: the advance test, and whether expirations may end.
 ghost use Prim.Native.Nat.{_<_};
 ghost use mathlib.Core.Path.{_≡_};
-ghost use Rattle.tasks.specs.Steps.{unswept, plannedAfter, planned};
+ghost use Rattle.tasks.specs.Steps.{unmoved, plannedAfter, planned};
 
 mod moves;
-mod sweep;
 
 use ledger::Answer;
 use ledger::Event;
 use ledger::Refusal;
 use ledger::TASK_COUNT;
 use ledger::Verdict;
-use moves::NOBODY;
 use moves::advanced_tasks;
 use moves::advanced_time;
+use moves::is_leave;
 use moves::is_tested;
 use moves::judge;
-use moves::leaver;
+use moves::may_end;
 use moves::moved;
 use record::GlobalTime;
+use record::LocalTime;
 use record::TaskEntry;
 use record::codes::state_of;
-use record::tasks::all_ticked;
-pub use sweep::ends;
-pub use sweep::ends_any;
-pub use sweep::may_end;
-pub use sweep::setter_at;
-pub use sweep::swept_within;
-pub use sweep::used_bound;
+use record::running::all_ticked;
 
-// What an event decides: its answer, the task entries and the time that it leaves, and whether the record is to be swept. The leaver is the task whose
-// local expirations go with it.
+// What an event decides: its answer, the task entries and the time that it leaves, and whether it may end expirations: by the local time of its task as it is
+// then, and all of the task's own where it leaves.
 pub struct Planned {
     pub answer: Answer,
     pub tasks: [TaskEntry; TASK_COUNT],
     pub global: GlobalTime,
-    pub leaver: u16,
-    pub sweeps: bool,
+    pub local: LocalTime,
+    pub leaves: bool,
+    pub advanced: bool,
+    pub ends: bool,
 }
 
-// What no sweep comes after.
-fn unswept(answer: Answer, tasks: [TaskEntry; TASK_COUNT], global: GlobalTime) -> Planned
-    ensures { λ r. ⌜ r ≡ unswept answer tasks global ⌝ }
+// What ends nothing.
+fn unmoved(answer: Answer, tasks: [TaskEntry; TASK_COUNT], global: GlobalTime) -> Planned
+    ensures { λ r. ⌜ r ≡ unmoved answer tasks global ⌝ }
 {
     Planned {
         answer: answer,
         tasks: tasks,
         global: global,
-        leaver: NOBODY,
-        sweeps: false,
+        local: LocalTime(0),
+        leaves: false,
+        advanced: false,
+        ends: false,
     }
 }
 
@@ -60,17 +58,22 @@ fn accepted(tasks: [TaskEntry; TASK_COUNT], global: GlobalTime, event: Event, ta
     let mut next = tasks;
     let at = task as usize;
     let e = next[at];
-    next[at] = moved(event, e);
+    let m = moved(event, e);
+    next[at] = m;
     if !is_tested(event) {
-        return unswept(Answer::Done, next, global);
+        return unmoved(Answer::Done, next, global);
     }
     let advanced = all_ticked(next);
+    let time = advanced_time(advanced, global);
+    let local = m.clock;
     Planned {
         answer: Answer::Advanced(advanced),
         tasks: advanced_tasks(advanced, next),
-        global: advanced_time(advanced, global),
-        leaver: leaver(event, task),
-        sweeps: true,
+        global: time,
+        local: local,
+        leaves: is_leave(event),
+        advanced: advanced,
+        ends: may_end(event, advanced),
     }
 }
 
@@ -80,11 +83,11 @@ pub fn plan(tasks: [TaskEntry; TASK_COUNT], global: GlobalTime, event: Event, ta
 {
     let at = task as usize;
     if TASK_COUNT <= at {
-        return unswept(Answer::Refused(Refusal::NoSuchTask), tasks, global);
+        return unmoved(Answer::Refused(Refusal::NoSuchTask), tasks, global);
     }
     let e = tasks[at];
     match judge(event, state_of(e.state)) {
         Verdict::Accepted => accepted(tasks, global, event, task),
-        Verdict::Refused(r) => unswept(Answer::Refused(r), tasks, global),
+        Verdict::Refused(r) => unmoved(Answer::Refused(r), tasks, global),
     }
 }

@@ -3,7 +3,8 @@ ghost use mathlib.Core.List.{map};
 ghost use mathlib.Core.Path.{_≡_};
 ghost use Rattle.ledger.specs.Tasks.{isTested};
 ghost use Rattle.ledger.specs.declared.Event.the-variants.{Tick};
-ghost use Rattle.tasks.specs.Steps.{verdictOf, clearedEntry, movedEntry, untickedEntry, advancedTasks, advancedTime, leaverOf};
+ghost use Rattle.steps.specs.Events.{verdictOf, clearedEntry, movedEntry, untickedEntry, advancedTasks, advancedTime};
+ghost use Rattle.tasks.specs.Steps.{isLeave, mayEnd};
 use ledger::Event;
 use ledger::Refusal;
 use ledger::State;
@@ -94,19 +95,29 @@ pub fn is_tested(event: Event) -> bool
     }
 }
 
-// No task.
-pub const NOBODY: u16 = TASK_COUNT as u16;
-
-// The task whose local expirations go.
-pub fn leaver(event: Event, task: u8) -> u16
-    ensures { λ r. ⌜ r ≡ leaverOf event task ⌝ }
+// Whether the task leaves, and all its local expirations end.
+pub fn is_leave(event: Event) -> bool
+    ensures { λ r. ⌜ r ≡ isLeave event ⌝ }
 {
     match event {
-        Event::Join => NOBODY,
-        Event::Leave => task as u16,
-        Event::Block => NOBODY,
-        Event::Resume => NOBODY,
-        Event::Tick => NOBODY,
+        Event::Join => false,
+        Event::Leave => true,
+        Event::Block => false,
+        Event::Resume => false,
+        Event::Tick => false,
+    }
+}
+
+// Whether a tested event may end expirations of a well-formed record: a block only where the global time advances.
+pub fn may_end(event: Event, advanced: bool) -> bool
+    ensures { λ r. ⌜ r ≡ mayEnd event advanced ⌝ }
+{
+    match event {
+        Event::Join => false,
+        Event::Leave => true,
+        Event::Block => advanced,
+        Event::Resume => false,
+        Event::Tick => true,
     }
 }
 

@@ -109,7 +109,7 @@ impl<E: Entries> Host<E> {
         match *call {
             Call::Make { .. } => {
                 let place = memory.place(memory.pool.given).expect("the new object has a block");
-                assert_eq!(before.pool.blocks[place].handle, 0, "{call:?} takes a free block");
+                assert_eq!(before.pool.handles[place], 0, "{call:?} takes a free block");
                 before.block_mut(place).fill(0);
             }
             Call::Write { handle, offset, bytes, .. } => {

@@ -1,5 +1,5 @@
 //! The linked library as tests and measures use it: its entries, a host that makes calls and watches what they
-//! touch, the record read as a ledger, and records to begin from.
+//! touch, the record read as a ledger, records to begin from, the cases that are measured, and the depth of the stack.
 //!
 //! `RAMSUMMER_LIB` names the folder of another archive than the project's own:
 //!
@@ -8,9 +8,12 @@
 //! RAMSUMMER_LIB=FOLDER cargo run --release --offline --bin cost
 //! ```
 
+pub mod cases;
+pub mod desk;
 pub mod entries;
 pub mod host;
 pub mod library;
 pub mod memory;
 pub mod reading;
 pub mod samples;
+pub mod stack;

@@ -37,7 +37,7 @@ impl Memory {
 
     /// The place of the block that holds this object.
     pub fn place(&self, handle: u32) -> Option<usize> {
-        self.pool.blocks.iter().position(|block| block.handle == handle)
+        self.pool.handles.iter().position(|&other| other == handle)
     }
 }
 

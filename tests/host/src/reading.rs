@@ -2,7 +2,7 @@
 //! 32 bits, an object's expirations by kind, setter and units left, in no order. Places are not compared.
 
 use plain::limits::TASKS;
-use plain::record::{Pool, ABSENT, FREE, LOCAL, RUNNING};
+use plain::record::{Pool, ABSENT, FREE, GLOBAL, LOCAL, RUNNING};
 use reference::call::Figures;
 use reference::expiration::Remaining;
 use reference::ledger::{Ledger, Standing};
@@ -43,24 +43,27 @@ pub fn of_record(memory: &Memory) -> Reading {
 }
 
 fn standing(memory: &Memory) -> Vec<Standing> {
-    let mut expirations: Vec<Vec<Remaining>> = vec![Vec::new(); memory.pool.blocks.len()];
-    for entry in memory.pool.expirations.iter().filter(|entry| entry.kind != FREE) {
-        let units = |now: u32| u64::from(entry.due.wrapping_sub(now));
-        expirations[usize::from(entry.block)].push(match entry.kind {
-            LOCAL => Remaining::Local {
-                setter: entry.setter as u8,
-                units: units(memory.pool.tasks[usize::from(entry.setter)].clock),
-            },
-            _ => Remaining::Global { units: units(memory.pool.global) },
-        });
+    let pool = &memory.pool;
+    let mut expirations: Vec<Vec<Remaining>> = vec![Vec::new(); pool.handles.len()];
+    for ((&clock, &block), due) in pool.clocks.iter().zip(&pool.named).zip(&pool.dues) {
+        let units = |now: u32| u64::from(due.wrapping_sub(now));
+        let remaining = match clock {
+            FREE => continue,
+            GLOBAL => Remaining::Global { units: units(pool.global) },
+            _ => {
+                let setter = clock - LOCAL;
+                Remaining::Local { setter, units: units(pool.tasks[usize::from(setter)].clock) }
+            }
+        };
+        expirations[usize::from(block)].push(remaining);
     }
     let mut standing: Vec<Standing> = Vec::new();
     for (place, mut expirations) in expirations.into_iter().enumerate() {
-        let block = memory.pool.blocks[place];
-        if block.handle != 0 {
+        let handle = pool.handles[place];
+        if handle != 0 {
             expirations.sort();
-            let bytes = memory.block(place)[..block.length as usize].to_vec();
-            standing.push(Standing { handle: block.handle, bytes, expirations });
+            let bytes = memory.block(place)[..usize::from(pool.lengths[place])].to_vec();
+            standing.push(Standing { handle, bytes, expirations });
         }
     }
     standing.sort_by_key(|object| object.handle);
@@ -80,11 +83,11 @@ pub fn of_ledger(ledger: &Ledger, ahead: &Ahead) -> Reading {
 
 /// The figures that a report of this record tells.
 pub fn figures(pool: &Pool) -> Figures {
-    let used = |places: std::ops::Range<usize>| pool.blocks[places].iter().filter(|block| block.handle != 0).count();
+    let used = |places: std::ops::Range<usize>| pool.handles[places].iter().filter(|&&handle| handle != 0).count();
     Figures {
         small: used(0..64) as u8,
         large: used(64..96) as u8,
-        expirations: pool.expirations.iter().filter(|entry| entry.kind != FREE).count() as u16,
+        expirations: pool.clocks.iter().filter(|&&clock| clock != FREE).count() as u16,
         given: pool.given,
     }
 }

@@ -1,6 +1,7 @@
 //! Records that are well-formed, to damage, to misuse and to measure on.
 
-use plain::limits::{EXPIRATIONS, LARGE_BLOCKS, LARGE_SIZE, SMALL_BLOCKS, SMALL_SIZE, TASKS};
+use plain::fit::spread;
+use plain::limits::{BLOCKS, EXPIRATIONS, LARGE_BLOCKS, LARGE_SIZE, SMALL_BLOCKS, SMALL_SIZE, TASKS};
 use reference::call::{Call, Kind};
 use reference::frame::decode;
 use reference::generate::{script_of, Profile};
@@ -53,4 +54,52 @@ pub fn after(profile: Profile, seed: u64, count: usize) -> Memory {
         }
     }
     host.memory
+}
+
+/// How the objects of a record are numbered. Whether two handles are one is the part of the fit test that depends on it.
+/// A host can reach each of these from a fresh pool, since it makes as many objects in between as it likes, and has some
+/// of them stay: tests/numbering.rs does.
+#[derive(Clone, Copy, Debug, PartialEq, Eq)]
+pub enum Numbering {
+    /// One after the other.
+    InTurn,
+    /// Alike modulo this number, so that their last bytes are the same.
+    Alike(u32),
+    /// All on one place of the table that the plain pool puts them into where their last bytes are not enough.
+    OnOnePlace,
+}
+
+/// The usual one first.
+pub const NUMBERINGS: [Numbering; 4] =
+    [Numbering::InTurn, Numbering::Alike(256), Numbering::Alike(65_536), Numbering::OnOnePlace];
+
+impl Numbering {
+    /// The handles, lowest first.
+    pub fn handles(self) -> Vec<u32> {
+        let place = spread(FIRST);
+        let handles: Box<dyn Iterator<Item = u32>> = match self {
+            Numbering::InTurn => Box::new(FIRST..),
+            Numbering::Alike(modulus) => Box::new((FIRST..).step_by(modulus as usize)),
+            Numbering::OnOnePlace => Box::new((FIRST..).filter(move |&handle| spread(handle) == place)),
+        };
+        handles.take(BLOCKS).collect()
+    }
+}
+
+const FIRST: u32 = 7;
+
+/// The blocks in an order that is none of their numbers: a sorted table would be quick to sort.
+pub fn mixed_blocks() -> impl Iterator<Item = usize> {
+    (0..BLOCKS).map(|count| count * 37 % BLOCKS)
+}
+
+/// Gives the objects of a record these handles, in the order of [`mixed_blocks`].
+pub fn renumber(memory: &mut Memory, numbering: Numbering) {
+    let pool = &mut memory.pool;
+    for (block, handle) in mixed_blocks().zip(numbering.handles()) {
+        if pool.handles[block] != 0 {
+            pool.handles[block] = handle;
+            pool.given = pool.given.max(handle);
+        }
+    }
 }

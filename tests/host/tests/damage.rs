@@ -8,8 +8,8 @@ use host_tests::memory::{bytes_mut, Memory};
 use host_tests::reading::of_record;
 use host_tests::samples::{after, full};
 use plain::fit::is_well_formed;
-use plain::limits::TASKS;
-use plain::record::{BlockEntry, ExpirationEntry, Pool, ABSENT, FREE, GLOBAL, LOCAL, RECORD, RUNNING};
+use plain::limits::{EXPIRATIONS, TASKS};
+use plain::record::{Pool, ABSENT, FREE, GLOBAL, LOCAL, RECORD, RUNNING};
 use reference::call::{Call, Kind};
 use reference::generate::Profile;
 use reference::random::Random;
@@ -20,17 +20,18 @@ const NOT_WELL_FORMED: u8 = 15;
 
 /// "A record is fit if all of this holds". Nothing here is arranged for speed.
 fn is_fit(pool: &Pool) -> bool {
-    let dates = || pool.expirations.iter().filter(|date| date.kind != FREE);
-    let used = |place: usize| pool.blocks.get(place).is_some_and(|block| block.handle != 0);
+    let dates = || (0..EXPIRATIONS).filter(|&date| pool.clocks[date] != FREE);
+    let block_of = |date: usize| usize::from(pool.named[date]);
+    let used = |place: usize| pool.handles.get(place).is_some_and(|&handle| handle != 0);
     let running = || pool.tasks.iter().filter(|task| task.state == RUNNING);
-    let named = dates().all(|date| used(usize::from(date.block)));
+    let named = dates().all(|date| used(block_of(date)));
     let blocks = (0..96).filter(|&place| used(place)).all(|place| {
-        let BlockEntry { handle, length } = pool.blocks[place];
+        let (handle, length) = (pool.handles[place], pool.lengths[place]);
         let range = if place < 64 { 1..=32 } else { 33..=256 };
-        dates().any(|date| usize::from(date.block) == place)
+        dates().any(|date| block_of(date) == place)
             && range.contains(&length)
             && handle <= pool.given
-            && pool.blocks.iter().filter(|block| block.handle == handle).count() == 1
+            && pool.handles.iter().filter(|&&other| other == handle).count() == 1
     });
     let known = pool.tasks.iter().all(|task| task.state <= 2 && task.ticked <= 1);
     let marks = pool.tasks.iter().all(|task| task.ticked == 0 || task.state == RUNNING);
@@ -40,13 +41,14 @@ fn is_fit(pool: &Pool) -> bool {
 }
 
 /// "own dates are 1 to 31 ticks ahead … and their task is not absent; common dates are 1 to 32 ahead".
-fn is_ahead(pool: &Pool, date: &ExpirationEntry) -> bool {
-    match date.kind {
-        LOCAL => pool
-            .tasks
-            .get(usize::from(date.setter))
-            .is_some_and(|setter| setter.state != ABSENT && (1..=31).contains(&date.due.wrapping_sub(setter.clock))),
-        GLOBAL => (1..=32).contains(&date.due.wrapping_sub(pool.global)),
+fn is_ahead(pool: &Pool, date: usize) -> bool {
+    let units = |now: u32| pool.dues[date].wrapping_sub(now);
+    match pool.clocks[date] {
+        clock @ LOCAL..GLOBAL => {
+            let setter = pool.tasks[usize::from(clock - LOCAL)];
+            setter.state != ABSENT && (1..=31).contains(&units(setter.clock))
+        }
+        GLOBAL => (1..=32).contains(&units(pool.global)),
         _ => false,
     }
 }
@@ -67,7 +69,7 @@ impl Pair {
     fn of(whole: Memory) -> Pair {
         let running = whole.pool.tasks.iter().position(|task| task.state == RUNNING);
         let task = running.unwrap_or(0) as u8;
-        let handle = whole.pool.blocks.iter().map(|block| block.handle).max().unwrap_or(0);
+        let handle = whole.pool.handles.into_iter().max().unwrap_or(0);
         Pair {
             library: Host::new(whole.clone()),
             plain: Host::new(whole.clone()),
@@ -170,8 +172,8 @@ fn late() -> Memory {
     for task in memory.pool.tasks.iter_mut().filter(|task| task.state != ABSENT) {
         task.clock = task.clock.wrapping_add(ahead);
     }
-    for date in memory.pool.expirations.iter_mut().filter(|date| date.kind != FREE) {
-        date.due = date.due.wrapping_add(ahead);
+    for due in &mut memory.pool.dues {
+        *due = due.wrapping_add(ahead);
     }
     assert!(is_fit(&memory.pool));
     memory
@@ -210,20 +212,27 @@ fn likely_damages() {
 fn damage(pool: &mut Pool, random: &mut Random) {
     let (from, to) = (random.below(256), random.below(256));
     let small = random.below(4) as u32;
-    match random.below(13) {
+    match random.below(16) {
         0 => pool.tasks[to % TASKS] = pool.tasks[from % TASKS],
         1 => pool.tasks[to % TASKS].state = small as u16,
         2 => pool.tasks[to % TASKS].ticked = small as u16,
         3 => pool.tasks[to % TASKS].clock = pool.tasks[to % TASKS].clock.wrapping_add(small),
         4 => pool.global = pool.global.wrapping_add(small),
         5 => pool.given = pool.given.wrapping_sub(small),
-        6 => pool.blocks[to % 96] = pool.blocks[from % 96],
-        7 => pool.blocks[to % 96].handle = small,
-        8 => pool.blocks[to % 96].length = random.pick(&[0, 1, 32, 33, 256, 257]),
-        9 => pool.expirations[to] = pool.expirations[from],
-        10 => pool.expirations[to].kind = small as u8,
-        11 => pool.expirations[to].block = random.pick(&[0, 63, 64, 95, 96, 255]),
-        _ => pool.expirations[to].due = pool.expirations[to].due.wrapping_add(small),
+        6 => pool.handles[to % 96] = pool.handles[from % 96],
+        7 => pool.handles[to % 96] = small,
+        8 => pool.lengths[to % 96] = pool.lengths[from % 96],
+        9 => pool.lengths[to % 96] = random.pick(&[0, 1, 32, 33, 256, 257, 289]),
+        10 => {
+            pool.clocks[to] = pool.clocks[from];
+            pool.named[to] = pool.named[from];
+            pool.dues[to] = pool.dues[from];
+        }
+        11 => pool.clocks[to] = random.pick(&[FREE, 1, 15, LOCAL, LOCAL + 5, 31, GLOBAL, 33, 255]),
+        12 => pool.named[to] = pool.named[from],
+        13 => pool.named[to] = random.pick(&[0, 63, 64, 95, 96, 255]),
+        14 => pool.dues[to] = pool.dues[from],
+        _ => pool.dues[to] = pool.dues[to].wrapping_add(small),
     }
 }
 

@@ -31,11 +31,6 @@ pub enum Reply<'a> {
     Report(Figures),
 }
 
-const DIGITS: &[u8; 16] = b"0123456789ABCDEF";
-
-/// The value of each character that is a digit; above 15 where it is none.
-const VALUES: [u8; 256] = values();
-
 /// The request in a line without its LF, or 16, 17, 18, 19. The room is one byte more than the longest frame, so that
 /// a longer one shows as too long.
 pub fn decode<'a>(line: &[u8], room: &'a mut [u8; LONGEST_FRAME + 1]) -> Result<Request<'a>, u8> {
@@ -70,22 +65,46 @@ fn known(kind: u8) -> Result<u8, u8> {
     Ok(kind)
 }
 
-/// The bytes that the digits spell, as many as the room takes, or 16.
-fn unhex<'a>(line: &[u8], room: &'a mut [u8]) -> Result<&'a [u8], u8> {
+/// The bytes that the digits spell, as many as the room takes, or 16. First come the values of all digits, then two of
+/// them for a byte, so that many are read at once.
+fn unhex<'a>(line: &[u8], room: &'a mut [u8; LONGEST_FRAME + 1]) -> Result<&'a [u8], u8> {
     let (inside, beyond) = line.split_at(line.len().min(2 * room.len()));
+    let mut values = [0; 2 * (LONGEST_FRAME + 1)];
     let mut seen = 0;
-    for (byte, pair) in room.iter_mut().zip(inside.chunks_exact(2)) {
-        let (high, low) = (VALUES[usize::from(pair[0])], VALUES[usize::from(pair[1])]);
-        seen |= high | low;
-        *byte = high << 4 | low;
+    for (place, &character) in values.iter_mut().zip(inside) {
+        *place = value(character);
+        seen |= *place;
     }
     for &character in beyond {
-        seen |= VALUES[usize::from(character)];
+        seen |= value(character);
     }
     if seen > 15 || line.len() & 1 == 1 {
         return Err(NOT_HEXADECIMAL);
     }
-    Ok(&room[..inside.len() / 2])
+    let bytes = &mut room[..inside.len() / 2];
+    for (byte, &pair) in bytes.iter_mut().zip(values.as_chunks::<2>().0) {
+        // The high digit is the first.
+        let pair = u16::from_le_bytes(pair);
+        *byte = (pair << 4 | pair >> 8) as u8;
+    }
+    Ok(bytes)
+}
+
+/// The value of a digit; above 15 of another character.
+fn value(character: u8) -> u8 {
+    let (digit, letter) = (character.wrapping_sub(b'0'), character.wrapping_sub(b'A'));
+    if digit < 10 {
+        digit
+    } else if letter < 6 {
+        letter + 10
+    } else {
+        0xFF
+    }
+}
+
+/// The digit of a value below 16.
+fn digit(value: u8) -> u8 {
+    value + if value < 10 { b'0' } else { b'A' - 10 }
 }
 
 /// Writes the line of a reply or of a refusal, LF included, and tells its length.
@@ -126,20 +145,9 @@ impl Line<'_> {
     /// Two digits for each byte.
     fn hex(&mut self, bytes: &[u8]) {
         let room = &mut self.out[self.end..][..2 * bytes.len()];
-        for (pair, byte) in room.chunks_exact_mut(2).zip(bytes) {
-            pair[0] = DIGITS[usize::from(byte >> 4)];
-            pair[1] = DIGITS[usize::from(byte & 15)];
+        for (pair, byte) in room.as_chunks_mut::<2>().0.iter_mut().zip(bytes) {
+            *pair = [digit(byte >> 4), digit(byte & 15)];
         }
         self.end += room.len();
     }
-}
-
-const fn values() -> [u8; 256] {
-    let mut values = [0xFF; 256];
-    let mut value = 0;
-    while value < DIGITS.len() {
-        values[DIGITS[value] as usize] = value as u8;
-        value += 1;
-    }
-    values
 }

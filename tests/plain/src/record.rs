@@ -1,5 +1,5 @@
-//! The record: sixteen task entries, two counters, block entries and expiration entries, as the library has it.
-//! It is 2952 bytes of numbers without a gap.
+//! The record, as the library has it: sixteen task entries, two counters, and the tables of blocks and of expirations, an
+//! array for each field. It is 2248 bytes of numbers without a gap.
 
 use crate::limits::{BLOCKS, EXPIRATIONS, TASKS};
 
@@ -8,10 +8,10 @@ pub const ABSENT: u16 = 0;
 pub const RUNNING: u16 = 1;
 pub const WAITING: u16 = 2;
 
-/// The kind of an expiration entry.
+/// The clock that an expiration goes by: none, LOCAL and the number of the task whose clock it is, or GLOBAL.
 pub const FREE: u8 = 0;
-pub const LOCAL: u8 = 1;
-pub const GLOBAL: u8 = 2;
+pub const LOCAL: u8 = 16;
+pub const GLOBAL: u8 = 32;
 
 #[derive(Clone, Copy, Debug, PartialEq, Eq)]
 #[repr(C)]
@@ -21,48 +21,40 @@ pub struct TaskEntry {
     pub clock: u32,
 }
 
-/// A block of a store and the object in it. Handle 0 is a free block.
-#[derive(Clone, Copy, Debug, PartialEq, Eq)]
-#[repr(C)]
-pub struct BlockEntry {
-    pub handle: u32,
-    pub length: u32,
-}
-
-/// Blocks 0 to 63 are the small store's, 64 to 95 the large one's.
-#[derive(Clone, Copy, Debug, PartialEq, Eq)]
-#[repr(C)]
-pub struct ExpirationEntry {
-    pub kind: u8,
-    pub block: u8,
-    pub setter: u16,
-    pub due: u32,
-}
-
+/// Block i has the object `handles[i]`, 0 where it is free, of `lengths[i]` bytes. Blocks 0 to 63 are the small store's,
+/// 64 to 95 the large one's. Expiration i belongs to the object in the block `named[i]`, and is due when the clock
+/// `clocks[i]` reads `dues[i]`. The other fields of a free block or expiration have no meaning.
 #[derive(Clone, Debug, PartialEq, Eq)]
 #[repr(C)]
 pub struct Pool {
     pub tasks: [TaskEntry; TASKS],
     pub global: u32,
     pub given: u32,
-    pub blocks: [BlockEntry; BLOCKS],
-    pub expirations: [ExpirationEntry; EXPIRATIONS],
+    pub handles: [u32; BLOCKS],
+    pub lengths: [u16; BLOCKS],
+    pub clocks: [u8; EXPIRATIONS],
+    pub named: [u8; EXPIRATIONS],
+    pub dues: [u32; EXPIRATIONS],
 }
 
+/// Expirations are gone through by groups: one of free entries is passed over, and the others are asked at once.
+pub const GROUP: usize = 32;
+
 /// The bytes of a record.
-pub const RECORD: usize = 2952;
+pub const RECORD: usize = 2248;
 
 const _: () = assert!(size_of::<Pool>() == RECORD && align_of::<Pool>() == 4);
 
 pub const ABSENT_TASK: TaskEntry = TaskEntry { state: ABSENT, ticked: 0, clock: 0 };
-pub const FREE_BLOCK: BlockEntry = BlockEntry { handle: 0, length: 0 };
-pub const FREE_EXPIRATION: ExpirationEntry = ExpirationEntry { kind: FREE, block: 0, setter: 0, due: 0 };
 
 /// A fresh pool, all zeros.
 pub const FRESH: Pool = Pool {
     tasks: [ABSENT_TASK; TASKS],
     global: 0,
     given: 0,
-    blocks: [FREE_BLOCK; BLOCKS],
-    expirations: [FREE_EXPIRATION; EXPIRATIONS],
+    handles: [0; BLOCKS],
+    lengths: [0; BLOCKS],
+    clocks: [FREE; EXPIRATIONS],
+    named: [0; EXPIRATIONS],
+    dues: [0; EXPIRATIONS],
 };

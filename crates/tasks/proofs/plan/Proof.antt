@@ -8,7 +8,7 @@ use Rattle.tasks.proofs.plan.Tie as tie
 
 returns : tie.Need-returns
 unfolding planned taskCount
-returns c = rw (le-leb _ _ (c .before .if1 .taken)) (c .unswept .ensures)
+returns c = rw (le-leb _ _ (c .before .if1 .taken)) (c .unmoved .ensures)
 
 returns-2 : tie.Need-returns-2
 unfolding planned taskCount
@@ -22,7 +22,7 @@ unfolding planned taskCount
 returns-3 c =
     let j = c .before .before .before .before in
     rw (lt-leb _ _ (j .before .before .before .if1 .left), ← j .before .state-of .ensures, ← j .judge .ensures, c .before .before .r .given .1)
-    (c .unswept2 .ensures)
+    (c .unmoved2 .ensures)
 
 pub plan-spec : {M : Type 1} → statement M
 plan-spec =

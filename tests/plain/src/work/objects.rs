@@ -3,9 +3,10 @@
 use core::ops::Range;
 
 use crate::limits::{
-    GLOBAL_EXTRA, LARGE_SIZE, LARGE_STORE, LOCAL_EXTRA, LONGEST_EXTENSION, SMALL_BLOCKS, SMALL_SIZE, SMALL_STORE,
+    BLOCKS, GLOBAL_EXTRA, LARGE_SIZE, LARGE_STORE, LOCAL_EXTRA, LONGEST_EXTENSION, SMALL_BLOCKS, SMALL_SIZE,
+    SMALL_STORE,
 };
-use crate::record::{BlockEntry, ExpirationEntry, Pool, TaskEntry, ABSENT, FREE, GLOBAL, LOCAL, WAITING};
+use crate::record::{Pool, ABSENT, FREE, GLOBAL, GROUP, LOCAL, WAITING};
 use crate::refusals::{
     EXTENSION_TOO_LONG, HANDLES_SPENT, HANDLE_NOT_GIVEN, LENGTH_OUT_OF_RANGE, NO_FREE_BLOCK, NO_FREE_EXPIRATION,
     NO_SUCH_TASK, OBJECT_GONE, OUTSIDE_OBJECT, TASK_ABSENT, TASK_WAITING, WRONG_STORE_LENGTH,
@@ -30,43 +31,43 @@ pub fn make(
     (task, kind, extension, length): (u8, u8, u8, u16),
 ) -> Result<u32, u8> {
     check_stores(small, large)?;
-    let setter = running(pool, task)?;
+    let clock = running(pool, task)?;
     check_extension(extension)?;
-    let length = usize::from(length);
-    let (first, blocks) = match length {
-        1..=SMALL_SIZE => (0, &mut pool.blocks[..SMALL_BLOCKS]),
-        SHORTEST_LARGE..=LARGE_SIZE => (SMALL_BLOCKS, &mut pool.blocks[SMALL_BLOCKS..]),
+    let (first, end) = match usize::from(length) {
+        1..=SMALL_SIZE => (0, SMALL_BLOCKS),
+        SHORTEST_LARGE..=LARGE_SIZE => (SMALL_BLOCKS, BLOCKS),
         _ => return Err(LENGTH_OUT_OF_RANGE),
     };
     if pool.given == u32::MAX {
         return Err(HANDLES_SPENT);
     }
-    let place = blocks.iter().position(|block| block.handle == 0).ok_or(NO_FREE_BLOCK)?;
-    let slot = free_slot(&mut pool.expirations)?;
-    *slot = expiration(setter, pool.global, (task, kind, extension), (first + place) as u8);
+    let free = first + place_of(0, &pool.handles[first..end]).ok_or(NO_FREE_BLOCK)?;
+    set(pool, clock, (task, kind, extension), free)?;
     pool.given += 1;
-    blocks[place] = BlockEntry { handle: pool.given, length: length as u32 };
-    let (store, size) = if first == 0 { (small, SMALL_SIZE) } else { (large, LARGE_SIZE) };
-    store[place * size..][..size].fill(0);
+    pool.handles[free] = pool.given;
+    pool.lengths[free] = length;
+    if free < SMALL_BLOCKS {
+        small[range_of(free, SMALL_SIZE)].fill(0);
+    } else {
+        large[range_of(free, LARGE_SIZE)].fill(0);
+    }
     Ok(pool.given)
 }
 
 pub fn refresh(pool: &mut Pool, (task, kind, extension): (u8, u8, u8), handle: u32) -> Result<(), u8> {
-    let setter = running(pool, task)?;
+    let clock = running(pool, task)?;
     check_extension(extension)?;
-    let place = find(pool, handle)?;
-    let slot = free_slot(&mut pool.expirations)?;
-    *slot = expiration(setter, pool.global, (task, kind, extension), place as u8);
-    Ok(())
+    let block = find(pool, handle)?;
+    set(pool, clock, (task, kind, extension), block)
 }
 
 /// The object's bytes, where they lie.
 pub fn read<'a>(pool: &Pool, small: &'a [u8], large: &'a [u8], task: u8, handle: u32) -> Result<&'a [u8], u8> {
     check_stores(small, large)?;
     running(pool, task)?;
-    let place = find(pool, handle)?;
-    let range = range_of(place, pool.blocks[place].length as usize);
-    Ok(if place < SMALL_BLOCKS { &small[range] } else { &large[range] })
+    let block = find(pool, handle)?;
+    let range = range_of(block, usize::from(pool.lengths[block]));
+    Ok(if block < SMALL_BLOCKS { &small[range] } else { &large[range] })
 }
 
 pub fn write(
@@ -79,21 +80,21 @@ pub fn write(
 ) -> Result<(), u8> {
     check_stores(small, large)?;
     running(pool, task)?;
-    let place = find(pool, handle)?;
-    let range = range_of(place, pool.blocks[place].length as usize);
-    let object = if place < SMALL_BLOCKS { &mut small[range] } else { &mut large[range] };
+    let block = find(pool, handle)?;
+    let range = range_of(block, usize::from(pool.lengths[block]));
+    let object = if block < SMALL_BLOCKS { &mut small[range] } else { &mut large[range] };
     let part = object.get_mut(usize::from(offset)..).and_then(|rest| rest.get_mut(..bytes.len()));
     part.ok_or(OUTSIDE_OBJECT)?.copy_from_slice(bytes);
     Ok(())
 }
 
 pub fn report(pool: &Pool) -> Figures {
-    let used = |blocks: &[BlockEntry]| blocks.iter().map(|block| u8::from(block.handle != 0)).sum();
-    let (small, large) = pool.blocks.split_at(SMALL_BLOCKS);
+    let used = |handles: &[u32]| handles.iter().map(|&handle| u8::from(handle != 0)).sum();
+    let (small, large) = pool.handles.split_at(SMALL_BLOCKS);
     Figures {
         small: used(small),
         large: used(large),
-        expirations: pool.expirations.iter().map(|entry| u16::from(entry.kind != FREE)).sum(),
+        expirations: pool.clocks.iter().map(|&clock| u16::from(clock != FREE)).sum(),
         given: pool.given,
     }
 }
@@ -108,13 +109,13 @@ fn check_stores(small: &[u8], large: &[u8]) -> Result<(), u8> {
     Ok(())
 }
 
-/// 1, 3, 4, else the task's entry.
-fn running(pool: &Pool, task: u8) -> Result<TaskEntry, u8> {
-    let entry = *pool.tasks.get(usize::from(task)).ok_or(NO_SUCH_TASK)?;
+/// 1, 3, 4, else what the task's clock reads.
+fn running(pool: &Pool, task: u8) -> Result<u32, u8> {
+    let entry = pool.tasks.get(usize::from(task)).ok_or(NO_SUCH_TASK)?;
     match entry.state {
         ABSENT => Err(TASK_ABSENT),
         WAITING => Err(TASK_WAITING),
-        _ => Ok(entry),
+        _ => Ok(entry.clock),
     }
 }
 
@@ -126,32 +127,39 @@ fn check_extension(extension: u8) -> Result<(), u8> {
     Ok(())
 }
 
-/// 11, 12, else the place of the object's block.
+/// 11, 12, else the object's block.
 fn find(pool: &Pool, handle: u32) -> Result<usize, u8> {
     if handle == 0 || handle > pool.given {
         return Err(HANDLE_NOT_GIVEN);
     }
-    pool.blocks.iter().position(|block| block.handle == handle).ok_or(OBJECT_GONE)
+    place_of(handle, &pool.handles).ok_or(OBJECT_GONE)
 }
 
-/// 10, else a free entry.
-fn free_slot(expirations: &mut [ExpirationEntry]) -> Result<&mut ExpirationEntry, u8> {
-    expirations.iter_mut().find(|entry| entry.kind == FREE).ok_or(NO_FREE_EXPIRATION)
-}
+// Changes and places.
 
-// Places.
-
-/// The expiration that a task sets now on the object of a block.
-fn expiration(setter: TaskEntry, global: u32, (task, kind, extension): (u8, u8, u8), block: u8) -> ExpirationEntry {
-    let (kind, due) = match kind {
-        0 => (LOCAL, setter.clock.wrapping_add(u32::from(extension) + LOCAL_EXTRA)),
-        _ => (GLOBAL, global.wrapping_add(u32::from(extension) + GLOBAL_EXTRA)),
+/// Sets an expiration on the object of a block, in the first free entry, or 10.
+fn set(pool: &mut Pool, clock: u32, (task, kind, extension): (u8, u8, u8), block: usize) -> Result<(), u8> {
+    let entry = place_of(FREE, &pool.clocks).ok_or(NO_FREE_EXPIRATION)?;
+    (pool.clocks[entry], pool.dues[entry]) = match kind {
+        0 => (LOCAL + task, clock.wrapping_add(u32::from(extension) + LOCAL_EXTRA)),
+        _ => (GLOBAL, pool.global.wrapping_add(u32::from(extension) + GLOBAL_EXTRA)),
     };
-    ExpirationEntry { kind, block, setter: u16::from(task), due }
+    pool.named[entry] = block as u8;
+    Ok(())
+}
+
+/// Where an entry stands first. A group of them is asked at once, and then the group that has it one by one. Each table
+/// is some groups long.
+fn place_of<T: Copy + PartialEq>(entry: T, table: &[T]) -> Option<usize> {
+    let groups = table.as_chunks::<GROUP>().0;
+    let has = |group: &[T; GROUP]| group.iter().fold(false, |has, &other| has | (other == entry));
+    let group = groups.iter().position(has)?;
+    let place = groups[group].iter().position(|&other| other == entry)?;
+    Some(group * GROUP + place)
 }
 
 /// Where an object of this length lies in its store.
-fn range_of(place: usize, length: usize) -> Range<usize> {
-    let start = if place < SMALL_BLOCKS { place * SMALL_SIZE } else { (place - SMALL_BLOCKS) * LARGE_SIZE };
+fn range_of(block: usize, length: usize) -> Range<usize> {
+    let start = if block < SMALL_BLOCKS { block * SMALL_SIZE } else { (block - SMALL_BLOCKS) * LARGE_SIZE };
     start..start + length
 }

@@ -1,10 +1,7 @@
 //! The calls on tasks, the advance test, and the expirations that they end.
 
 use crate::limits::TASKS;
-use crate::record::{
-    ExpirationEntry, Pool, TaskEntry, ABSENT, ABSENT_TASK, FREE, FREE_BLOCK, FREE_EXPIRATION, GLOBAL, LOCAL, RUNNING,
-    WAITING,
-};
+use crate::record::{Pool, TaskEntry, ABSENT, ABSENT_TASK, FREE, GLOBAL, GROUP, LOCAL, RUNNING, WAITING};
 use crate::refusals::{NO_SUCH_TASK, TASK_ABSENT, TASK_PRESENT, TASK_RUNNING, TASK_WAITING};
 
 pub fn join(pool: &mut Pool, task: u8) -> Result<(), u8> {
@@ -23,26 +20,14 @@ pub fn leave(pool: &mut Pool, task: u8) -> Result<bool, u8> {
         return Err(TASK_ABSENT);
     }
     *entry = ABSENT_TASK;
-    let advanced = advance(pool);
-    let global = pool.global;
-    let leaver = u16::from(task);
-    end(pool, |entry| match entry.kind {
-        LOCAL => entry.setter == leaver,
-        GLOBAL => entry.due == global,
-        _ => false,
-    });
-    Ok(advanced)
+    let ended = end(pool, LOCAL + task, |_| true);
+    Ok(settle(pool, ended))
 }
 
 pub fn block(pool: &mut Pool, task: u8) -> Result<bool, u8> {
     let entry = running(&mut pool.tasks, task)?;
     (entry.state, entry.ticked) = (WAITING, 0);
-    let advanced = advance(pool);
-    let global = pool.global;
-    if advanced {
-        end(pool, |entry| entry.kind == GLOBAL && entry.due == global);
-    }
-    Ok(advanced)
+    Ok(settle(pool, false))
 }
 
 pub fn resume(pool: &mut Pool, task: u8) -> Result<(), u8> {
@@ -61,17 +46,9 @@ pub fn tick(pool: &mut Pool, task: u8) -> Result<bool, u8> {
     let entry = running(&mut pool.tasks, task)?;
     entry.clock = entry.clock.wrapping_add(1);
     entry.ticked = 1;
-    let clock = entry.clock;
-    let advanced = advance(pool);
-    let global = pool.global;
-    // Where global time stands still, no global expiration is due by it.
-    let setter = u16::from(task);
-    end(pool, |entry| match entry.kind {
-        LOCAL => entry.due == clock && entry.setter == setter,
-        GLOBAL => entry.due == global,
-        _ => false,
-    });
-    Ok(advanced)
+    let now = entry.clock;
+    let ended = end(pool, LOCAL + task, |due| due == now);
+    Ok(settle(pool, ended))
 }
 
 /// 1, else the task's entry.
@@ -89,39 +66,63 @@ fn running(tasks: &mut [TaskEntry; TASKS], task: u8) -> Result<&mut TaskEntry, u
     }
 }
 
-/// The advance test: at least one task runs, and every running one has ticked.
-fn advance(pool: &mut Pool) -> bool {
-    let (mut running, mut pending) = (false, false);
-    for task in &pool.tasks {
-        let runs = task.state == RUNNING;
-        running |= runs;
-        pending |= runs & (task.ticked == 0);
-    }
-    let advances = running & !pending;
+/// What follows a leave, block or tick, which ended expirations or not: the advance test, and the blocks that became free.
+/// Tells whether global time advanced.
+fn settle(pool: &mut Pool, mut ended: bool) -> bool {
+    let advances = all_ticked(&pool.tasks);
     if advances {
-        pool.global = pool.global.wrapping_add(1);
+        let now = pool.global.wrapping_add(1);
+        pool.global = now;
         pool.tasks.iter_mut().for_each(|task| task.ticked = 0);
+        ended |= end(pool, GLOBAL, |due| due == now);
+    }
+    if ended {
+        free_blocks(pool);
     }
     advances
 }
 
-/// Ends these expirations, and frees the blocks that have none left. Most calls end none.
-fn end(pool: &mut Pool, ends: impl Fn(&ExpirationEntry) -> bool) {
-    let Some(first) = pool.expirations.iter().position(&ends) else { return };
-    let (before, rest) = pool.expirations.split_at_mut(first);
-    let mut held = [false; 256];
-    for entry in before {
-        held[usize::from(entry.block)] |= entry.kind != FREE;
+/// At least one task runs, and every running one has ticked.
+fn all_ticked(tasks: &[TaskEntry; TASKS]) -> bool {
+    let (mut running, mut pending) = (false, false);
+    for task in tasks {
+        let runs = task.state == RUNNING;
+        running |= runs;
+        pending |= runs & (task.ticked == 0);
     }
-    for entry in rest {
-        if ends(entry) {
-            *entry = FREE_EXPIRATION;
+    running & !pending
+}
+
+/// Ends the expirations of this clock that are over, and tells whether there were any. Each group is asked before it is
+/// changed: most calls end none.
+fn end(pool: &mut Pool, ending: u8, is_over: impl Fn(u32) -> bool) -> bool {
+    let ends = |clock: u8, due: u32| (clock == ending) & is_over(due);
+    let mut ended = false;
+    let groups = pool.clocks.as_chunks_mut::<GROUP>().0.iter_mut();
+    for (clocks, dues) in groups.zip(pool.dues.as_chunks::<GROUP>().0) {
+        let some = clocks.iter().zip(dues).fold(false, |some, (&clock, &due)| some | ends(clock, due));
+        if some {
+            for (clock, &due) in clocks.iter_mut().zip(dues) {
+                *clock = if ends(*clock, due) { FREE } else { *clock };
+            }
+            ended = true;
         }
-        held[usize::from(entry.block)] |= entry.kind != FREE;
     }
-    for (block, held) in pool.blocks.iter_mut().zip(held) {
-        if !held {
-            *block = FREE_BLOCK;
+    ended
+}
+
+/// Frees the blocks that no expiration names any more.
+fn free_blocks(pool: &mut Pool) {
+    let mut named = [FREE; 256];
+    for (clocks, blocks) in pool.clocks.as_chunks::<GROUP>().0.iter().zip(pool.named.as_chunks::<GROUP>().0) {
+        if *clocks == [FREE; GROUP] {
+            continue;
         }
+        for i in 0..GROUP {
+            named[usize::from(blocks[i])] |= clocks[i];
+        }
+    }
+    for (handle, named) in pool.handles.iter_mut().zip(named) {
+        *handle = if named == FREE { 0 } else { *handle };
     }
 }

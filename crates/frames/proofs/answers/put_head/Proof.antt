@@ -5,8 +5,9 @@ use mathlib.Core.Path.{ap}
 use borrow.Author.Needs.{needs}
 use lib.ListN.{length}
 use Rattle.frames.specs.Answers.{answerHead}
-use Rattle.frames.specs.Fields.{inBytes}
-use Rattle.frames.proofs.AnswerLines.{hex-placed, head-one, advanced-head, handle-head}
+use Rattle.text.specs.Fields.{inBytes}
+use Rattle.frames.proofs.AnswerLines.{head-one, advanced-head, handle-head}
+use Rattle.text.proofs.Placing.{hex-placed}
 use Rattle.frames.proofs.answers.put_head.Statement.{statement}
 use Rattle.frames.proofs.answers.put_head.Tie as tie
 

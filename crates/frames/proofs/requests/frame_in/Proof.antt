@@ -1,7 +1,7 @@
 -- By the number of the operation.
 use mathlib.Core.Path.{_∙_}
 use borrow.Author.Needs.{needs}
-use Rattle.frames.proofs.Digits.{spells-one}
+use Rattle.text.proofs.Digits.{spells-one}
 use Rattle.frames.proofs.Frames.{by-number, unknown-operation, no-operation}
 use Rattle.frames.proofs.requests.frame_in.Statement.{statement}
 use Rattle.frames.proofs.requests.frame_in.Tie as tie

@@ -3,7 +3,7 @@ use native.Mathlib.Omega.{arith}
 use mathlib.Core.Path.{refl}
 use borrow.Author.Needs.{needs}
 use Rattle.frames.specs.Frames.{write}
-use Rattle.frames.proofs.Digits.{within, under, over}
+use Rattle.text.proofs.Digits.{within, under, over}
 use Rattle.frames.proofs.Frames.{wrong-size, right-size}
 use Rattle.frames.proofs.requests.write.Statement.{statement}
 use Rattle.frames.proofs.requests.write.Tie as tie

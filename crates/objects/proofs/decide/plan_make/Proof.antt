@@ -1,4 +1,4 @@
--- By what the searches and the tests ensure.
+-- By what the search and the tests ensure.
 use borrow.Author.Needs.{needs}
 use Rattle.objects.specs.Outcomes.{makePlan}
 use Rattle.objects.proofs.decide.plan_make.Statement.{statement}
@@ -11,5 +11,4 @@ plan-make-spec =
     (tie.spec
     (λ c κs. search needs)
     (λ c κs. search needs)
-    (λ c κs. search needs)
-    (λ c. rw (c .make-verdict .ensures, c .before .free-slot .ensures, c .before .before .free-place .ensures)))
+    (λ c. rw (c .make-verdict .ensures, c .before .before .free-place .ensures)))

@@ -1,4 +1,4 @@
--- By what the searches and the tests ensure.
+-- By what the search and the tests ensure.
 use borrow.Author.Needs.{needs}
 use Rattle.objects.specs.Outcomes.{refreshPlan}
 use Rattle.objects.proofs.decide.plan_refresh.Statement.{statement}
@@ -11,5 +11,4 @@ plan-refresh-spec =
     (tie.spec
     (λ c κs. search needs)
     (λ c κs. search needs)
-    (λ c κs. search needs)
-    (λ c. rw (c .refresh-verdict .ensures, c .before .free-slot .ensures, c .before .before .locate .ensures .0)))
+    (λ c. rw (c .refresh-verdict .ensures, c .before .before .locate .ensures)))

@@ -21,4 +21,4 @@ make-verdict-spec =
     (λ c κs. search needs)
     (λ c κs. search needs)
     (λ c κs. search needs)
-    (λ c. cc))
+    (λ c. rw (c .and-then5 .ensures, c .before .and-then4 .ensures, c .before .before .and-then3 .ensures, c .before .before .before .and-then2 .ensures, c .before .before .before .before .and-then .ensures, c .before .before .before .before .before .room-verdict .ensures, c .before .before .before .before .before .before .refuse-if3 .ensures, c .before .before .before .before .before .before .before .end-for .ensures, c .before .before .before .before .before .before .before .before .refuse-if2 .ensures, c .before .before .before .before .before .before .before .before .before .refuse-if .ensures, c .before .before .before .before .before .before .before .before .before .before .extension-verdict .ensures, c .before .before .before .before .before .before .before .before .before .before .before .task-verdict .ensures)))

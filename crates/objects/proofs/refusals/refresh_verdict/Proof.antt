@@ -14,4 +14,4 @@ refresh-verdict-spec =
     (λ c κs. search needs)
     (λ c κs. search needs)
     (λ c κs. search needs)
-    (λ c. cc))
+    (λ c. rw (c .and-then3 .ensures, c .before .and-then2 .ensures, c .before .before .and-then .ensures, c .before .before .before .room-verdict .ensures, c .before .before .before .before .found-verdict .ensures, c .before .before .before .before .before .extension-verdict .ensures, c .before .before .before .before .before .before .task-verdict .ensures)))

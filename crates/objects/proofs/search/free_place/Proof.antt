@@ -1,24 +1,20 @@
 -- The search of either store: the small one's blocks are the first, the large one's all that follow.
 use native.Mathlib.Omega.{arith}
-use mathlib.Core.Path.{_≡_}
 use borrow.Author.Needs.{needs}
 use borrow.Author.Tests.{le-leb, lt-leb}
-use lib.ListN.{length}
 use lib.Seq.{take-all}
 use Rattle.ledger.specs.Limits.{limits, smallSize}
-use Rattle.objects.specs.Steps.{freePlace}
+use Rattle.steps.specs.Objects.{freePlaceIn}
 use Rattle.objects.proofs.search.free_place.Statement.{statement}
 use Rattle.objects.proofs.search.free_place.Tie as tie
 
 pub free-place-spec : {M : Type 1} → statement M
-unfolding freePlace limits smallSize
+unfolding freePlaceIn limits smallSize
 free-place-spec =
     tie.close
     (tie.spec
     (λ c κs. search needs)
     (λ c κs. search needs)
-    (λ c. rw (le-leb _ _ (c .before .if1 .taken)) (c .first-free .ensures))
+    (λ c. rw (le-leb _ _ (c .before .if1 .taken)) (c .first-with .ensures))
     (λ c.
-    let blocks = c .before .before .args .blocks in
-    let size : length blocks ≡ 96 = search needs in
-    rw (lt-leb _ _ (c .before .if1 .left)) (rw (take-all 96 blocks (omega arith)) at (c .first-free2 .ensures))))
+    rw (lt-leb _ _ (c .before .if1 .left)) (rw (take-all 96 (c .before .before .args .handles .now) (omega arith)) at (c .first-with2 .ensures))))

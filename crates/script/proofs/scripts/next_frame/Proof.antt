@@ -2,7 +2,7 @@
 use native.Mathlib.Omega.{arith}
 use mathlib.Core.Path.{ap}
 use borrow.Author.Needs.{needs}
-use Rattle.frames.proofs.Scripts.{end-within}
+use Rattle.text.proofs.Scripts.{end-within}
 use Rattle.script.proofs.scripts.next_frame.Statement.{statement}
 use Rattle.script.proofs.scripts.next_frame.Tie as tie
 

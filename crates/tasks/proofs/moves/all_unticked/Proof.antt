@@ -3,7 +3,7 @@ use Prim.Native.Nat.{_-_}
 use borrow.Author.Needs.{needs}
 use Rattle.lists.proofs.Loops.{Mapped, mapped-start, mapped-turn, mapped-all}
 use Rattle.record.specs.Codes.{absentEntry}
-use Rattle.tasks.specs.Steps.{untickedEntry}
+use Rattle.steps.specs.Events.{untickedEntry}
 use Rattle.tasks.proofs.moves.all_unticked.Statement.{statement}
 use Rattle.tasks.proofs.moves.all_unticked.Tie as tie
 

@@ -8,9 +8,11 @@ use std::io;
 use std::path::{Path, PathBuf};
 use std::process::{Command, Stdio};
 
-use crate::cases::{measure, Case, Measures};
-use crate::desk::{measured, Action, Desk};
+use host_tests::cases::Case;
+use host_tests::desk::{measured, Action, Desk};
+
 use crate::malloc::{self, Way};
+use crate::measures::{measure, Measures};
 
 /// How often each call is made.
 const REPEATS: u64 = 10;

@@ -1,14 +1,13 @@
 //! Measures the library beside the plain pool and prints tables in Markdown: `cost`. Instructions are counted by
-//! callgrind, under which the program runs itself once more, as `cost count`; nanoseconds are the best of some rounds.
-//! It fails where a call takes more than twice the plain pool's instructions.
+//! callgrind, under which the program runs itself once more, as `cost count`; nanoseconds are the best of some rounds;
+//! stack is what is painted over. It fails where a call takes more than 1.2 times the plain pool's instructions.
 //!
 //! Before each call the record is put back from a copy, so that each call meets the same state. Callgrind counts
 //! inside `measured` alone, and so not this; of the times, those of putting back alone are taken away.
 
 mod callgrind;
-mod cases;
-mod desk;
 mod malloc;
+mod measures;
 mod tables;
 mod times;
 

@@ -3,9 +3,11 @@
 use std::hint::black_box;
 use std::time::Instant;
 
-use crate::cases::{measure, Case, Measures};
-use crate::desk::{measured, Action, Desk};
+use host_tests::cases::Case;
+use host_tests::desk::{measured, Action, Desk};
+
 use crate::malloc;
+use crate::measures::{measure, Measures};
 
 const ROUNDS: usize = 20;
 const REPEATS: usize = 1_000;

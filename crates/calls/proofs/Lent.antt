@@ -1,0 +1,21 @@
+-- The record that has a head and lent columns, by its entries.
+use mathlib.Core.List.{List}
+use mathlib.Core.Path.{_≡_, refl}
+use Prim.Native.Nat.{ℕ}
+use Rattle.record.specs.Reading.{HeadTyped, Typed}
+use Rattle.record.specs.Tables.{SizedBlocks, SizedEntries, blocksOf, entriesOf, tablesBy, tablesOf, pooled}
+use Rattle.record.specs.declared.Head.{Head}
+use Rattle.record.proofs.Columns.{length-blocks, length-entries}
+use Rattle.record.proofs.Types.{typed-by}
+
+module _ (h : Head) (handles lengths clocks named dues : List ℕ) where
+  pub tables-of : tablesOf (pooled h handles lengths clocks named dues) ≡ tablesBy h (blocksOf handles lengths) (entriesOf clocks named dues)
+  unfolding tablesOf
+  tables-of = refl
+
+  pub lent-typed : HeadTyped h → SizedBlocks handles lengths → SizedEntries clocks named dues → Typed (tablesOf (pooled h handles lengths clocks named dues))
+  lent-typed t b e =
+      rw tables-of
+      (typed-by (blocksOf handles lengths) (entriesOf clocks named dues) t
+      (length-blocks handles lengths (b .of-handles) (b .of-lengths))
+      (length-entries clocks named dues (e .of-clocks) (e .of-named) (e .of-dues)))

@@ -1,0 +1,13 @@
+pub mod Lent
+pub mod Promises
+pub mod Outcomes
+pub mod Reported
+pub mod Passing
+pub mod Scheduled
+pub mod ScheduledLent
+pub mod Meets
+pub mod Served
+pub mod MadeLent
+pub mod RefreshLent
+pub mod WriteLent
+pub mod MakeLent

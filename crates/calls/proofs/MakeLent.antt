@@ -1,0 +1,113 @@
+-- Make on lent tables, refused or carried out.
+use Prim.Native.Nat.{ℕ, _+_, _<_}
+use native.Mathlib.Omega.{arith}
+use mathlib.Core.Bool.{_||_}
+use mathlib.Core.List.{List}
+use mathlib.Core.Path.{_≡_, refl, sym, ap, _∙_}
+use lib.Dec.{eqb, leb, ltb}
+use lib.ListN.{length, getD, set, replicate, length-set}
+use Rattle.ledger.specs.Limits.{taskCount, largeSize, lastHandle}
+use Rattle.ledger.specs.declared.Answer.the-variants.{Handle}
+use Rattle.ledger.specs.declared.Answer.the-variants.{Refused as RefusedAnswer}
+use Rattle.ledger.specs.declared.Call.the-variants.{Make}
+use Rattle.ledger.specs.declared.Kind.{Kind}
+use Rattle.ledger.specs.declared.Refusal.{Refusal}
+use Rattle.ledger.specs.declared.Refusal.the-variants.{LengthOutOfRange, HandlesSpent, NoFreeBlock}
+use Rattle.ledger.specs.declared.Request.the-variants.{Use}
+use Rattle.ledger.specs.declared.Verdict.the-variants.{Accepted, Refused}
+use Rattle.stores.specs.Places.{sizeOf, InBlock, smallAfter, largeAfter}
+use Rattle.record.specs.Reading.{HeadTyped, Typed}
+use Rattle.record.specs.Tables.{BlockEntry, SizedBlocks, SizedEntries, Sized, blocksOf, entriesOf, tablesBy, tablesOf, pooled}
+use Rattle.record.specs.declared.Head.{Head}
+use Rattle.record.proofs.Columns.{block-at}
+use Rattle.steps.specs.Objects.{endFor, freePlace, freePlaceIn, refuseIf, taskVerdict, extensionVerdict, roomVerdict, makeVerdict}
+use Rattle.steps.proofs.Chosen.{Taken, both-accept, make-takes}
+use Rattle.objects.specs.Outcomes.{makePlan}
+use Rattle.objects.specs.declared.Plan.{Plan}
+use Rattle.objects.proofs.Laws.{free-place-of, make-planned}
+use Rattle.expirations.specs.Setting.{Sets}
+use Rattle.expirations.specs.Setting.{entryFor as newEntry}
+use Rattle.expirations.specs.Standing.{standingOf}
+use Rattle.calls.specs.Contract.{Ready, Makes}
+use Rattle.calls.specs.Engine.{withGiven, outcomeOf}
+use Rattle.calls.proofs.Lent.{tables-of, lent-typed}
+use Rattle.calls.proofs.MadeLent.{standing-of, made-left}
+use Rattle.calls.proofs.Meets.{block-in, place-known, make-kept, make-cleared}
+use Rattle.calls.proofs.RefreshLent.{room-left}
+
+module _ {h : Head} (hs ls cs : List ℕ) {ns ds : List ℕ} (types : HeadTyped h) (sized : Sized hs ls cs ns ds) {small large : List ℕ}
+    {task : ℕ} {kind : Kind} {extension size : ℕ} (ready : Ready (Use (Make task kind extension size)) (pooled h hs ls cs ns ds) small large)
+    {plan : Plan} (so : plan ≡ makePlan task extension size h (freePlaceIn size hs) (standingOf cs)) where
+  of-entries : Typed (tablesOf (pooled h hs ls cs ns ds))
+  of-entries = lent-typed h hs ls cs ns ds types (sized .blocks) (sized .entries)
+
+  planned-place : plan .place ≡ freePlace size (tablesOf (pooled h hs ls cs ns ds) .blocks)
+  unfolding makePlan tablesOf tablesBy
+  planned-place = rw so (free-place-of hs ls (sized .blocks .of-handles) (sized .blocks .of-lengths) size)
+
+  verdict-of : makeVerdict task extension size (tablesOf (pooled h hs ls cs ns ds)) ≡ plan .verdict
+  verdict-of =
+      rw (so, standing-of (sized .entries), tables-of h hs ls cs ns ds)
+      (sym (make-planned hs ls (sized .blocks .of-handles) (sized .blocks .of-lengths) h (entriesOf cs ns ds) task extension size))
+
+  pub make-refused-lent : {why : Refusal} → plan .verdict ≡ Refused why
+      → Makes task kind extension size (pooled h hs ls cs ns ds) small large (outcomeOf (record { answer = RefusedAnswer why; head = h }) hs ls cs ns ds) small large
+  make-refused-lent {why} v = make-kept of-entries ready why (verdict-of ∙ v)
+
+  module _ (v : plan .verdict ≡ Accepted) where
+    taken : Taken task extension size (tablesOf (pooled h hs ls cs ns ds))
+    taken = make-takes task extension size (tablesOf (pooled h hs ls cs ns ds)) of-entries (verdict-of ∙ v)
+
+    at-free : plan .place ≡ freePlace size (blocksOf hs ls)
+    unfolding tablesOf tablesBy
+    at-free = planned-place
+
+    room : roomVerdict (standingOf cs) ≡ Accepted
+    unfolding makePlan
+    room =
+        let (task-ok, v₁) = both-accept (taskVerdict task (h .tasks)) _ (rw so at v) in
+        let (extension-ok, v₂) = both-accept (extensionVerdict extension) _ v₁ in
+        let (size-ok, v₃) = both-accept (refuseIf (eqb size 0 || ltb largeSize size) LengthOutOfRange) _ v₂ in
+        let (given-ok, v₄) = both-accept (refuseIf (leb lastHandle (h .given)) HandlesSpent) _ v₃ in
+        both-accept (refuseIf (leb (endFor size) (freePlaceIn size hs)) NoFreeBlock) _ v₄ .1
+
+    -- what the setting asks
+    pub make-may-set : (standingOf cs < 256) × (task < 16) × (plan .place < 96)
+    unfolding taskCount
+    make-may-set = (
+      room-left (standingOf cs) room,
+      taken .may .known,
+      rw planned-place (omega (arith, taken .block .listed, of-entries .blocks)),
+    )
+
+    -- the block that is cleared
+    pub make-clears : InBlock small large (plan .place) (sizeOf (plan .place))
+    make-clears = block-in of-entries ready (plan .place) (rw planned-place (place-known of-entries ready (verdict-of ∙ v)))
+
+    pub make-unspent : h .given + 1 < 4294967296
+    unfolding tablesOf tablesBy lastHandle
+    make-unspent = omega (arith, taken .unspent)
+
+    free : getD hs (plan .place) 0 ≡ 0
+    unfolding tablesOf tablesBy
+    free =
+        rw planned-place
+        (sym (ap (λ (b : BlockEntry). b .handle) (block-at hs ls (sized .blocks .of-handles) (sized .blocks .of-lengths) (freePlace size (blocksOf hs ls))))
+        ∙ taken .block .free)
+
+    pub make-set-lent : {cs′ ns′ ds′ : List ℕ} → Sets (newEntry (h .tasks) (h .global) kind task extension (plan .place)) cs ns ds cs′ ns′ ds′
+        → {small′ large′ : List ℕ} → small′ ≡ smallAfter (plan .place) 0 (replicate (sizeOf (plan .place)) 0) small
+        → large′ ≡ largeAfter (plan .place) 0 (replicate (sizeOf (plan .place)) 0) large
+        → (let hs′ = set hs (plan .place) (h .given + 1) in
+        let ls′ = set ls (plan .place) size in
+        Sized hs′ ls′ cs′ ns′ ds′
+        × Makes task kind extension size (pooled h hs ls cs ns ds) small large
+        (outcomeOf (record { answer = Handle (h .given + 1); head = withGiven h (h .given + 1) }) hs′ ls′ cs′ ns′ ds′) small′ large′)
+    make-set-lent sets s l = (
+      record {
+        blocks = record { of-handles = rw length-set (sized .blocks .of-handles); of-lengths = rw length-set (sized .blocks .of-lengths) };
+        entries = sets .sized;
+      },
+      make-cleared of-entries ready (plan .place) planned-place free
+          (made-left h hs ls cs ns ds kind task extension (plan .place) sets size at-free) (verdict-of ∙ v) s l,
+    )

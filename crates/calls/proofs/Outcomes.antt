@@ -1,0 +1,120 @@
+-- Each call of objects on a well-formed record with what it tests by, refused or carried out, meets its contract.
+use Prim.Native.Nat.{ℕ, _+_, _<_}
+use native.Mathlib.Omega.{arith}
+use mathlib.Core.Bool.{true, false≢true, and-eq-true-iff}
+use mathlib.Core.List.{List, []}
+use mathlib.Core.Path.{_≡_, refl, ap, _∙_}
+use lib.ListN.{length, replicate}
+use Rattle.ledger.specs.Objects.{plain, replyTo, memoryAfter, expirationsAfter}
+use Rattle.ledger.specs.Ledger.{Ledger}
+use Rattle.ledger.specs.Refusals.{asRefusal}
+use Rattle.ledger.specs.declared.Kind.{Kind}
+use Rattle.ledger.specs.declared.Answer.the-variants.{Done, Handle, Bytes}
+use Rattle.ledger.specs.declared.Answer.the-variants.{Refused as RefusedAnswer}
+use Rattle.ledger.specs.declared.Call.the-variants.{Make, Refresh, Read, Write}
+use Rattle.ledger.specs.declared.Refusal.{Refusal}
+use Rattle.ledger.specs.declared.Request.the-variants.{Use}
+use Rattle.ledger.specs.declared.Verdict.the-variants.{Accepted, Refused}
+use Rattle.stores.specs.Places.{sizeOf, smallAfter, largeAfter}
+use Rattle.record.specs.Reading.{isWholeSmall, isWholeLarge, blockBytes, Typed}
+use Rattle.record.specs.Tables.{tablesBy, tablesOf}
+use Rattle.record.specs.Pools.{isWellFormed, Reads}
+use Rattle.record.specs.declared.Pool.{Pool}
+use Rattle.record.proofs.Facts.{fit-parts}
+use Rattle.record.proofs.Exists.{every-fit-record-reads}
+use Rattle.steps.specs.Objects.{placeOf, freePlace, makeVerdict, refreshVerdict, readVerdict, writeVerdict, madePool, refreshedPool}
+use Rattle.steps.proofs.Chosen.{make-takes}
+use Rattle.steps.proofs.Finding.{blockOf, every-object-stands}
+use Rattle.steps.proofs.StoreBytes.{made-bytes}
+use Rattle.steps.proofs.Verdicts.{make-verdict, refresh-verdict, read-verdict, write-verdict}
+use Rattle.steps.proofs.ObjectsFollow.{same-given, make-fits, make-reads, refresh-fits, refresh-reads, read-bytes, write-sizes, write-reads}
+use Rattle.calls.specs.Contract.{areWhole, Obeys}
+use Rattle.calls.proofs.Promises.{refused-obeys, carried-obeys}
+
+module _ (p : Pool) (types : Typed (tablesOf p)) (w : isWellFormed p ≡ true) (small large : List ℕ) where
+  -- the ledger that the record reads as with these stores
+  some : (L : Ledger) × Reads p small large L
+  some = every-fit-record-reads (tablesOf p) types w small large
+
+  -- refresh, whatever the stores
+  module _ (task : ℕ) (kind : Kind) (extension handle : ℕ) where
+    pub refresh-refused : (r : Refusal) → refreshVerdict task extension handle (tablesOf p) ≡ Refused r
+        → Obeys (Use (Refresh task kind extension handle)) [] p small large (plain (RefusedAnswer r)) p small large
+    refresh-refused r v =
+        refused-obeys _ [] p small large w (λ s. absurd (false≢true s)) r
+        (λ L reads. refresh-verdict types (fit-parts (tablesOf p) w) reads task kind extension handle [] ∙ ap asRefusal v)
+
+    pub refresh-done : {p′ : Pool} → tablesOf p′ ≡ refreshedPool task kind extension handle (tablesOf p)
+        → refreshVerdict task extension handle (tablesOf p) ≡ Accepted
+        → Obeys (Use (Refresh task kind extension handle)) [] p small large (plain Done) p′ small large
+    unfolding replyTo
+    refresh-done {p′} left v =
+        carried-obeys _ [] p small large w (λ s. absurd (false≢true s)) (plain Done) p′ small large refl
+        (λ L reads. refresh-verdict types (fit-parts (tablesOf p) w) reads task kind extension handle [] ∙ ap asRefusal v)
+        (λ L reads. refl) (λ L reads. rw left (refresh-reads w types reads task kind extension handle v))
+        (rw left (refresh-fits w types (some .1) task kind extension handle v)) (refl, refl)
+
+  -- the calls that test 14 first
+  module _ (whole : areWhole small large ≡ true) where
+    small-whole : isWholeSmall small ≡ true
+    small-whole = and-eq-true-iff (isWholeSmall small) (isWholeLarge large) .0 whole .0
+
+    large-whole : isWholeLarge large ≡ true
+    large-whole = and-eq-true-iff (isWholeSmall small) (isWholeLarge large) .0 whole .1
+
+    module _ (task : ℕ) (kind : Kind) (extension size : ℕ) where
+      pub make-refused : (r : Refusal) → makeVerdict task extension size (tablesOf p) ≡ Refused r
+          → Obeys (Use (Make task kind extension size)) [] p small large (plain (RefusedAnswer r)) p small large
+      make-refused r v =
+          refused-obeys _ [] p small large w (λ s. whole) r
+          (λ L reads. make-verdict types (fit-parts (tablesOf p) w) reads task kind extension size [] ∙ ap asRefusal v)
+
+      pub make-done : {p′ : Pool} → tablesOf p′ ≡ madePool task kind extension size (tablesOf p)
+          → makeVerdict task extension size (tablesOf p) ≡ Accepted
+          → (let zeros : List ℕ = replicate (sizeOf (freePlace size (tablesOf p .blocks))) 0 in
+          Obeys (Use (Make task kind extension size)) [] p small large (plain (Handle (p .given + 1))) p′
+          (smallAfter (freePlace size (tablesOf p .blocks)) 0 zeros small) (largeAfter (freePlace size (tablesOf p .blocks)) 0 zeros large))
+      unfolding replyTo tablesOf tablesBy
+      make-done {p′} left v =
+          let taken = make-takes task extension size (tablesOf p) types v in
+          let listed : freePlace size (tablesOf p .blocks) < 96 = omega (arith, taken .block .listed, types .blocks) in
+          let bytes = made-bytes small large small-whole large-whole _ listed in
+          carried-obeys _ [] p small large w (λ s. whole) (plain (Handle (p .given + 1))) p′ _ _ refl
+          (λ L reads. make-verdict types (fit-parts (tablesOf p) w) reads task kind extension size [] ∙ ap asRefusal v)
+          (λ L reads. rw (same-given w types reads))
+          (λ L reads. rw left (make-reads w types reads small-whole large-whole task kind extension size v))
+          (rw left (make-fits w types (some .1) task kind extension size v)) (bytes .small-size, bytes .large-size)
+
+    module _ (task handle : ℕ) where
+      pub read-refused : (r : Refusal) → readVerdict task handle (tablesOf p) ≡ Refused r
+          → Obeys (Use (Read task handle)) [] p small large (plain (RefusedAnswer r)) p small large
+      read-refused r v =
+          refused-obeys _ [] p small large w (λ s. whole) r
+          (λ L reads. read-verdict types (fit-parts (tablesOf p) w) reads task handle [] ∙ ap asRefusal v)
+
+      pub read-done : readVerdict task handle (tablesOf p) ≡ Accepted
+          → Obeys (Use (Read task handle)) [] p small large
+          (record { answer = Bytes; bytes = blockBytes small large (placeOf handle (tablesOf p .blocks)) (blockOf handle (tablesOf p .blocks) .length) }) p small large
+      unfolding replyTo memoryAfter expirationsAfter
+      read-done v =
+          carried-obeys _ [] p small large w (λ s. whole) _ p small large refl
+          (λ L reads. read-verdict types (fit-parts (tablesOf p) w) reads task handle [] ∙ ap asRefusal v)
+          (λ L reads. rw (read-bytes w types reads small-whole large-whole task handle v))
+          (λ L reads. rw (every-object-stands (fit-parts (tablesOf p) w) reads) reads) w (refl, refl)
+
+      module _ (offset : ℕ) (new : List ℕ) where
+        pub write-refused : (r : Refusal) → writeVerdict task handle offset (length new) (tablesOf p) ≡ Refused r
+            → Obeys (Use (Write task handle offset)) new p small large (plain (RefusedAnswer r)) p small large
+        write-refused r v =
+            refused-obeys _ new p small large w (λ s. whole) r
+            (λ L reads. write-verdict types (fit-parts (tablesOf p) w) reads task handle offset new ∙ ap asRefusal v)
+
+        pub write-done : writeVerdict task handle offset (length new) (tablesOf p) ≡ Accepted
+            → Obeys (Use (Write task handle offset)) new p small large (plain Done) p
+            (smallAfter (placeOf handle (tablesOf p .blocks)) offset new small) (largeAfter (placeOf handle (tablesOf p .blocks)) offset new large)
+        unfolding replyTo
+        write-done v =
+            carried-obeys _ new p small large w (λ s. whole) (plain Done) p _ _ refl
+            (λ L reads. write-verdict types (fit-parts (tablesOf p) w) reads task handle offset new ∙ ap asRefusal v)
+            (λ L reads. refl) (λ L reads. write-reads w types reads small-whole large-whole task handle offset new v)
+            w (write-sizes w types (some .1) small-whole large-whole task handle offset new v)

@@ -1,0 +1,147 @@
+-- What an event ends by the time that it leaves is what it ends in the record: an expiration of a well-formed record is ahead while its clock stands still.
+use Prim.Native.Nat.{ℕ, _≤_, _<_}
+use native.Mathlib.Omega.{arith}
+use mathlib.Core.Bool.{Bool, true, false, cond, not, _&&_, _||_, true≢false}
+use mathlib.Core.List.{List, map, map-id}
+use mathlib.Core.Logic.{_≢_}
+use mathlib.Core.Path.{_≡_, refl, sym, ap, _∙_}
+use borrow.Author.Tests.{eqb-true, eqb-false, eq-eqb, ne-eqb, lt-ltb, ltb-true, ltb-false}
+use lib.Dec.{eqb, ltb}
+use lib.ListN.{length, getD, List·getD-map}
+use lib.Seq.{getD-set-same, getD-set-other}
+use Rattle.lists.specs.Tests.{all}
+use Rattle.lists.proofs.All.{all-imp, all-true, map-same, All→none}
+use Rattle.lists.proofs.Cases.{by-test}
+use Rattle.ledger.specs.Limits.{taskCount}
+use Rattle.ledger.specs.Tasks.{isTested, allTicked}
+use Rattle.ledger.specs.declared.Event.{Event}
+use Rattle.ledger.specs.declared.Event.the-variants.{Join, Leave, Block, Resume, Tick}
+use Rattle.record.specs.Codes.{taskOf, dueOf, setterOf, leftAt, absentEntry, freedEntry}
+use Rattle.record.specs.Tables.{BlockEntry, ExpirationEntry}
+use Rattle.record.specs.WellFormed.{isFitDue, isFitEntry}
+use Rattle.record.specs.declared.TaskEntry.{TaskEntry}
+use Rattle.record.specs.declared.GlobalTime.{GlobalTime}
+use Rattle.record.specs.declared.Due.{Due}
+use Rattle.record.specs.declared.Due.the-variants.{Free, Local, Global, Unknown}
+use Rattle.record.proofs.Facts.{fit-local, fit-global}
+use Rattle.steps.specs.Events.{movedEntry, untickedEntry, movedTasks, advancedTasks, advancedTime, leaverOf, isLasting, keptEntry}
+use Rattle.tasks.specs.Steps.{isLeave, testedAfter}
+use Rattle.tasks.specs.declared.Planned.{Planned}
+use Rattle.expirations.specs.Ending.{isEnding, endedEntry}
+use Rattle.expirations.specs.declared.Passing.{Passing}
+
+-- the time that a plan leaves
+abbrev pub passingOf : ℕ → Planned → Passing
+passingOf task q = record { task = task; leaves = q .leaves; local = q .local; advanced = q .advanced; global = q .global }
+
+-- the leaver's own go, and nobody else's
+own-leaver : (event : Event) (task : ℕ) → task < 16 → eqb task (leaverOf event task) ≡ isLeave event
+unfolding taskCount
+own-leaver Join task known = ne-eqb task 16 (λ e. omega arith)
+own-leaver Leave task known = eq-eqb task task refl
+own-leaver Block task known = ne-eqb task 16 (λ e. omega arith)
+own-leaver Resume task known = ne-eqb task 16 (λ e. omega arith)
+own-leaver Tick task known = ne-eqb task 16 (λ e. omega arith)
+
+other-leaver : (event : Event) (task s : ℕ) → s < 16 → s ≢ task → eqb s (leaverOf event task) ≡ false
+unfolding taskCount
+other-leaver Join task s known other = ne-eqb s 16 (λ e. omega arith)
+other-leaver Leave task s known other = ne-eqb s task other
+other-leaver Block task s known other = ne-eqb s 16 (λ e. omega arith)
+other-leaver Resume task s known other = ne-eqb s 16 (λ e. omega arith)
+other-leaver Tick task s known other = ne-eqb s 16 (λ e. omega arith)
+
+-- units left or none
+lasts-or-ends : (gone : Bool) (n : ℕ) → (not gone && ltb 0 n) ≡ not (gone || eqb n 0)
+lasts-or-ends true n = refl
+lasts-or-ends false n =
+    by-test (ltb 0 n)
+    (λ l. rw (l, ne-eqb n 0 (λ z. omega (arith, ltb-true 0 n l))))
+    (λ l. rw (l, eq-eqb n 0 (omega (arith, ltb-false 0 n l))))
+
+cond-not {ℓ} : {A : Type ℓ} (b : Bool) (x y : A) → cond (not b) y x ≡ cond b x y
+cond-not true x y = refl
+cond-not false x y = refl
+
+-- clearing the marks leaves the clocks
+unticked-clocks : (advanced : Bool) (tasks : List TaskEntry) (i : ℕ)
+    → getD (advancedTasks advanced tasks) i absentEntry .clock .0 ≡ getD tasks i absentEntry .clock .0
+unticked-clocks true tasks i = ap (λ (e : TaskEntry). e .clock .0) (List·getD-map untickedEntry tasks i absentEntry)
+unticked-clocks false tasks i = refl
+
+-- by the global time, which stands still or advances
+global-lasts : (advanced : Bool) (at : ℕ) (global : GlobalTime) → 1 ≤ leftAt at (global .0)
+    → ltb 0 (leftAt at (advancedTime advanced global .0)) ≡ not (advanced && eqb (leftAt at (advancedTime advanced global .0)) 0)
+global-lasts true at global ahead = lasts-or-ends false (leftAt at (advancedTime true global .0))
+global-lasts false at global ahead = lt-ltb 0 _ ahead
+
+-- An accepted event with an advance test
+module _ (event : Event) (task : ℕ) (tasks : List TaskEntry) (global : GlobalTime) (sixteen : length tasks ≡ 16) (known : task < 16) where
+  abbrev moved : List TaskEntry
+  moved = movedTasks event task tasks
+
+  abbrev plan : Bool → Planned
+  plan advanced = testedAfter event task advanced moved global (movedEntry event (getD tasks task absentEntry))
+
+  module _ (advanced : Bool) where
+    own-clock : getD (advancedTasks advanced moved) task absentEntry .clock .0 ≡ movedEntry event (getD tasks task absentEntry) .clock .0
+    own-clock =
+        unticked-clocks advanced moved task
+        ∙ ap (λ (e : TaskEntry). e .clock .0) (getD-set-same tasks task _ absentEntry (omega arith))
+
+    other-clock : (s : ℕ) → s ≢ task → getD (advancedTasks advanced moved) s absentEntry .clock .0 ≡ getD tasks s absentEntry .clock .0
+    other-clock s other =
+        unticked-clocks advanced moved s
+        ∙ ap (λ (e : TaskEntry). e .clock .0) (getD-set-other tasks task s _ absentEntry other)
+
+    -- what lasts is what does not end
+    lasting-as : (used : Bool) (due : Due) → isFitDue (getD tasks (setterOf due) absentEntry) global used due ≡ true
+        → isLasting (leaverOf event task) (getD (plan advanced .tasks) (setterOf due) absentEntry) (plan advanced .global) due
+        ≡ not (isEnding (passingOf task (plan advanced)) due)
+    unfolding taskCount
+    lasting-as used Free fit = refl
+    lasting-as used (Local s at) fit =
+        by-test (eqb s task)
+        (λ own.
+        rw (eqb-true s task own, own-leaver event task known, own-clock, eq-eqb task task refl)
+        (lasts-or-ends (isLeave event) (leftAt (at .0) (movedEntry event (getD tasks task absentEntry) .clock .0))))
+        (λ other.
+        let f = fit-local (getD tasks s absentEntry) global used s at fit in
+        let apart = eqb-false s task other in
+        rw (other, other-leaver event task s (f .known) apart, other-clock s apart, lt-ltb 0 _ (f .ahead)))
+    lasting-as used (Global at) fit = global-lasts advanced (at .0) global (fit-global (getD tasks 0 absentEntry) global used at fit .ahead)
+    lasting-as used Unknown fit = refl
+
+    -- so the entries after it are those that the record's sweep leaves
+    entry-as : (blocks : List BlockEntry) (e : ExpirationEntry) → isFitEntry tasks global blocks e ≡ true
+        → keptEntry (leaverOf event task) (plan advanced .tasks) (plan advanced .global) e ≡ endedEntry (passingOf task (plan advanced)) e
+    entry-as blocks e f = rw (lasting-as _ (dueOf e) f) (cond-not (isEnding (passingOf task (plan advanced)) (dueOf e)) (freedEntry e) e)
+
+    pub kept-as : (blocks : List BlockEntry) (xs : List ExpirationEntry) → all (isFitEntry tasks global blocks) xs ≡ true
+        → map (keptEntry (leaverOf event task) (plan advanced .tasks) (plan advanced .global)) xs ≡ map (endedEntry (passingOf task (plan advanced))) xs
+    kept-as blocks xs fits = map-same _ _ xs (all-imp (entry-as blocks) xs (all-true _ xs fits))
+
+-- A block that leaves the global time ends nothing.
+module _ (task : ℕ) (tasks : List TaskEntry) (global : GlobalTime) (sixteen : length tasks ≡ 16) (known : task < 16) where
+  abbrev blocked : Planned
+  blocked = plan Block task tasks global sixteen known false
+
+  unending : (used : Bool) (due : Due) → isFitDue (getD tasks (setterOf due) absentEntry) global used due ≡ true
+      → isEnding (passingOf task blocked) due ≡ false
+  unending used Free fit = refl
+  unending used (Local s at) fit =
+      let f = fit-local (getD tasks s absentEntry) global used s at fit in
+      by-test (eqb s task)
+      (λ own. rw (own, ← eqb-true s task own, ne-eqb (leftAt (at .0) (getD tasks s absentEntry .clock .0)) 0 (λ z. omega (arith, f .ahead))))
+      (λ other. rw other)
+  unending used (Global at) fit = refl
+  unending used Unknown fit = refl
+
+  entry-stays : (blocks : List BlockEntry) (e : ExpirationEntry) → isFitEntry tasks global blocks e ≡ true → endedEntry (passingOf task blocked) e ≡ e
+  entry-stays blocks e f = rw (unending _ (dueOf e) f)
+
+  pub block-keeps : (blocks : List BlockEntry) (xs : List ExpirationEntry) → all (isFitEntry tasks global blocks) xs ≡ true
+      → map (keptEntry (leaverOf Block task) (blocked .tasks) (blocked .global)) xs ≡ xs
+  block-keeps blocks xs fits =
+      kept-as Block task tasks global sixteen known false blocks xs fits
+      ∙ map-same _ (λ e. e) xs (all-imp (entry-stays blocks) xs (all-true _ xs fits)) ∙ map-id xs

@@ -1,0 +1,105 @@
+-- How a call meets its contract: by 15, by 14, by a refusal of the ledger's, or carried out.
+use Prim.Native.Nat.{ℕ}
+use mathlib.Core.Bool.{Bool, true, false, not, _&&_, true≢false, false≢true, and-eq-true-iff}
+use mathlib.Core.List.{List}
+use mathlib.Core.Option.{none, some}
+use mathlib.Core.Path.{_≡_, refl, sym, ap, _∙_}
+use borrow.Author.Tests.{not-true, not-false}
+use lib.ListN.{length}
+use Rattle.ledger.specs.Objects.{Reply, plain, replyTo}
+use Rattle.ledger.specs.Ledger.{Ledger, verdictOn, reply, next}
+use Rattle.ledger.specs.declared.Answer.{Answer}
+use Rattle.ledger.specs.declared.Answer.the-variants.{Refused, Done, Advanced, Handle, Bytes, Counted}
+use Rattle.ledger.specs.declared.Call.{Call}
+use Rattle.ledger.specs.declared.Refusal.{Refusal}
+use Rattle.ledger.specs.declared.Refusal.the-variants.{WrongStoreLength, NotWellFormed}
+use Rattle.ledger.specs.declared.Request.{Request}
+use Rattle.ledger.specs.declared.Request.the-variants.{Use}
+use Rattle.record.specs.Pools.{isWellFormed, Reads}
+use Rattle.record.specs.declared.Pool.{Pool}
+use Rattle.steps.proofs.ObjectsFollow.{carried}
+use Rattle.calls.specs.Contract.{isStored, areWhole, TellsWhole, Ready, Refuses, Obeys}
+
+abbrev pub isRefusal : Answer → Bool
+isRefusal (Refused r) = true
+isRefusal Done = false
+isRefusal (Advanced b) = false
+isRefusal (Handle h) = false
+isRefusal Bytes = false
+isRefusal (Counted u) = false
+
+-- what was refused for one reason was not for another
+kept : (p : Pool) (small large : List ℕ) (r why : Refusal) → Refused r ≡ Refused why → Refuses why p small large (plain (Refused r)) p small large
+kept p small large r why e = record { refused = ap plain e; samePool = refl; sameSmall = refl; sameLarge = refl }
+
+module _ (request : Request) (new : List ℕ) (p : Pool) (small large : List ℕ) where
+  pub unfit-obeys : isWellFormed p ≡ false → Obeys request new p small large (plain (Refused NotWellFormed)) p small large
+  unfit-obeys u =
+      record {
+        unfit = λ e. kept p small large NotWellFormed NotWellFormed refl;
+        wrong = λ w s e. absurd (true≢false (sym w ∙ u));
+        answers = λ w s L reads. absurd (true≢false (sym w ∙ u));
+        leaves = λ w s L reads. absurd (true≢false (sym w ∙ u));
+        fits = λ w. w;
+        keeps = kept p small large NotWellFormed;
+        sizes = (refl, refl);
+      }
+
+-- the two tests, as the code makes them: of the record, then of stores that the request touches
+module _ {request : Request} {p : Pool} {small large : List ℕ} {fit stored whole : Bool} (f : fit ≡ isWellFormed p) (passed : not fit ≡ false)
+    (s : stored ≡ isStored request) (tells : TellsWhole (length small) (length large) whole) where
+  pub wrong-obeys : {new : List ℕ} → stored && not whole ≡ true → Obeys request new p small large (plain (Refused WrongStoreLength)) p small large
+  wrong-obeys refused =
+      let w : isWellFormed p ≡ true = sym f ∙ not-false fit passed in
+      let (touched, wrong) = and-eq-true-iff stored (not whole) .0 refused in
+      let n : areWhole small large ≡ false = sym (tells small large refl refl) ∙ not-true whole wrong in
+      record {
+        unfit = λ u. absurd (true≢false (sym w ∙ u));
+        wrong = λ v t e. kept p small large WrongStoreLength WrongStoreLength refl;
+        answers = λ v known L reads. absurd (true≢false (sym (known (sym s ∙ touched)) ∙ n));
+        leaves = λ v known L reads. absurd (true≢false (sym (known (sym s ∙ touched)) ∙ n));
+        fits = λ v. v;
+        keeps = kept p small large WrongStoreLength;
+        sizes = (refl, refl);
+      }
+
+  pub ready : stored && not whole ≡ false → Ready request p small large
+  ready passed-too =
+      record {
+        fit = sym f ∙ not-false fit passed;
+        whole = λ touched. sym (tells small large refl refl) ∙ not-false whole (rw (s, touched) at passed-too);
+      }
+
+module _ (call : Call) (new : List ℕ) (p : Pool) (small large : List ℕ) (w : isWellFormed p ≡ true)
+    (whole : isStored (Use call) ≡ true → areWhole small large ≡ true) where
+  pub refused-obeys : (r : Refusal) → ((L : Ledger) → Reads p small large L → verdictOn L call new ≡ some r)
+      → Obeys (Use call) new p small large (plain (Refused r)) p small large
+  unfolding reply next
+  refused-obeys r v =
+      record {
+        unfit = λ u. absurd (true≢false (sym w ∙ u));
+        wrong = λ x s n. absurd (true≢false (sym (whole s) ∙ n));
+        answers = λ x s L reads. rw (v L reads);
+        leaves = λ x s L reads. rw (v L reads) reads;
+        fits = λ x. w;
+        keeps = kept p small large r;
+        sizes = (refl, refl);
+      }
+
+  pub carried-obeys : (y : Reply) (p′ : Pool) (small′ large′ : List ℕ) → isRefusal (y .answer) ≡ false
+      → ((L : Ledger) → Reads p small large L → verdictOn L call new ≡ none)
+      → ((L : Ledger) → Reads p small large L → y ≡ replyTo call (L .memory))
+      → ((L : Ledger) → Reads p small large L → Reads p′ small′ large′ (carried call new L))
+      → isWellFormed p′ ≡ true → (length small′ ≡ length small) × (length large′ ≡ length large)
+      → Obeys (Use call) new p small large y p′ small′ large′
+  unfolding reply next
+  carried-obeys y p′ small′ large′ accepted v answers leaves fits sizes =
+      record {
+        unfit = λ u. absurd (true≢false (sym w ∙ u));
+        wrong = λ x s n. absurd (true≢false (sym (whole s) ∙ n));
+        answers = λ x s L reads. rw (v L reads) (answers L reads);
+        leaves = λ x s L reads. rw (v L reads) (leaves L reads);
+        fits = λ x. fits;
+        keeps = λ why e. absurd (false≢true (sym accepted ∙ ap isRefusal e));
+        sizes = sizes;
+      }

@@ -1,0 +1,120 @@
+-- What the calls open to others promise: for each, what comes back and what record and stores then are.
+use Prim.Native.Nat.{ℕ, _<_}
+use mathlib.Core.Bool.{Bool, true, false, _&&_}
+use mathlib.Core.List.{List, []}
+use mathlib.Core.Path.{_≡_}
+use lib.ListN.{length, getD, replicate}
+use Rattle.ledger.specs.Numbers.{answerNumber}
+use Rattle.ledger.specs.Objects.{Reply, plain}
+use Rattle.ledger.specs.Ledger.{Ledger, replyToRequest, afterRequest}
+use Rattle.ledger.specs.declared.Kind.{Kind}
+use Rattle.ledger.specs.declared.Answer.{Answer}
+use Rattle.ledger.specs.declared.Answer.the-variants.{Refused, Done, Handle, Bytes}
+use Rattle.ledger.specs.declared.Call.the-variants.{Schedule, Make, Refresh, Read, Write}
+use Rattle.ledger.specs.declared.Refusal.{Refusal}
+use Rattle.ledger.specs.declared.Refusal.the-variants.{WrongStoreLength, NotWellFormed}
+use Rattle.ledger.specs.declared.Request.{Request}
+use Rattle.ledger.specs.declared.Request.the-variants.{Use, Report}
+use Rattle.stores.specs.Places.{blockCount, sizeOf, InBlock, smallAfter, largeAfter}
+use Rattle.record.specs.Reading.{isWholeSmall, isWholeLarge, blockBytes}
+use Rattle.record.specs.Pools.{isWellFormed, Reads}
+use Rattle.record.specs.declared.Pool.{Pool}
+use Rattle.steps.specs.Objects.{placeIn}
+use Rattle.objects.specs.declared.Found.{Found}
+use Rattle.objects.specs.declared.Found.the-variants.{At}
+use Rattle.objects.specs.declared.Found.the-variants.{Refused as RefusedFound}
+use Rattle.calls.specs.declared.Outcome.{Outcome}
+
+-- the calls that test 14
+abbrev pub isStored : Request → Bool
+isStored (Use (Schedule event task)) = false
+isStored (Use (Make task kind extension size)) = true
+isStored (Use (Refresh task kind extension handle)) = false
+isStored (Use (Read task handle)) = true
+isStored (Use (Write task handle offset)) = true
+isStored Report = false
+
+-- both stores have 01's lengths
+abbrev pub areWhole : List ℕ → List ℕ → Bool
+areWhole small large = isWholeSmall small && isWholeLarge large
+
+-- the same by the lengths alone
+abbrev pub TellsWhole : ℕ → ℕ → Bool → Type 0
+TellsWhole smallBytes largeBytes b = (small large : List ℕ) → length small ≡ smallBytes → length large ≡ largeBytes → b ≡ areWhole small large
+
+-- neither 15 nor 14: a well-formed record, and whole stores where the request touches one
+pub record Ready (request : Request) (p : Pool) (small large : List ℕ) : Type 0 where
+  pub fit : isWellFormed p ≡ true
+  pub whole : isStored request ≡ true → areWhole small large ≡ true
+
+-- "All refusals change nothing"
+pub record Refuses (why : Refusal) (p : Pool) (small large : List ℕ) (y : Reply) (p′ : Pool) (small′ large′ : List ℕ) : Type 0 where
+  pub refused : y ≡ plain (Refused why)
+  pub samePool : p′ ≡ p
+  pub sameSmall : small′ ≡ small
+  pub sameLarge : large′ ≡ large
+
+-- A call with the bytes that a write brings, on a record with two stores: its reply, and the record and stores that it leaves.
+pub record Obeys (request : Request) (new : List ℕ) (p : Pool) (small large : List ℕ) (y : Reply) (p′ : Pool) (small′ large′ : List ℕ) : Type 0 where
+  -- first 15, then 14
+  pub unfit : isWellFormed p ≡ false → Refuses NotWellFormed p small large y p′ small′ large′
+  pub wrong : isWellFormed p ≡ true → isStored request ≡ true → areWhole small large ≡ false
+      → Refuses WrongStoreLength p small large y p′ small′ large′
+  -- else whatever ledger record and stores read as, the reply is that ledger's,
+  pub answers : isWellFormed p ≡ true → (isStored request ≡ true → areWhole small large ≡ true) → (L : Ledger) → Reads p small large L
+      → y ≡ replyToRequest L request new
+  -- what is left reads as its next,
+  pub leaves : isWellFormed p ≡ true → (isStored request ≡ true → areWhole small large ≡ true) → (L : Ledger) → Reads p small large L
+      → Reads p′ small′ large′ (afterRequest L request new)
+  -- and the record is well-formed
+  pub fits : isWellFormed p ≡ true → isWellFormed p′ ≡ true
+  pub keeps : (why : Refusal) → y .answer ≡ Refused why → Refuses why p small large y p′ small′ large′
+  -- a store keeps its length
+  pub sizes : (length small′ ≡ length small) × (length large′ ≡ length large)
+
+-- a call that touches no store, whatever stores stand beside the record
+abbrev pub Follows : Request → Pool → Answer → Pool → Type 0
+Follows request p answer p′ = (small large : List ℕ) → Obeys request [] p small large (plain answer) p′ small large
+
+-- make: the block that it clears is the one part that is left open, and it belonged to no standing object
+pub record Placed (p : Pool) (small large small′ large′ : List ℕ) (block : ℕ) : Type 0 where
+  pub known : block < blockCount
+  pub free : getD (p .handles) block 0 ≡ 0
+  pub smallCleared : small′ ≡ smallAfter block 0 (replicate (sizeOf block) 0) small
+  pub largeCleared : large′ ≡ largeAfter block 0 (replicate (sizeOf block) 0) large
+
+pub record Makes (task : ℕ) (kind : Kind) (extension size : ℕ) (p : Pool) (small large : List ℕ) (r : Outcome) (small′ large′ : List ℕ) : Type 0 where
+  pub obeys : Obeys (Use (Make task kind extension size)) [] p small large (plain (r .answer)) (r .pool) small′ large′
+  pub placed : (handle : ℕ) → r .answer ≡ Handle handle → (block : ℕ) × Placed p small large small′ large′ block
+
+-- write: the record stays, and those bytes of its block are replaced and no other byte of either store
+pub record Writes (task handle offset : ℕ) (new : List ℕ) (p : Pool) (small large : List ℕ) (answer : Answer) (small′ large′ : List ℕ) : Type 0 where
+  pub obeys : Obeys (Use (Write task handle offset)) new p small large (plain answer) p small′ large′
+  pub smallWritten : answer ≡ Done → small′ ≡ smallAfter (placeIn handle (p .handles)) offset new small
+  pub largeWritten : answer ≡ Done → large′ ≡ largeAfter (placeIn handle (p .handles)) offset new large
+
+-- read: the part that it hands back, of no bytes where it is refused
+abbrev pub ReadsBack : ℕ → ℕ → Pool → List ℕ → List ℕ → Answer → List ℕ → Type 0
+ReadsBack task handle p small large answer part =
+    Obeys (Use (Read task handle)) [] p small large (record { answer = answer; bytes = part }) p small large
+
+-- the reply of a read that was found in a block, or was refused
+abbrev pub replyFound : List ℕ → List ℕ → Found → Reply
+replyFound small large (RefusedFound why) = plain (Refused why)
+replyFound small large (At block count) = record { answer = Bytes; bytes = blockBytes small large block count }
+
+-- where a read finds its object: those bytes are its reply, and they lie in a block
+pub record Locates (task handle : ℕ) (p : Pool) (small large : List ℕ) (f : Found) : Type 0 where
+  pub reads : Obeys (Use (Read task handle)) [] p small large (replyFound small large f) p small large
+  pub inside : (block count : ℕ) → f ≡ At block count → InBlock small large block count
+
+-- the same for whatever stores have these lengths
+abbrev pub LocatesIn : ℕ → ℕ → ℕ → ℕ → Pool → Found → Type 0
+LocatesIn smallBytes largeBytes task handle p f =
+    (small large : List ℕ) → length small ≡ smallBytes → length large ≡ largeBytes → Locates task handle p small large f
+
+-- its answer by the number: 0, or that of the refusal
+pub record ReadsTo (task handle : ℕ) (p : Pool) (small large : List ℕ) (number : ℕ) (part : List ℕ) : Type 0 where
+  pub answer : Answer
+  pub numbered : number ≡ answerNumber answer
+  pub reads : ReadsBack task handle p small large answer part

@@ -1,0 +1,203 @@
+// Each call that changes something, of a well-formed record with stores of 01's lengths: what follows the tests of 15 and 14. The head goes by value, tables and stores
+// are lent. A call decides first, by what it only reads, and then changes: a refusal has touched nothing.
+ghost use mathlib.Core.Path.{_≡_};
+ghost use lib.ListN.{length};
+ghost use Rattle.ledger.specs.declared.Call.the-variants.{Schedule, Make, Refresh, Write};
+ghost use Rattle.ledger.specs.declared.Request.the-variants.{Use};
+ghost use Rattle.record.specs.Tables.{pooled, SizedBlocks, SizedEntries, Sized};
+ghost use Rattle.calls.specs.Contract.{Ready, Makes, Writes};
+ghost use Rattle.calls.specs.Engine.{refusedBy, withGiven, outcomeOf, FollowsBeside, ReadyBeside, WritesBeside};
+use expirations::Passing;
+use expirations::end;
+use expirations::set;
+use expirations::standing;
+use ledger::Answer;
+use ledger::Event;
+use ledger::Kind;
+use ledger::Verdict;
+use objects::Found;
+use objects::find_for_write;
+use objects::plan_make;
+use objects::plan_refresh;
+use record::BLOCK_COUNT;
+use record::EXPIRATION_COUNT;
+use record::Head;
+use record::Pool;
+use stores::clear_place;
+use stores::write_place;
+use tasks::plan;
+
+// What a call that touches tables gives back: its answer, and the head that it leaves.
+pub struct Step {
+    pub answer: Answer,
+    pub head: Head,
+}
+
+// What is given back where the record goes by value: the answer, and the record that is left.
+pub struct Outcome {
+    pub answer: Answer,
+    pub pool: Pool,
+}
+
+// The same of any call, with where the bytes of a read are.
+pub struct Called {
+    pub answer: Answer,
+    pub pool: Pool,
+    pub block: usize,
+    pub length: u16,
+}
+
+// What a verdict that refuses comes to.
+fn refused_by(verdict: Verdict, h: Head) -> Step
+    ensures { λ r. ⌜ r ≡ refusedBy verdict h ⌝ }
+{
+    match verdict {
+        Verdict::Accepted => Step {
+            answer: Answer::Done,
+            head: h,
+        },
+        Verdict::Refused(why) => Step {
+            answer: Answer::Refused(why),
+            head: h,
+        },
+    }
+}
+
+fn with_given(mut h: Head, given: u32) -> Head
+    ensures { λ r. ⌜ r ≡ withGiven h given ⌝ }
+{
+    h.given = given;
+    h
+}
+
+// Join, leave, block, resume and tick.
+pub fn schedule(
+    h: Head,
+    handles: &mut [u32; BLOCK_COUNT],
+    clocks: &mut [u8; EXPIRATION_COUNT],
+    named: &[u8; EXPIRATION_COUNT],
+    dues: &[u32; EXPIRATION_COUNT],
+    event: Event,
+    task: u8,
+) -> Step
+    requires { ⌜ (length (now handles) ≡ 96) × SizedEntries (now clocks) (now named) (now dues) ⌝ }
+    ensures { λ r. ⌜ FollowsBeside (Use (Schedule event task)) h (now (handles .entry)) (now (clocks .entry)) (now (named .entry)) (now (dues .entry)) (r .answer) (r .head) (now (handles .exit)) (now (clocks .exit)) (now (named .entry)) (now (dues .entry)) ⌝ }
+{
+    let before = h.tasks;
+    let time = h.global;
+    let planned = plan(before, time, event, task);
+    let answer = planned.answer;
+    let tasks = planned.tasks;
+    let global = planned.global;
+    let local = planned.local;
+    let head = Head {
+        tasks: tasks,
+        global: global,
+        given: h.given,
+    };
+    if !planned.ends {
+        return Step {
+            answer: answer,
+            head: head,
+        };
+    }
+    let passing = Passing {
+        task: task,
+        leaves: planned.leaves,
+        local: local,
+        advanced: planned.advanced,
+        global: global,
+    };
+    end(passing, handles, clocks, named, dues);
+    Step {
+        answer: answer,
+        head: head,
+    }
+}
+
+// Takes a free block for an object, and sets its first expiration.
+pub fn make(
+    h: Head,
+    handles: &mut [u32; BLOCK_COUNT],
+    lengths: &mut [u16; BLOCK_COUNT],
+    clocks: &mut [u8; EXPIRATION_COUNT],
+    named: &mut [u8; EXPIRATION_COUNT],
+    dues: &mut [u32; EXPIRATION_COUNT],
+    small: &mut [u8],
+    large: &mut [u8],
+    task: u8,
+    kind: Kind,
+    extension: u8,
+    size: u16,
+) -> Step
+    requires { ⌜ Sized (now handles) (now lengths) (now clocks) (now named) (now dues) × Ready (Use (Make task kind extension size)) (pooled h (now handles) (now lengths) (now clocks) (now named) (now dues)) (now small) (now large) ⌝ }
+    ensures { λ r. ⌜ Sized (now (handles .exit)) (now (lengths .exit)) (now (clocks .exit)) (now (named .exit)) (now (dues .exit)) × Makes task kind extension size (pooled h (now (handles .entry)) (now (lengths .entry)) (now (clocks .entry)) (now (named .entry)) (now (dues .entry))) (now (small .entry)) (now (large .entry)) (outcomeOf r (now (handles .exit)) (now (lengths .exit)) (now (clocks .exit)) (now (named .exit)) (now (dues .exit))) (now (small .exit)) (now (large .exit)) ⌝ }
+{
+    let plan = plan_make(h, handles, standing(clocks), task, extension, size);
+    let verdict = plan.verdict;
+    let place = plan.place;
+    let Verdict::Accepted = verdict else {
+        return refused_by(verdict, h);
+    };
+    set(h, kind, task, extension, place, clocks, named, dues);
+    clear_place(small, large, place);
+    let handle = h.given + 1;
+    handles[place] = handle;
+    lengths[place] = size;
+    Step {
+        answer: Answer::Handle(handle),
+        head: with_given(h, handle),
+    }
+}
+
+// Sets one more expiration.
+pub fn refresh(
+    h: Head,
+    handles: &[u32; BLOCK_COUNT],
+    clocks: &mut [u8; EXPIRATION_COUNT],
+    named: &mut [u8; EXPIRATION_COUNT],
+    dues: &mut [u32; EXPIRATION_COUNT],
+    task: u8,
+    kind: Kind,
+    extension: u8,
+    handle: u32,
+) -> Step
+    requires { ⌜ (length (now handles) ≡ 96) × SizedEntries (now clocks) (now named) (now dues) ⌝ }
+    ensures { λ r. ⌜ FollowsBeside (Use (Refresh task kind extension handle)) h (now (handles .entry)) (now (clocks .entry)) (now (named .entry)) (now (dues .entry)) (r .answer) (r .head) (now (handles .entry)) (now (clocks .exit)) (now (named .exit)) (now (dues .exit)) ⌝ }
+{
+    let plan = plan_refresh(h, handles, standing(clocks), task, extension, handle);
+    let verdict = plan.verdict;
+    let place = plan.place;
+    let Verdict::Accepted = verdict else {
+        return refused_by(verdict, h);
+    };
+    set(h, kind, task, extension, place, clocks, named, dues);
+    Step {
+        answer: Answer::Done,
+        head: h,
+    }
+}
+
+// Replaces bytes of an object; the record stays.
+pub fn write<'a>(
+    h: Head,
+    handles: &'a [u32; BLOCK_COUNT],
+    lengths: &'a [u16; BLOCK_COUNT],
+    small: &mut [u8],
+    large: &mut [u8],
+    task: u8,
+    handle: u32,
+    offset: u8,
+    bytes: &[u8],
+) -> Answer
+    requires { ⌜ SizedBlocks (now handles) (now lengths) × ReadyBeside (Use (Write task handle offset)) h (now handles) (now lengths) (now small) (now large) ⌝ }
+    ensures { λ r. ⌜ WritesBeside task handle offset (now (bytes .entry)) h (now (handles .entry)) (now (lengths .entry)) (now (small .entry)) (now (large .entry)) r (now (small .exit)) (now (large .exit)) ⌝ }
+{
+    match find_for_write(h, handles, lengths, task, handle, offset, bytes.len()) {
+        Found::Refused(why) => Answer::Refused(why),
+        Found::At { block, length: _ } => {
+            write_place(small, large, block, offset as usize, bytes);
+            Answer::Done
+        }
+    }
+}

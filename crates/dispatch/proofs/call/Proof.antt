@@ -1,0 +1,43 @@
+-- One of the nine, or report.
+use mathlib.Core.Path.{ap, _∙_}
+use borrow.Author.Needs.{needs}
+use Rattle.ledger.specs.declared.Answer.the-variants.{Counted}
+use Rattle.dispatch.specs.Done.{withoutBytes}
+use Rattle.dispatch.proofs.Arms.{ready-for, report-arm, use-arm}
+use Rattle.dispatch.proofs.call.Statement.{statement}
+use Rattle.dispatch.proofs.call.Tie as tie
+
+serve-requires : tie.Need-serve-requires
+serve-requires c κs =
+    let told = c .before .before .before .before .before .before .before .before in
+    let s = told .before .before .before .before .before in
+    (s .pre .0, ready-for (s .pre .1) (told .request .given .1))
+
+returns : tie.Need-returns
+returns c =
+    let served = c .before .before .before .before in
+    let told = served .before .before .before .before .before .before .before .before .before in
+    let s = told .before .before .before .before .before in
+    use-arm _ (s .pre .0) (s .pre .1) (told .request .given .1) (served .serve .ensures)
+
+returns-2 : tie.Need-returns-2
+returns-2 c =
+    let told = c .before .before .before .before .before in
+    let s = told .before .before .before .before .before in
+    report-arm _ (s .pre .0) (s .pre .1) (told .enum-told .given .1)
+    (rw (c .without-bytes .ensures, c .before .usage .ensures, c .before .before .standing .ensures))
+
+pub call-spec : {M : Type 1} → statement M
+call-spec =
+    tie.close
+    (tie.spec
+    (λ c. search needs)
+    serve-requires
+    (λ c. search needs)
+    (λ c κs. search needs)
+    (λ c κs. search needs)
+    (λ c κs. search needs)
+    (λ c. search needs)
+    (λ c. search needs)
+    returns
+    returns-2)

@@ -1,0 +1,85 @@
+-- Each arm by what its call promises.
+use mathlib.Core.Path.{ap}
+use borrow.Author.Needs.{needs}
+use Rattle.ledger.specs.declared.Request.the-variants.{Use}
+use Rattle.record.proofs.Types.{head-typed}
+use Rattle.dispatch.proofs.Arms.{ready-for, schedule-arm, refresh-arm, make-arm, read-arm, write-ready, write-arm}
+use Rattle.dispatch.proofs.serve.Statement.{statement}
+use Rattle.dispatch.proofs.serve.Tie as tie
+
+-- where the arms begin
+abbrev start : tie.After-shared-slice-known → tie.Start
+start c = c .before .before .before
+
+make-requires : tie.Need-make-requires
+make-requires c κs =
+    let made = c .before .before .before .before .before .before .before .before in
+    let s = start (made .before .before) in
+    (s .pre .0, ready-for (s .pre .1) (ap Use (made .call2 .given .1)))
+
+write-requires : tie.Need-write-requires
+write-requires c κs =
+    let written = c .before .before .before .before .before in
+    let s = start (written .before .before) in
+    (s .pre .0 .blocks, write-ready (s .pre .0) (s .pre .1) (written .call5 .given .1))
+
+returns : tie.Need-returns
+returns c =
+    let told = c .before .before .before .before .before .before .before .before in
+    let s = start (told .before .before) in
+    schedule-arm _ (s .pre .0) (s .pre .1) (told .call .given .1) (c .before .before .schedule .ensures) (c .without-bytes .ensures)
+
+returns-2 : tie.Need-returns-2
+returns-2 c =
+    let made = c .before .before .before .before .before .before in
+    let told = made .before .before .before .before .before .before .before .before .before in
+    let s = start (told .before .before) in
+    make-arm _ (s .pre .0) (s .pre .1) (told .call2 .given .1) (made .make .ensures) (c .without-bytes2 .ensures)
+
+returns-3 : tie.Need-returns-3
+returns-3 c =
+    let told = c .before .before .before .before .before .before .before .before in
+    let s = start (told .before .before) in
+    refresh-arm _ (s .pre .0) (s .pre .1) (told .call3 .given .1) (c .before .before .refresh .ensures) (c .without-bytes3 .ensures)
+
+returns-4 : tie.Need-returns-4
+returns-4 c =
+    let told = c .before .before .before .before .before in
+    let s = start (told .before .before) in
+    read-arm _ (s .pre .0) (s .pre .1) (head-typed _ _ (s .good .0)) (told .call4 .given .1) (c .before .find .ensures) (c .where-found .ensures)
+
+returns-5 : tie.Need-returns-5
+returns-5 c =
+    let written = c .before .before .before .before .before in
+    let told = written .before .before .before .before .before .before in
+    let s = start (told .before .before) in
+    write-arm _ (s .pre .0) (s .pre .1) (told .call5 .given .1) (written .write .ensures) (c .without-bytes4 .ensures)
+
+pub serve-spec : {M : Type 1} → statement M
+serve-spec =
+    tie.close
+    (tie.spec
+    (λ c. search needs)
+    (λ c κs. search needs)
+    (λ c κs. search needs)
+    (λ c. search needs)
+    make-requires
+    (λ c κs. search needs)
+    (λ c. search needs)
+    (λ c κs. search needs)
+    (λ c κs. search needs)
+    (λ c. search needs)
+    (λ c κs. search needs)
+    (λ c κs. search needs)
+    (λ c. search needs)
+    write-requires
+    (λ c κs. search needs)
+    returns
+    (λ c. search needs)
+    (λ c. search needs)
+    returns-2
+    returns-3
+    returns-4
+    (λ c. search needs)
+    (λ c. search needs)
+    returns-5)

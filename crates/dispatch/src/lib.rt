@@ -1,0 +1,179 @@
+// The one dispatch: a call of the ten by its request, on a head by value and lent tables and stores.
+ghost use mathlib.Core.Path.{_≡_};
+ghost use Rattle.ledger.specs.declared.Request.the-variants.{Use};
+ghost use Rattle.record.specs.Tables.{pooled, Sized};
+ghost use Rattle.calls.specs.Contract.{Ready};
+ghost use Rattle.calls.specs.Served.{Serves};
+ghost use Rattle.dispatch.specs.Done.{withoutBytes, whereFound, givenBack};
+use calls::make;
+use calls::refresh;
+use calls::schedule;
+use calls::write;
+use expirations::standing;
+use ledger::Answer;
+use ledger::Call;
+use ledger::Request;
+use objects::Found;
+use objects::find;
+use objects::usage;
+use record::BLOCK_COUNT;
+use record::EXPIRATION_COUNT;
+use record::Head;
+
+// What a call gives back. The bytes of a read are the first `length` of `block`; length is 0 for every other answer.
+pub struct Done {
+    pub answer: Answer,
+    pub head: Head,
+    pub block: usize,
+    pub length: u16,
+}
+
+fn without_bytes(answer: Answer, h: Head) -> Done
+    ensures { λ r. ⌜ r ≡ withoutBytes answer h ⌝ }
+{
+    Done {
+        answer: answer,
+        head: h,
+        block: 0,
+        length: 0,
+    }
+}
+
+fn where_found(found: Found, h: Head) -> Done
+    ensures { λ r. ⌜ r ≡ whereFound found h ⌝ }
+{
+    match found {
+        Found::Refused(why) => without_bytes(Answer::Refused(why), h),
+        Found::At { block, length } => Done {
+            answer: Answer::Bytes,
+            head: h,
+            block: block,
+            length: length,
+        },
+    }
+}
+
+fn serve(
+    h: Head,
+    handles: &mut [u32; BLOCK_COUNT],
+    lengths: &mut [u16; BLOCK_COUNT],
+    clocks: &mut [u8; EXPIRATION_COUNT],
+    named: &mut [u8; EXPIRATION_COUNT],
+    dues: &mut [u32; EXPIRATION_COUNT],
+    small: &mut [u8],
+    large: &mut [u8],
+    call: Call,
+    bytes: &[u8],
+) -> Done
+    requires { ⌜ Sized (now handles) (now lengths) (now clocks) (now named) (now dues) × Ready (Use call) (pooled h (now handles) (now lengths) (now clocks) (now named) (now dues)) (now small) (now large) ⌝ }
+    ensures { λ r. ⌜ Sized (now (handles .exit)) (now (lengths .exit)) (now (clocks .exit)) (now (named .exit)) (now (dues .exit)) × Serves (Use call) (now (bytes .entry)) (pooled h (now (handles .entry)) (now (lengths .entry)) (now (clocks .entry)) (now (named .entry)) (now (dues .entry))) (now (small .entry)) (now (large .entry)) (givenBack r (now (handles .exit)) (now (lengths .exit)) (now (clocks .exit)) (now (named .exit)) (now (dues .exit))) (now (small .exit)) (now (large .exit)) ⌝ }
+{
+    match call {
+        Call::Schedule { event, task } => {
+            let step = schedule(h, handles, clocks, named, dues, event, task);
+            let answer = step.answer;
+            let head = step.head;
+            without_bytes(answer, head)
+        }
+        Call::Make {
+            task,
+            kind,
+            extension,
+            length,
+        } => {
+            let step = make(
+                h,
+                handles,
+                lengths,
+                clocks,
+                named,
+                dues,
+                small,
+                large,
+                task,
+                kind,
+                extension,
+                length,
+            );
+            let answer = step.answer;
+            let head = step.head;
+            without_bytes(answer, head)
+        }
+        Call::Refresh {
+            task,
+            kind,
+            extension,
+            handle,
+        } => {
+            let step = refresh(
+                h,
+                handles,
+                clocks,
+                named,
+                dues,
+                task,
+                kind,
+                extension,
+                handle,
+            );
+            let answer = step.answer;
+            let head = step.head;
+            without_bytes(answer, head)
+        }
+        Call::Read { task, handle } => where_found(find(h, handles, lengths, task, handle), h),
+        Call::Write {
+            task,
+            handle,
+            offset,
+        } => without_bytes(
+            write(
+                h,
+                handles,
+                lengths,
+                small,
+                large,
+                task,
+                handle,
+                offset,
+                bytes,
+            ),
+            h,
+        ),
+    }
+}
+
+// One call of the ten, by its request. The bytes are those of a write; other calls leave them aside.
+pub fn call(
+    h: Head,
+    handles: &mut [u32; BLOCK_COUNT],
+    lengths: &mut [u16; BLOCK_COUNT],
+    clocks: &mut [u8; EXPIRATION_COUNT],
+    named: &mut [u8; EXPIRATION_COUNT],
+    dues: &mut [u32; EXPIRATION_COUNT],
+    small: &mut [u8],
+    large: &mut [u8],
+    request: Request,
+    bytes: &[u8],
+) -> Done
+    requires { ⌜ Sized (now handles) (now lengths) (now clocks) (now named) (now dues) × Ready request (pooled h (now handles) (now lengths) (now clocks) (now named) (now dues)) (now small) (now large) ⌝ }
+    ensures { λ r. ⌜ Sized (now (handles .exit)) (now (lengths .exit)) (now (clocks .exit)) (now (named .exit)) (now (dues .exit)) × Serves request (now (bytes .entry)) (pooled h (now (handles .entry)) (now (lengths .entry)) (now (clocks .entry)) (now (named .entry)) (now (dues .entry))) (now (small .entry)) (now (large .entry)) (givenBack r (now (handles .exit)) (now (lengths .exit)) (now (clocks .exit)) (now (named .exit)) (now (dues .exit))) (now (small .exit)) (now (large .exit)) ⌝ }
+{
+    match request {
+        Request::Use(c) => serve(
+            h,
+            handles,
+            lengths,
+            clocks,
+            named,
+            dues,
+            small,
+            large,
+            c,
+            bytes,
+        ),
+        Request::Report => without_bytes(
+            Answer::Counted(usage(h.given, handles, standing(clocks))),
+            h,
+        ),
+    }
+}

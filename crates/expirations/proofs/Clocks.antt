@@ -1,0 +1,73 @@
+-- What ends, by the number of a clock.
+use Prim.Native.Nat.{ℕ, _+_, _-_, _<_}
+use native.Mathlib.Omega.{arith}
+use mathlib.Core.Bool.{true, false, false≢true, _&&_, _||_, and-eq-true-iff, and-false, and-true, or-false}
+use mathlib.Core.Path.{_≡_, refl, sym, _∙_}
+use borrow.Author.Tests.{eqb-true, eq-eqb, ne-eqb, leb-true, le-leb, lt-ltb}
+use lib.Dec.{eqb, leb, ltb}
+use Rattle.lists.proofs.Cases.{by-test, refuted}
+use Rattle.record.specs.Codes.{dueBy, isDueLocal, isDueGlobal}
+use Rattle.record.specs.declared.Due.{Due}
+use Rattle.record.specs.declared.Due.the-variants.{Free, Local, Global, Unknown}
+use Rattle.record.specs.declared.GlobalTime.{GlobalTime}
+use Rattle.record.proofs.Asked.{asked-local, asked-global}
+use Rattle.expirations.specs.Ending.{isEnding, isEndingLocal}
+use Rattle.expirations.specs.declared.Passing.{Passing}
+
+-- only what goes by the global time
+pub global-clock : (now : GlobalTime) (clock due : ℕ) → isDueGlobal now (dueBy clock due) ≡ true → eqb clock 32 ≡ true
+global-clock now clock due e = and-eq-true-iff (eqb clock 32) _ .0 (asked-global clock due now ∙ e) .0
+
+module _ (t : Passing) where
+  -- by either clock
+  pub by-either : (due : Due) → isEnding t due ≡ (isEndingLocal t due || t .advanced && isDueGlobal (t .global) due)
+  by-either Free = sym (and-false (t .advanced))
+  by-either (Local setter at) = rw (and-false (t .advanced)) (sym (or-false _))
+  by-either (Global at) = refl
+  by-either Unknown = sym (and-false (t .advanced))
+
+  module _ (clock due : ℕ) where
+    pub local-ends : isEndingLocal t (dueBy clock due) ≡ true → isEnding t (dueBy clock due) ≡ true
+    local-ends e = rw (by-either (dueBy clock due), e)
+
+    -- where it does not end by its task's clock
+    module _ (e : isEndingLocal t (dueBy clock due) ≡ false) where
+      pub neither-ends : t .advanced ≡ false → isEnding t (dueBy clock due) ≡ false
+      neither-ends a = rw (by-either (dueBy clock due), e, a)
+
+      pub global-ends : t .advanced ≡ true → isDueGlobal (t .global) (dueBy clock due) ≡ isEnding t (dueBy clock due)
+      global-ends a = rw (by-either (dueBy clock due), e, a)
+
+  -- only what goes by the task's clock
+  pub local-clock : (clock due : ℕ) → isEndingLocal t (dueBy clock due) ≡ true → eqb clock (16 + t .task) ≡ true
+  unfolding dueBy
+  local-clock clock due e =
+      by-test (eqb clock 0)
+      (λ z. absurd (false≢true (rw z at e)))
+      (λ z.
+      by-test (eqb clock 32)
+      (λ g. absurd (false≢true (rw (z, g) at e)))
+      (λ g.
+      by-test (leb 16 clock && ltb clock 32)
+      (λ l.
+      let least = leb-true 16 clock (and-eq-true-iff _ _ .0 l .0) in
+      let same = eqb-true (clock - 16) (t .task) (and-eq-true-iff _ _ .0 (rw (z, g, l) at e) .0) in
+      eq-eqb clock (16 + t .task) (omega arith))
+      (λ l. absurd (false≢true (rw (z, g, l) at e)))))
+
+  module _ (known : t .task < 16) where
+    own-due : (due : ℕ) → dueBy (16 + t .task) due ≡ Local (t .task) (record { 0 = due })
+    unfolding dueBy
+    own-due due =
+        let same : 16 + t .task - 16 ≡ t .task = omega arith in
+        rw (ne-eqb (16 + t .task) 0 (omega arith), ne-eqb (16 + t .task) 32 (omega arith), le-leb 16 (16 + t .task) (omega arith), lt-ltb (16 + t .task) 32 (omega arith), same)
+
+    pub by-local : (clock due : ℕ)
+        → (t .leaves && eqb clock (16 + t .task) || isDueLocal (t .task) (t .local) (dueBy clock due)) ≡ isEndingLocal t (dueBy clock due)
+    by-local clock due =
+        by-test (eqb clock (16 + t .task))
+        (λ e.
+        rw (e, eqb-true clock (16 + t .task) e, own-due due, eq-eqb (t .task) (t .task) refl, and-true))
+        (λ e.
+        rw (e, and-false, ← asked-local clock due (t .task) (t .local) known, e)
+        (sym (refuted (isEndingLocal t (dueBy clock due)) (λ h. false≢true (sym e ∙ local-clock clock due h)))))

@@ -1,0 +1,61 @@
+-- Entries in use counted, and a free one found and set.
+use Prim.Native.Nat.{ℕ, suc, _+_, _-_, _≤_, _<_}
+use native.Mathlib.Omega.{arith}
+use mathlib.Core.Bool.{Bool}
+use mathlib.Core.List.{List, [], _∷_, map}
+use mathlib.Core.Path.{_≡_, refl, sym, _∙_, ap}
+use borrow.Author.Tests.{lt-leb, leb-false}
+use lib.Dec.{eqb}
+use lib.ListN.{length, set, take, drop, length-set, length-take, length-drop, take-append-drop}
+use lib.Seq.{take-all}
+use Rattle.lists.specs.Tables.{firstFrom}
+use Rattle.lists.proofs.Counts.{count-append, length-filter}
+use Rattle.lists.proofs.Filters.{count-length}
+use Rattle.lists.proofs.First.{first-full}
+use Rattle.lists.proofs.Loops.{Scanned}
+use Rattle.record.specs.Tables.{ExpirationEntry, entriesOf, SizedEntries}
+use Rattle.record.proofs.Columns.{clocks-of, entries-set}
+use Rattle.steps.specs.Objects.{freeSlot}
+use Rattle.expirations.specs.Setting.{entryOf, Sets}
+use Rattle.expirations.specs.declared.Entry.{Entry}
+use Rattle.expirations.specs.Standing.{isUsedClock, standingOf, freeIn}
+
+abbrev pub isFree : ℕ → Bool
+isFree clock = eqb clock 0
+
+-- so far there are no more than the part has
+pub part-within : (from to m : ℕ) {clocks : List ℕ} {i : ℕ}
+    → Scanned (standingOf (drop from (take to clocks))) clocks to i (λ ys. m + standingOf ys) → m ≤ to - from
+part-within from to m {clocks} s =
+    let part = drop from (take to clocks) in
+    omega (arith, s .so, count-length isUsedClock part, length-filter isUsedClock part, length-drop from (take to clocks), length-take to clocks)
+
+pub halves : (clocks : List ℕ) → length clocks ≡ 256
+    → standingOf clocks ≡ standingOf (drop 0 (take 128 clocks)) + standingOf (drop 128 (take 256 clocks))
+halves clocks h =
+    ap standingOf (sym (take-append-drop 128 clocks))
+    ∙ count-append isUsedClock (take 128 clocks) (drop 128 clocks)
+    ∙ rw (take-all 256 clocks (omega arith))
+
+-- where fewer stand than there are entries, there is a free one
+pub free-within : {clocks named dues : List ℕ} {at : ℕ} → SizedEntries clocks named dues → standingOf clocks < 256 → at ≡ freeIn clocks → at < 256
+free-within {clocks} s k e =
+    let full = sym (first-full isFree 0 clocks) ∙ lt-leb (length clocks) (standingOf clocks) (omega (arith, s .of-clocks)) in
+    omega (arith, s .of-clocks, leb-false (0 + length clocks) (freeIn clocks) full)
+
+first-map {ℓ κ} : {A : Type ℓ} {B : Type κ} (p : B → Bool) (f : A → B) (i : ℕ) (xs : List A)
+    → firstFrom i p (map f xs) ≡ firstFrom i (λ (x : A). p (f x)) xs
+first-map p f i [] = refl
+first-map p f i (x ∷ xs) = rw (first-map p f (suc i) xs)
+
+-- an entry put into all columns
+pub put-entry : (e : Entry) {clocks named dues : List ℕ} {at : ℕ} → SizedEntries clocks named dues → at ≡ freeIn clocks
+    → Sets e clocks named dues (set clocks at (e .clock)) (set named at (e .block)) (set dues at (e .due))
+put-entry e {clocks} {named} {dues} {at} s h =
+    let xs = entriesOf clocks named dues in
+    let free : at ≡ freeSlot xs =
+    h ∙ ap freeIn (sym (clocks-of clocks named dues (s .of-clocks) (s .of-named) (s .of-dues))) ∙ first-map isFree (λ (x : ExpirationEntry). x .clock) 0 xs in
+    record {
+      sized = record { of-clocks = simp length-set (s .of-clocks); of-named = simp length-set (s .of-named); of-dues = simp length-set (s .of-dues) };
+      entries = entries-set clocks named dues at (e .clock) (e .block) (e .due) ∙ ap (λ (i : ℕ). set xs i (entryOf e)) free;
+    }

@@ -1,0 +1,5 @@
+pub mod Places
+pub mod Clocks
+pub mod Counting
+pub mod Flags
+pub mod Tables

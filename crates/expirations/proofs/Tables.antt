@@ -1,0 +1,155 @@
+-- What was asked and changed by places, as the tables have it.
+use Prim.Native.Nat.{ℕ, zero, suc, _≤_, _<_}
+use native.Mathlib.Omega.{arith}
+use mathlib.Core.Bool.{Bool, true, false, cond, _||_}
+use mathlib.Core.List.{List, [], _∷_, map}
+use mathlib.Core.Path.{_≡_, refl, sym, _∙_, ap}
+use borrow.Author.Tests.{eqb-true, eqb-false, ltb-true, ltb-false, le-leb, lt-leb}
+use lib.Dec.{eqb, leb, ltb}
+use lib.ListN.{length, getD, length-map, List·getD-map}
+use lib.Seq.{ext-getD}
+use Rattle.lists.specs.Tables.{mapFrom}
+use Rattle.lists.specs.Tests.{any}
+use Rattle.lists.proofs.Cases.{by-test, or-right, cond-same}
+use Rattle.lists.proofs.Tables.{length-mapFrom, getD-mapFrom}
+use Rattle.record.specs.Codes.{dueBy, dueOf, isDated, freeBlock, freeEntry, freedBlock, freedEntry}
+use Rattle.record.specs.Tables.{ExpirationEntry, blockEntry, expirationEntry, blocksOf, entriesOf, SizedEntries}
+use Rattle.record.specs.WellFormed.{isNaming}
+use Rattle.record.proofs.Columns.{length-blocks, block-at, length-entries, entry-at}
+use Rattle.steps.specs.Events.{keptBlock}
+use Rattle.expirations.specs.Ending.{isEnding, endedEntry, isEndingAt, Ended, Ends}
+use Rattle.expirations.specs.Places.{Asked, Changed}
+use Rattle.expirations.specs.Releasing.{Flags, keptByFlag}
+use Rattle.expirations.specs.Standing.{isDatedClock}
+use Rattle.expirations.specs.declared.Passing.{Passing}
+use Rattle.expirations.proofs.Places.{asked-start, asked-join, asked-same, asked-end, changed-start, changed-join, changed-end}
+
+module _ {ℓ} {A : Type ℓ} (p : A → Bool) (d : A) where
+  any-none : (xs : List A) → ((k : ℕ) → k < length xs → p (getD xs k d) ≡ false) → any p xs ≡ false
+  any-none [] h = refl
+  any-none (x ∷ xs) h = rw (h 0 (omega arith)) (any-none xs (λ k l. h (suc k) (omega arith)))
+
+  any-place : (xs : List A) (k : ℕ) → k < length xs → p (getD xs k d) ≡ true → any p xs ≡ true
+  any-place [] k l e = absurd (omega arith)
+  any-place (x ∷ xs) zero l e = rw e
+  any-place (x ∷ xs) (suc k) l e = or-right (p x) (any-place xs k (omega arith) e)
+
+  -- all places asked
+  asked-any : (xs : List A) {n : ℕ} {r : Bool} → length xs ≡ n → Asked (λ k. p (getD xs k d)) 0 n r → r ≡ any p xs
+  asked-any xs {r = r} e s =
+      by-test r
+      (λ t. let (k, l, m, h) = s .some t in t ∙ sym (any-place xs k (omega arith) h))
+      (λ t. t ∙ sym (any-none xs (λ k l. s .none t k (omega arith) (omega arith))))
+
+-- groups one after the other
+module _ (t : Passing) (dues : List ℕ) where
+  pub ended-start : (clocks : List ℕ) → Ended t dues 0 0 clocks clocks false
+  ended-start clocks = record { changed = changed-start 0 clocks; asked = asked-start (isEndingAt t clocks dues) 0 }
+
+module _ {t : Passing} {dues xs ys : List ℕ} {a b : ℕ} {r : Bool} (s : Ended t dues a b xs ys r) where
+  pub ended-join : {c : ℕ} {zs : List ℕ} {r′ : Bool} → Ended t dues b c ys zs r′ → Ended t dues a c xs zs (r || r′)
+  ended-join z =
+      record {
+        changed = changed-join (s .changed) (z .changed);
+        asked = asked-join (s .asked) (asked-same (z .asked) (λ k l m. rw (s .changed .after k l)));
+      }
+
+  pub ended-end : {c : ℕ} → b ≤ c → c ≤ b → Ended t dues a c xs ys r
+  ended-end h k = record { changed = changed-end (s .changed) h k; asked = asked-end (s .asked) h k }
+
+-- the clock of an expiration in use
+dated-clock : (clock due : ℕ) → isDatedClock clock ≡ isDated (dueBy clock due)
+unfolding dueBy
+dated-clock clock due =
+    by-test (eqb clock 0)
+    (λ z. rw (eqb-true clock 0 z))
+    (λ z.
+    by-test (eqb clock 32)
+    (λ g. rw (eqb-true clock 32 g))
+    (λ g.
+    by-test (ltb clock 32)
+    (λ l. by-test (leb 16 clock) (λ m. rw (z, g, l, m, le-leb clock 32 (omega (arith, ltb-true clock 32 l)))) (λ m. rw (z, g, l, m)))
+    (λ l.
+    let past : 32 < clock = omega (arith, ltb-false clock 32 l, eqb-false clock 32 g) in
+    rw (z, g, l, le-leb 16 clock (omega arith), lt-leb clock 32 past))))
+
+-- what a test of the entries finds, by a test of their numbers at each place
+module _ {cs ns ds : List ℕ} (sized : SizedEntries cs ns ds) where
+  size-of : length (entriesOf cs ns ds) ≡ 256
+  size-of = length-entries cs ns ds (sized .of-clocks) (sized .of-named) (sized .of-dues)
+
+  entry-of : (k : ℕ) → getD (entriesOf cs ns ds) k freeEntry ≡ expirationEntry (getD cs k 0) (getD ns k 0) (getD ds k 0)
+  entry-of = entry-at cs ns ds (sized .of-clocks) (sized .of-named) (sized .of-dues)
+
+  asked-entries : (p : ExpirationEntry → Bool) {q : ℕ → Bool} {r : Bool}
+      → ((k : ℕ) → q k ≡ p (expirationEntry (getD cs k 0) (getD ns k 0) (getD ds k 0))) → Asked q 0 256 r → r ≡ any p (entriesOf cs ns ds)
+  asked-entries p f s = asked-any p freeEntry (entriesOf cs ns ds) size-of (asked-same s (λ k l m. f k ∙ ap p (sym (entry-of k))))
+
+-- a block is named where its flag is set
+flag-names : {cs ns ds : List ℕ} {flags : List Bool} → Flags cs ns 256 flags → SizedEntries cs ns ds → (block : ℕ) → block < 256
+    → getD flags block false ≡ any (isNaming block) (entriesOf cs ns ds)
+flag-names {cs} {ns} {ds} s sized block l =
+    asked-entries sized (isNaming block) (λ k. rw (dated-clock (getD cs k 0) (getD ds k 0))) (s .so block l)
+
+-- a block by its flag
+kept-entry : (flag : Bool) (handle size : ℕ) → blockEntry (cond flag handle 0) size ≡ cond flag (blockEntry handle size) (freedBlock (blockEntry handle size))
+kept-entry true handle size = refl
+kept-entry false handle size = refl
+
+-- the blocks after their handles are kept by the flags
+released : {cs ns hs hs′ : List ℕ} {flags : List Bool} (ls ds : List ℕ) → Flags cs ns 256 flags → Changed 0 (keptByFlag flags) 0 96 hs hs′
+    → SizedEntries cs ns ds → length hs ≡ 96 → length ls ≡ 96 → blocksOf hs′ ls ≡ mapFrom 0 (keptBlock (entriesOf cs ns ds)) (blocksOf hs ls)
+released {cs} {ns} {hs} {hs′} {flags} ls ds s z sized h l =
+    let xs = entriesOf cs ns ds in
+    let blocks = blocksOf hs ls in
+    let size = length-blocks hs′ ls (z .size ∙ h) l in
+    ext-getD freeBlock (blocksOf hs′ ls) (mapFrom 0 (keptBlock xs) blocks)
+    (size ∙ sym (length-mapFrom 0 (keptBlock xs) blocks ∙ length-blocks hs ls h l))
+    (λ k m.
+    let within : k < 96 = omega arith in
+    rw (block-at hs′ ls (z .size ∙ h) l k, z .inside k (omega arith) within, getD-mapFrom freeBlock (keptBlock xs) (λ i. cond-same (any (isNaming i) xs) freeBlock) blocks k, block-at hs ls h l k, ← flag-names s sized k (omega arith))
+    (kept-entry (getD flags k false) (getD hs k 0) (getD ls k 0)))
+
+-- an entry by whether it ends
+ended-entry : (ends : Bool) (clock block due : ℕ)
+    → expirationEntry (cond ends 0 clock) block due ≡ cond ends (freedEntry (expirationEntry clock block due)) (expirationEntry clock block due)
+ended-entry true clock block due = refl
+ended-entry false clock block due = refl
+
+module _ {t : Passing} {cs ns ds cs′ : List ℕ} {r : Bool} (s : Ended t ds 0 256 cs cs′ r) (sized : SizedEntries cs ns ds) where
+  sized′ : SizedEntries cs′ ns ds
+  sized′ = record { of-clocks = s .changed .size ∙ sized .of-clocks; of-named = sized .of-named; of-dues = sized .of-dues }
+
+  -- the entries after what is over is ended
+  ended-entries : entriesOf cs′ ns ds ≡ map (endedEntry t) (entriesOf cs ns ds)
+  unfolding dueBy
+  ended-entries =
+      let xs = entriesOf cs ns ds in
+      let size = size-of sized′ in
+      ext-getD freeEntry (entriesOf cs′ ns ds) (map (endedEntry t) xs)
+      (size ∙ sym (length-map xs (endedEntry t) ∙ size-of sized))
+      (λ k m.
+      entry-of sized′ k
+      ∙ rw (s .changed .inside k (omega arith) (omega arith)) (ended-entry (isEndingAt t cs ds k) (getD cs k 0) (getD ns k 0) (getD ds k 0))
+      ∙ ap (endedEntry t) (sym (entry-of sized k))
+      ∙ sym (List·getD-map (endedEntry t) xs k freeEntry))
+
+  -- and whether any was
+  ended-any : r ≡ any (λ (e : ExpirationEntry). isEnding t (dueOf e)) (entriesOf cs ns ds)
+  ended-any = asked-entries sized _ (λ k. refl) (s .asked)
+
+  module _ {hs : List ℕ} (h : length hs ≡ 96) where
+    -- where any was, blocks are released
+    pub ends-some : {hs′ : List ℕ} {flags : List Bool} → r ≡ true → Flags cs′ ns 256 flags → Changed 0 (keptByFlag flags) 0 96 hs hs′
+        → Ends t ns ds hs cs hs′ cs′
+    ends-some e f z =
+        record {
+          handlesSize = z .size ∙ h;
+          clocksSize = sized′ .of-clocks;
+          entries = ended-entries;
+          blocks = λ ls l. rw (← ended-any, e) (released ls ds f z sized′ h l);
+        }
+
+    -- and else nothing changes
+    pub ends-none : r ≡ false → Ends t ns ds hs cs hs cs′
+    ends-none e = record { handlesSize = h; clocksSize = sized′ .of-clocks; entries = ended-entries; blocks = λ ls l. rw (← ended-any, e) }

@@ -1,0 +1,29 @@
+-- Clock by clock, to the end of the range.
+use Prim.Native.Nat.{_≤_, _-_}
+use native.Mathlib.Omega.{arith}
+use mathlib.Core.Path.{refl}
+use borrow.Author.Needs.{needs}
+use Rattle.expirations.specs.Places.{Asked}
+use Rattle.expirations.specs.Standing.{isClockAt}
+use Rattle.expirations.proofs.Places.{asked-start, asked-turn, asked-end}
+use Rattle.expirations.proofs.asking.has_clock.Statement.{statement}
+use Rattle.expirations.proofs.asking.has_clock.Tie as tie
+
+abbrev Inv-loop : tie.InvT-loop
+Inv-loop clocks clock from to some₀ i₀ some i = (i ≤ to) × Asked (isClockAt clock clocks) from i some
+
+abbrev μ-loop : tie.MeasureT-loop
+μ-loop clocks clock from to some₀ i₀ some i = to - i
+
+pub has-clock-spec : {M : Type 1} → statement M
+has-clock-spec =
+    tie.close
+    (tie.spec
+    Inv-loop
+    μ-loop
+    (λ c. (omega arith, asked-start _ _))
+    (λ c. omega arith)
+    (λ c. omega arith)
+    (λ c. omega arith)
+    (λ c. (omega arith, asked-turn (c .before .before .loop .inv .1) refl))
+    (λ c. asked-end (c .before .loop .inv .1) (omega arith) (omega arith)))

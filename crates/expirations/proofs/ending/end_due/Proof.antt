@@ -1,0 +1,28 @@
+-- Group by group.
+use Prim.Native.Nat.{_*_, _≤_, _-_}
+use native.Mathlib.Omega.{arith}
+use mathlib.Core.Path.{_∙_}
+use Rattle.expirations.specs.Ending.{Ended}
+use Rattle.expirations.proofs.Tables.{ended-start, ended-join, ended-end}
+use Rattle.expirations.proofs.ending.end_due.Statement.{statement}
+use Rattle.expirations.proofs.ending.end_due.Tie as tie
+
+abbrev Inv-loop : tie.InvT-loop
+Inv-loop t clocks₀ dues some₀ g₀ clocks some g = (g ≤ 8) × Ended t dues 0 (g * 32) clocks₀ clocks some
+
+abbrev μ-loop : tie.MeasureT-loop
+μ-loop t clocks₀ dues some₀ g₀ clocks some g = 8 - g
+
+pub end-due-spec : {M : Type 1} → statement M
+end-due-spec =
+    tie.close
+    (tie.spec
+    Inv-loop
+    μ-loop
+    (λ c. (omega arith, ended-start _ _ _))
+    (λ c. omega arith)
+    (λ c κs. let start = c .before .before .before in (start .pre .0, c .before .before .loop .inv .1 .changed .size ∙ start .pre .1, start .pre .2, omega arith))
+    (λ c. omega arith)
+    (λ c. omega arith)
+    (λ c. (omega arith, ended-end (ended-join (c .before .before .before .loop .inv .1) (c .end-in .ensures)) (omega arith) (omega arith)))
+    (λ c. ended-end (c .before .loop .inv .1) (omega arith) (omega arith)))

@@ -1,0 +1,5 @@
+pub mod Places
+pub mod Standing
+pub mod Setting
+pub mod Ending
+pub mod Releasing

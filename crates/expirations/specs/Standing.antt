@@ -1,0 +1,31 @@
+-- Which entries are in use, and how many, by their clocks.
+use Prim.Native.Nat.{ℕ}
+use mathlib.Core.Bool.{Bool, not, _&&_}
+use mathlib.Core.List.{List}
+use lib.Dec.{eqb, leb}
+use lib.ListN.{getD}
+use Rattle.lists.specs.Tests.{count}
+use Rattle.lists.specs.Tables.{firstFrom}
+
+-- the clock of an entry in use
+abbrev pub isUsedClock : ℕ → Bool
+isUsedClock clock = not (eqb clock 0)
+
+-- how many expirations stand
+abbrev pub standingOf : List ℕ → ℕ
+standingOf clocks = count isUsedClock clocks
+
+-- the first free entry, or their count
+abbrev pub freeIn : List ℕ → ℕ
+freeIn clocks = firstFrom 0 (λ (clock : ℕ). eqb clock 0) clocks
+
+-- the clock of an expiration: of a task, or the global time
+abbrev pub isDatedClock : ℕ → Bool
+isDatedClock clock = leb 16 clock && leb clock 32
+
+-- what the entry at a place has
+abbrev pub isClockAt : ℕ → List ℕ → ℕ → Bool
+isClockAt clock clocks k = eqb (getD clocks k 0) clock
+
+abbrev pub isDatedAt : List ℕ → ℕ → Bool
+isDatedAt clocks k = isDatedClock (getD clocks k 0)

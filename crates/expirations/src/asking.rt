@@ -1,0 +1,82 @@
+// Entries asked by their clocks alone, many at a time: most are free, and then the other columns are not looked at. Loops that count or ask have no way out before
+// the end, so that many bytes are compared at once.
+ghost use Prim.Native.Nat.{_+_, _≤_};
+ghost use mathlib.Core.Path.{_≡_};
+ghost use lib.ListN.{length, take, drop};
+ghost use Rattle.expirations.specs.Places.{Asked};
+ghost use Rattle.expirations.specs.Standing.{standingOf, freeIn, isDatedClock, isClockAt, isDatedAt};
+use record::EXPIRATION_COUNT;
+use record::codes::FREE;
+use record::codes::GLOBAL;
+use record::codes::LOCAL;
+
+// Entries of which a byte can hold the count.
+pub const HALF: usize = EXPIRATION_COUNT / 2;
+
+// How many stand in one half.
+pub fn standing_in(clocks: &[u8; EXPIRATION_COUNT], from: usize) -> u8
+    requires { ⌜ (length (now clocks) ≡ 256) × (from + 128 ≤ 256) ⌝ }
+    ensures { λ r. ⌜ r ≡ standingOf (drop from (take (from + 128) (now (clocks .entry)))) ⌝ }
+{
+    let mut n: u8 = 0;
+    for i in from..from + HALF {
+        n += (clocks[i] != FREE) as u8;
+    }
+    n
+}
+
+// The entries of a group, and the groups.
+pub const GROUP: usize = 32;
+
+pub const GROUP_COUNT: usize = EXPIRATION_COUNT / GROUP;
+
+// Whether one of these entries has this clock.
+pub fn has_clock(clocks: &[u8; EXPIRATION_COUNT], clock: u8, from: usize, to: usize) -> bool
+    requires { ⌜ (length (now clocks) ≡ 256) × (from ≤ to) × (to ≤ 256) ⌝ }
+    ensures { λ r. ⌜ Asked (isClockAt clock (now (clocks .entry))) from to r ⌝ }
+{
+    let mut some = false;
+    for i in from..to {
+        some = some | (clocks[i] == clock);
+    }
+    some
+}
+
+// The first free entry: sixteen at a time, then one by one.
+pub fn free_entry(clocks: &[u8; EXPIRATION_COUNT]) -> usize
+    requires { ⌜ length (now clocks) ≡ 256 ⌝ }
+    ensures { λ r. ⌜ r ≡ freeIn (now (clocks .entry)) ⌝ }
+{
+    let mut n = 0;
+    while n <= EXPIRATION_COUNT - 16 {
+        if has_clock(clocks, FREE, n, n + 16) {
+            break;
+        }
+        n = n + 16;
+    }
+    for i in n..EXPIRATION_COUNT {
+        if clocks[i] == FREE {
+            return i;
+        }
+    }
+    EXPIRATION_COUNT
+}
+
+// The clock of an expiration.
+pub fn is_dated(clock: u8) -> bool
+    ensures { λ r. ⌜ r ≡ isDatedClock clock ⌝ }
+{
+    (LOCAL <= clock) & (clock <= GLOBAL)
+}
+
+// Whether one of a group is in use.
+pub fn any_dated(clocks: &[u8; EXPIRATION_COUNT], from: usize) -> bool
+    requires { ⌜ (length (now clocks) ≡ 256) × (from + 32 ≤ 256) ⌝ }
+    ensures { λ r. ⌜ Asked (isDatedAt (now (clocks .entry))) from (from + 32) r ⌝ }
+{
+    let mut some = false;
+    for i in from..from + GROUP {
+        some = some | is_dated(clocks[i]);
+    }
+    some
+}

@@ -1,0 +1,134 @@
+// The end of expirations that are due or were a leaver's own, group by group: one where no clock is asked for is passed by.
+ghost use Prim.Native.Nat.{_+_, _≤_, _<_};
+ghost use mathlib.Core.Bool.{cond};
+ghost use mathlib.Core.Path.{_≡_};
+ghost use lib.ListN.{length};
+ghost use Rattle.record.specs.Codes.{dueBy};
+ghost use Rattle.expirations.specs.Places.{Asked};
+ghost use Rattle.expirations.specs.Ending.{isEnding, isEndingLocal, isEndingAt, isLocalAt, isGlobalAt, Ended};
+use super::Passing;
+use super::asking::GROUP;
+use super::asking::GROUP_COUNT;
+use super::asking::has_clock;
+use record::EXPIRATION_COUNT;
+use record::GlobalTime;
+use record::codes::FREE;
+use record::codes::GLOBAL;
+use record::codes::LOCAL;
+use record::codes::is_due_global;
+use record::codes::is_due_local;
+
+// Whether an event ends an expiration by its task's local time.
+fn ends_local(t: Passing, clock: u8, due: u32) -> bool
+    requires { ⌜ t .task < 16 ⌝ }
+    ensures { λ r. ⌜ r ≡ isEndingLocal t (dueBy clock due) ⌝ }
+{
+    let local = t.local;
+    (t.leaves & (clock == LOCAL + t.task)) | is_due_local(clock, due, t.task, local)
+}
+
+// Whether it ends one of a group, by either.
+fn any_local<'a>(
+    t: Passing,
+    clocks: &'a [u8; EXPIRATION_COUNT],
+    dues: &'a [u32; EXPIRATION_COUNT],
+    from: usize,
+) -> bool
+    requires { ⌜ (t .task < 16) × (length (now clocks) ≡ 256) × (length (now dues) ≡ 256) × (from + 32 ≤ 256) ⌝ }
+    ensures { λ r. ⌜ Asked (isLocalAt t (now (clocks .entry)) (now (dues .entry))) from (from + 32) r ⌝ }
+{
+    if !has_clock(clocks, LOCAL + t.task, from, from + GROUP) {
+        return false;
+    }
+    let mut some = false;
+    for i in from..from + GROUP {
+        some = some | ends_local(t, clocks[i], dues[i]);
+    }
+    some
+}
+
+fn any_global<'a>(
+    global: GlobalTime,
+    clocks: &'a [u8; EXPIRATION_COUNT],
+    dues: &'a [u32; EXPIRATION_COUNT],
+    from: usize,
+) -> bool
+    requires { ⌜ (length (now clocks) ≡ 256) × (length (now dues) ≡ 256) × (from + 32 ≤ 256) ⌝ }
+    ensures { λ r. ⌜ Asked (isGlobalAt global (now (clocks .entry)) (now (dues .entry))) from (from + 32) r ⌝ }
+{
+    if !has_clock(clocks, GLOBAL, from, from + GROUP) {
+        return false;
+    }
+    let mut some = false;
+    for i in from..from + GROUP {
+        some = some | is_due_global(clocks[i], dues[i], global);
+    }
+    some
+}
+
+fn any_ends<'a>(
+    t: Passing,
+    clocks: &'a [u8; EXPIRATION_COUNT],
+    dues: &'a [u32; EXPIRATION_COUNT],
+    from: usize,
+) -> bool
+    requires { ⌜ (t .task < 16) × (length (now clocks) ≡ 256) × (length (now dues) ≡ 256) × (from + 32 ≤ 256) ⌝ }
+    ensures { λ r. ⌜ Asked (isEndingAt t (now (clocks .entry)) (now (dues .entry))) from (from + 32) r ⌝ }
+{
+    if any_local(t, clocks, dues, from) {
+        return true;
+    }
+    if !t.advanced {
+        return false;
+    }
+    let global = t.global;
+    any_global(global, clocks, dues, from)
+}
+
+// What is left of a clock.
+fn kept_clock(t: Passing, clock: u8, due: u32) -> u8
+    requires { ⌜ t .task < 16 ⌝ }
+    ensures { λ r. ⌜ r ≡ cond (isEnding t (dueBy clock due)) 0 clock ⌝ }
+{
+    let global = t.global;
+    if ends_local(t, clock, due) | (t.advanced & is_due_global(clock, due, global)) {
+        FREE
+    } else {
+        clock
+    }
+}
+
+// Ends what is over in a group, and says whether that was any.
+fn end_in(
+    t: Passing,
+    clocks: &mut [u8; EXPIRATION_COUNT],
+    dues: &[u32; EXPIRATION_COUNT],
+    from: usize,
+) -> bool
+    requires { ⌜ (t .task < 16) × (length (now clocks) ≡ 256) × (length (now dues) ≡ 256) × (from + 32 ≤ 256) ⌝ }
+    ensures { λ r. ⌜ Ended t (now (dues .entry)) from (from + 32) (now (clocks .entry)) (now (clocks .exit)) r ⌝ }
+{
+    if !any_ends(t, clocks, dues, from) {
+        return false;
+    }
+    for i in from..from + GROUP {
+        clocks[i] = kept_clock(t, clocks[i], dues[i]);
+    }
+    true
+}
+
+// The same of all.
+pub fn end_due(
+    t: Passing,
+    clocks: &mut [u8; EXPIRATION_COUNT],
+    dues: &[u32; EXPIRATION_COUNT],
+) -> bool
+    requires { ⌜ (t .task < 16) × (length (now clocks) ≡ 256) × (length (now dues) ≡ 256) ⌝ }
+    ensures { λ r. ⌜ Ended t (now (dues .entry)) 0 256 (now (clocks .entry)) (now (clocks .exit)) r ⌝ }
+{
+    let mut some = false;
+    for g in 0..GROUP_COUNT {
+        some = some | end_in(t, clocks, dues, g * GROUP);
+    }
+    some
+}

@@ -1,0 +1,124 @@
+// How expirations (01: dates) are kept: a table of 256 entries, of which those with clock 0 are free. A call knows how many stand, sets one on a block, and has an
+// event end those that are over; where an entry stands is known here alone.
+ghost use Prim.Native.Nat.{_<_};
+ghost use mathlib.Core.Path.{_≡_};
+ghost use lib.ListN.{length};
+ghost use Rattle.expirations.specs.Standing.{standingOf};
+ghost use Rattle.expirations.specs.Setting.{entryFor, Sets};
+ghost use Rattle.expirations.specs.Ending.{Ends};
+ghost use Rattle.record.specs.Tables.{SizedEntries};
+
+mod asking;
+mod ending;
+mod releasing;
+
+use asking::HALF;
+use asking::free_entry;
+use asking::standing_in;
+use ending::end_due;
+use ledger::Kind;
+use ledger::TASK_COUNT;
+use record::BLOCK_COUNT;
+use record::EXPIRATION_COUNT;
+use record::GlobalTime;
+use record::Head;
+use record::LocalTime;
+use record::TaskEntry;
+use record::codes::GLOBAL;
+use record::codes::LOCAL;
+use releasing::flags_of;
+use releasing::keep_named;
+use std::num::wrapping_add_u32;
+
+// How many expirations stand.
+pub fn standing(clocks: &[u8; EXPIRATION_COUNT]) -> u16
+    requires { ⌜ length (now clocks) ≡ 256 ⌝ }
+    ensures { λ r. ⌜ r ≡ standingOf (now (clocks .entry)) ⌝ }
+{
+    standing_in(clocks, 0) as u16 + standing_in(clocks, HALF) as u16
+}
+
+// An entry of the table.
+pub struct Entry {
+    pub clock: u8,
+    pub block: u8,
+    pub due: u32,
+}
+
+// The entry of an expiration that a task sets now on a block, due by the clock of its kind.
+fn entry_for(
+    tasks: [TaskEntry; TASK_COUNT],
+    global: GlobalTime,
+    kind: Kind,
+    task: u8,
+    extension: u8,
+    block: usize,
+) -> Entry
+    requires { ⌜ (task < 16) × (block < 96) ⌝ }
+    ensures { λ r. ⌜ r ≡ entryFor tasks global kind task extension block ⌝ }
+{
+    match kind {
+        Kind::Local => {
+            let setter = tasks[task as usize];
+            Entry {
+                clock: LOCAL + task,
+                block: block as u8,
+                due: wrapping_add_u32(setter.clock.0, extension as u32 + 1),
+            }
+        }
+        Kind::Global => Entry {
+            clock: GLOBAL,
+            block: block as u8,
+            due: wrapping_add_u32(global.0, extension as u32 + 2),
+        },
+    }
+}
+
+// One expiration more, where fewer than 256 stand.
+pub fn set(
+    h: Head,
+    kind: Kind,
+    task: u8,
+    extension: u8,
+    block: usize,
+    clocks: &mut [u8; EXPIRATION_COUNT],
+    named: &mut [u8; EXPIRATION_COUNT],
+    dues: &mut [u32; EXPIRATION_COUNT],
+)
+    requires { ⌜ SizedEntries (now clocks) (now named) (now dues) × (standingOf (now clocks) < 256) × (task < 16) × (block < 96) ⌝ }
+    ensures { λ _. ⌜ Sets (entryFor (h .tasks) (h .global) kind task extension block) (now (clocks .entry)) (now (named .entry)) (now (dues .entry)) (now (clocks .exit)) (now (named .exit)) (now (dues .exit)) ⌝ }
+{
+    let tasks = h.tasks;
+    let global = h.global;
+    let e = entry_for(tasks, global, kind, task, extension, block);
+    let at = free_entry(clocks);
+    clocks[at] = e.clock;
+    named[at] = e.block;
+    dues[at] = e.due;
+}
+
+// The time that an event of a task leaves: the task's local time, and whether it leaves for good; the global time, and whether that has advanced.
+pub struct Passing {
+    pub task: u8,
+    pub leaves: bool,
+    pub local: LocalTime,
+    pub advanced: bool,
+    pub global: GlobalTime,
+}
+
+// What an event ends: the task's local expirations that are due, all of them where it leaves, and at an advance the global ones that are due. An object whose
+// last one ends is gone, and its block is free.
+pub fn end(
+    t: Passing,
+    handles: &mut [u32; BLOCK_COUNT],
+    clocks: &mut [u8; EXPIRATION_COUNT],
+    named: &[u8; EXPIRATION_COUNT],
+    dues: &[u32; EXPIRATION_COUNT],
+)
+    requires { ⌜ (t .task < 16) × (length (now handles) ≡ 96) × SizedEntries (now clocks) (now named) (now dues) ⌝ }
+    ensures { λ _. ⌜ Ends t (now (named .entry)) (now (dues .entry)) (now (handles .entry)) (now (clocks .entry)) (now (handles .exit)) (now (clocks .exit)) ⌝ }
+{
+    if end_due(t, clocks, dues) {
+        keep_named(flags_of(clocks, named), handles);
+    }
+}

@@ -1,0 +1,153 @@
+-- Blocks tested by flags that say which are named, which tells of the expirations too that they name blocks in use.
+use Prim.Native.Nat.{ℕ, _-_, _<_}
+use native.Mathlib.Nat.{zero-add}
+use native.Mathlib.Omega.{arith}
+use mathlib.Core.Bool.{Bool, Bool·beq, true, false, false≢true, true≢false, not, _&&_, _||_, and-eq-true-iff}
+use mathlib.Core.List.{List}
+use mathlib.Core.Path.{_≡_, refl, sym, _∙_}
+use borrow.Author.Tests.{eq-eqb, eqb-true, lt-ltb, ltb-true, ltb-false}
+use lib.Dec.{eqb, leb, ltb}
+use lib.ListN.{length, getD, take, drop, take-append-drop, List·getD-eq-default}
+use lib.Seq.{length-take-le}
+use Rattle.lists.specs.Tests.{any, all}
+use Rattle.lists.specs.Tables.{allFrom}
+use Rattle.lists.proofs.All.{all-true, found}
+use Rattle.lists.proofs.Cases.{by-test, refuted, same-test}
+use Rattle.lists.proofs.Tables.{allFrom-each, allFrom-within, allFrom-append}
+use Rattle.lists.proofs.Tests.{passes-imp, passes-found}
+use Rattle.record.specs.Codes.{dueOf, isDated, setterOf, absentEntry, freeBlock}
+use Rattle.record.specs.WellFormed.{isUsed, isFitDue, isFitEntry, isNaming, isSizedFor, isFitBlock}
+use Rattle.fitness.specs.Checks.{Names, isFitBlockIn}
+use Rattle.record.specs.declared.TaskEntry.{TaskEntry}
+use Rattle.record.specs.Tables.{BlockEntry, ExpirationEntry}
+use Rattle.record.specs.declared.GlobalTime.{GlobalTime}
+use Rattle.record.specs.declared.Due.{Due}
+use Rattle.record.specs.declared.Due.the-variants.{Free, Local, Global, Unknown}
+
+-- the blocks of the two stores, one after the other
+pub two-stores : (p : ℕ → BlockEntry → Bool) (blocks : List BlockEntry) → length blocks ≡ 96
+    → allFrom 0 p blocks ≡ (allFrom 0 p (take 64 blocks) && allFrom 64 p (drop 64 blocks))
+two-stores p blocks e =
+    rw (length-take-le 64 blocks (omega arith), take-append-drop 64 blocks) at (allFrom-append p 0 (take 64 blocks) (drop 64 blocks))
+
+-- an entry by itself: it names a block that there is
+abbrev pub isFitAlone : List TaskEntry → GlobalTime → ExpirationEntry → Bool
+isFitAlone tasks global e = isFitDue (getD tasks (setterOf (dueOf e)) absentEntry) global (ltb (e .block) 96) (dueOf e)
+
+-- only an expiration in use looks at its block
+fit-by : (setter : TaskEntry) (global : GlobalTime) (before after : Bool) (due : Due) → (isDated due ≡ true → before ≡ true → after ≡ true)
+    → isFitDue setter global before due ≡ true → isFitDue setter global after due ≡ true
+unfolding isFitDue
+fit-by setter global before after Free f e = refl
+fit-by setter global true after (Local task at) f e = rw (f refl refl) e
+fit-by setter global false after (Local task at) f e = absurd (false≢true e)
+fit-by setter global true after (Global at) f e = rw (f refl refl) e
+fit-by setter global false after (Global at) f e = absurd (false≢true e)
+fit-by setter global before after Unknown f e = e
+
+-- and what it says of it holds
+fit-says : (setter : TaskEntry) (global : GlobalTime) (used : Bool) (due : Due) → isFitDue setter global used due ≡ true → isDated due ≡ true
+    → used ≡ true
+unfolding isFitDue
+fit-says setter global used Free e d = absurd (false≢true d)
+fit-says setter global true (Local task at) e d = refl
+fit-says setter global false (Local task at) e d = e
+fit-says setter global true (Global at) e d = refl
+fit-says setter global false (Global at) e d = e
+fit-says setter global used Unknown e d = absurd (false≢true d)
+
+-- one block: z is whether it is free, n whether it is named, s whether its length and its handle are fit
+block-by-flag : (z n s g : Bool) → (not (not z) || (n && s && g)) ≡ true → (n ≡ true → not z ≡ true)
+    → (Bool·beq (not z) n && (not (not z) || (s && g))) ≡ true
+block-by-flag true true s g e h = h refl
+block-by-flag true false s g e h = refl
+block-by-flag false true s g e h = e
+block-by-flag false false s g e h = absurd (false≢true e)
+
+flag-fits : (z n s g : Bool) → (Bool·beq (not z) n && (not (not z) || (s && g))) ≡ true → (not (not z) || (n && s && g)) ≡ true
+flag-fits true n s g e = refl
+flag-fits false true s g e = e
+flag-fits false false s g e = absurd (false≢true e)
+
+flag-used : (z n r : Bool) → (Bool·beq (not z) n && r) ≡ true → n ≡ true → not z ≡ true
+flag-used true true r e h = e
+flag-used true false r e h = h
+flag-used false n r e h = refl
+
+module _ (tasks : List TaskEntry) (global : GlobalTime) (given : ℕ) (blocks : List BlockEntry) (xs : List ExpirationEntry) (size : length blocks ≡ 96)
+  where
+    -- what is asked of a block
+    abbrev isFree : ℕ → Bool
+    isFree k = eqb (getD blocks k freeBlock .handle) 0
+
+    abbrev isSized : ℕ → Bool
+    isSized k = isSizedFor k (getD blocks k freeBlock .length)
+
+    abbrev isGiven : ℕ → Bool
+    isGiven k = leb (getD blocks k freeBlock .handle) given
+
+    -- past the last block is none in use
+    used-within : (k : ℕ) → isUsed (getD blocks k freeBlock) ≡ true → k < 96
+    used-within k e =
+        by-test (ltb k 96)
+        (ltb-true k 96)
+        (λ t. absurd (false≢true (rw (List·getD-eq-default blocks freeBlock {n = k} (omega (arith, ltb-false k 96 t))) at e)))
+
+    -- an entry that is not fit by itself is not fit
+    pub not-alone : all (isFitAlone tasks global) xs ≡ false → all (isFitEntry tasks global blocks) xs ≡ false
+    not-alone e =
+        refuted _
+        (λ t.
+        true≢false
+        (sym
+        (passes-imp
+        (λ x. fit-by _ global _ _ (dueOf x) (λ dated used. lt-ltb (x .block) 96 (used-within (x .block) used)))
+        xs t)
+        ∙ e))
+
+    -- where the entries are fit, the blocks that they name are in use
+    naming-used : all (isFitEntry tasks global blocks) xs ≡ true → (k : ℕ) → any (isNaming k) xs ≡ true → isUsed (getD blocks k freeBlock) ≡ true
+    naming-used f k e =
+        found (isNaming k)
+        (λ x n h.
+        let (dated, same) = and-eq-true-iff (isDated (dueOf x)) _ .0 n in
+        let used : isUsed (getD blocks (x .block) freeBlock) ≡ true = fit-says _ global _ (dueOf x) h dated in
+        rw (eqb-true (x .block) k same) at used)
+        xs e (all-true _ xs f)
+
+    module _ {named : List Bool} (names : Names named xs) where
+      to : (all (isFitEntry tasks global blocks) xs && allFrom 0 (isFitBlock given xs) blocks) ≡ true
+          → allFrom 0 (isFitBlockIn given named) blocks ≡ true
+      unfolding isFitBlock
+      to e =
+          let (f, b) = and-eq-true-iff _ (allFrom 0 (isFitBlock given xs) blocks) .0 e in
+          allFrom-each (isFitBlockIn given named) freeBlock 0 blocks
+          (λ k l.
+          let fits = rw (zero-add k) at (allFrom-within (isFitBlock given xs) freeBlock 0 blocks b k l) in
+          rw (zero-add k, names .so k (omega arith)) (block-by-flag (isFree k) (any (isNaming k) xs) (isSized k) (isGiven k) fits (naming-used f k)))
+
+      -- where the flags are right, a block that is named is in use
+      flag-means : allFrom 0 (isFitBlockIn given named) blocks ≡ true → (k : ℕ) → k < 96 → any (isNaming k) xs ≡ true
+          → isUsed (getD blocks k freeBlock) ≡ true
+      flag-means b k l n =
+          let fits = allFrom-within (isFitBlockIn given named) freeBlock 0 blocks b k (omega arith) in
+          flag-used (isFree k) (getD named k false) _ (rw (zero-add k) at fits) (names .so k l ∙ n)
+
+      from : all (isFitAlone tasks global) xs ≡ true → allFrom 0 (isFitBlockIn given named) blocks ≡ true
+          → (all (isFitEntry tasks global blocks) xs && allFrom 0 (isFitBlock given xs) blocks) ≡ true
+      unfolding isFitBlock
+      from alone b =
+          and-eq-true-iff _ _ .1 (
+            passes-found (λ (x y : ExpirationEntry). isNaming (x .block) y) xs
+                (λ x member.
+                fit-by _ global _ _ (dueOf x)
+                (λ dated within. flag-means b (x .block) (ltb-true _ _ within) (member (rw (dated, eq-eqb (x .block) (x .block) refl)))))
+                alone,
+            allFrom-each (isFitBlock given xs) freeBlock 0 blocks (λ k l.
+                let fits = allFrom-within (isFitBlockIn given named) freeBlock 0 blocks b k l in
+                rw (zero-add k) (flag-fits (isFree k) (any (isNaming k) xs) (isSized k) (isGiven k) (rw (zero-add k, names .so k (omega arith)) at fits))),
+          )
+
+      pub named-right : all (isFitAlone tasks global) xs ≡ true
+          → (all (isFitEntry tasks global blocks) xs && allFrom 0 (isFitBlock given xs) blocks) ≡ allFrom 0 (isFitBlockIn given named) blocks
+      named-right alone = same-test _ _ to (from alone)

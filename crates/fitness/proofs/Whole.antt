@@ -1,0 +1,73 @@
+-- The parts of the test in their order, each of which alone can refuse a record.
+use Prim.Native.Nat.{ℕ}
+use mathlib.Core.Bool.{Bool, true, false, _&&_}
+use mathlib.Core.List.{List, map}
+use mathlib.Core.Path.{_≡_, sym, ap, _∙_}
+use lib.ListN.{length}
+use Rattle.lists.specs.Tests.{all}
+use Rattle.lists.specs.Tables.{allFrom}
+use Rattle.ledger.specs.Tasks.{allTicked}
+use Rattle.record.specs.Codes.{taskOf}
+use Rattle.record.specs.Tables.{BlockEntry, ExpirationEntry, blocksOf, entriesOf, tablesBy, lent, Sized}
+use Rattle.record.specs.WellFormed.{isFitTask, isFitEntry, isFitBlock, isDistinct, isWellFormed}
+use Rattle.record.specs.declared.Head.{Head}
+use Rattle.record.proofs.Columns.{length-blocks, handles-of}
+use Rattle.fitness.specs.Checks.{isCoded, isPresent, isPresentIn, isFitBlockIn, EntriesChecked}
+use Rattle.fitness.specs.declared.entries.Checked.{Checked}
+use Rattle.fitness.proofs.Named.{isFitAlone, not-alone, named-right}
+use Rattle.fitness.proofs.Present.{present-all, uncoded, by-parts}
+
+module _ (h : Head) {handles lengths clocks named dues : List ℕ} (sized : Sized handles lengths clocks named dues) where
+  abbrev isFit : Bool
+  isFit = isWellFormed (lent h handles lengths clocks named dues)
+
+  abbrev blocks : List BlockEntry
+  blocks = blocksOf handles lengths
+
+  abbrev xs : List ExpirationEntry
+  xs = entriesOf clocks named dues
+
+  size : length blocks ≡ 96
+  size = length-blocks handles lengths (sized .blocks .of-handles) (sized .blocks .of-lengths)
+
+  pub unfit-tasks : all isFitTask (h .tasks) ≡ false → false ≡ isFit
+  unfolding isWellFormed tablesBy
+  unfit-tasks e = rw e
+
+  module _ (tasks : all isFitTask (h .tasks) ≡ true) where
+    pub all-have-ticked : allTicked (map taskOf (h .tasks)) ≡ true → false ≡ isFit
+    unfolding isWellFormed tablesBy
+    all-have-ticked e = rw (tasks, e)
+
+    module _ (unticked : allTicked (map taskOf (h .tasks)) ≡ false) where
+      rest : isFit ≡ (all (isFitEntry (h .tasks) (h .global) blocks) xs && allFrom 0 (isFitBlock (h .given) xs) blocks && isDistinct handles)
+      unfolding isWellFormed tablesBy
+      rest = rw (tasks, unticked, handles-of handles lengths (sized .blocks .of-handles) (sized .blocks .of-lengths))
+
+      not-by-itself : all (isFitAlone (h .tasks) (h .global)) xs ≡ false → false ≡ isFit
+      not-by-itself e = sym (rest ∙ rw (not-alone (h .tasks) (h .global) (h .given) blocks xs size e))
+
+      pub not-coded : all isCoded xs ≡ false → false ≡ isFit
+      not-coded e = not-by-itself (uncoded (h .tasks) (h .global) xs e)
+
+      module _ (coded : all isCoded xs ≡ true) {checked : Checked} (m : EntriesChecked (h .tasks) (h .global) xs checked) where
+        parts : all (isFitAlone (h .tasks) (h .global)) xs ≡ (checked .fit && all (isPresent (h .tasks)) xs)
+        parts = by-parts (h .tasks) (h .global) xs tasks (m .clocks) ∙ rw (coded, ← m .fit)
+
+        pub not-timely : checked .fit ≡ false → false ≡ isFit
+        not-timely e = not-by-itself (parts ∙ rw e)
+
+        module _ (timely : checked .fit ≡ true) (count : length (h .tasks) ≡ 16) where
+          alone : all (isFitAlone (h .tasks) (h .global)) xs ≡ allFrom 0 (isPresentIn (checked .seen)) (h .tasks)
+          alone = parts ∙ rw timely (sym (present-all (h .tasks) xs count coded (m .seen timely)))
+
+          pub not-present : allFrom 0 (isPresentIn (checked .seen)) (h .tasks) ≡ false → false ≡ isFit
+          not-present e = not-by-itself (alone ∙ e)
+
+          -- past all tests of expirations
+          pub by-blocks : allFrom 0 (isPresentIn (checked .seen)) (h .tasks) ≡ true
+              → isFit ≡ (allFrom 0 (isFitBlockIn (h .given) (checked .named)) blocks && isDistinct handles)
+          by-blocks e =
+              rest
+              ∙ ap (λ (b : Bool). b && isDistinct handles)
+              (named-right (h .tasks) (h .global) (h .given) blocks xs size (m .names timely) (alone ∙ e))

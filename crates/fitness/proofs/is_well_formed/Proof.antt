@@ -1,0 +1,115 @@
+-- The parts in their order: each is refused at its own return.
+use mathlib.Core.Bool.{true, false, _&&_}
+use mathlib.Core.List.{map}
+use mathlib.Core.Path.{_≡_, sym, _∙_}
+use borrow.Author.Needs.{needs}
+use borrow.Author.Tests.{not-true, not-false}
+use Rattle.lists.specs.Tests.{all}
+use Rattle.lists.specs.Tables.{allFrom}
+use Rattle.ledger.specs.Tasks.{allTicked}
+use Rattle.record.specs.Codes.{taskOf}
+use Rattle.record.specs.Tables.{blocksOf, entriesOf, lent}
+use Rattle.record.specs.WellFormed.{isFitTask, isDistinct, isWellFormed}
+use Rattle.record.proofs.Types.{head-typed}
+use Rattle.fitness.specs.Checks.{isCoded, isFitBlockIn}
+use Rattle.fitness.proofs.Present.{coded-from}
+use Rattle.fitness.proofs.Whole.{unfit-tasks, all-have-ticked, not-coded, not-timely, not-present, by-blocks}
+use Rattle.fitness.proofs.is_well_formed.Statement.{statement}
+use Rattle.fitness.proofs.is_well_formed.Tie as tie
+
+returns : tie.Need-returns
+returns c =
+    let s = c .before .before .before in
+    unfit-tasks (s .args .h) (s .pre) (sym (c .before .all-fit-tasks .ensures) ∙ not-true (c .before .all-fit-tasks .result) (c .if1 .taken))
+
+-- past each part, what it has shown
+fit : (c : tie.Else1) → all isFitTask (c .before .before .before .args .h .tasks) ≡ true
+fit c = sym (c .before .all-fit-tasks .ensures) ∙ not-false (c .before .all-fit-tasks .result) (c .if1 .left)
+
+returns-2 : tie.Need-returns-2
+returns-2 c =
+    let s = c .before .before .before .before .before in
+    all-have-ticked (s .args .h) (s .pre) (fit (c .before .before)) (sym (c .before .all-ticked .ensures) ∙ c .if2 .taken)
+
+unticked : (c : tie.Else2) → allTicked (map taskOf (c .before .before .before .before .before .args .h .tasks)) ≡ false
+unticked c = sym (c .before .all-ticked .ensures) ∙ c .if2 .left
+
+returns-3 : tie.Need-returns-3
+returns-3 c =
+    let two = c .before .before in
+    let s = two .before .before .before .before .before in
+    let coded = c .before .all-coded in
+    not-coded (s .args .h) (s .pre) (fit (two .before .before)) (unticked two)
+    (sym (coded .ensures .so (s .args .dues .now) (s .pre .entries .of-dues)) ∙ not-true (coded .result) (c .if3 .taken))
+
+coded : (c : tie.Else3)
+    → let s = c .before .before .before .before .before .before .before in all isCoded (entriesOf (s .args .clocks .now) (s .args .named .now) (s .args .dues .now)) ≡ true
+coded c =
+    let s = c .before .before .before .before .before .before .before in
+    sym (c .before .all-coded .ensures .so (s .args .dues .now) (s .pre .entries .of-dues)) ∙ not-false (c .before .all-coded .result) (c .if3 .left)
+
+returns-4 : tie.Need-returns-4
+returns-4 c =
+    let three = c .before .before .before in
+    let two = three .before .before in
+    let s = two .before .before .before .before .before in
+    let checked = c .before .before .check-entries in
+    not-timely (s .args .h) (s .pre) (fit (two .before .before)) (unticked two) (coded three) (checked .ensures)
+    (not-true (checked .result .fit) (c .if4 .taken))
+
+returns-5 : tie.Need-returns-5
+returns-5 c =
+    let four = c .before .before .before in
+    let three = four .before .before .before in
+    let two = three .before .before in
+    let s = two .before .before .before .before .before in
+    let checked = four .before .before .check-entries in
+    not-present (s .args .h) (s .pre) (fit (two .before .before)) (unticked two) (coded three) (checked .ensures)
+    (not-false (checked .result .fit) (four .if4 .left)) (head-typed (s .args .h) _ (s .good .0) .tasks)
+    (sym (c .before .all-present .ensures) ∙ not-true (c .before .all-present .result) (c .if5 .taken))
+
+-- past all tests of expirations, by the blocks
+past : (c : tie.Else5)
+    → let s = c .before .before .before .before .before .before .before .before .before .before .before .before .before in
+    isWellFormed (lent (s .args .h) (s .args .handles .now) (s .args .lengths .now) (s .args .clocks .now) (s .args .named .now) (s .args .dues .now))
+    ≡ (allFrom 0 (isFitBlockIn (s .args .h .given) (c .before .before .before .before .before .check-entries .result .named)) (blocksOf (s .args .handles .now) (s .args .lengths .now))
+    && isDistinct (s .args .handles .now))
+past c =
+    let four = c .before .before .before in
+    let three = four .before .before .before in
+    let two = three .before .before in
+    let s = two .before .before .before .before .before in
+    let checked = four .before .before .check-entries in
+    by-blocks (s .args .h) (s .pre) (fit (two .before .before)) (unticked two) (coded three) (checked .ensures)
+    (not-false (checked .result .fit) (four .if4 .left)) (head-typed (s .args .h) _ (s .good .0) .tasks)
+    (sym (c .before .all-present .ensures) ∙ not-false (c .before .all-present .result) (c .if5 .left))
+
+returns-6 : tie.Need-returns-6
+returns-6 c =
+    let blocks = c .before .check-blocks in
+    sym (past (c .before .before .before) ∙ rw (sym (blocks .ensures) ∙ not-true (blocks .result) (c .if6 .taken)))
+
+returns-7 : tie.Need-returns-7
+returns-7 c =
+    let blocks = c .before .before .check-blocks in
+    c .distinct .ensures
+    ∙ sym (past (c .before .before .before .before) ∙ rw (sym (blocks .ensures) ∙ not-false (blocks .result) (c .before .if6 .left)))
+
+pub is-well-formed-spec : {M : Type 1} → statement M
+is-well-formed-spec =
+    tie.close
+    (tie.spec
+    (λ c κs. search needs)
+    returns
+    (λ c κs. search needs)
+    returns-2
+    (λ c κs. search needs)
+    returns-3
+    (λ c κs. coded-from (c .before .before .before .before .before .before .before .pre .entries) (coded c))
+    returns-4
+    (λ c κs. search needs)
+    returns-5
+    (λ c κs. search needs)
+    returns-6
+    (λ c κs. search needs)
+    returns-7)

@@ -1,0 +1,59 @@
+// The test of well-formedness (01: a fit record) on lent tables, in parts, each one pass: tasks; expirations by themselves; blocks by who names them; handles.
+ghost use mathlib.Core.Path.{_≡_};
+ghost use Rattle.record.specs.Tables.{lent, Sized};
+ghost use Rattle.record.specs.WellFormed.{isWellFormed};
+
+mod blocks;
+mod codes;
+mod entries;
+mod handles;
+mod parting;
+mod times;
+
+use blocks::check_blocks;
+use codes::all_coded;
+use entries::all_present;
+use entries::check_entries;
+use handles::distinct;
+use record::BLOCK_COUNT;
+use record::EXPIRATION_COUNT;
+use record::Head;
+use record::running::all_fit_tasks;
+use record::running::all_ticked;
+
+// 01: a fit record.
+pub fn is_well_formed<'a>(
+    h: Head,
+    handles: &'a [u32; BLOCK_COUNT],
+    lengths: &'a [u16; BLOCK_COUNT],
+    clocks: &'a [u8; EXPIRATION_COUNT],
+    named: &'a [u8; EXPIRATION_COUNT],
+    dues: &'a [u32; EXPIRATION_COUNT],
+) -> bool
+    requires { ⌜ Sized (now handles) (now lengths) (now clocks) (now named) (now dues) ⌝ }
+    ensures { λ r. ⌜ r ≡ isWellFormed (lent h (now (handles .entry)) (now (lengths .entry)) (now (clocks .entry)) (now (named .entry)) (now (dues .entry))) ⌝ }
+{
+    let tasks = h.tasks;
+    if !all_fit_tasks(tasks) {
+        return false;
+    }
+    if all_ticked(tasks) {
+        return false;
+    }
+    if !all_coded(clocks, named) {
+        return false;
+    }
+    let checked = check_entries(tasks, h.global, clocks, named, dues);
+    if !checked.fit {
+        return false;
+    }
+    let seen = checked.seen;
+    if !all_present(tasks, seen) {
+        return false;
+    }
+    let flags = checked.named;
+    if !check_blocks(h.given, flags, handles, lengths) {
+        return false;
+    }
+    distinct(handles)
+}

@@ -1,7 +1,0 @@
--- By the two ranges.
-use Rattle.frames.proofs.Digits.{digit-test}
-use Rattle.frames.proofs.hex.is_digit.Statement.{statement}
-use Rattle.frames.proofs.hex.is_digit.Tie as tie
-
-pub is-digit-spec : {M : Type 1} → statement M
-is-digit-spec = tie.close (tie.spec (λ c. digit-test _))

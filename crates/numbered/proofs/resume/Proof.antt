@@ -1,0 +1,13 @@
+-- The outcome of the pool, by its number.
+use borrow.Author.Needs.{needs}
+use Rattle.numbered.proofs.Promises.{does}
+use Rattle.numbered.proofs.resume.Statement.{statement}
+use Rattle.numbered.proofs.resume.Tie as tie
+
+pub resume-spec : {M : Type 1} → statement M
+resume-spec =
+    tie.close
+    (tie.spec
+    (λ c κs. search needs)
+    (λ c κs. search needs)
+    (λ c. does _ (c .before .resume .ensures) (c .by-number .ensures)))

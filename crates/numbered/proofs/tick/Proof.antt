@@ -1,0 +1,14 @@
+-- The outcome of the pool, by its number, and whether time advanced.
+use borrow.Author.Needs.{needs}
+use Rattle.numbered.proofs.Promises.{moves}
+use Rattle.numbered.proofs.tick.Statement.{statement}
+use Rattle.numbered.proofs.tick.Tie as tie
+
+pub tick-spec : {M : Type 1} → statement M
+tick-spec =
+    tie.close
+    (tie.spec
+    (λ c κs. search needs)
+    (λ c κs. search needs)
+    (λ c κs. search needs)
+    (λ c. moves _ (c .before .before .before .tick .ensures) (c .before .advanced-after .ensures) (c .by-number .ensures)))

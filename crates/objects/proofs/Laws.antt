@@ -1,0 +1,78 @@
+-- What was decided on columns, as the definitions on entries have it.
+use Prim.Native.Nat.{ℕ, zero, suc}
+use mathlib.Core.Bool.{Bool}
+use mathlib.Core.List.{List, [], _∷_, map}
+use mathlib.Core.Path.{_≡_, refl, sym, ap, _∙_}
+use lib.ListN.{length, take, drop}
+use Rattle.lists.specs.Tables.{firstFrom}
+use Rattle.lists.proofs.Counts.{count-map}
+use Rattle.record.specs.Tables.{BlockEntry, ExpirationEntry, blocksOf, tablesBy}
+use Rattle.record.specs.declared.Head.{Head}
+use Rattle.record.proofs.Columns.{handles-of}
+use Rattle.steps.specs.Objects.{placeOf, placeIn, freePlace, freePlaceIn, standingIn, makeVerdict, refreshVerdict, readVerdict, writeVerdict}
+use Rattle.steps.specs.Usage.{usageOf}
+use Rattle.objects.specs.Outcomes.{makePlan, refreshPlan, foundBy, foundIn, foundForWriteIn}
+use Rattle.objects.specs.Usage.{usageIn}
+
+module _ {ℓ κ} {A : Type ℓ} {B : Type κ} (f : A → B) where
+  first-map : (p : B → Bool) (i : ℕ) (xs : List A) → firstFrom i p (map f xs) ≡ firstFrom i (λ (x : A). p (f x)) xs
+  first-map p i [] = refl
+  first-map p i (x ∷ xs) = rw (first-map p (suc i) xs)
+
+  take-map : (n : ℕ) (xs : List A) → take n (map f xs) ≡ map f (take n xs)
+  take-map zero xs = refl
+  take-map (suc n) [] = refl
+  take-map (suc n) (x ∷ xs) = ap (λ ys. f x ∷ ys) (take-map n xs)
+
+  drop-map : (n : ℕ) (xs : List A) → drop n (map f xs) ≡ map f (drop n xs)
+  drop-map zero xs = refl
+  drop-map (suc n) [] = refl
+  drop-map (suc n) (x ∷ xs) = drop-map n xs
+
+abbrev handlesIn : List BlockEntry → List ℕ
+handlesIn blocks = map (λ (b : BlockEntry). b .handle) blocks
+
+-- by the handles of entries
+free-place-in : (size : ℕ) (blocks : List BlockEntry) → freePlaceIn size (handlesIn blocks) ≡ freePlace size blocks
+unfolding freePlaceIn freePlace
+free-place-in size blocks = simp (take-map, drop-map, first-map)
+
+usage-in : (h : Head) (blocks : List BlockEntry) (xs : List ExpirationEntry)
+    → usageIn (h .given) (handlesIn blocks) (standingIn xs) ≡ usageOf (tablesBy h blocks xs)
+unfolding usageIn usageOf tablesBy
+usage-in h blocks xs = simp (take-map, drop-map, count-map)
+
+-- the two columns of the blocks
+module _ (hs ls : List ℕ) (a : length hs ≡ 96) (b : length ls ≡ 96) where
+  pub place-of : (handle : ℕ) → placeIn handle hs ≡ placeOf handle (blocksOf hs ls)
+  place-of handle = ap (placeIn handle) (sym (handles-of hs ls a b)) ∙ first-map _ _ 0 (blocksOf hs ls)
+
+  pub free-place-of : (size : ℕ) → freePlaceIn size hs ≡ freePlace size (blocksOf hs ls)
+  free-place-of size = ap (freePlaceIn size) (sym (handles-of hs ls a b)) ∙ free-place-in size (blocksOf hs ls)
+
+  module _ (h : Head) (xs : List ExpirationEntry) where
+    pub usage-of : usageIn (h .given) hs (standingIn xs) ≡ usageOf (tablesBy h (blocksOf hs ls) xs)
+    usage-of = ap (λ hs′. usageIn (h .given) hs′ (standingIn xs)) (sym (handles-of hs ls a b)) ∙ usage-in h (blocksOf hs ls) xs
+
+    pub make-planned : (task extension size : ℕ)
+        → makePlan task extension size h (freePlaceIn size hs) (standingIn xs) .verdict ≡ makeVerdict task extension size (tablesBy h (blocksOf hs ls) xs)
+    unfolding makePlan makeVerdict tablesBy
+    make-planned task extension size = rw (free-place-of size)
+
+    pub refresh-planned : (task extension handle : ℕ)
+        → refreshPlan task extension handle h (placeIn handle hs) (standingIn xs) .verdict
+        ≡ refreshVerdict task extension handle (tablesBy h (blocksOf hs ls) xs)
+    unfolding refreshPlan refreshVerdict tablesBy
+    refresh-planned task extension handle = rw (place-of handle)
+
+-- on any blocks
+module _ (h : Head) (blocks : List BlockEntry) (xs : List ExpirationEntry) where
+  pub found-in : (task handle : ℕ) → foundIn task handle h blocks ≡ foundBy (readVerdict task handle (tablesBy h blocks xs)) handle (tablesBy h blocks xs)
+  unfolding foundIn readVerdict tablesBy
+  found-in task handle = refl
+
+  pub found-for-write-in : (task handle offset count : ℕ)
+      → foundForWriteIn task handle offset count h blocks
+      ≡ foundBy (writeVerdict task handle offset count (tablesBy h blocks xs)) handle (tablesBy h blocks xs)
+  unfolding foundForWriteIn writeVerdict readVerdict tablesBy
+  found-for-write-in task handle offset count = refl

@@ -1,9 +1,0 @@
--- By what refuse_if ensures.
-use borrow.Author.Needs.{needs}
-use Rattle.ledger.specs.Limits.{limits}
-use Rattle.objects.proofs.refusals.slot_verdict.Statement.{statement}
-use Rattle.objects.proofs.refusals.slot_verdict.Tie as tie
-
-pub slot-verdict-spec : {M : Type 1} → statement M
-unfolding limits
-slot-verdict-spec = tie.close (tie.spec (λ c κs. search needs) (λ c. c .refuse-if .ensures))

@@ -1,0 +1,11 @@
+-- The lengths that the code compares with are 01's.
+use Rattle.ledger.specs.Limits.{limits, smallSize, largeSize}
+use Rattle.pool.proofs.lengths.are_whole.Statement.{statement}
+use Rattle.pool.proofs.lengths.are_whole.Tie as tie
+
+returns : tie.Need-returns
+unfolding limits smallSize largeSize
+returns c small large s l = rw (s, l)
+
+pub are-whole-spec : {M : Type 1} → statement M
+are-whole-spec = tie.close (tie.spec returns)

@@ -1,0 +1,17 @@
+-- A record, by its entries: whether it is well-formed, and what it reads as with two stores.
+use Prim.Native.Nat.{ℕ}
+use mathlib.Core.Bool.{Bool}
+use mathlib.Core.List.{List}
+use Rattle.ledger.specs.Ledger.{Ledger}
+use Rattle.record.specs.Tables.{tablesOf}
+use Rattle.record.specs.Reading as Reading
+use Rattle.record.specs.WellFormed as WellFormed
+use Rattle.record.specs.declared.Pool.{Pool}
+
+-- 01: a fit record
+abbrev pub isWellFormed : Pool → Bool
+isWellFormed p = WellFormed.isWellFormed (tablesOf p)
+
+-- the record with these stores reads as this ledger
+abbrev pub Reads : Pool → List ℕ → List ℕ → Ledger → Type 0
+Reads p small large L = Reading.Reads (tablesOf p) small large L

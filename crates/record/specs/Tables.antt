@@ -1,0 +1,88 @@
+-- The record's tables as lists of entries: what stands at one place of all arrays of a table.
+use Prim.Native.Nat.{ℕ}
+use mathlib.Core.List.{List, map}
+use mathlib.Core.Path.{_≡_}
+use lib.ListN.{length}
+use Rattle.lists.specs.Columns.{_⊛_}
+use Rattle.ledger.specs.declared.Answer.{Answer}
+use Rattle.record.specs.declared.TaskEntry.{TaskEntry}
+use Rattle.record.specs.declared.GlobalTime.{GlobalTime}
+use Rattle.record.specs.declared.Head.{Head}
+use Rattle.record.specs.declared.Pool.{Pool}
+
+-- a block of a store and the object in it; handle (01: number) 0 is a free block
+pub record BlockEntry : Type 0 where
+  pub handle : ℕ
+  pub length : ℕ
+
+-- 01: a date
+pub record ExpirationEntry : Type 0 where
+  pub clock : ℕ
+  pub block : ℕ
+  pub due : ℕ
+
+abbrev pub blockEntry : ℕ → ℕ → BlockEntry
+blockEntry handle size = record { handle = handle; length = size }
+
+abbrev pub expirationEntry : ℕ → ℕ → ℕ → ExpirationEntry
+expirationEntry clock block due = record { clock = clock; block = block; due = due }
+
+unfoldable pub blocksOf : List ℕ → List ℕ → List BlockEntry
+blocksOf handles lengths = map blockEntry handles ⊛ lengths
+
+unfoldable pub entriesOf : List ℕ → List ℕ → List ℕ → List ExpirationEntry
+entriesOf clocks named dues = map expirationEntry clocks ⊛ named ⊛ dues
+
+-- a record by its entries
+pub record Tables : Type 0 where
+  pub tasks : List TaskEntry
+  pub global : GlobalTime
+  pub given : ℕ
+  pub blocks : List BlockEntry
+  pub expirations : List ExpirationEntry
+
+unfoldable pub tablesBy : Head → List BlockEntry → List ExpirationEntry → Tables
+tablesBy h blocks xs = record { tasks = h .tasks; global = h .global; given = h .given; blocks = blocks; expirations = xs }
+
+abbrev pub headOf : Pool → Head
+headOf p = record { tasks = p .tasks; global = p .global; given = p .given }
+
+unfoldable pub tablesOf : Pool → Tables
+tablesOf p = tablesBy (headOf p) (blocksOf (p .handles) (p .lengths)) (entriesOf (p .clocks) (p .named) (p .dues))
+
+-- the same of what is lent
+abbrev pub lent : Head → List ℕ → List ℕ → List ℕ → List ℕ → List ℕ → Tables
+lent h handles lengths clocks named dues = tablesBy h (blocksOf handles lengths) (entriesOf clocks named dues)
+
+-- Columns of as many entries as 01 has: of a lent array the length is not known by itself.
+pub record SizedBlocks (handles lengths : List ℕ) : Type 0 where
+  pub of-handles : length handles ≡ 96
+  pub of-lengths : length lengths ≡ 96
+
+pub record SizedEntries (clocks named dues : List ℕ) : Type 0 where
+  pub of-clocks : length clocks ≡ 256
+  pub of-named : length named ≡ 256
+  pub of-dues : length dues ≡ 256
+
+pub record Sized (handles lengths clocks named dues : List ℕ) : Type 0 where
+  pub blocks : SizedBlocks handles lengths
+  pub entries : SizedEntries clocks named dues
+
+-- what a call comes to: its answer, and the record that it leaves
+pub record Outcome : Type 0 where
+  pub answer : Answer
+  pub pool : Tables
+
+-- the record that has this head and these columns
+abbrev pub pooled : Head → List ℕ → List ℕ → List ℕ → List ℕ → List ℕ → Pool
+pooled h handles lengths clocks named dues =
+    record {
+      tasks = h .tasks;
+      global = h .global;
+      given = h .given;
+      handles = handles;
+      lengths = lengths;
+      clocks = clocks;
+      named = named;
+      dues = dues;
+    }

@@ -1,0 +1,66 @@
+// Tests of task entries. They use `&` and `|`, which take no branch.
+ghost use mathlib.Core.List.{map};
+ghost use mathlib.Core.Path.{_≡_};
+ghost use Rattle.lists.specs.Tests.{all};
+ghost use Rattle.ledger.specs.Tasks.{isAbsent, allTicked};
+ghost use Rattle.record.specs.Codes.{stateOf, taskOf, isRunningEntry, isPendingEntry};
+ghost use Rattle.record.specs.WellFormed.{isFitTask};
+use super::TaskEntry;
+use super::codes::RUNNING;
+use super::codes::WAITING;
+use ledger::TASK_COUNT;
+
+pub fn is_running(e: TaskEntry) -> bool
+    ensures { λ r. ⌜ r ≡ isRunningEntry e ⌝ }
+{
+    e.state == RUNNING
+}
+
+pub fn is_absent(state: u16) -> bool
+    ensures { λ r. ⌜ r ≡ isAbsent (stateOf state) ⌝ }
+{
+    (state != RUNNING) & (state != WAITING)
+}
+
+// Running, and not ticked.
+fn is_pending(e: TaskEntry) -> bool
+    ensures { λ r. ⌜ r ≡ isPendingEntry e ⌝ }
+{
+    is_running(e) & (e.ticked != 1)
+}
+
+fn fits_task(e: TaskEntry) -> bool
+    ensures { λ r. ⌜ r ≡ isFitTask e ⌝ }
+{
+    (e.state < 3)
+        & (e.ticked < 2)
+        & ((e.ticked != 1) | is_running(e))
+        & (!is_absent(e.state) | (e.clock.0 == 0))
+}
+
+// There is no way out before the end, so that several tasks are tested at once.
+pub fn all_fit_tasks(tasks: [TaskEntry; TASK_COUNT]) -> bool
+    ensures { λ r. ⌜ r ≡ all isFitTask tasks ⌝ }
+{
+    let mut fit = true;
+    for i in 0..TASK_COUNT {
+        let e = tasks[i];
+        fit = fit & fits_task(e);
+    }
+    fit
+}
+
+// The advance test: some task runs, and every running task has ticked.
+pub fn all_ticked(tasks: [TaskEntry; TASK_COUNT]) -> bool
+    ensures { λ r. ⌜ r ≡ allTicked (map taskOf tasks) ⌝ }
+{
+    let mut some = false;
+    for i in 0..TASK_COUNT {
+        let e = tasks[i];
+        if is_pending(e) {
+            return false;
+        }
+        some = some | is_running(e);
+    }
+    some
+}

@@ -1,0 +1,140 @@
+-- What an accepted verdict shows: the task may set an expiration, and the block and the entry that are chosen are free.
+use Prim.Native.Nat.{ℕ, _+_, _<_}
+use native.Mathlib.Omega.{arith}
+use mathlib.Core.Bool.{Bool, true, false, _||_}
+use mathlib.Core.Path.{_≡_, refl, sym, _∙_}
+use borrow.Author.Tests.{leb-false, ltb-false, eqb-true, eqb-false, lt-ltb, le-ltb}
+use lib.Dec.{eqb, leb, ltb}
+use lib.ListN.{length, getD, take, drop, length-take, length-drop}
+use lib.Seq.{getD-take, getD-drop}
+use Rattle.lists.specs.Tables.{firstFrom}
+use Rattle.lists.proofs.Cases.{by-test, or-false-parts}
+use Rattle.lists.proofs.First.{first-at, first-full}
+use Rattle.ledger.specs.Limits.{limits, taskCount, largeSize, lastHandle, isSmall}
+use Rattle.ledger.specs.Tasks.{isAbsent}
+use Rattle.ledger.specs.declared.State.{State}
+use Rattle.ledger.specs.declared.State.the-variants.{Absent, Running, Waiting}
+use Rattle.ledger.specs.declared.Refusal.{Refusal}
+use Rattle.ledger.specs.declared.Refusal.the-variants.{LengthOutOfRange, HandlesSpent, NoFreeBlock}
+use Rattle.ledger.specs.declared.Verdict.{Verdict}
+use Rattle.ledger.specs.declared.Verdict.the-variants.{Accepted, Refused}
+use Rattle.stores.specs.Places.{blockCount}
+use Rattle.record.specs.Codes.{stateOf, absentEntry, freeBlock, freeEntry}
+use Rattle.record.specs.Reading.{isSmallBlock, Typed}
+use Rattle.record.specs.Tables.{Tables}
+use Rattle.steps.specs.Objects.{isFreeBlock, endFor, freePlace, isFreeEntry, standingIn, freeSlot, andThen, refuseIf, byState, taskVerdict, extensionVerdict, foundVerdict, handleVerdict, roomVerdict, makeVerdict, refreshVerdict}
+use Rattle.steps.proofs.Taken.{MaySet, SlotFree, PlaceFree}
+
+-- a chain that accepts, accepts in each of its parts
+pub both-accept : (v w : Verdict) → andThen v w ≡ Accepted → (v ≡ Accepted) × (w ≡ Accepted)
+both-accept Accepted w e = (refl, e)
+both-accept (Refused r) w e = (cc, cc)
+
+pub not-refused : (b : Bool) (r : Refusal) → refuseIf b r ≡ Accepted → b ≡ false
+not-refused true r e = cc
+not-refused false r e = refl
+
+running : (s : State) → byState s ≡ Accepted → isAbsent s ≡ false
+running Absent e = cc
+running Running e = refl
+running Waiting e = cc
+
+may-set : (task extension : ℕ) (p : Tables) → taskVerdict task (p .tasks) ≡ Accepted → extensionVerdict extension ≡ Accepted
+    → MaySet task extension p
+may-set task extension p t x =
+    let (known, state) = both-accept _ _ t in
+    record {
+      known = leb-false taskCount task (not-refused _ _ known);
+      present = running (stateOf (getD (p .tasks) task absentEntry .state)) state;
+      short = ltb-false (limits .extension) extension (not-refused _ _ x);
+    }
+
+-- the first free entry, where there is one
+slot-free : (p : Tables) → Typed p → roomVerdict (standingIn (p .expirations)) ≡ Accepted → SlotFree (freeSlot (p .expirations)) (p .expirations)
+unfolding limits
+slot-free p types v =
+    let xs = p .expirations in
+    let full : leb (0 + length xs) (freeSlot xs) ≡ false = sym (first-full isFreeEntry 0 xs) ∙ rw (types .expirations) (not-refused _ _ v) in
+    let (k, listed, at, free) = first-at isFreeEntry freeEntry 0 xs full in
+    let place : freeSlot xs ≡ k = omega (arith, at) in
+    rw place (record { listed = listed; free = eqb-true _ 0 free })
+
+-- the first free block of a size's store, where there is one
+module _ (p : Tables) (types : Typed p) (size : ℕ) (range : (eqb size 0 || ltb largeSize size) ≡ false) where
+  place-at : (place : ℕ) → place < 96 → isFreeBlock (getD (p .blocks) place freeBlock) ≡ true → isSmallBlock place ≡ isSmall size
+      → PlaceFree place size (p .blocks)
+  place-at place listed free store =
+      let (least, most) = or-false-parts (eqb size 0) (ltb largeSize size) range in
+      record {
+        listed = omega (arith, types .blocks);
+        free = eqb-true _ 0 free;
+        store = store;
+        least = omega (arith, eqb-false size 0 least);
+        most = ltb-false largeSize size most;
+      }
+
+  place-free : leb (endFor size) (freePlace size (p .blocks)) ≡ false → PlaceFree (freePlace size (p .blocks)) size (p .blocks)
+  unfolding freePlace limits blockCount
+  place-free room =
+      by-test (isSmall size)
+      (λ s.
+      let part = take 64 (p .blocks) in
+      let count : length part ≡ 64 = simp length-take (omega (arith, types .blocks)) in
+      let full : leb (0 + length part) (firstFrom 0 isFreeBlock part) ≡ false = rw count (rw s at room) in
+      let (k, listed, at, free) = first-at isFreeBlock freeBlock 0 part full in
+      let below : k < 64 = omega (arith, count) in
+      let here : firstFrom 0 isFreeBlock part ≡ k = omega (arith, at) in
+      rw (s, here) (place-at k (omega arith) (rw (getD-take 64 (p .blocks) k freeBlock below) at free) (lt-ltb k 64 below ∙ sym s)))
+      (λ s.
+      let part = drop 64 (p .blocks) in
+      let count : length part ≡ 32 = simp length-drop (omega (arith, types .blocks)) in
+      let full : leb (64 + length part) (firstFrom 64 isFreeBlock part) ≡ false = rw count (rw s at room) in
+      let (k, listed, at, free) = first-at isFreeBlock freeBlock 64 part full in
+      rw (s, at)
+      (place-at (64 + k) (omega (arith, count)) (rw (getD-drop 64 (p .blocks) k freeBlock) at free) (le-ltb (64 + k) 64 (omega arith) ∙ sym s)))
+
+-- what a make that is accepted takes
+pub record Taken (task extension size : ℕ) (p : Tables) : Type 0 where
+  pub may : MaySet task extension p
+  pub unspent : p .given < lastHandle
+  pub block : PlaceFree (freePlace size (p .blocks)) size (p .blocks)
+  pub entry : SlotFree (freeSlot (p .expirations)) (p .expirations)
+
+pub make-takes : (task extension size : ℕ) (p : Tables) → Typed p → makeVerdict task extension size p ≡ Accepted → Taken task extension size p
+unfolding makeVerdict
+make-takes task extension size p types v =
+    let (task-ok, v₁) = both-accept _ _ v in
+    let (extension-ok, v₂) = both-accept _ _ v₁ in
+    let (size-ok, v₃) = both-accept _ _ v₂ in
+    let (given-ok, v₄) = both-accept (refuseIf (leb lastHandle (p .given)) HandlesSpent) _ v₃ in
+    let (block-ok, slot-ok) = both-accept _ _ v₄ in
+    record {
+      may = may-set task extension p task-ok extension-ok;
+      unspent = leb-false lastHandle (p .given) (not-refused _ HandlesSpent given-ok);
+      block = place-free p types size (not-refused _ LengthOutOfRange size-ok) (not-refused _ NoFreeBlock block-ok);
+      entry = slot-free p types slot-ok;
+    }
+
+-- what a refresh that is accepted has: an object that stands, and a free entry
+pub record Renewed (task extension handle : ℕ) (p : Tables) : Type 0 where
+  pub may : MaySet task extension p
+  pub found : handleVerdict handle p ≡ Accepted
+  pub entry : SlotFree (freeSlot (p .expirations)) (p .expirations)
+
+pub refresh-takes : (task extension handle : ℕ) (p : Tables) → Typed p → refreshVerdict task extension handle p ≡ Accepted
+    → Renewed task extension handle p
+unfolding refreshVerdict
+refresh-takes task extension handle p types v =
+    let (task-ok, v₁) = both-accept _ _ v in
+    let (extension-ok, v₂) = both-accept _ _ v₁ in
+    let (found, slot-ok) = both-accept _ _ v₂ in
+    record { may = may-set task extension p task-ok extension-ok; found = found; entry = slot-free p types slot-ok }
+
+-- a handle that is found is not 0, and its place is that of a block
+pub handle-found : (handle given place : ℕ) → foundVerdict handle given place ≡ Accepted → (eqb handle 0 ≡ false) × (leb blockCount place ≡ false)
+handle-found handle given place v =
+    let (given-ok, place-ok) = both-accept _ _ v in
+    (or-false-parts (eqb handle 0) _ (not-refused _ _ given-ok) .0, not-refused _ _ place-ok)
+
+pub place-listed : (handle given place : ℕ) → foundVerdict handle given place ≡ Accepted → place < blockCount
+place-listed handle given place v = leb-false _ _ (handle-found handle given place v .1)

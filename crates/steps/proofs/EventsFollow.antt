@@ -1,0 +1,129 @@
+-- An event on a well-formed record follows the ledger: whatever ledger the record reads as, the answer is that ledger's and what is left reads as its next.
+use Prim.Native.Nat.{ℕ}
+use mathlib.Core.Bool.{Bool, true, false, cond}
+use mathlib.Core.List.{List, [], map, List·Permᴰ}
+use mathlib.Core.Option.{none}
+use mathlib.Core.Path.{_≡_, refl, sym, ap}
+use lib.Dec.{leb}
+use lib.ListN.{getD}
+use Rattle.lists.specs.Tables.{readBy, readFrom, mapFrom}
+use Rattle.lists.proofs.Cases.{by-test}
+use Rattle.ledger.specs.Limits.{taskCount}
+use Rattle.ledger.specs.Tasks.{Clocks, isTested, allTicked}
+use Rattle.ledger.specs.Objects.{replyTo, memoryAfter, expirationsAfter}
+use Rattle.ledger.specs.Refusals.{asRefusal}
+use Rattle.ledger.specs.Ledger.{Ledger, settled, replyBy, afterBy, reply, next}
+use Rattle.ledger.specs.Compared.{shown, viewOf}
+use Rattle.ledger.specs.declared.Event.{Event}
+use Rattle.ledger.specs.Expirations.{Expiration}
+use Rattle.ledger.specs.declared.Refusal.the-variants.{NoSuchTask}
+use Rattle.ledger.specs.declared.Call.the-variants.{Schedule}
+use Rattle.record.specs.Codes.{stateOf, taskOf, absentEntry}
+use Rattle.record.specs.Reading.{shownEntry, objectIn, recordView, isWhole, Typed, Reads}
+use Rattle.record.specs.WellFormed.{isWellFormed}
+use Rattle.record.specs.declared.TaskEntry.{TaskEntry}
+use Rattle.record.specs.Tables.{BlockEntry, ExpirationEntry, Tables}
+use Rattle.record.specs.declared.GlobalTime.{GlobalTime}
+use Rattle.record.proofs.Facts.{Fit, fit-parts}
+use Rattle.steps.specs.Events.{verdictOf, verdictAt, movedTasks, advancedTasks, advancedTime, leaverOf, keptEntry, keptBlock, swept, poolAfter, answerAfter, outcomeBy, scheduled}
+use Rattle.ledger.specs.declared.Verdict.{Verdict}
+use Rattle.ledger.specs.declared.Verdict.the-variants.{Accepted, Refused}
+use Rattle.steps.proofs.FitAfter.{fit-after}
+use Rattle.steps.proofs.ReadTasks.{ClocksAlike, verdict-alike, advances-alike, clocks-alike, untested-clocks-alike}
+use Rattle.steps.proofs.ReadExpirations.{expirations-alike, untested-expirations-alike}
+use Rattle.steps.proofs.ReadObjects.{freed-shown, objects-alike, standing-ascending}
+use Rattle.steps.proofs.Standing.{none-freed}
+
+-- entries, times and expirations on the same blocks that are alike: so is the whole, once what is not named is free
+reads-with : (p : Tables) (small large : List ℕ) (L : Ledger) → Fit p → Reads p small large L → (entries : List TaskEntry) (time : GlobalTime)
+    (blocks : List BlockEntry) (xs : List ExpirationEntry) (clocks : Clocks) (ys : List Expiration) → ClocksAlike entries time clocks
+    → List·Permᴰ (readBy (shownEntry entries time (p .blocks)) xs) (map (shown clocks) ys)
+    → readFrom 0 (objectIn small large) blocks ≡ readFrom 0 (objectIn small large) (mapFrom 0 (keptBlock xs) (p .blocks))
+    → readBy (shownEntry entries time blocks) xs ≡ readBy (shownEntry entries time (p .blocks)) xs
+    → Reads (record { tasks = entries; global = time; given = p .given; blocks = blocks; expirations = xs }) small large
+    (settled (record { clocks = clocks; given = L .memory .given; objects = L .memory .objects }) ys)
+unfolding recordView viewOf
+reads-with p small large L fit reads entries time blocks xs clocks ys same alike freed shows =
+    record {
+      alike =
+          record {
+            tasks = same .tasks;
+            global = same .global;
+            given = reads .alike .given;
+            objects =
+                rw freed
+                (objects-alike entries time (p .blocks) xs (fit .distinct) clocks ys alike small large (isWhole small large) (L .memory .objects)
+                (reads .alike .objects));
+            expirations = rw shows alike;
+          };
+      ascending = standing-ascending ys (L .memory .objects) (reads .ascending);
+    }
+
+-- the ledger after an event that it carries out
+abbrev after : Event → ℕ → Ledger → Ledger
+after event task L =
+    settled (memoryAfter (Schedule event task) [] (L .memory)) (expirationsAfter (Schedule event task) (L .memory) (L .expirations))
+
+module _ (event : Event) (task : ℕ) (p : Tables) (small large : List ℕ) (L : Ledger) (fit : Fit p) (reads : Reads p small large L)
+    (accepted : verdictOf event (stateOf (getD (p .tasks) task absentEntry .state)) ≡ Accepted) where
+  clocks : ClocksAlike (p .tasks) (p .global) (L .memory .clocks)
+  unfolding recordView viewOf
+  clocks = record { tasks = reads .alike .tasks; global = reads .alike .global }
+
+  answers : answerAfter event task p ≡ replyTo (Schedule event task) (L .memory) .answer
+  unfolding answerAfter replyTo
+  answers = by-test (isTested event) (λ e. rw (e, advances-alike event task (p .tasks) (L .memory .clocks) (clocks .tasks) e)) (λ e. rw e)
+
+  reads-after : Reads (poolAfter event task p) small large (after event task L)
+  unfolding poolAfter swept recordView viewOf memoryAfter expirationsAfter
+  reads-after =
+      let moved = movedTasks event task (p .tasks) in
+      let advanced = allTicked (map taskOf moved) in
+      let entries = advancedTasks advanced moved in
+      let time = advancedTime advanced (p .global) in
+      by-test (isTested event)
+      (λ e. rw e
+      (reads-with p small large L fit reads _ _ _ _ _ _ (clocks-alike event task clocks e)
+      (expirations-alike event task clocks (clocks-alike event task clocks e) accepted (p .blocks) (p .expirations) (fit .entries) (L .expirations)
+      (reads .alike .expirations) e)
+      refl (freed-shown entries time (p .blocks) (map (keptEntry (leaverOf event task) entries time) (p .expirations)))))
+      (λ e. rw e
+      (reads-with p small large L fit reads _ _ _ _ _ _ (untested-clocks-alike event task clocks e)
+      (untested-expirations-alike event task clocks (untested-clocks-alike event task clocks e) accepted (p .blocks) (p .expirations) (fit .entries)
+      (L .expirations) (reads .alike .expirations) e)
+      (ap (readFrom 0 (objectIn small large)) (sym (none-freed (p .given) (p .expirations) (p .blocks) (fit .blocks)))) refl))
+
+-- what the record's verdict makes of both
+by-verdict : (v : Verdict) (event : Event) (task : ℕ) (p : Tables) (small large : List ℕ) (L : Ledger) → Fit p → Reads p small large L
+    → (v ≡ Accepted → verdictOf event (stateOf (getD (p .tasks) task absentEntry .state)) ≡ Accepted)
+    → (outcomeBy v event task p .answer ≡ replyBy (asRefusal v) (replyTo (Schedule event task) (L .memory)) .answer)
+    × Reads (outcomeBy v event task p .pool) small large (afterBy (asRefusal v) (after event task L) L)
+by-verdict Accepted event task p small large L fit reads accepted =
+    (answers event task p small large L fit reads (accepted refl), reads-after event task p small large L fit reads (accepted refl))
+by-verdict (Refused r) event task p small large L fit reads accepted = (refl, reads)
+
+-- an event of a task that exists is accepted by its state
+pub accepted-by-state : (none : Bool) (v : Verdict) → cond none (Refused NoSuchTask) v ≡ Accepted → v ≡ Accepted
+accepted-by-state true v e = cc
+accepted-by-state false v e = e
+
+-- the record's verdict on an event
+abbrev pub recordVerdict : Event → ℕ → Tables → Verdict
+recordVerdict event task p = verdictAt event task (p .tasks)
+
+pub schedule-follows : (event : Event) (task : ℕ) (p : Tables) (small large : List ℕ) (L : Ledger) → isWellFormed p ≡ true → Reads p small large L
+    → (scheduled event task p .answer ≡ reply L (Schedule event task) [] .answer)
+    × Reads (scheduled event task p .pool) small large (next L (Schedule event task) [])
+unfolding scheduled reply next recordView viewOf
+schedule-follows event task p small large L w reads =
+    rw (verdict-alike (L .memory) (L .expirations) event task [] (p .tasks) (reads .alike .tasks))
+    (by-verdict (recordVerdict event task p) event task p small large L (fit-parts p w) reads (accepted-by-state (leb taskCount task) _))
+
+pub schedule-fits : (event : Event) (task : ℕ) (p : Tables) → Typed p → isWellFormed p ≡ true → isWellFormed (scheduled event task p .pool) ≡ true
+unfolding scheduled
+schedule-fits event task p types w = by (recordVerdict event task p) (accepted-by-state (leb taskCount task) _)
+  where
+    by : (v : Verdict) → (v ≡ Accepted → verdictOf event (stateOf (getD (p .tasks) task absentEntry .state)) ≡ Accepted)
+        → isWellFormed (outcomeBy v event task p .pool) ≡ true
+    by Accepted accepted = fit-after event task p w types (accepted refl)
+    by (Refused r) accepted = w

@@ -1,0 +1,104 @@
+-- An accepted event leaves a well-formed record well-formed.
+use Prim.Native.Nat.{ℕ, _<_}
+use native.Mathlib.Omega.{arith}
+use mathlib.Core.Bool.{Bool, true, false, true≢false}
+use mathlib.Core.List.{List, map}
+use mathlib.Core.Path.{_≡_, refl}
+use borrow.Author.Tests.{eqb-false}
+use lib.Dec.{eqb}
+use lib.ListN.{getD, set, List·getD-map}
+use Rattle.lists.specs.Tests.{all}
+use Rattle.lists.proofs.All.{all-getD}
+use Rattle.lists.proofs.Tests.{passes-imp, passes-map, passes-set, passes-at}
+use Rattle.ledger.specs.Limits.{taskCount, counterRange}
+use Rattle.ledger.specs.Tasks.{allTicked}
+use Rattle.ledger.specs.declared.State.the-variants.{Running}
+use Rattle.ledger.specs.declared.Event.{Event}
+use Rattle.ledger.specs.declared.Event.the-variants.{Join, Leave, Block, Resume, Tick}
+use Rattle.record.specs.Codes.{stateOf, taskOf, dueOf, absentEntry}
+use Rattle.record.specs.Reading.{Typed}
+use Rattle.record.specs.WellFormed.{isFitTask, isFitDue, isWellFormed}
+use Rattle.record.specs.declared.TaskEntry.{TaskEntry}
+use Rattle.record.specs.declared.GlobalTime.{GlobalTime}
+use Rattle.record.specs.Tables.{Tables}
+use Rattle.record.specs.declared.Due.{Due}
+use Rattle.record.specs.declared.Due.the-variants.{Free, Local, Global, Unknown}
+use Rattle.record.proofs.Facts.{Fit, fit-parts, fit-whole}
+use Rattle.steps.specs.Events.{verdictOf, untickedEntry, advancedTasks, advancedTime, swept, withTimes, poolAfter}
+use Rattle.ledger.specs.declared.Verdict.the-variants.{Accepted}
+use Rattle.steps.proofs.FitTasks.{Later, later-same, later-next, Follows, AllFollow, set-follows, join-absent, tick-running, ticked-fits, unticked-fits, advanced-unticked, running-unticked}
+use Rattle.steps.proofs.FitSwept.{local-fits, fit-swept}
+
+-- an expiration stays fit while its task stays present with the same clock
+same-fits : (before after : TaskEntry) (global : GlobalTime) (used : Bool) (due : Due) → Follows _≡_ before after
+    → isFitDue before global used due ≡ true → isFitDue after global used due ≡ true
+unfolding isFitDue
+same-fits before after global used Free f e = refl
+same-fits before after global used (Local setter at) f e =
+    local-fits before after global global used setter at
+    (λ present. let (stays, same) = f present in (stays, λ left. rw (← same) left)) e
+same-fits before after global used (Global at) f e = e
+same-fits before after global used Unknown f e = e
+
+-- the record after the advance test
+fit-advanced : (advanced : Bool) (leaver : ℕ) (tasks : List TaskEntry) (p : Tables) → Fit p → p .global .0 < counterRange
+    → AllFollow leaver (p .tasks) tasks → all isFitTask tasks ≡ true → allTicked (map taskOf (advancedTasks advanced tasks)) ≡ false
+    → Fit (swept leaver (advancedTasks advanced tasks) (advancedTime advanced (p .global)) p)
+fit-advanced true leaver tasks p f r follows fits unticked =
+    fit-swept leaver (map untickedEntry tasks) (advancedTime true (p .global)) p
+    (λ any other. rw (List·getD-map untickedEntry tasks any absentEntry) (follows any other)) (later-next _ r) f
+    (passes-map isFitTask untickedEntry unticked-fits tasks fits) unticked
+fit-advanced false leaver tasks p f r follows fits unticked =
+    fit-swept leaver tasks (p .global) p follows (later-same _) f fits unticked
+
+-- The record after one task's entry is set
+module _ (p : Tables) (f : Fit p) (task : ℕ) (e : TaskEntry) (fits : isFitTask e ≡ true) where
+  set-fits : all isFitTask (set (p .tasks) task e) ≡ true
+  set-fits = passes-set isFitTask (p .tasks) task e (f .tasks) fits
+
+  -- by an event with the advance test
+  fit-tested : Typed p → (leaver : ℕ) → (eqb task leaver ≡ false → Follows Later (getD (p .tasks) task absentEntry) e)
+      → let tasks = set (p .tasks) task e in
+      let advanced = allTicked (map taskOf tasks) in
+      Fit (swept leaver (advancedTasks advanced tasks) (advancedTime advanced (p .global)) p)
+  fit-tested r leaver follows =
+      let tasks = set (p .tasks) task e in
+      fit-advanced (allTicked (map taskOf tasks)) leaver tasks p f (r .global)
+      (λ any other. set-follows Later later-same (p .tasks) task e any (λ at. follows (rw (← at) other))) set-fits (advanced-unticked tasks)
+
+  -- by an event that makes the task run
+  fit-running : stateOf (e .state) ≡ Running → eqb (e .ticked) 1 ≡ false → Follows _≡_ (getD (p .tasks) task absentEntry) e
+      → Fit (withTimes (set (p .tasks) task e) (p .global) p)
+  fit-running running unticked follows =
+      record {
+        tasks = set-fits;
+        unticked = running-unticked (p .tasks) task e running unticked (f .unticked);
+        entries =
+            passes-imp
+            (λ x. same-fits _ _ _ _ (dueOf x) (set-follows _≡_ (λ now. refl) (p .tasks) task e _ (λ at. follows)))
+            (p .expirations) (f .entries);
+        blocks = f .blocks;
+        distinct = f .distinct;
+      }
+
+-- the five events
+fit-moved : (event : Event) (task : ℕ) (p : Tables) → Fit p → Typed p
+    → verdictOf event (stateOf (getD (p .tasks) task absentEntry .state)) ≡ Accepted → Fit (poolAfter event task p)
+unfolding poolAfter isFitTask counterRange
+fit-moved Join task p f r a =
+    fit-running p f task _ refl refl refl (λ present. absurd (true≢false (rw (join-absent (stateOf (getD (p .tasks) task absentEntry .state)) a) at present)))
+fit-moved Leave task p f r a =
+    fit-tested p f task _ refl r task (λ other. absurd (eqb-false task task other refl))
+fit-moved Block task p f r a = fit-tested p f task _ refl r taskCount (λ other present. (refl, later-same _))
+fit-moved Resume task p f r a = fit-running p f task _ refl refl refl (λ present. (refl, refl))
+fit-moved Tick task p f r a =
+    let entry = getD (p .tasks) task absentEntry in
+    let fits = passes-at isFitTask (p .tasks) task absentEntry (f .tasks) refl in
+    let range = all-getD _ absentEntry (omega arith) (p .tasks) (r .clocks) task in
+    fit-tested p f task _ (ticked-fits entry (tick-running (stateOf (entry .state)) a) fits) r taskCount (λ other present. (present, later-next _ range))
+
+-- "Lists from a fresh pool meet only fit records": the step of an event
+pub fit-after : (event : Event) (task : ℕ) (p : Tables) → isWellFormed p ≡ true → Typed p
+    → verdictOf event (stateOf (getD (p .tasks) task absentEntry .state)) ≡ Accepted
+    → isWellFormed (poolAfter event task p) ≡ true
+fit-after event task p w r a = fit-whole _ (fit-moved event task p (fit-parts p w) r a)

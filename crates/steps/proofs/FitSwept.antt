@@ -1,0 +1,137 @@
+-- A sweep leaves a well-formed record well-formed: what it keeps has units left and a block.
+use Prim.Native.Nat.{ℕ, suc, _+_}
+use native.Mathlib.Omega.{arith}
+use mathlib.Core.Bool.{Bool, true, false, not, _&&_, _||_, and-eq-true-iff, or-true}
+use mathlib.Core.List.{List, [], _∷_, map}
+use mathlib.Core.Path.{_≡_, refl}
+use borrow.Author.Tests.{not-true, leb-true, le-leb, eq-eqb}
+use lib.Dec.{eqb, leb, ltb}
+use lib.ListN.{getD}
+use Rattle.lists.specs.Tests.{any, all}
+use Rattle.lists.specs.Tables.{mapFrom}
+use Rattle.lists.proofs.Cases.{by-test, and₃, or-map, or-else, not-map}
+use Rattle.lists.proofs.Tests.{passes-map, passes-found}
+use Rattle.lists.proofs.Tables.{allFrom-mapFrom}
+use Rattle.ledger.specs.Limits.{limits, taskCount}
+use Rattle.ledger.specs.Tasks.{allTicked}
+use Rattle.record.specs.Codes.{dueBy, taskOf, dueOf, isDated, setterOf, leftAt, absentEntry, freeBlock}
+use Rattle.record.specs.WellFormed.{isUsed, isFitTask, isAhead, isFitDue, isFitEntry, isNaming, isFitBlock, isDistinct, handleOf}
+use Rattle.record.specs.declared.TaskEntry.{TaskEntry}
+use Rattle.record.specs.Tables.{BlockEntry, ExpirationEntry, Tables}
+use Rattle.record.specs.declared.LocalTime.{LocalTime}
+use Rattle.record.specs.declared.GlobalTime.{GlobalTime}
+use Rattle.record.specs.declared.Due.{Due}
+use Rattle.record.specs.declared.Due.the-variants.{Free, Local, Global, Unknown}
+use Rattle.record.proofs.Facts.{Fit}
+use Rattle.steps.proofs.KeptBlocks.{kept-block}
+use Rattle.steps.specs.Events.{isLasting, keptEntry, keptBlock, swept}
+use Rattle.steps.proofs.FitTasks.{Later, Follows, AllFollow}
+
+-- what is due is ahead still if it was, by no more than the most
+abbrev pub StaysAhead : ℕ → ℕ → ℕ → ℕ → Type 0
+StaysAhead most due before after = isAhead most (leftAt due before) ≡ true → isAhead most (leftAt due after) ≡ true
+
+-- it is while it has units left
+left-ahead : (most due before after : ℕ) → Later before after → ltb 0 (leftAt due after) ≡ true → StaysAhead most due before after
+left-ahead most due before after l k e =
+    let left = leftAt due before in
+    let (least, bound) = and-eq-true-iff (leb 1 left) (leb left most) .0 e in
+    rw (k, le-leb (leftAt due after) most (omega (arith, l due (leb-true 1 left least), leb-true left most bound)))
+
+-- an expiration by a task's clock stays fit while the task is present and it is ahead
+pub local-fits : (before after : TaskEntry) (global later : GlobalTime) (used : Bool) (setter : ℕ) (at : LocalTime)
+    → Follows (StaysAhead (limits .extension + 1) (at .0)) before after
+    → isFitDue before global used (Local setter at) ≡ true → isFitDue after later used (Local setter at) ≡ true
+unfolding isFitDue
+local-fits before after global later used setter at f e =
+    let (named, present, left) = and₃ (used && ltb setter taskCount) _ _ e in
+    let (stays, ahead) = f (not-true _ present) in
+    rw (named, stays, ahead left)
+
+-- one that lasts stays fit as the times go on
+lasting-fits : (leaver : ℕ) (before after : TaskEntry) (global later : GlobalTime) (used : Bool) (due : Due)
+    → (eqb (setterOf due) leaver ≡ false → Follows Later before after) → Later (global .0) (later .0)
+    → isFitDue before global used due ≡ true → isLasting leaver after later due ≡ true → isFitDue after later used due ≡ true
+unfolding isFitDue
+lasting-fits leaver before after global later used Free f l e k = refl
+lasting-fits leaver before after global later used (Local setter at) f l e k =
+    let (other, left) = and-eq-true-iff _ _ .0 k in
+    local-fits before after global later used setter at
+    (λ present. let (stays, clock) = f (not-true _ other) present in (stays, left-ahead _ (at .0) _ _ clock left)) e
+lasting-fits leaver before after global later used (Global at) f l e k =
+    let (named, ahead) = and-eq-true-iff used _ .0 e in rw (named, left-ahead _ (at .0) _ _ l k ahead)
+lasting-fits leaver before after global later used Unknown f l e k = e
+
+-- only an expiration in use looks at its block
+pub used-fits : (setter : TaskEntry) (global : GlobalTime) (before after : Bool) (due : Due) → (isDated due ≡ true → after ≡ before)
+    → isFitDue setter global before due ≡ true → isFitDue setter global after due ≡ true
+unfolding isFitDue
+used-fits setter global before after Free f e = refl
+used-fits setter global before after (Local task at) f e = rw (f refl) e
+used-fits setter global before after (Global at) f e = rw (f refl) e
+used-fits setter global before after Unknown f e = e
+
+-- entries stay fit by blocks that are as they were where an entry names them
+pub named-fits : (tasks : List TaskEntry) (global : GlobalTime) (before after : List BlockEntry) (xs : List ExpirationEntry)
+    → ((block : ℕ) → any (isNaming block) xs ≡ true → getD after block freeBlock ≡ getD before block freeBlock)
+    → all (isFitEntry tasks global before) xs ≡ true → all (isFitEntry tasks global after) xs ≡ true
+named-fits tasks global before after xs same =
+    passes-found (λ (e x : ExpirationEntry). isNaming (e .block) x) xs
+    (λ e named. used-fits _ global _ _ (dueOf e) (λ dated. rw (same (e .block) (named (rw (dated, eq-eqb (e .block) (e .block) refl))))))
+
+-- a block that is kept is named
+kept-fits : (given : ℕ) (xs ys : List ExpirationEntry) (block : ℕ) (b : BlockEntry) → isFitBlock given xs block b ≡ true
+    → isFitBlock given ys block (keptBlock ys block b) ≡ true
+unfolding isFitBlock
+kept-fits given xs ys block b h =
+    by-test (any (isNaming block) ys)
+    (λ n. rw n (or-map (not (isUsed b)) (λ e. let (named, sized, numbered) = and₃ (any (isNaming block) xs) _ _ e in rw (sized, numbered)) h))
+    (λ n. rw n)
+
+-- no block gets a handle
+kept-handles : (xs : List ExpirationEntry) (handle : ℕ) → eqb handle 0 ≡ false → (block : ℕ) (bs : List BlockEntry)
+    → any (eqb handle) (map handleOf (mapFrom block (keptBlock xs) bs)) ≡ true → any (eqb handle) (map handleOf bs) ≡ true
+kept-handles xs handle z block [] e = e
+kept-handles xs handle z block (b ∷ bs) e =
+    by-test (any (isNaming block) xs)
+    (λ n. or-map (eqb handle (b .handle)) (kept-handles xs handle z (suc block) bs) (rw n at e))
+    (λ n. rw (kept-handles xs handle z (suc block) bs (rw (n, z) at e), or-true))
+
+-- so no two get the same
+kept-distinct : (xs : List ExpirationEntry) (block : ℕ) (bs : List BlockEntry) → isDistinct (map handleOf bs) ≡ true
+    → isDistinct (map handleOf (mapFrom block (keptBlock xs) bs)) ≡ true
+kept-distinct xs block [] e = refl
+kept-distinct xs block (b ∷ bs) e =
+    let (new, rest) = and-eq-true-iff (eqb (b .handle) 0 || not (any (eqb (b .handle)) (map handleOf bs))) _ .0 e in
+    let tail = kept-distinct xs (suc block) bs rest in
+    by-test (any (isNaming block) xs)
+    (λ n. rw (n, tail, or-else (eqb (b .handle) 0) (λ z. not-map (kept-handles xs (b .handle) z (suc block) bs)) new))
+    (λ n. rw n tail)
+
+-- The record after a sweep with these tasks and this time
+module _ (leaver : ℕ) (tasks : List TaskEntry) (global : GlobalTime) (p : Tables)
+    (follows : AllFollow leaver (p .tasks) tasks) (later : Later (p .global .0) (global .0)) where
+  -- what it keeps is fit, with its block as it was
+  entry-fits : (e : ExpirationEntry) → isFitEntry (p .tasks) (p .global) (p .blocks) e ≡ true
+      → isFitEntry tasks global (p .blocks) (keptEntry leaver tasks global e) ≡ true
+  unfolding isFitDue dueBy
+  entry-fits e h =
+      by-test (isLasting leaver (getD tasks (setterOf (dueOf e)) absentEntry) global (dueOf e))
+      (λ k. rw k (lasting-fits leaver _ _ (p .global) global _ (dueOf e) (follows _) later h k))
+      (λ k. rw k)
+
+  -- its parts are fit
+  pub fit-swept : Fit p → all isFitTask tasks ≡ true → allTicked (map taskOf tasks) ≡ false → Fit (swept leaver tasks global p)
+  unfolding swept
+  fit-swept f fits unticked =
+      let kept = keptEntry leaver tasks global in
+      let xs = map kept (p .expirations) in
+      record {
+        tasks = fits;
+        unticked = unticked;
+        entries =
+            named-fits tasks global (p .blocks) (mapFrom 0 (keptBlock xs) (p .blocks)) xs (kept-block xs (p .blocks))
+            (passes-map _ kept entry-fits (p .expirations) (f .entries));
+        blocks = allFrom-mapFrom _ _ _ (kept-fits (p .given) (p .expirations) xs) 0 (p .blocks) (f .blocks);
+        distinct = kept-distinct xs 0 (p .blocks) (f .distinct);
+      }

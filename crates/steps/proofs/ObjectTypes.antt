@@ -1,0 +1,43 @@
+-- A value of the record's type stays one under a make that is accepted, and under a refresh.
+use Prim.Native.Nat.{ℕ}
+use native.Mathlib.Omega.{arith}
+use mathlib.Core.Path.{_≡_}
+use lib.ListN.{length-set}
+use Rattle.ledger.specs.Limits.{lastHandle, counterRange}
+use Rattle.ledger.specs.declared.Kind.{Kind}
+use Rattle.ledger.specs.declared.Verdict.the-variants.{Accepted}
+use Rattle.record.specs.Reading.{Typed}
+use Rattle.record.specs.Tables.{ExpirationEntry, Tables}
+use Rattle.steps.specs.Objects.{makeVerdict, withEntry, withObject, madePool, refreshedPool}
+use Rattle.steps.proofs.Chosen.{make-takes}
+
+typed-entry : (slot : ℕ) (e : ExpirationEntry) (p : Tables) → Typed p → Typed (withEntry slot e p)
+typed-entry slot e p types =
+    record {
+      tasks = types .tasks;
+      blocks = types .blocks;
+      expirations = rw length-set (types .expirations);
+      clocks = types .clocks;
+      global = types .global;
+      given = types .given;
+    }
+
+pub typed-made : (task : ℕ) (kind : Kind) (extension size : ℕ) (p : Tables) → Typed p → makeVerdict task extension size p ≡ Accepted
+    → Typed (madePool task kind extension size p)
+unfolding madePool lastHandle counterRange
+typed-made task kind extension size p types accepted =
+    let unspent = make-takes task extension size p types accepted .unspent in
+    typed-entry _ _ (withObject _ size p)
+    (record {
+      tasks = types .tasks;
+      blocks = rw length-set (types .blocks);
+      expirations = types .expirations;
+      clocks = types .clocks;
+      global = types .global;
+      given = omega (arith, unspent);
+    })
+
+pub typed-refreshed : (task : ℕ) (kind : Kind) (extension handle : ℕ) (p : Tables) → Typed p
+    → Typed (refreshedPool task kind extension handle p)
+unfolding refreshedPool
+typed-refreshed task kind extension handle p types = typed-entry _ _ p types

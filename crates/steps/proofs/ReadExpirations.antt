@@ -1,0 +1,157 @@
+-- An event does the same to the record's expirations as to the ledger's.
+use Prim.Native.Nat.{ℕ, _<_}
+use mathlib.Core.Bool.{Bool, true, false, true≢false, false≢true, _&&_, and-eq-true-iff}
+use mathlib.Core.List.{List, map, List·Permᴰ}
+use mathlib.Core.Path.{_≡_, refl}
+use borrow.Author.Tests.{eqb-true, ltb-true, ltb-false}
+use lib.Dec.{eqb, ltb}
+use lib.ListN.{length, getD, List·getD-eq-default}
+use Rattle.lists.specs.Tests.{all, All}
+use Rattle.lists.specs.Tables.{readBy}
+use Rattle.lists.proofs.Cases.{by-test}
+use Rattle.lists.proofs.All.{all-imp, all-true, map-all, map-same}
+use Rattle.lists.proofs.Tables.{readBy-same, all-readBy}
+use Rattle.lists.proofs.Permutations.{readBy-perm, all-perm}
+use Rattle.ledger.specs.Tasks.{Task, Clocks, absentTask, taskAt, isAbsent, moved, isTested, advances, clocksAfter}
+use Rattle.ledger.specs.Expirations.{Expiration, remaining, lasting}
+use Rattle.ledger.specs.Expirations.{Due as LedgerDue, byLocal, byGlobal}
+use Rattle.ledger.specs.Compared.{Left, localLeft, globalLeft, Shown, leftOf, shown}
+use Rattle.ledger.specs.declared.State.{State}
+use Rattle.ledger.specs.declared.State.the-variants.{Absent, Running, Waiting}
+use Rattle.ledger.specs.declared.Event.{Event}
+use Rattle.ledger.specs.declared.Event.the-variants.{Join, Leave, Block, Resume, Tick}
+use Rattle.record.specs.Codes.{stateOf, dueOf, setterOf, absentEntry}
+use Rattle.record.specs.Reading.{shownDue, shownEntry}
+use Rattle.record.specs.WellFormed.{isFitDue, isFitEntry}
+use Rattle.record.proofs.Facts.{fit-local}
+use Rattle.record.specs.declared.TaskEntry.{TaskEntry}
+use Rattle.record.specs.Tables.{BlockEntry, ExpirationEntry}
+use Rattle.record.specs.declared.GlobalTime.{GlobalTime}
+use Rattle.record.specs.declared.Due.{Due}
+use Rattle.record.specs.declared.Due.the-variants.{Free, Local, Global, Unknown}
+use Rattle.steps.specs.Events.{verdictOf, leaverOf, keptEntry}
+use Rattle.ledger.specs.declared.Verdict.the-variants.{Accepted}
+use Rattle.steps.proofs.ReadTasks.{ClocksAlike, state-alike, clock-alike}
+use Rattle.steps.proofs.Aging.{aged, clock-after, ledger-ages, record-ages}
+
+-- an event with an advance test is refused to an absent task
+tested-present : (event : Event) (s : State) → isTested event ≡ true → verdictOf event s ≡ Accepted → isAbsent s ≡ false
+tested-present Join Absent tested accepted = absurd (false≢true tested)
+tested-present Leave Absent tested accepted = cc
+tested-present Block Absent tested accepted = cc
+tested-present Resume Absent tested accepted = cc
+tested-present Tick Absent tested accepted = cc
+tested-present event Running tested accepted = refl
+tested-present event Waiting tested accepted = refl
+
+-- and so to one that there is not
+accepted-listed : (event : Event) (task : ℕ) (c : Clocks) → isTested event ≡ true → verdictOf event (taskAt c task .state) ≡ Accepted
+    → task < length (c .tasks)
+accepted-listed event task c tested accepted =
+    by-test (ltb task (length (c .tasks))) (ltb-true task (length (c .tasks)))
+    (λ e. let past = List·getD-eq-default (c .tasks) absentTask {n = task} (ltb-false task (length (c .tasks)) e) in
+    absurd (true≢false (tested-present event Absent tested (rw past at accepted))))
+
+-- an event with no advance test ends nothing
+lasting-all : (event : Event) (task : ℕ) (c : Clocks) (xs : List Expiration) → isTested event ≡ false → lasting event task c xs ≡ xs
+unfolding lasting
+lasting-all Join task c xs untested = refl
+lasting-all Leave task c xs untested = absurd (true≢false untested)
+lasting-all Block task c xs untested = absurd (true≢false untested)
+lasting-all Resume task c xs untested = refl
+lasting-all Tick task c xs untested = absurd (true≢false untested)
+
+-- and leaves its task's clock, unless the task was absent
+moved-stays : (event : Event) (t : Task) (s : State) → isTested event ≡ false → verdictOf event s ≡ Accepted → isAbsent s ≡ false
+    → moved event t .clock ≡ t .clock
+unfolding moved
+moved-stays Join t Absent untested accepted present = absurd (true≢false present)
+moved-stays Join t Running untested accepted present = cc
+moved-stays Join t Waiting untested accepted present = cc
+moved-stays Leave t s untested accepted present = absurd (true≢false untested)
+moved-stays Block t s untested accepted present = absurd (true≢false untested)
+moved-stays Resume t s untested accepted present = refl
+moved-stays Tick t s untested accepted present = absurd (true≢false untested)
+
+-- the setter of a local expiration is not absent
+abbrev SetterPresent : Clocks → Left → Type 0
+SetterPresent c (localLeft setter units) = isAbsent (taskAt c setter .state) ≡ false
+SetterPresent c (globalLeft units) = Unit
+
+abbrev AllPresent : Clocks → List Shown → Type 0
+AllPresent c xs = All (λ (x : Shown). SetterPresent c (x .left)) xs
+
+-- An event with no advance test leaves the units of every expiration whose setter is not absent.
+module _ (event : Event) (task : ℕ) (c : Clocks) (untested : isTested event ≡ false) (accepted : verdictOf event (taskAt c task .state) ≡ Accepted) where
+  clock-stays : (i : ℕ) → isAbsent (taskAt c i .state) ≡ false → taskAt (clocksAfter event task c) i .clock ≡ taskAt c i .clock
+  clock-stays i present =
+      rw (clock-after event task c i)
+      (by-test (eqb i task && ltb task (length (c .tasks)))
+      (λ e. let own = eqb-true i task (and-eq-true-iff _ _ .0 e .0) in
+      rw e (moved-stays event (taskAt c i) (taskAt c i .state) untested (rw own accepted) present))
+      (λ e. rw e))
+
+  ledger-stays : (d : LedgerDue) → SetterPresent c (leftOf c d) → leftOf (clocksAfter event task c) d ≡ leftOf c d
+  unfolding leftOf remaining clocksAfter advances
+  ledger-stays (byLocal setter at) present = rw (clock-stays setter present)
+  ledger-stays (byGlobal at) present = rw untested
+
+  shown-stays : (y : Expiration) → SetterPresent c (leftOf c (y .due)) → shown (clocksAfter event task c) y ≡ shown c y
+  shown-stays y present = rw (ledger-stays (y .due) present)
+
+  record-stays : {tasks entries : List TaskEntry} {global time : GlobalTime} → ClocksAlike tasks global c → ClocksAlike entries time (clocksAfter event task c)
+      → (handle : ℕ) (d : Due) → AllPresent c (shownDue tasks global handle d) → shownDue entries time handle d ≡ shownDue tasks global handle d
+  unfolding shownDue clocksAfter advances
+  record-stays same after handle Free present = refl
+  record-stays {tasks} {entries} same after handle (Local setter at) (present, _) =
+      rw (clock-alike entries (clocksAfter event task c) (after .tasks) setter, clock-alike tasks c (same .tasks) setter, clock-stays setter present)
+  record-stays same after handle (Global at) present = rw (after .global, same .global, untested)
+  record-stays same after handle Unknown present = refl
+
+-- a fit expiration's setter is not absent
+fit-present : {tasks : List TaskEntry} {global : GlobalTime} {c : Clocks} → ClocksAlike tasks global c
+    → (used : Bool) (handle : ℕ) (d : Due) → isFitDue (getD tasks (setterOf d) absentEntry) global used d ≡ true
+    → AllPresent c (shownDue tasks global handle d)
+unfolding shownDue
+fit-present same used handle Free fit = tt
+fit-present {tasks} {global} {c} same used handle (Local setter at) fit =
+    (rw (state-alike tasks c (same .tasks) setter) at (fit-local _ global used setter at fit .present), tt)
+fit-present same used handle (Global at) fit = (tt, tt)
+fit-present same used handle Unknown fit = tt
+
+-- An accepted event: from a record and a ledger that show the same expirations, to entries and a time that read as the ledger's clocks after it.
+module _ (event : Event) (task : ℕ) {tasks entries : List TaskEntry} {global time : GlobalTime} {c : Clocks}
+    (same : ClocksAlike tasks global c) (after : ClocksAlike entries time (clocksAfter event task c))
+    (accepted : verdictOf event (stateOf (getD tasks task absentEntry .state)) ≡ Accepted)
+    (blocks : List BlockEntry) (xs : List ExpirationEntry) (fit : all (isFitEntry tasks global blocks) xs ≡ true)
+    (ys : List Expiration) (alike : List·Permᴰ (readBy (shownEntry tasks global blocks) xs) (map (shown c) ys)) where
+  accepts : verdictOf event (taskAt c task .state) ≡ Accepted
+  accepts = rw (state-alike tasks c (same .tasks) task) at accepted
+
+  -- with an advance test
+  pub expirations-alike : isTested event ≡ true
+      → List·Permᴰ (readBy (shownEntry entries time blocks) (map (keptEntry (leaverOf event task) entries time) xs))
+      (map (shown (clocksAfter event task c)) (lasting event task (clocksAfter event task c) ys))
+  expirations-alike tested =
+      let listed = accepted-listed event task c tested accepts in
+      rw (record-ages event task same after tested listed blocks xs fit, ledger-ages event task c tested listed ys)
+      (readBy-perm (aged event task (advances event task c)) alike)
+
+  -- no setter is absent, in the record and so in the ledger
+  entries-present : All (λ (e : ExpirationEntry). AllPresent c (shownEntry tasks global blocks e)) xs
+  entries-present = all-imp (λ e. fit-present same _ _ (dueOf e)) xs (all-true (isFitEntry tasks global blocks) xs fit)
+
+  ledger-present : All (λ (y : Expiration). SetterPresent c (leftOf c (y .due))) ys
+  ledger-present = map-all _ (shown c) ys (all-perm _ alike (all-readBy _ _ xs entries-present))
+
+  -- with none
+  pub untested-expirations-alike : isTested event ≡ false
+      → List·Permᴰ (readBy (shownEntry entries time blocks) xs)
+      (map (shown (clocksAfter event task c)) (lasting event task (clocksAfter event task c) ys))
+  untested-expirations-alike untested =
+      rw (
+        readBy-same _ (shownEntry tasks global blocks) xs (all-imp (λ e. record-stays event task c untested accepts same after _ (dueOf e)) xs entries-present),
+        lasting-all event task (clocksAfter event task c) ys untested,
+        map-same _ (shown c) ys (all-imp (shown-stays event task c untested accepts) ys ledger-present),
+      )
+      alike

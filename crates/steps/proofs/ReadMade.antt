@@ -1,0 +1,189 @@
+-- Make and refresh do the same to the ledger that a well-formed record reads as, whichever free block and free entry they take.
+use Prim.Native.Nat.{ℕ, _+_, _-_, _≤_, _<_}
+use native.Mathlib.Omega.{arith}
+use mathlib.Core.Bool.{true}
+use mathlib.Core.List.{List, [], _∷_, _++_, map, map-append, List·Permᴰ, List·Permᴰ·cons, List·Permᴰ·trans}
+use mathlib.Core.Path.{_≡_, refl, ap, fun-ext, _∙_}
+use borrow.Author.Tests.{eqb-false, leb-true, eq-eqb, ne-eqb}
+use lib.Dec.{eqb}
+use lib.ListN.{length, getD, set}
+use lib.Seq.{getD-set-same}
+use Rattle.lists.specs.Tests.{All}
+use Rattle.lists.specs.Tables.{readBy, readFrom}
+use Rattle.lists.proofs.Cases.{by-test, or-right, cond-same}
+use Rattle.lists.proofs.All.{all-imp, all-left, all-true}
+use Rattle.lists.proofs.Filters.{filter-append, filter-all}
+use Rattle.lists.proofs.Pairwise.{pairwise-append}
+use Rattle.lists.proofs.Permutations.{last-perm, readBy-set, readFrom-set}
+use Rattle.lists.proofs.Tables.{readBy-same, readFrom-same, entry-within}
+use Rattle.ledger.specs.Limits.{smallSize, largeSize, isSmall}
+use Rattle.ledger.specs.Tasks.{Clocks, taskAt}
+use Rattle.ledger.specs.Expirations.{Expiration, isOf, dueAfter, remaining}
+use Rattle.ledger.specs.Objects.{Object, zeroed, stands, standing, memoryAfter, expirationsAfter}
+use Rattle.ledger.specs.Ledger.{Ledger, settled}
+use Rattle.ledger.specs.Compared.{leftOf, shown, shownObject, viewOf}
+use Rattle.ledger.specs.declared.Kind.{Kind}
+use Rattle.ledger.specs.declared.Kind.the-variants.{Local, Global}
+use Rattle.ledger.specs.declared.Call.the-variants.{Make, Refresh}
+use Rattle.stores.specs.Places.{sizeOf}
+use Rattle.record.specs.Codes.{dueBy, dueOf, freeBlock, freeEntry}
+use Rattle.record.specs.Reading.{isSmallBlock, shownDue, shownEntry, isWholeSmall, isWholeLarge, isWhole, objectIn, recordView, Typed, Reads}
+use Rattle.record.specs.WellFormed.{handleOf}
+use Rattle.record.specs.Tables.{BlockEntry, Tables}
+use Rattle.record.proofs.Facts.{Fit}
+use Rattle.record.proofs.Distinct.{handleAt}
+use Rattle.steps.proofs.ReadObjects.{same-shown}
+use Rattle.steps.specs.Objects.{entryFor, withEntry, withObject}
+use Rattle.steps.proofs.Finding.{every-object-stands, handles-given}
+use Rattle.steps.proofs.StoreBytes.{BytesCleared, used-in-block}
+use Rattle.steps.proofs.Taken.{MaySet, SlotFree, PlaceFree, newBlock, slot-due, local-due, units-set, clock-range, block-stays}
+
+-- the object stands by these expirations
+abbrev Stands : List Expiration → Object → Type 0
+Stands ys o = stands ys (o .handle) ≡ true
+
+-- objects that all stand do with one expiration more
+standing-more : (y : Expiration) (ys : List Expiration) (os : List Object) → standing ys os ≡ os → standing (y ∷ ys) os ≡ os
+standing-more y ys os all =
+    filter-all _ os (all-imp {P = Stands ys} (λ o s. or-right (isOf (o .handle) y) s) os (rw all at (all-left (λ (o : Object). stands ys (o .handle)) os)))
+
+-- and with its object
+standing-made : (y : Expiration) (ys : List Expiration) (os : List Object) (o : Object) → isOf (o .handle) y ≡ true → standing ys os ≡ os
+    → standing (y ∷ ys) (os ++ (o ∷ [])) ≡ os ++ (o ∷ [])
+standing-made y ys os o own all = rw (filter-append, standing-more y ys os all, own)
+
+-- the expiration that the ledger sets
+abbrev newExpiration : Clocks → Kind → ℕ → ℕ → ℕ → Expiration
+newExpiration clocks kind task extension handle = record { handle = handle; due = dueAfter clocks task kind extension }
+
+-- the record's new entry shows what it does, by any clocks: the units that were set
+entry-shown : (p : Tables) → Typed p → (kind : Kind) (task extension place : ℕ) → MaySet task extension p → (blocks : List BlockEntry) (clocks : Clocks)
+    → shownEntry (p .tasks) (p .global) blocks (entryFor kind task extension place p)
+    ≡ shown clocks (newExpiration clocks kind task extension (handleAt blocks place)) ∷ []
+unfolding entryFor dueBy shownDue dueAfter leftOf remaining
+entry-shown p types Local task extension place may blocks clocks =
+    let units : taskAt clocks task .clock + extension + 1 - taskAt clocks task .clock ≡ extension + 1 = omega arith in
+    rw (local-due task _ (may .known), units-set _ (extension + 1) (clock-range p types task) (omega (arith, may .short)), units)
+entry-shown p types Global task extension place may blocks clocks =
+    let units : clocks .global + extension + 2 - clocks .global ≡ extension + 2 = omega arith in
+    rw (units-set (p .global .0) (extension + 2) (types .global) (omega (arith, may .short)), units)
+
+-- A call that sets an expiration
+module _ (p : Tables) (small large : List ℕ) (L : Ledger) (fit : Fit p) (types : Typed p) (reads : Reads p small large L)
+    (kind : Kind) (task extension place slot : ℕ) (may : MaySet task extension p) (entry : SlotFree slot (p .expirations)) where
+  -- where the older entries show by these blocks what they showed, the new one is one more
+  expirations-set : (blocks : List BlockEntry) (handle : ℕ) → handleAt blocks place ≡ handle
+      → readBy (shownEntry (p .tasks) (p .global) blocks) (p .expirations) ≡ readBy (shownEntry (p .tasks) (p .global) (p .blocks)) (p .expirations)
+      → List·Permᴰ (readBy (shownEntry (p .tasks) (p .global) blocks) (set (p .expirations) slot (entryFor kind task extension place p)))
+      (map (shown (L .memory .clocks)) (newExpiration (L .memory .clocks) kind task extension handle ∷ L .expirations))
+  unfolding recordView viewOf shownDue
+  expirations-set blocks handle named same =
+      let shows = shownEntry (p .tasks) (p .global) blocks in
+      let new = entryFor kind task extension place p in
+      let front = readBy-set freeEntry shows (p .expirations) slot new (entry .listed) (rw (slot-due slot (p .expirations) entry)) in
+      List·Permᴰ·trans (rw (entry-shown p types kind task extension place may blocks (L .memory .clocks), named, same) at front)
+      (List·Permᴰ·cons refl (reads .alike .expirations))
+
+  -- a refresh of the object in a block
+  pub refreshed-reads : (handle : ℕ) → handleAt (p .blocks) place ≡ handle
+      → (let call = Refresh task kind extension handle in
+      Reads (withEntry slot (entryFor kind task extension place p) p) small large
+      (settled (memoryAfter call [] (L .memory)) (expirationsAfter call (L .memory) (L .expirations))))
+  unfolding recordView viewOf memoryAfter expirationsAfter
+  refreshed-reads handle named =
+      let y = newExpiration (L .memory .clocks) kind task extension handle in
+      let all = standing-more y (L .expirations) (L .memory .objects) (every-object-stands fit reads) in
+      record {
+        alike =
+            record {
+              tasks = reads .alike .tasks;
+              global = reads .alike .global;
+              given = reads .alike .given;
+              objects = rw all (reads .alike .objects);
+              expirations = expirations-set (p .blocks) handle named refl;
+            };
+        ascending = rw all (reads .ascending);
+      }
+
+-- a size is no more than the blocks of its store have
+size-within : (place size : ℕ) → isSmallBlock place ≡ isSmall size → size ≤ largeSize → size ≤ sizeOf place
+unfolding sizeOf
+size-within place size store most = rw store (by-test (isSmall size) (λ s. rw s (leb-true size smallSize s)) (λ s. rw s most))
+
+pub both-whole : (small large : List ℕ) → isWholeSmall small ≡ true → isWholeLarge large ≡ true → (size : ℕ) → isWhole small large size ≡ true
+both-whole small large s l size = rw (s, l, cond-same)
+
+-- A make
+module _ (p : Tables) (small large small′ large′ : List ℕ) (L : Ledger) (fit : Fit p) (types : Typed p) (reads : Reads p small large L)
+    (kind : Kind) (task extension size place slot : ℕ) (may : MaySet task extension p) (block : PlaceFree place size (p .blocks))
+    (entry : SlotFree slot (p .expirations)) (small-whole : isWholeSmall small ≡ true) (large-whole : isWholeLarge large ≡ true)
+    (cleared : BytesCleared small large small′ large′ place) where
+  -- the older entries show what they showed: those in use name blocks that were in use
+  expirations-stay : readBy (shownEntry (p .tasks) (p .global) (withObject place size p .blocks)) (p .expirations)
+      ≡ readBy (shownEntry (p .tasks) (p .global) (p .blocks)) (p .expirations)
+  expirations-stay =
+      readBy-same _ _ (p .expirations)
+      (all-imp
+      (λ e h.
+      let stays = block-stays (p .tasks) (p .global) (p .blocks) place (newBlock (p .given) size) (block .free) e h in
+      same-shown (p .tasks) (p .global) _ _ (dueOf e) (λ dated. ap handleOf (stays dated)))
+      (p .expirations) (all-true _ (p .expirations) (fit .entries)))
+
+  -- the older blocks have the objects that they had
+  object-stays : (i : ℕ) → objectIn small′ large′ i (getD (p .blocks) i freeBlock) ≡ objectIn small large i (getD (p .blocks) i freeBlock)
+  unfolding objectIn
+  object-stays i =
+      let b = getD (p .blocks) i freeBlock in
+      by-test (eqb (b .handle) 0)
+      (λ z. rw z)
+      (λ z.
+      let known : i < 96 = omega (arith, entry-within freeBlock (p .blocks) i (λ e. eqb-false (b .handle) 0 z (ap handleOf e)), types .blocks) in
+      let part = used-in-block small large small-whole large-whole p fit i known (rw z) in
+      rw (z, cleared .others i (λ at. eqb-false (b .handle) 0 z (rw at (block .free))) (b .length) part))
+
+  -- the new one has zeros
+  object-shown : objectIn small′ large′ place (newBlock (p .given) size) ≡ shownObject (isWhole small large) (zeroed (L .memory .given + 1) size) ∷ []
+  unfolding objectIn recordView viewOf
+  object-shown = rw (ne-eqb (p .given + 1) 0 (λ z. omega arith), cleared .zeros size (size-within place size (block .store) (block .most)), both-whole small large small-whole large-whole size, reads .alike .given)
+
+  -- the record's blocks have it in some place, the ledger at the end
+  objects-set : List·Permᴰ (readFrom 0 (objectIn small′ large′) (withObject place size p .blocks))
+      (map (shownObject (isWhole small large)) (L .memory .objects ++ (zeroed (L .memory .given + 1) size ∷ [])))
+  unfolding recordView viewOf objectIn
+  objects-set =
+      let front = readFrom-set freeBlock (objectIn small′ large′) (p .blocks) place (newBlock (p .given) size) (block .listed) (rw (block .free)) in
+      rw map-append
+      (List·Permᴰ·trans (rw (object-shown, readFrom-same freeBlock _ (objectIn small large) (p .blocks) object-stays) at front)
+      (List·Permᴰ·trans (List·Permᴰ·cons refl (reads .alike .objects)) (last-perm _ _)))
+
+  -- its handle is above all others of the ledger
+  handles-below : All (λ (o : Object). o .handle < L .memory .given + 1) (L .memory .objects)
+  handles-below = all-imp (λ o h. omega arith) (L .memory .objects) (handles-given fit reads)
+
+  same-whole : isWhole small′ large′ ≡ isWhole small large
+  same-whole = fun-ext (λ n. rw (cleared .small-size, cleared .large-size))
+
+  pub made-reads : (let call = Make task kind extension size in
+      Reads (withEntry slot (entryFor kind task extension place p) (withObject place size p)) small′ large′
+      (settled (memoryAfter call [] (L .memory)) (expirationsAfter call (L .memory) (L .expirations))))
+  unfolding recordView viewOf memoryAfter expirationsAfter
+  made-reads =
+      let handle = L .memory .given + 1 in
+      let y = newExpiration (L .memory .clocks) kind task extension handle in
+      let old = every-object-stands fit reads in
+      let all = standing-made y (L .expirations) (L .memory .objects) (zeroed handle size) (eq-eqb handle handle refl) old in
+      let given = ap (λ n. n + 1) (reads .alike .given) in
+      let named = ap handleOf (getD-set-same (p .blocks) place (newBlock (p .given) size) freeBlock (block .listed)) ∙ given in
+      record {
+        alike =
+            record {
+              tasks = reads .alike .tasks;
+              global = reads .alike .global;
+              given = given;
+              objects = rw (all, same-whole) objects-set;
+              expirations =
+                  expirations-set p small large L fit types reads kind task extension place slot may entry (withObject place size p .blocks) handle named
+                  expirations-stay;
+            };
+        ascending = rw all (pairwise-append _ (zeroed handle size) (L .memory .objects) handles-below (reads .ascending));
+      }

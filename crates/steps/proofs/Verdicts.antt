@@ -1,0 +1,142 @@
+-- Make, refresh, read and write are refused by the record just where the ledger refuses them, with the same refusal.
+use Prim.Native.Nat.{ℕ, _+_}
+use mathlib.Core.Bool.{Bool, false, cond, not, _||_}
+use mathlib.Core.List.{List, [], _∷_}
+use mathlib.Core.Option.{some}
+use mathlib.Core.Path.{_≡_, refl, sym, ap, _∙_}
+use borrow.Author.Tests.{not-false}
+use lib.Dec.{eqb, leb, ltb}
+use lib.ListN.{length}
+use Rattle.lists.proofs.Cases.{by-test, or-false-parts}
+use Rattle.ledger.specs.Limits.{limits, lastHandle}
+use Rattle.ledger.specs.Tasks.{isAbsent, isWaiting}
+use Rattle.ledger.specs.Expirations.{Expiration}
+use Rattle.ledger.specs.Objects.{Memory, objectAt, stands}
+use Rattle.ledger.specs.Refusals.{Test, shared, own, noSuchTask, taskAbsent, taskWaiting, handleNotGiven, objectGone, testsOf, verdict, asRefusal}
+use Rattle.ledger.specs.Compared.{viewOf}
+use Rattle.ledger.specs.Ledger.{Ledger, verdictOn}
+use Rattle.ledger.specs.declared.Call.the-variants.{Make, Refresh, Read, Write}
+use Rattle.ledger.specs.declared.Kind.{Kind}
+use Rattle.ledger.specs.declared.State.{State}
+use Rattle.ledger.specs.declared.State.the-variants.{Absent, Running, Waiting}
+use Rattle.ledger.specs.declared.Refusal.{Refusal}
+use Rattle.ledger.specs.declared.Refusal.the-variants.{TaskAbsent, TaskWaiting}
+use Rattle.ledger.specs.declared.Verdict.{Verdict}
+use Rattle.ledger.specs.declared.Verdict.the-variants.{Accepted, Refused}
+use Rattle.record.specs.Reading.{recordView, Typed, Reads}
+use Rattle.record.specs.Tables.{Tables}
+use Rattle.record.proofs.Facts.{Fit}
+use Rattle.steps.proofs.ReadTasks.{state-alike}
+use Rattle.stores.specs.Places.{blockCount}
+use Rattle.steps.specs.Objects.{placeOf, andThen, refuseIf, byState, taskVerdict, handleVerdict, makeVerdict, refreshVerdict, readVerdict, writeVerdict}
+use Rattle.steps.proofs.Finding.{blockOf, gone-alike, found}
+use Rattle.steps.proofs.Rooms.{block-room, entries-alike}
+
+-- verdicts one after another, in whatever grouping
+then-assoc : (u v w : Verdict) → andThen (andThen u v) w ≡ andThen u (andThen v w)
+then-assoc Accepted v w = refl
+then-assoc (Refused r) v w = refl
+
+-- 3 and 4 as tests
+by-state : (s : State) → byState s ≡ andThen (refuseIf (isAbsent s) TaskAbsent) (refuseIf (isWaiting s) TaskWaiting)
+by-state Absent = refl
+by-state Running = refl
+by-state Waiting = refl
+
+-- 11 and 12 as the record tests them
+abbrev isUngiven : ℕ → Tables → Bool
+isUngiven handle p = eqb handle 0 || ltb (p .given) handle
+
+abbrev isGone : ℕ → Tables → Bool
+isGone handle p = leb blockCount (placeOf handle (p .blocks))
+
+-- a test's refusal, and whether the test holds
+abbrev refusalOf : Test → Refusal
+refusalOf (shared r holds) = r
+refusalOf (own r holds) = r
+
+abbrev isHeld : Memory → List Expiration → Test → Bool
+isHeld m xs (shared r holds) = holds m
+isHeld m xs (own r holds) = holds m xs
+
+-- The ledger's verdict by these tests is this verdict of the record.
+record Agree (m : Memory) (xs : List Expiration) (ts : List Test) (v : Verdict) : Type 0 where
+  so : verdict m xs ts ≡ asRefusal v
+
+first-test : (m : Memory) (xs : List Expiration) (t : Test) (ts : List Test)
+    → verdict m xs (t ∷ ts) ≡ cond (isHeld m xs t) (some (refusalOf t)) (verdict m xs ts)
+unfolding verdict
+first-test m xs (shared r holds) ts = refl
+first-test m xs (own r holds) ts = refl
+
+module _ {m : Memory} {xs : List Expiration} where
+  -- one test that comes out the same of both, and what follows where it does not hold
+  test-alike : {t : Test} {ts : List Test} {c : Bool} {v : Verdict} → isHeld m xs t ≡ c → (c ≡ false → Agree m xs ts v)
+      → Agree m xs (t ∷ ts) (andThen (refuseIf c (refusalOf t)) v)
+  test-alike {t} {ts} {c} {v} e h = record { so = rw (first-test m xs t ts, e) (by-test c (λ d. rw d) (λ d. rw d (h d .so))) }
+
+  -- the last one
+  last-alike : {t : Test} {c : Bool} → isHeld m xs t ≡ c → Agree m xs (t ∷ []) (refuseIf c (refusalOf t))
+  unfolding verdict
+  last-alike {t} {c} e = record { so = rw (first-test m xs t [], e) (by-test c (λ d. rw d) (λ d. rw d)) }
+
+module _ {p : Tables} {small large : List ℕ} {L : Ledger} (typed : Typed p) (fit : Fit p) (reads : Reads p small large L) where
+  given-alike : L .memory .given ≡ p .given
+  unfolding recordView viewOf
+  given-alike = sym (reads .alike .given)
+
+  -- 1, 3, 4
+  task-tests : {task : ℕ} {ts : List Test} {v : Verdict} → Agree (L .memory) (L .expirations) ts v
+      → Agree (L .memory) (L .expirations) (noSuchTask task ∷ taskAbsent task ∷ taskWaiting task ∷ ts) (andThen (taskVerdict task (p .tasks)) v)
+  unfolding recordView viewOf
+  task-tests {task} h =
+      simp (state-alike (p .tasks) (L .memory .clocks) (reads .alike .tasks) task, by-state, then-assoc)
+      (test-alike refl (λ e. test-alike refl (λ e. test-alike refl (λ e. h))))
+
+  module _ (handle : ℕ) where
+    -- 11
+    given-test : (eqb handle 0 || ltb (L .memory .given) handle) ≡ isUngiven handle p
+    given-test = rw given-alike
+
+    -- 12, of a handle that was given
+    gone-test : isUngiven handle p ≡ false → not (stands (L .expirations) handle) ≡ isGone handle p
+    gone-test given = sym (gone-alike fit reads handle (or-false-parts _ _ given .0) typed)
+
+    -- 13, of a handle whose object is not gone
+    size-test : isUngiven handle p ≡ false → isGone handle p ≡ false → (end : ℕ)
+        → ltb (objectAt handle (L .memory .objects) .size) end ≡ ltb (blockOf handle (p .blocks) .length) end
+    size-test given stays end =
+        rw (found fit reads handle (or-false-parts _ _ given .0) (not-false _ (gone-test given ∙ stays)) .size)
+
+    -- 11, 12, and what follows
+    handle-tests : {ts : List Test} {v : Verdict}
+        → (isUngiven handle p ≡ false → isGone handle p ≡ false → Agree (L .memory) (L .expirations) ts v)
+        → Agree (L .memory) (L .expirations) (handleNotGiven handle ∷ objectGone handle ∷ ts) (andThen (handleVerdict handle p) v)
+    handle-tests h = rw then-assoc (test-alike given-test (λ given. test-alike (gone-test given) (h given)))
+
+  pub make-verdict : (task : ℕ) (kind : Kind) (extension size : ℕ) (new : List ℕ)
+      → verdictOn L (Make task kind extension size) new ≡ asRefusal (makeVerdict task extension size p)
+  unfolding testsOf makeVerdict
+  make-verdict task kind extension size new =
+      task-tests
+      (test-alike refl
+      (λ e. test-alike refl
+      (λ e. test-alike (ap (leb lastHandle) given-alike)
+      (λ e. test-alike (block-room fit reads typed size) (λ e. last-alike (ap (leb (limits .expirations)) (entries-alike fit reads))))))) .so
+
+  pub refresh-verdict : (task : ℕ) (kind : Kind) (extension handle : ℕ) (new : List ℕ)
+      → verdictOn L (Refresh task kind extension handle) new ≡ asRefusal (refreshVerdict task extension handle p)
+  unfolding testsOf refreshVerdict
+  refresh-verdict task kind extension handle new =
+      task-tests (test-alike refl (λ e. handle-tests handle (λ given stays. last-alike (ap (leb (limits .expirations)) (entries-alike fit reads))))) .so
+
+  pub read-verdict : (task handle : ℕ) (new : List ℕ) → verdictOn L (Read task handle) new ≡ asRefusal (readVerdict task handle p)
+  unfolding testsOf readVerdict
+  read-verdict task handle new = task-tests (test-alike (given-test handle) (λ given. last-alike (gone-test handle given))) .so
+
+  pub write-verdict : (task handle offset : ℕ) (new : List ℕ)
+      → verdictOn L (Write task handle offset) new ≡ asRefusal (writeVerdict task handle offset (length new) p)
+  unfolding testsOf writeVerdict readVerdict
+  write-verdict task handle offset new =
+      rw (then-assoc (taskVerdict task (p .tasks)) (handleVerdict handle p))
+      (task-tests (handle-tests handle (λ given stays. last-alike (size-test handle given stays (offset + length new)))) .so)

@@ -1,0 +1,133 @@
+-- What an event makes of a record, as a function of its entries.
+use Prim.Native.Nat.{ℕ, _+_, _%_}
+use mathlib.Core.Bool.{Bool, true, false, cond, not, _&&_}
+use mathlib.Core.List.{List, map}
+use lib.Dec.{eqb, leb, ltb}
+use lib.ListN.{getD, set}
+use Rattle.lists.specs.Tests.{any}
+use Rattle.lists.specs.Tables.{mapFrom}
+use Rattle.ledger.specs.Limits.{taskCount, counterRange}
+use Rattle.ledger.specs.Tasks.{isTested, allTicked}
+use Rattle.ledger.specs.declared.State.{State}
+use Rattle.ledger.specs.declared.State.the-variants.{Absent, Running, Waiting}
+use Rattle.ledger.specs.declared.Event.{Event}
+use Rattle.ledger.specs.declared.Event.the-variants.{Join, Leave, Block, Resume, Tick}
+use Rattle.ledger.specs.declared.Answer.{Answer}
+use Rattle.ledger.specs.declared.Answer.the-variants.{Done, Advanced}
+use Rattle.ledger.specs.declared.Answer.the-variants.{Refused as RefusedAnswer}
+use Rattle.ledger.specs.declared.Refusal.the-variants.{NoSuchTask, TaskPresent, TaskAbsent, TaskWaiting, TaskRunning}
+use Rattle.record.specs.Codes.{stateOf, taskOf, dueOf, setterOf, leftAt, absentEntry, freedBlock, freedEntry}
+use Rattle.record.specs.WellFormed.{isNaming}
+use Rattle.record.specs.declared.TaskEntry.{TaskEntry}
+use Rattle.record.specs.Tables.{BlockEntry, ExpirationEntry, Tables, Outcome}
+use Rattle.record.specs.declared.GlobalTime.{GlobalTime}
+use Rattle.record.specs.declared.Due.{Due}
+use Rattle.record.specs.declared.Due.the-variants.{Free, Local, Global, Unknown}
+use Rattle.ledger.specs.declared.Verdict.{Verdict}
+use Rattle.ledger.specs.declared.Verdict.the-variants.{Accepted, Refused}
+
+-- 01: join 2; leave 3; block and tick 3, 4; resume 3, 5
+abbrev pub verdictOf : Event → State → Verdict
+verdictOf Join Absent = Accepted
+verdictOf Join Running = Refused TaskPresent
+verdictOf Join Waiting = Refused TaskPresent
+verdictOf Leave Absent = Refused TaskAbsent
+verdictOf Leave Running = Accepted
+verdictOf Leave Waiting = Accepted
+verdictOf Block Absent = Refused TaskAbsent
+verdictOf Block Running = Accepted
+verdictOf Block Waiting = Refused TaskWaiting
+verdictOf Resume Absent = Refused TaskAbsent
+verdictOf Resume Running = Refused TaskRunning
+verdictOf Resume Waiting = Accepted
+verdictOf Tick Absent = Refused TaskAbsent
+verdictOf Tick Running = Accepted
+verdictOf Tick Waiting = Refused TaskWaiting
+
+-- the verdict on an event: first 1, then the tests of the task's state
+abbrev pub verdictAt : Event → ℕ → List TaskEntry → Verdict
+verdictAt event task tasks =
+    cond (leb taskCount task) (Refused NoSuchTask) (verdictOf event (stateOf (getD tasks task absentEntry .state)))
+
+-- a counter's next value: "goes on from 4,294,967,295 to 0"
+abbrev pub nextTime : ℕ → ℕ
+nextTime n = (n + 1) % counterRange
+
+-- in this state, the mark cleared
+abbrev pub clearedEntry : ℕ → TaskEntry → TaskEntry
+clearedEntry state e = record { state = state; ticked = 0; clock = e .clock }
+
+abbrev pub movedEntry : Event → TaskEntry → TaskEntry
+movedEntry Join e = clearedEntry 1 absentEntry
+movedEntry Block e = clearedEntry 2 e
+movedEntry Resume e = clearedEntry 1 e
+movedEntry Leave e = absentEntry
+movedEntry Tick e = record { state = e .state; ticked = 1; clock = record { 0 = nextTime (e .clock .0) } }
+
+abbrev pub untickedEntry : TaskEntry → TaskEntry
+untickedEntry e = clearedEntry (e .state) e
+
+abbrev pub movedTasks : Event → ℕ → List TaskEntry → List TaskEntry
+movedTasks event task tasks = set tasks task (movedEntry event (getD tasks task absentEntry))
+
+-- the entries and the global time after the advance test
+abbrev pub advancedTasks : Bool → List TaskEntry → List TaskEntry
+advancedTasks advanced tasks = cond advanced (map untickedEntry tasks) tasks
+
+abbrev pub advancedTime : Bool → GlobalTime → GlobalTime
+advancedTime advanced global = record { 0 = cond advanced (nextTime (global .0)) (global .0) }
+
+-- the task whose own dates go: 16 for none
+abbrev pub leaverOf : Event → ℕ → ℕ
+leaverOf Join task = taskCount
+leaverOf Block task = taskCount
+leaverOf Resume task = taskCount
+leaverOf Leave task = task
+leaverOf Tick task = taskCount
+
+-- whether an expiration stands on, by the entry of its setter and the global time as they are then
+abbrev pub isLasting : ℕ → TaskEntry → GlobalTime → Due → Bool
+isLasting leaver setter global Free = true
+isLasting leaver setter global (Local task at) = not (eqb task leaver) && ltb 0 (leftAt (at .0) (setter .clock .0))
+isLasting leaver setter global (Global at) = ltb 0 (leftAt (at .0) (global .0))
+isLasting leaver setter global Unknown = true
+
+-- whether an entry stands on
+abbrev pub isKept : ℕ → List TaskEntry → GlobalTime → ExpirationEntry → Bool
+isKept leaver tasks global e = isLasting leaver (getD tasks (setterOf (dueOf e)) absentEntry) global (dueOf e)
+
+abbrev pub keptEntry : ℕ → List TaskEntry → GlobalTime → ExpirationEntry → ExpirationEntry
+keptEntry leaver tasks global e = cond (isKept leaver tasks global e) e (freedEntry e)
+
+-- what no expiration names is free
+abbrev pub keptBlock : List ExpirationEntry → ℕ → BlockEntry → BlockEntry
+keptBlock xs block b = cond (any (isNaming block) xs) b (freedBlock b)
+
+-- the record with these tasks and this time, its due expirations and the leaver's own ended, its blocks free where none names them
+unfoldable pub swept : ℕ → List TaskEntry → GlobalTime → Tables → Tables
+swept leaver tasks global p =
+    let xs = map (keptEntry leaver tasks global) (p .expirations) in
+    record { tasks = tasks; global = global; given = p .given; blocks = mapFrom 0 (keptBlock xs) (p .blocks); expirations = xs }
+
+-- the record with these tasks and this time, all else as it was
+abbrev pub withTimes : List TaskEntry → GlobalTime → Tables → Tables
+withTimes tasks global p =
+    record { tasks = tasks; global = global; given = p .given; blocks = p .blocks; expirations = p .expirations }
+
+-- an accepted event
+unfoldable pub poolAfter : Event → ℕ → Tables → Tables
+poolAfter event task p =
+    let tasks = movedTasks event task (p .tasks) in
+    let advanced = allTicked (map taskOf tasks) in
+    cond (isTested event) (swept (leaverOf event task) (advancedTasks advanced tasks) (advancedTime advanced (p .global)) p) (withTimes tasks (p .global) p)
+
+unfoldable pub answerAfter : Event → ℕ → Tables → Answer
+answerAfter event task p = cond (isTested event) (Advanced (allTicked (map taskOf (movedTasks event task (p .tasks))))) Done
+
+abbrev pub outcomeBy : Verdict → Event → ℕ → Tables → Outcome
+outcomeBy Accepted event task p = record { answer = answerAfter event task p; pool = poolAfter event task p }
+outcomeBy (Refused r) event task p = record { answer = RefusedAnswer r; pool = p }
+
+-- any event on any record
+unfoldable pub scheduled : Event → ℕ → Tables → Outcome
+scheduled event task p = outcomeBy (verdictAt event task (p .tasks)) event task p

@@ -1,0 +1,172 @@
+-- What make, refresh, read and write test and change of a record, as functions of its entries.
+use Prim.Native.Nat.{ℕ, _+_, _%_}
+use mathlib.Core.Bool.{Bool, cond, not, _||_}
+use mathlib.Core.List.{List}
+use lib.Dec.{eqb, leb, ltb}
+use lib.ListN.{getD, set, take, drop}
+use Rattle.lists.specs.Tests.{count}
+use Rattle.lists.specs.Tables.{firstFrom}
+use Rattle.ledger.specs.Limits.{limits, taskCount, largeSize, lastHandle, counterRange, isSmall}
+use Rattle.ledger.specs.declared.Kind.{Kind}
+use Rattle.ledger.specs.declared.Kind.the-variants.{Local, Global}
+use Rattle.ledger.specs.declared.State.{State}
+use Rattle.ledger.specs.declared.State.the-variants.{Absent, Running, Waiting}
+use Rattle.ledger.specs.declared.Refusal.{Refusal}
+use Rattle.ledger.specs.declared.Refusal.the-variants.{NoSuchTask, TaskAbsent, TaskWaiting, ExtensionTooLong, LengthOutOfRange, HandlesSpent, NoFreeBlock, NoFreeExpiration, HandleNotGiven, ObjectGone, OutsideObject}
+use Rattle.ledger.specs.declared.Verdict.{Verdict}
+use Rattle.ledger.specs.declared.Verdict.the-variants.{Accepted, Refused}
+use Rattle.stores.specs.Places.{blockCount}
+use Rattle.record.specs.Codes.{stateOf, absentEntry, freeBlock}
+use Rattle.record.specs.declared.TaskEntry.{TaskEntry}
+use Rattle.record.specs.Tables.{BlockEntry, ExpirationEntry, Tables}
+use Rattle.record.specs.declared.GlobalTime.{GlobalTime}
+
+abbrev pub isBlockOf : ℕ → BlockEntry → Bool
+isBlockOf handle b = eqb (b .handle) handle
+
+-- the block of the object with this handle, or blockCount
+abbrev pub placeOf : ℕ → List BlockEntry → ℕ
+placeOf handle blocks = firstFrom 0 (isBlockOf handle) blocks
+
+-- the same by the handles alone
+abbrev pub placeIn : ℕ → List ℕ → ℕ
+placeIn handle handles = firstFrom 0 (λ (h : ℕ). eqb h handle) handles
+
+abbrev pub isFreeBlock : BlockEntry → Bool
+isFreeBlock b = eqb (b .handle) 0
+
+-- where the blocks of a size's store end
+abbrev pub endFor : ℕ → ℕ
+endFor size = cond (isSmall size) (limits .smallBlocks) blockCount
+
+-- the first free block of a size's store, or its end
+unfoldable pub freePlace : ℕ → List BlockEntry → ℕ
+freePlace size blocks =
+    cond (isSmall size) (firstFrom 0 isFreeBlock (take (limits .smallBlocks) blocks))
+    (firstFrom (limits .smallBlocks) isFreeBlock (drop (limits .smallBlocks) blocks))
+
+-- the same by the handles alone
+abbrev pub isNoHandle : ℕ → Bool
+isNoHandle handle = eqb handle 0
+
+unfoldable pub freePlaceIn : ℕ → List ℕ → ℕ
+freePlaceIn size handles =
+    cond (isSmall size) (firstFrom 0 isNoHandle (take (limits .smallBlocks) handles))
+    (firstFrom (limits .smallBlocks) isNoHandle (drop (limits .smallBlocks) handles))
+
+-- an entry that is not in use, and how many are
+abbrev pub isFreeEntry : ExpirationEntry → Bool
+isFreeEntry e = eqb (e .clock) 0
+
+abbrev pub standingIn : List ExpirationEntry → ℕ
+standingIn xs = count (λ (e : ExpirationEntry). not (isFreeEntry e)) xs
+
+-- the first free expiration entry, or their count
+
+abbrev pub freeSlot : List ExpirationEntry → ℕ
+freeSlot xs = firstFrom 0 isFreeEntry xs
+
+-- one verdict, and where it accepts, the next
+abbrev pub andThen : Verdict → Verdict → Verdict
+andThen Accepted v = v
+andThen (Refused r) v = Refused r
+
+abbrev pub refuseIf : Bool → Refusal → Verdict
+refuseIf holds r = cond holds (Refused r) Accepted
+
+-- 1, 3, 4
+abbrev pub byState : State → Verdict
+byState Absent = Refused TaskAbsent
+byState Running = Accepted
+byState Waiting = Refused TaskWaiting
+
+abbrev pub taskVerdict : ℕ → List TaskEntry → Verdict
+taskVerdict task tasks = andThen (refuseIf (leb taskCount task) NoSuchTask) (byState (stateOf (getD tasks task absentEntry .state)))
+
+-- 6
+abbrev pub extensionVerdict : ℕ → Verdict
+extensionVerdict extension = refuseIf (ltb (limits .extension) extension) ExtensionTooLong
+
+-- 11, 12, by the handles given and the place that was found
+abbrev pub foundVerdict : ℕ → ℕ → ℕ → Verdict
+foundVerdict handle given place =
+    andThen (refuseIf (eqb handle 0 || ltb given handle) HandleNotGiven) (refuseIf (leb blockCount place) ObjectGone)
+
+abbrev pub handleVerdict : ℕ → Tables → Verdict
+handleVerdict handle p = foundVerdict handle (p .given) (placeOf handle (p .blocks))
+
+-- 10, by how many stand
+abbrev pub roomVerdict : ℕ → Verdict
+roomVerdict standing = refuseIf (leb (limits .expirations) standing) NoFreeExpiration
+
+-- 01's lists for the four, first by the handles given and the places that were found
+abbrev pub makeVerdictBy : ℕ → ℕ → ℕ → List TaskEntry → ℕ → ℕ → ℕ → Verdict
+makeVerdictBy task extension size tasks given place standing =
+    andThen (taskVerdict task tasks)
+    (andThen (extensionVerdict extension)
+    (andThen (refuseIf (eqb size 0 || ltb largeSize size) LengthOutOfRange)
+    (andThen (refuseIf (leb lastHandle given) HandlesSpent)
+    (andThen (refuseIf (leb (endFor size) place) NoFreeBlock) (roomVerdict standing)))))
+
+unfoldable pub makeVerdict : ℕ → ℕ → ℕ → Tables → Verdict
+makeVerdict task extension size p =
+    makeVerdictBy task extension size (p .tasks) (p .given) (freePlace size (p .blocks)) (standingIn (p .expirations))
+
+abbrev pub refreshVerdictBy : ℕ → ℕ → ℕ → List TaskEntry → ℕ → ℕ → ℕ → Verdict
+refreshVerdictBy task extension handle tasks given place standing =
+    andThen (taskVerdict task tasks)
+    (andThen (extensionVerdict extension) (andThen (foundVerdict handle given place) (roomVerdict standing)))
+
+unfoldable pub refreshVerdict : ℕ → ℕ → ℕ → Tables → Verdict
+refreshVerdict task extension handle p =
+    refreshVerdictBy task extension handle (p .tasks) (p .given) (placeOf handle (p .blocks)) (standingIn (p .expirations))
+
+abbrev pub readVerdictIn : ℕ → ℕ → List TaskEntry → ℕ → List BlockEntry → Verdict
+readVerdictIn task handle tasks given blocks = andThen (taskVerdict task tasks) (foundVerdict handle given (placeOf handle blocks))
+
+unfoldable pub readVerdict : ℕ → ℕ → Tables → Verdict
+readVerdict task handle p = readVerdictIn task handle (p .tasks) (p .given) (p .blocks)
+
+-- 13
+abbrev pub endVerdict : ℕ → ℕ → List BlockEntry → Verdict
+endVerdict handle end blocks = refuseIf (ltb (getD blocks (placeOf handle blocks) freeBlock .length) end) OutsideObject
+
+unfoldable pub writeVerdict : ℕ → ℕ → ℕ → ℕ → Tables → Verdict
+writeVerdict task handle offset count p = andThen (readVerdict task handle p) (endVerdict handle (offset + count) (p .blocks))
+
+-- the entry of an expiration that a task sets on a block: "c + e + 1", "g + e + 2", by counters that wrap
+abbrev pub entryBy : Kind → ℕ → ℕ → ℕ → List TaskEntry → GlobalTime → ExpirationEntry
+entryBy Local task extension block tasks global =
+    record { clock = 16 + task; block = block; due = (getD tasks task absentEntry .clock .0 + (extension + 1)) % counterRange }
+entryBy Global task extension block tasks global =
+    record { clock = 32; block = block; due = (global .0 + (extension + 2)) % counterRange }
+
+unfoldable pub entryFor : Kind → ℕ → ℕ → ℕ → Tables → ExpirationEntry
+entryFor kind task extension block p = entryBy kind task extension block (p .tasks) (p .global)
+
+-- one expiration more, in an entry that was free
+abbrev pub withEntry : ℕ → ExpirationEntry → Tables → Tables
+withEntry slot e p =
+    record { tasks = p .tasks; global = p .global; given = p .given; blocks = p .blocks; expirations = set (p .expirations) slot e }
+
+-- the next handle, in a block that was free
+abbrev pub withObject : ℕ → ℕ → Tables → Tables
+withObject place size p =
+    record {
+      tasks = p .tasks;
+      global = p .global;
+      given = p .given + 1;
+      blocks = set (p .blocks) place (record { handle = p .given + 1; length = size });
+      expirations = p .expirations;
+    }
+
+-- the record after a make that is accepted, in the first free block and the first free entry
+unfoldable pub madePool : ℕ → Kind → ℕ → ℕ → Tables → Tables
+madePool task kind extension size p =
+    let place = freePlace size (p .blocks) in
+    withEntry (freeSlot (p .expirations)) (entryFor kind task extension place p) (withObject place size p)
+
+-- and after a refresh
+unfoldable pub refreshedPool : ℕ → Kind → ℕ → ℕ → Tables → Tables
+refreshedPool task kind extension handle p =
+    withEntry (freeSlot (p .expirations)) (entryFor kind task extension (placeOf handle (p .blocks)) p) p

@@ -1,0 +1,4 @@
+pub mod Hex
+pub mod Fields
+pub mod Lines
+pub mod Reader

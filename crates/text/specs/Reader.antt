@@ -1,0 +1,13 @@
+-- Document 01: "A reader holds the script and the offset of its next line"; what one step of it gives.
+use denote.Ref.{now}
+use Rattle.text.specs.Lines.{lineAt}
+use Rattle.text.specs.declared.lines.Line.{Line}
+use Rattle.text.specs.declared.reader.Reader.{Reader}
+
+-- the line at the reader's offset
+abbrev pub nextLine : Reader → Line
+nextLine reader = lineAt (now (reader .script)) (reader .next)
+
+-- the same script, at the line after it
+abbrev pub afterLine : Reader → Reader
+afterLine reader = record { script = reader .script; next = nextLine reader .next }

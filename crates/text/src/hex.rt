@@ -1,0 +1,118 @@
+// Hexadecimal: digits 0-9 and A-F, two for a byte. What a line spells, and bytes as a line.
+ghost use Prim.Native.Nat.{_+_, _-_, _*_, _/_, _≤_, _<_};
+ghost use mathlib.Core.List.{[], _∷_};
+ghost use mathlib.Core.Path.{_≡_};
+ghost use lib.ListN.{length, drop};
+ghost use Rattle.text.specs.Fields.{fieldAt};
+ghost use Rattle.text.specs.Hex.{digitOf, isDigit, isHex, bytesOf, digitFor, hexOf, Spells, Placed};
+
+// Whether a character is 0-9 or A-F.
+fn is_digit(c: u8) -> bool
+    ensures { λ r. ⌜ r ≡ isDigit c ⌝ }
+{
+    let decimal = (b'0' <= c) & (c <= b'9');
+    let letter = (b'A' <= c) & (c <= b'F');
+    decimal | letter
+}
+
+// Whether a line is hexadecimal: an even count of digits and no other character.
+pub fn is_hex(line: &[u8]) -> bool
+    ensures { λ r. ⌜ r ≡ isHex (now (line .entry)) ⌝ }
+{
+    let mut ok = line.len() % 2 == 0;
+    for i in 0..line.len() {
+        ok = ok & is_digit(line[i]);
+    }
+    ok
+}
+
+// The value of a digit: its low four bits, and 9 more for a letter.
+fn value_of(c: u8) -> u8
+    requires { ⌜ digitOf c < 16 ⌝ }
+    ensures { λ r. ⌜ r ≡ digitOf c ⌝ }
+{
+    c % 16 + 9 * (c / 64)
+}
+
+// The byte at a place of those that a line spells.
+pub fn byte_at(line: &[u8], at: usize) -> u8
+    requires { ⌜ Spells (now line) (at + 1) ⌝ }
+    ensures { λ r. ⌜ r ≡ fieldAt at 1 (bytesOf (now (line .entry))) ⌝ }
+{
+    16 * value_of(line[2 * at]) + value_of(line[2 * at + 1])
+}
+
+// The number in two bytes from a place on.
+pub fn short_at(line: &[u8], at: usize) -> u16
+    requires { ⌜ Spells (now line) (at + 2) ⌝ }
+    ensures { λ r. ⌜ r ≡ fieldAt at 2 (bytesOf (now (line .entry))) ⌝ }
+{
+    let high = byte_at(line, at);
+    let low = byte_at(line, at + 1);
+    256 * high as u16 + low as u16
+}
+
+// The number in four bytes from a place on.
+pub fn word_at(line: &[u8], at: usize) -> u32
+    requires { ⌜ Spells (now line) (at + 4) ⌝ }
+    ensures { λ r. ⌜ r ≡ fieldAt at 4 (bytesOf (now (line .entry))) ⌝ }
+{
+    let high = short_at(line, at);
+    let low = short_at(line, at + 2);
+    65536 * high as u32 + low as u32
+}
+
+// The last bytes that a line spells, over a part of as many.
+pub fn spell_last(part: &mut [u8], line: &[u8])
+    requires { ⌜ Spells (now line) (length (now part)) ⌝ }
+    ensures { λ _. ⌜ now (part .exit) ≡ drop (length (now (line .entry)) / 2 - length (now (part .entry))) (bytesOf (now (line .entry))) ⌝ }
+{
+    let first = line.len() / 2 - part.len();
+    for i in 0..part.len() {
+        part[i] = byte_at(line, first + i);
+    }
+}
+
+// The digit of a value.
+fn digit_for(value: u8) -> u8
+    requires { ⌜ value < 16 ⌝ }
+    ensures { λ r. ⌜ r ≡ digitFor value ⌝ }
+{
+    if value < 10 {
+        b'0' + value
+    } else {
+        b'A' + (value - 10)
+    }
+}
+
+// Bytes as digits, over a part of twice as many.
+fn spell_out(part: &mut [u8], bytes: &[u8])
+    requires { ⌜ length (now part) ≡ 2 * length (now bytes) ⌝ }
+    ensures { λ _. ⌜ now (part .exit) ≡ hexOf (now (bytes .entry)) ⌝ }
+{
+    for i in 0..bytes.len() {
+        let b = bytes[i];
+        part[2 * i] = digit_for(b / 16);
+        part[2 * i + 1] = digit_for(b % 16);
+    }
+}
+
+// Bytes as digits from a place of a buffer on; the place after them.
+pub fn put_hex(out: &mut [u8], at: usize, bytes: &[u8]) -> usize
+    requires { ⌜ at + 2 * length (now bytes) ≤ length (now out) ⌝ }
+    ensures { λ r. ⌜ Placed at (hexOf (now (bytes .entry))) (now (out .entry)) (now (out .exit)) r ⌝ }
+{
+    let end = at + 2 * bytes.len();
+    spell_out(&mut out[at..end], bytes);
+    end
+}
+
+// A byte as two digits at a place of a buffer; the place after them.
+pub fn put_byte(out: &mut [u8], at: usize, byte: u8) -> usize
+    requires { ⌜ at + 2 ≤ length (now out) ⌝ }
+    ensures { λ r. ⌜ Placed at (hexOf (byte ∷ [])) (now (out .entry)) (now (out .exit)) r ⌝ }
+{
+    out[at] = digit_for(byte / 16);
+    out[at + 1] = digit_for(byte % 16);
+    at + 2
+}

@@ -1,0 +1,10 @@
+// The characters of a script: hexadecimal digits, two for a byte, and lines.
+pub mod hex;
+mod lines;
+mod reader;
+
+pub use lines::Line;
+pub use lines::line_at;
+pub use lines::line_end;
+pub use reader::Reader;
+pub use reader::step;

@@ -1,0 +1,187 @@
+//! What is measured: each call on records where few and many expirations stand, accepted and refused, and on those whose
+//! handles make the fit test work most.
+
+use plain::limits::SMALL_SIZE;
+use plain::record::{GLOBAL, LOCAL, RUNNING, WAITING};
+use reference::call::{Call, Kind};
+use reference::frame::encode;
+
+use crate::desk::{action, Action, Arguments, Entry, Subject};
+use crate::memory::Memory;
+use crate::samples::{renumber, standing, Numbering, NUMBERINGS};
+
+/// How many expirations stand. Where a call sets one more, 255 stand for 256.
+pub const STANDING: [usize; 4] = [0, 64, 128, 256];
+
+/// The tasks that run and set expirations. The next one waits, and the one after it is absent.
+const RUN: u8 = 14;
+const WAITS: u8 = RUN;
+const ABSENT: u8 = RUN + 1;
+const NONE: u8 = 16;
+
+pub struct Case {
+    pub name: &'static str,
+    pub entry: Entry,
+    pub expirations: usize,
+    /// How the objects are numbered, where that is what the case is about.
+    pub numbering: Option<Numbering>,
+    pub memory: Memory,
+    pub arguments: Arguments,
+    /// The number of the answer.
+    pub answer: u8,
+}
+
+impl Case {
+    /// The function to measure, if the subject has it: the work alone does not test the record.
+    pub fn action(&self, subject: Subject) -> Option<Action> {
+        action(self.entry, subject).filter(|_| self.answer != 15 || subject != Subject::Work)
+    }
+}
+
+/// All cases, each the same for every subject.
+pub fn all() -> Vec<Case> {
+    let usual = STANDING.iter().flat_map(|&expirations| cases_with(expirations));
+    usual.chain(NUMBERINGS.iter().flat_map(|&numbering| numbered(numbering))).collect()
+}
+
+fn cases_with(expirations: usize) -> Vec<Case> {
+    let mut cases = calls_on_tasks(expirations);
+    cases.extend(calls_on_objects(expirations));
+    cases.extend(frames(expirations));
+    cases.extend(refusals(expirations));
+    cases.push(case("the fit test alone", Entry::Fit, expirations, Arguments::default()));
+    cases
+}
+
+fn calls_on_tasks(expirations: usize) -> Vec<Case> {
+    let by = |task| Arguments { task, ..Arguments::default() };
+    let mut cases = vec![
+        case("join", Entry::Join, expirations, by(ABSENT)),
+        case("leave", Entry::Leave, expirations, by(0)),
+        case("block", Entry::Block, expirations, by(1)),
+        case("resume", Entry::Resume, expirations, by(WAITS)),
+        case("tick", Entry::Tick, expirations, by(1)),
+    ];
+    if expirations > 0 {
+        let mut ends = case("tick, one expires", Entry::Tick, expirations, by(0));
+        last_is_due_next(&mut ends.memory, LOCAL);
+        let mut advances = case("tick, advances, one expires", Entry::Tick, expirations, by(0));
+        last_is_due_next(&mut advances.memory, GLOBAL);
+        let others = advances.memory.pool.tasks.iter_mut().skip(1).filter(|task| task.state == RUNNING);
+        others.for_each(|task| task.ticked = 1);
+        let mut all = case("tick, all expire", Entry::Tick, expirations, by(0));
+        all.memory.pool.clocks[..expirations].fill(LOCAL);
+        all.memory.pool.dues[..expirations].fill(1);
+        cases.extend([ends, advances, all]);
+    }
+    cases
+}
+
+/// The last expiration of this clock, which reads 0, is due when it reads 1.
+fn last_is_due_next(memory: &mut Memory, clock: u8) {
+    let last = memory.pool.clocks.iter().rposition(|&other| other == clock);
+    memory.pool.dues[last.expect("some go by this clock")] = 1;
+}
+
+fn calls_on_objects(expirations: usize) -> Vec<Case> {
+    let make = |size| Arguments { size, extension: 9, ..Arguments::default() };
+    let mut cases = vec![
+        case("make 32", Entry::Make, expirations, make(32)),
+        case("make 256", Entry::Make, expirations, make(256)),
+        case("report", Entry::Report, expirations, Arguments::default()),
+    ];
+    if expirations > 0 {
+        let (small, large) = last_handles(expirations);
+        let with = |handle, size| Arguments { handle, bytes: vec![7; size], extension: 9, ..Arguments::default() };
+        cases.extend([
+            case("refresh", Entry::Refresh, expirations, with(small, 0)),
+            case("read 32", Entry::Read, expirations, with(small, 32)),
+            case("read 256", Entry::Read, expirations, with(large, 256)),
+            case("write 32", Entry::Write, expirations, with(small, 32)),
+            case("write 256", Entry::Write, expirations, with(large, 256)),
+        ]);
+    }
+    cases
+}
+
+fn frames(expirations: usize) -> Vec<Case> {
+    let frame = |name, call| case(name, Entry::Frame, expirations, line(&call));
+    let mut make =
+        frame("frame: make 32", Call::Make { task: 0, kind: Kind::Local, extension: 9, length: SMALL_SIZE as u16 });
+    make.memory = sample(expirations.min(255));
+    let mut cases = vec![frame("frame: tick", Call::Tick { task: 1 }), make, frame("frame: report", Call::Report)];
+    if expirations > 0 {
+        let (_, handle) = last_handles(expirations);
+        cases.push(frame("frame: read 256", Call::Read { task: 0, handle }));
+        cases.push(frame("frame: write 256", Call::Write { task: 0, handle, offset: 0, bytes: &[7; 256] }));
+    }
+    cases
+}
+
+/// Refused with 1 after the test of well-formedness, and with 15 where it finds the fault last or first.
+fn refusals(expirations: usize) -> Vec<Case> {
+    let by = |task| Arguments { task, size: 32, handle: 1, ..Arguments::default() };
+    let refused = |name, entry, task, answer| Case { answer, ..case(name, entry, expirations, by(task)) };
+    let mut cases = vec![
+        refused("tick, refused 1", Entry::Tick, NONE, 1),
+        refused("make, refused 1", Entry::Make, NONE, 1),
+        refused("read, refused 1", Entry::Read, NONE, 1),
+    ];
+    let mut first = refused("tick, refused 15 at the first entry", Entry::Tick, 1, 15);
+    first.memory.pool.tasks[0].state = 3;
+    cases.push(first);
+    if expirations > 0 {
+        let mut last = refused("tick, refused 15 at the last object", Entry::Tick, 1, 15);
+        let block = last.memory.pool.handles.iter().rposition(|&handle| handle != 0);
+        last.memory.pool.lengths[block.expect("objects stand")] = 0;
+        cases.push(last);
+    }
+    cases
+}
+
+fn case(name: &'static str, entry: Entry, expirations: usize, arguments: Arguments) -> Case {
+    let sets = matches!(entry, Entry::Make | Entry::Refresh);
+    let memory = sample(if sets { expirations.min(255) } else { expirations });
+    Case { name, entry, expirations, numbering: None, memory, arguments, answer: 0 }
+}
+
+/// As many objects as the call leaves room for, numbered so.
+fn numbered(numbering: Numbering) -> [Case; 2] {
+    let tick = case("tick, 96 objects", Entry::Tick, 256, Arguments { task: 1, ..Arguments::default() });
+    let with = Arguments { size: 32, extension: 9, ..Arguments::default() };
+    let make = case("make 32, 95 objects", Entry::Make, 256, with);
+    [(tick, 64, 256), (make, 63, 255)].map(|(case, small, expirations)| {
+        let mut memory = standing(usize::from(RUN), (small, 32), expirations);
+        renumber(&mut memory, numbering);
+        Case { memory, numbering: Some(numbering), ..case }
+    })
+}
+
+/// So many expirations on half as many objects at least, and a free block in each store.
+fn sample(expirations: usize) -> Memory {
+    let mut memory = standing(usize::from(RUN), objects(expirations), expirations);
+    memory.pool.tasks[usize::from(WAITS)].state = WAITING;
+    memory
+}
+
+/// Small and large objects.
+fn objects(expirations: usize) -> (usize, usize) {
+    match expirations {
+        0 => (0, 0),
+        1..=64 => (32, 16),
+        _ => (63, 31),
+    }
+}
+
+/// The handles of the last small object and of the last large one.
+fn last_handles(expirations: usize) -> (u32, u32) {
+    let (small, large) = objects(expirations);
+    (small as u32, (small + large) as u32)
+}
+
+fn line(call: &Call) -> Arguments {
+    let mut line = Vec::new();
+    encode(call, &mut line);
+    line.pop();
+    Arguments { line, ..Arguments::default() }
+}

@@ -1,0 +1,131 @@
+//! The test of well-formedness, one pass over each table.
+
+mod handles;
+
+pub use handles::spread;
+
+use crate::limits::{
+    BLOCKS, GLOBAL_EXTRA, LARGE_SIZE, LOCAL_EXTRA, LONGEST_EXTENSION, SMALL_BLOCKS, SMALL_SIZE, TASKS,
+};
+use crate::record::{Pool, TaskEntry, ABSENT, FREE, GLOBAL, GROUP, LOCAL, RUNNING, WAITING};
+
+/// For each number that a byte can be, whether an expiration in use names it as its block: not 0 if so.
+type Named = [u8; 256];
+
+pub fn is_well_formed(pool: &Pool) -> bool {
+    let mut named: Named = [0; 256];
+    fit_tasks(&pool.tasks)
+        && fit_expirations(pool, &mut named)
+        && fit_blocks(pool, &named)
+        && handles::distinct(&pool.handles)
+}
+
+/// Each entry is fit, and if any task runs, one of them has not ticked.
+fn fit_tasks(tasks: &[TaskEntry; TASKS]) -> bool {
+    let (mut ticked, mut pending) = (false, false);
+    for task in tasks {
+        match (task.state, task.ticked) {
+            (ABSENT, 0) if task.clock == 0 => {}
+            (RUNNING, 0) => pending = true,
+            (RUNNING, 1) => ticked = true,
+            (WAITING, 0) => {}
+            _ => return false,
+        }
+    }
+    pending | !ticked
+}
+
+/// Each expiration lies ahead of a clock that goes on. The blocks are only noted here, so that one comparison
+/// tells both that each named block is in use and that each block in use is named.
+#[inline(never)] // In one piece with the others it takes some 450 instructions more.
+fn fit_expirations(pool: &Pool, named: &mut Named) -> bool {
+    let spans = Spans::of(pool);
+    let groups = pool.clocks.as_chunks::<GROUP>().0.iter();
+    let groups = groups.zip(pool.named.as_chunks::<GROUP>().0).zip(pool.dues.as_chunks::<GROUP>().0);
+    for ((clocks, blocks), dues) in groups {
+        if *clocks == [FREE; GROUP] {
+            continue;
+        }
+        for i in 0..GROUP {
+            if !spans.has(clocks[i], dues[i]) {
+                return false;
+            }
+            named[usize::from(blocks[i])] |= clocks[i];
+        }
+    }
+    true
+}
+
+/// When the expirations of a clock may be due: so many units from the first on.
+struct Spans {
+    first: [u32; 256],
+    units: [u64; 256],
+}
+
+/// A code that is no clock has no unit, and a free entry all 4,294,967,296.
+const UNITS: [u64; 256] = units();
+
+impl Spans {
+    fn of(pool: &Pool) -> Spans {
+        let mut spans = Spans { first: [0; 256], units: UNITS };
+        for (clock, task) in (usize::from(LOCAL)..).zip(&pool.tasks) {
+            spans.first[clock] = task.clock.wrapping_add(1);
+            if task.state == ABSENT {
+                spans.units[clock] = 0;
+            }
+        }
+        spans.first[usize::from(GLOBAL)] = pool.global.wrapping_add(1);
+        spans
+    }
+
+    fn has(&self, clock: u8, due: u32) -> bool {
+        let clock = usize::from(clock);
+        u64::from(due.wrapping_sub(self.first[clock])) < self.units[clock]
+    }
+}
+
+/// The blocks in use are those that are named, with a length of their store's range and a handle that was given. The
+/// loops have no way out before the end, so that several blocks are tested at once.
+fn fit_blocks(pool: &Pool, named: &Named) -> bool {
+    let (named, beyond) = named.split_at(BLOCKS);
+    let (mut used, mut sized) = ([false; BLOCKS], [false; BLOCKS]);
+    let mut fit = true;
+    for (used, &handle) in used.iter_mut().zip(&pool.handles) {
+        *used = handle != 0;
+        fit &= handle <= pool.given;
+    }
+    for i in 0..BLOCKS {
+        sized[i] = pool.lengths[i].wrapping_sub(SHORTEST[i]) <= REST[i];
+    }
+    for i in 0..BLOCKS {
+        fit &= (used[i] == (named[i] != 0)) & (!used[i] | sized[i]);
+    }
+    fit & beyond.iter().fold(true, |none, &named| none & (named == 0))
+}
+
+/// The shortest object of each block, and how much longer another may be.
+const SHORTEST: [u16; BLOCKS] = by_store(1, SMALL_SIZE as u16 + 1);
+const REST: [u16; BLOCKS] = by_store(SMALL_SIZE as u16 - 1, (LARGE_SIZE - SMALL_SIZE) as u16 - 1);
+
+/// One value for each block of the small store, and one for each of the large one.
+const fn by_store(small: u16, large: u16) -> [u16; BLOCKS] {
+    let mut values = [small; BLOCKS];
+    let mut block = SMALL_BLOCKS;
+    while block < BLOCKS {
+        values[block] = large;
+        block += 1;
+    }
+    values
+}
+
+const fn units() -> [u64; 256] {
+    let mut units = [0; 256];
+    units[FREE as usize] = 1 << 32;
+    let mut task = 0;
+    while task < TASKS {
+        units[LOCAL as usize + task] = LONGEST_EXTENSION as u64 + LOCAL_EXTRA as u64;
+        task += 1;
+    }
+    units[GLOBAL as usize] = LONGEST_EXTENSION as u64 + GLOBAL_EXTRA as u64;
+    units
+}
