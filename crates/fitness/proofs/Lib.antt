@@ -1,10 +1,6 @@
-pub mod Filling
 pub mod Fours
 pub mod Checking
 pub mod Named
 pub mod Alone
-pub mod Apart
-pub mod Counting
-pub mod Digits
 pub mod Present
 pub mod Whole

@@ -13,7 +13,7 @@ use Rattle.record.specs.declared.TaskEntry.{TaskEntry}
 use Rattle.record.specs.Tables.{BlockEntry, ExpirationEntry, entriesOf}
 use Rattle.record.specs.declared.GlobalTime.{GlobalTime}
 use Rattle.record.specs.declared.LocalTime.{LocalTime}
-use Rattle.fitness.specs.Filled.{Filled}
+use Rattle.lists.specs.Filled.{Filled}
 use Rattle.fitness.specs.declared.entries.Checked.{Checked}
 
 -- a free entry, or one that goes by a clock that there is and names a block that there is

@@ -1,3 +1,1 @@
-pub mod Filled
 pub mod Checks
-pub mod Handles

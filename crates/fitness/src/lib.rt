@@ -6,8 +6,6 @@ ghost use Rattle.record.specs.WellFormed.{isWellFormed};
 mod blocks;
 mod codes;
 mod entries;
-mod handles;
-mod parting;
 mod times;
 
 use blocks::check_blocks;

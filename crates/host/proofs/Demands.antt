@@ -12,7 +12,7 @@ use Rattle.pool.proofs.Demands.{demand2}
 use Rattle.calls.specs.Served.{Serves, replyOf}
 use Rattle.calls.specs.declared.Called.{Called}
 use Rattle.frames.specs.declared.Frame.{Frame}
-use Rattle.script.specs.Execution.{Performs}
+use Rattle.execute.specs.Execution.{Performs}
 use Rattle.host.specs.Demands.{Gives, EachGives, HostRuns, HostDemand2}
 
 -- the list's replies, whose numbers are the host's

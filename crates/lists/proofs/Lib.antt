@@ -14,3 +14,4 @@ pub mod Copies
 pub mod Implied
 pub mod Searches
 pub mod Columns
+pub mod Filling

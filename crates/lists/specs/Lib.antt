@@ -2,3 +2,4 @@ pub mod Tests
 pub mod Tables
 pub mod Blocks
 pub mod Columns
+pub mod Filled

@@ -21,8 +21,8 @@ use Rattle.calls.specs.Contract as Contract
 use Rattle.frames.specs.Frames.{kindOf}
 use Rattle.frames.specs.declared.requests.KindByte.{KindByte}
 use Rattle.frames.specs.declared.requests.KindByte.the-variants.{Known, Unknown}
-use Rattle.script.specs.Execution.{Executes}
-use Rattle.script.specs.declared.Executed.{Executed}
+use Rattle.execute.specs.Execution.{Executes}
+use Rattle.execute.specs.declared.Executed.{Executed}
 
 -- a buffer too short: a number that is none of 01's
 abbrev pub tooShort : ℕ

@@ -8,6 +8,8 @@ ghost use Rattle.record.specs.Reading.{freshPool};
 ghost use Rattle.frames.specs.Frames.{kindOf};
 ghost use Rattle.numbered.specs.Entries.{advancedAfter, handleAfter, usageAfter, Does, Moves, Reports, MakesBy, RefreshesBy, WritesTo, CopiesOut, Carries};
 use calls::Outcome;
+use execute::LONGEST_ANSWER;
+use execute::execute;
 use frames::KindByte;
 use frames::kind_of;
 use ledger::Answer;
@@ -21,8 +23,6 @@ use pool::values;
 use pool::values::locate;
 use record::Pool;
 use record::fresh;
-use script::LONGEST_ANSWER;
-use script::execute;
 use stores::block_part;
 use stores::write_block;
 

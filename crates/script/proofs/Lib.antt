@@ -1,4 +1,2 @@
-pub mod Showing
-pub mod Carrying
 pub mod Running
 pub mod Demands

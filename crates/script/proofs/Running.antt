@@ -32,7 +32,7 @@ use Rattle.frames.specs.declared.Frame.{Frame}
 use Rattle.text.proofs.Placing.{placed-on}
 use Rattle.frames.proofs.Payloads.{payload-front}
 use Rattle.text.proofs.Scripts.{lines-on, next-within}
-use Rattle.script.specs.Execution.{refusalOf}
+use Rattle.execute.specs.Execution.{refusalOf}
 use Rattle.script.specs.Output.{answerTo, afterLine, answersTo, lineIn, Runnable, Continues}
 
 -- the stores have 01's lengths

@@ -15,8 +15,8 @@ use Rattle.frames.specs.declared.Frame.{Frame}
 use Rattle.record.specs.Reading.{freshPool}
 use Rattle.record.specs.Pools.{isWellFormed, Reads}
 use Rattle.record.specs.declared.Pool.{Pool}
-use Rattle.script.specs.declared.scripts.Ran.{Ran}
-use Rattle.script.specs.declared.scripts.Step.{Step}
+use Rattle.script.specs.declared.Ran.{Ran}
+use Rattle.script.specs.declared.Step.{Step}
 
 -- the reply to a frame with the bytes that come with it; "a frame that yields no call goes no further"
 abbrev pub replyToFrame : Ledger → Frame → List ℕ → Reply

@@ -1,101 +1,103 @@
-// A line carried out on a record with its stores, and the lines of a script on a fresh pool.
-ghost use Prim.Native.Nat.{_+_, _≤_};
-ghost use mathlib.Core.Path.{_≡_};
-ghost use lib.ListN.{length};
-ghost use Rattle.record.specs.Reading.{blockBytes};
-ghost use Rattle.frames.specs.Answers.{answerLine};
-ghost use Rattle.text.specs.Hex.{Placed};
-ghost use Rattle.script.specs.Execution.{refusalOf, Showable, Executes};
-
-mod scripts;
-
+// A script run from fresh, a buffer of answers at a time. Its record is well-formed from the start and stays so: no line tests that again, and its tables stay
+// where they are from the first line to the last.
+ghost use Rattle.script.specs.Output.{Readable, Steps, Runnable, Continues};
+use dispatch::call;
+use execute::LONGEST_ANSWER;
+use execute::put_answer;
+use execute::refusal_of;
+use execute::show;
 use frames::Frame;
 use frames::decode;
-use frames::encode_answer;
-use ledger::Answer;
-use ledger::answer_number;
 use record::Pool;
-use requests::call;
-pub use scripts::LONGEST_ANSWER;
-pub use scripts::Ran;
-pub use scripts::run_on;
-use stores::block_part;
+use record::head_of;
 use stores::no_part;
+use text::line_at;
 
-// The record that a line leaves, the number of its answer, and how long the line of it is.
-pub struct Executed {
+// The frame of a line, and where the next line starts.
+pub struct Step {
+    pub frame: Frame,
+    pub next: usize,
+}
+
+fn next_frame(script: &[u8], at: usize, bytes: &mut [u8]) -> Step
+    requires { ⌜ Readable (now script) at (now bytes) ⌝ }
+    ensures { λ r. ⌜ Steps (now (script .entry)) at (now (bytes .entry)) r (now (bytes .exit)) ⌝ }
+{
+    let line = line_at(script, at);
+    let end = line.end;
+    let next = line.next;
+    let frame = decode(&script[at..end], bytes);
+    Step {
+        frame: frame,
+        next: next,
+    }
+}
+
+// The record after some lines of a script, where the next line starts, and how long the answers are.
+pub struct Ran {
     pub pool: Pool,
-    pub number: u8,
-    pub length: usize,
+    pub next: usize,
+    pub written: usize,
 }
 
-// What a frame answers that yields no call.
-fn refusal_of(frame: Frame) -> Answer
-    ensures { λ r. ⌜ r ≡ refusalOf frame ⌝ }
-{
-    match frame {
-        Frame::Request(_, _) => Answer::Done,
-        Frame::Refused(why) => Answer::Refused(why),
-    }
-}
-
-// The line of an answer from a place of a buffer on; the place after it.
-fn put_answer(answer: Answer, bytes: &[u8], out: &mut [u8], at: usize) -> usize
-    requires { ⌜ at + length (answerLine answer (now bytes)) ≤ length (now out) ⌝ }
-    ensures { λ r. ⌜ Placed at (answerLine answer (now (bytes .entry))) (now (out .entry)) (now (out .exit)) r ⌝ }
-{
-    let length = encode_answer(answer, bytes, &mut out[at..]);
-    at + length
-}
-
-// The same with the first bytes of a block.
-fn show<'a>(
-    answer: Answer,
-    small: &'a [u8],
-    large: &'a [u8],
-    block: usize,
-    count: u16,
+// The answers to a script's lines from a place on, until the script or the buffer ends.
+pub fn run_on(
+    mut p: Pool,
+    small: &mut [u8],
+    large: &mut [u8],
+    script: &[u8],
+    start: usize,
     out: &mut [u8],
-    at: usize,
-) -> usize
-    requires { ⌜ Showable answer (now small) (now large) block count (now out) at ⌝ }
-    ensures { λ r. ⌜ Placed at (answerLine answer (blockBytes (now (small .entry)) (now (large .entry)) block count)) (now (out .entry)) (now (out .exit)) r ⌝ }
-{
-    if count == 0 {
-        return put_answer(answer, no_part(small), out, at);
-    }
-    put_answer(
-        answer,
-        block_part(small, large, block, count as usize),
-        out,
-        at,
-    )
-}
-
-// A line on any record with any stores; the line of its answer goes to the start of a buffer.
-pub fn execute(p: Pool, small: &mut [u8], large: &mut [u8], line: &[u8], out: &mut [u8]) -> Executed
-    requires { ⌜ 531 ≤ length (now out) ⌝ }
-    ensures { λ r. ⌜ Executes (now (line .entry)) p (now (small .entry)) (now (large .entry)) (now (out .entry)) r (now (small .exit)) (now (large .exit)) (now (out .exit)) ⌝ }
+) -> Ran
+    requires { ⌜ Runnable p (now small) (now large) (now script) start ⌝ }
+    ensures { λ r. ⌜ Continues p (now (small .entry)) (now (large .entry)) (now (script .entry)) start r (now (small .exit)) (now (large .exit)) (now (out .entry)) (now (out .exit)) ⌝ }
 {
     let mut bytes = [0u8; 256];
-    let frame = decode(line, &mut bytes);
-    let Frame::Request(request, count) = frame else {
-        let refusal = refusal_of(frame);
-        return Executed {
-            pool: p,
-            number: answer_number(refusal),
-            length: put_answer(refusal, no_part(small), out, 0),
+    let mut at = start;
+    let mut written = 0;
+    let mut head = head_of(p);
+    let mut handles = p.handles;
+    let mut lengths = p.lengths;
+    let mut clocks = p.clocks;
+    let mut named = p.named;
+    let mut dues = p.dues;
+    while (at < script.len()) & (LONGEST_ANSWER <= out.len() - written) {
+        let step = next_frame(script, at, &mut bytes);
+        let frame = step.frame;
+        at = step.next;
+        let Frame::Request(request, count) = frame else {
+            written = put_answer(refusal_of(frame), no_part(small), out, written);
+            continue;
         };
-    };
-    let called = call(p, small, large, request, &bytes[..count]);
-    let answer = called.answer;
-    let block = called.block;
-    let shown = called.length;
-    let pool = called.pool;
-    let length = show(answer, small, large, block, shown, out, 0);
-    Executed {
-        pool: pool,
-        number: answer_number(answer),
-        length: length,
+        let done = call(
+            head,
+            &mut handles,
+            &mut lengths,
+            &mut clocks,
+            &mut named,
+            &mut dues,
+            small,
+            large,
+            request,
+            &bytes[..count],
+        );
+        head = done.head;
+        let answer = done.answer;
+        written = show(answer, small, large, done.block, done.length, out, written);
+    }
+    p.handles = handles;
+    p.lengths = lengths;
+    p.clocks = clocks;
+    p.named = named;
+    p.dues = dues;
+    let tasks = head.tasks;
+    let global = head.global;
+    p.tasks = tasks;
+    p.global = global;
+    p.given = head.given;
+    Ran {
+        pool: p,
+        next: at,
+        written: written,
     }
 }

@@ -7,7 +7,7 @@ use lib.ListN.{length}
 use lib.Seq.{length-take-le}
 use Rattle.record.proofs.FreshReads.{fresh-well-formed}
 use Rattle.script.specs.Output.{Runnable}
-use Rattle.script.proofs.Showing.{placed-within}
+use Rattle.execute.proofs.Showing.{placed-within}
 use Rattle.poolrun.proofs.answer.Statement.{statement}
 use Rattle.poolrun.proofs.answer.Tie as tie
 

@@ -3,9 +3,9 @@ use Prim.Native.Nat.{_-_}
 use mathlib.Core.Path.{_≡_}
 use borrow.Author.Needs.{needs}
 use lib.ListN.{getD}
-use Rattle.fitness.specs.Filled.{Filled}
+use Rattle.lists.specs.Filled.{Filled}
 use Rattle.fitness.specs.Checks.{slotBy}
-use Rattle.fitness.proofs.Filling.{filled-start, filled-turn, filled-end}
+use Rattle.lists.proofs.Filling.{filled-start, filled-turn, filled-end}
 use Rattle.fitness.proofs.codes.slots.Statement.{statement}
 use Rattle.fitness.proofs.codes.slots.Tie as tie
 

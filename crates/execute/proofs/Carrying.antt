@@ -1,0 +1,54 @@
+-- A line carried out, by its frame.
+use Prim.Native.Nat.{ℕ, _≤_}
+use native.Mathlib.Omega.{arith}
+use mathlib.Core.List.{List, []}
+use mathlib.Core.Path.{_≡_, refl, sym, _∙_}
+use lib.ListN.{length, take}
+use Rattle.ledger.specs.Numbers.{answerNumber}
+use Rattle.ledger.specs.declared.Answer.{Answer}
+use Rattle.ledger.specs.declared.Answer.the-variants.{Refused}
+use Rattle.ledger.specs.declared.Refusal.{Refusal}
+use Rattle.ledger.specs.declared.Request.{Request}
+use Rattle.record.specs.Reading.{blockBytes}
+use Rattle.record.specs.declared.Pool.{Pool}
+use Rattle.calls.specs.Served.{withoutBytes, Serves}
+use Rattle.calls.specs.declared.Called.{Called}
+use Rattle.frames.specs.Answers.{answerLine}
+use Rattle.frames.specs.Frames.{frameOf, payloadOf, Decodes}
+use Rattle.text.specs.Hex.{Placed}
+use Rattle.frames.specs.declared.Frame.{Frame}
+use Rattle.frames.proofs.Payloads.{requested, payload-front}
+use Rattle.execute.specs.Execution.{refusalOf, Performs, Executes}
+use Rattle.execute.specs.declared.Executed.{Executed}
+use Rattle.execute.proofs.Showing.{start-within, shows-none}
+
+module _ {line : List ℕ} {old new : List ℕ} {frame : Frame} (d : Decodes line old frame new) where
+  -- the bytes of a request are in the buffer
+  pub bytes-in : {request : Request} {count : ℕ} → frame ≡ Frame.Request request count → count ≤ length new
+  bytes-in e = rw (d .bytes) (omega (arith, requested line (sym (d .frame) ∙ e) .counted, start-within (payloadOf line) old))
+
+  module _ (p : Pool) (small large out out′ : List ℕ) (n : ℕ) where
+    pub refused-executes : {why : Refusal} → frame ≡ Frame.Refused why → {answer : Answer} → answer ≡ refusalOf frame → {none : List ℕ} → none ≡ []
+        → {number : ℕ} → number ≡ answerNumber answer → Placed 0 (answerLine answer none) out out′ n
+        → Executes line p small large out (record { pool = p; number = number; length = n }) small large out′
+    refused-executes {why} e a z m placed =
+        record {
+          called = withoutBytes (Refused why) p;
+          performs = rw (← d .frame, e) (refl, refl, refl);
+          left = refl;
+          numbered = rw (a, e) at m;
+          shown = rw (shows-none small large 0 refl) (rw (a, e, z) at placed);
+        }
+
+    pub served-executes : {request : Request} {count : ℕ} → frame ≡ Frame.Request request count → {r : Called} {small′ large′ : List ℕ}
+        → Serves request (take count new) p small large r small′ large′
+        → {number : ℕ} → number ≡ answerNumber (r .answer) → Placed 0 (answerLine (r .answer) (blockBytes small′ large′ (r .block) (r .length))) out out′ n
+        → Executes line p small large out (record { pool = r .pool; number = number; length = n }) small′ large′ out′
+    served-executes e {r} s m placed =
+        record {
+          called = r;
+          performs = rw (← d .frame, e) (rw (payload-front (rw e at d)) at s);
+          left = refl;
+          numbered = m;
+          shown = placed;
+        }

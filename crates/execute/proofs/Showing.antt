@@ -1,0 +1,81 @@
+-- The bytes that an answer shows, and the room that its line needs.
+use Prim.Native.Nat.{ℕ, zero, suc, _+_, _-_, _*_, _≤_, _<_}
+use native.Mathlib.Nat.{zero-add}
+use native.Mathlib.Omega.{arith}
+use mathlib.Core.Bool.{Bool, true, false, cond}
+use mathlib.Core.List.{List, [], _∷_, _++_, append-assoc, append-nil}
+use mathlib.Core.Path.{_≡_, refl}
+use lib.ListN.{length, take, drop, length-take, length-drop, length-append, drop-of-length-le}
+use lib.Seq.{take-all, drop-drop}
+use Rattle.lists.specs.Blocks.{overwritten}
+use Rattle.lists.proofs.Cases.{by-test}
+use Rattle.ledger.specs.Limits.{limits, smallSize, largeSize}
+use Rattle.ledger.specs.declared.Answer.{Answer}
+use Rattle.ledger.specs.declared.Request.{Request}
+use Rattle.stores.specs.Places.{sizeOf, InBlock}
+use Rattle.record.specs.Reading.{isSmallBlock, isWholeSmall, isWholeLarge, blockBytes}
+use Rattle.record.specs.declared.Pool.{Pool}
+use Rattle.calls.specs.Served.{Serves}
+use Rattle.calls.specs.declared.Called.{Called}
+use Rattle.frames.specs.Answers.{answerLine}
+use Rattle.text.specs.Hex.{Placed}
+use Rattle.frames.proofs.AnswerLines.{line-within}
+use Rattle.execute.specs.Execution.{Showable}
+
+-- a block of either store has at most 256 bytes
+most-bytes : (block : ℕ) → sizeOf block ≤ 256
+unfolding sizeOf smallSize largeSize limits
+most-bytes block = by-test (isSmallBlock block) (λ e. rw e (omega arith)) (λ e. rw e (omega arith))
+
+at-most : (b : Bool) (n : ℕ) (xs : List ℕ) → length (cond b (take n xs) []) ≤ n
+at-most true n xs = omega (arith, length-take n xs)
+at-most false n xs = omega arith
+
+empty : (xs : List ℕ) → length xs ≤ 0 → xs ≡ []
+empty [] h = refl
+empty (x ∷ xs) h = absurd (omega arith)
+
+pub shown-most : (small large : List ℕ) (block count : ℕ) → length (blockBytes small large block count) ≤ count
+unfolding blockBytes
+shown-most small large block count =
+    by-test (isSmallBlock block)
+    (λ e. rw e (at-most (isWholeSmall small) count (drop (block * smallSize) small)))
+    (λ e. rw e (at-most (isWholeLarge large) count (drop ((block - limits .smallBlocks) * largeSize) large)))
+
+pub shows-none : (small large : List ℕ) (block : ℕ) {count : ℕ} → count ≡ 0 → blockBytes small large block count ≡ []
+shows-none small large block {count} e = empty (blockBytes small large block count) (omega (arith, e, shown-most small large block count))
+
+pub few : {small large : List ℕ} {block : ℕ} (count : ℕ) → (0 < count → InBlock small large block count) → count ≤ 256
+few zero inside = omega arith
+few {block = block} (suc n) inside = omega (arith, inside (omega arith) .within, most-bytes block)
+
+-- new bytes at the start of a buffer lie in it
+pub start-within : (new old : List ℕ) → length new ≤ length (overwritten 0 new old)
+unfolding overwritten
+start-within new old = omega (arith, length-append new (drop (0 + length new) old))
+
+pub placed-within : {new old after : List ℕ} {n : ℕ} → Placed 0 new old after n → n ≤ length after
+placed-within {new} {old} p = rw (p .bytes) (omega (arith, p .next, start-within new old))
+
+-- what the pool serves has room in 531 bytes
+pub serves-showable : {request : Request} {new : List ℕ} {p : Pool} {small large small′ large′ : List ℕ} {r : Called}
+    → Serves request new p small large r small′ large′ → (out : List ℕ) (at : ℕ) → at + 531 ≤ length out
+    → Showable (r .answer) small′ large′ (r .block) (r .length) out at
+serves-showable {small′ = small′} {large′} {r = r} s out at room =
+    record {
+      inside = s .inside;
+      room = omega (arith, line-within (r .answer) (blockBytes small′ large′ (r .block) (r .length)), few (r .length) (s .inside), shown-most small′ large′ (r .block) (r .length));
+    }
+
+-- an answer without bytes has room there too
+pub short-line : (answer : Answer) (none out : List ℕ) (at : ℕ) → none ≡ [] → at + 531 ≤ length out → at + length (answerLine answer none) ≤ length out
+short-line answer none out at e room = rw e (omega (arith, line-within answer []))
+
+-- a line at the start of a buffer's part from a place on, and the buffer when the part comes back
+pub placed-from : (at : ℕ) {line out part : List ℕ} {n : ℕ} → Placed 0 line (take (length out - at) (drop at out)) part n
+    → Placed at line out (take at out ++ (part ++ drop (length out - at) (drop at out))) (at + n)
+unfolding overwritten
+placed-from at {line} {out} p =
+    let all : take (length out - at) (drop at out) ≡ drop at out = take-all (length out - at) (drop at out) (omega (arith, length-drop at out)) in
+    let none : drop (length out - at) (drop at out) ≡ [] = drop-of-length-le (drop at out) {i = length out - at} (omega (arith, length-drop at out)) in
+    record { bytes = rw (none, append-nil, p .bytes, all, zero-add, drop-drop, append-assoc); next = omega (arith, p .next) }

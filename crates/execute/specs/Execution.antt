@@ -1,0 +1,57 @@
+-- Demand 1: a line of any bytes is carried out or refused, on any record with any stores.
+use Prim.Native.Nat.{ℕ, _+_, _≤_, _<_}
+use mathlib.Core.List.{List, []}
+use mathlib.Core.Path.{_≡_}
+use lib.ListN.{length}
+use Rattle.ledger.specs.Numbers.{answerNumber}
+use Rattle.ledger.specs.declared.Answer.{Answer}
+use Rattle.ledger.specs.declared.Answer.the-variants.{Refused, Done}
+use Rattle.ledger.specs.declared.Refusal.{Refusal}
+use Rattle.stores.specs.Places.{InBlock}
+use Rattle.record.specs.Reading.{blockBytes}
+use Rattle.record.specs.declared.Pool.{Pool}
+use Rattle.calls.specs.Served.{withoutBytes, replyOf, Serves}
+use Rattle.calls.specs.declared.Called.{Called}
+use Rattle.frames.specs.Answers.{answerLine}
+use Rattle.frames.specs.Frames.{frameOf, payloadOf}
+use Rattle.text.specs.Hex.{Placed}
+use Rattle.frames.specs.declared.Frame.{Frame}
+use Rattle.execute.specs.declared.Executed.{Executed}
+
+-- what a frame answers that yields no call; a request's answer comes from the pool
+abbrev pub refusalOf : Frame → Answer
+refusalOf (Frame.Request request count) = Done
+refusalOf (Frame.Refused why) = Refused why
+
+-- The bytes that an answer shows lie in a block of the stores, and its line has room in a buffer from a place on.
+pub record Showable (answer : Answer) (small large : List ℕ) (block count : ℕ) (out : List ℕ) (at : ℕ) : Type 0 where
+  pub inside : 0 < count → InBlock small large block count
+  pub room : at + length (answerLine answer (blockBytes small large block count)) ≤ length out
+
+-- a frame carried out: refused with nothing changed, or served by the pool
+abbrev pub Performs : Frame → List ℕ → Pool → List ℕ → List ℕ → Called → List ℕ → List ℕ → Type 0
+Performs (Frame.Request request count) bytes p small large r small′ large′ = Serves request bytes p small large r small′ large′
+Performs (Frame.Refused why) bytes p small large r small′ large′ =
+    (r ≡ withoutBytes (Refused why) p) × (small′ ≡ small) × (large′ ≡ large)
+
+-- A line carried out: what its frame gives, the record that is left, the answer's number, and its line in a buffer.
+pub record Executes (line : List ℕ) (p : Pool) (small large out : List ℕ) (r : Executed) (small′ large′ out′ : List ℕ) : Type 0 where
+  pub called : Called
+  pub performs : Performs (frameOf line) (payloadOf line) p small large called small′ large′
+  pub left : r .pool ≡ called .pool
+  pub numbered : r .number ≡ answerNumber (called .answer)
+  pub shown : Placed 0 (answerLine (called .answer) (replyOf called small′ large′ .bytes)) out out′ (r .length)
+
+-- The answer is 00 with its data or one number of 01, and a refusal is its number alone and leaves record and both stores the same.
+pub record Answered (p : Pool) (small large out : List ℕ) (r : Executed) (small′ large′ out′ : List ℕ) : Type 0 where
+  pub answer : Answer
+  pub bytes : List ℕ
+  pub numbered : r .number ≡ answerNumber answer
+  pub line : Placed 0 (answerLine answer bytes) out out′ (r .length)
+  pub refused : (why : Refusal) → answer ≡ Refused why → (bytes ≡ []) × (r .pool ≡ p) × (small′ ≡ small) × (large′ ≡ large)
+
+-- Demand 1, of all that the contract allows and so of this code; every call ends, as every Rattle function does
+abbrev pub Demand1 : Type 0
+Demand1 =
+    (line : List ℕ) (p : Pool) (small large out : List ℕ) (r : Executed) (small′ large′ out′ : List ℕ)
+    → Executes line p small large out r small′ large′ out′ → Answered p small large out r small′ large′ out′

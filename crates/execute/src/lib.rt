@@ -1,0 +1,98 @@
+// A line carried out on a record with its stores.
+ghost use Prim.Native.Nat.{_+_, _≤_};
+ghost use mathlib.Core.Path.{_≡_};
+ghost use lib.ListN.{length};
+ghost use Rattle.record.specs.Reading.{blockBytes};
+ghost use Rattle.frames.specs.Answers.{answerLine};
+ghost use Rattle.text.specs.Hex.{Placed};
+ghost use Rattle.execute.specs.Execution.{refusalOf, Showable, Executes};
+use frames::Frame;
+use frames::decode;
+use frames::encode_answer;
+use ledger::Answer;
+use ledger::answer_number;
+use record::Pool;
+use requests::call;
+use stores::block_part;
+use stores::no_part;
+
+// The longest answer line that is made room for.
+pub const LONGEST_ANSWER: usize = 531;
+
+// The record that a line leaves, the number of its answer, and how long the line of it is.
+pub struct Executed {
+    pub pool: Pool,
+    pub number: u8,
+    pub length: usize,
+}
+
+// What a frame answers that yields no call.
+pub fn refusal_of(frame: Frame) -> Answer
+    ensures { λ r. ⌜ r ≡ refusalOf frame ⌝ }
+{
+    match frame {
+        Frame::Request(_, _) => Answer::Done,
+        Frame::Refused(why) => Answer::Refused(why),
+    }
+}
+
+// The line of an answer from a place of a buffer on; the place after it.
+pub fn put_answer(answer: Answer, bytes: &[u8], out: &mut [u8], at: usize) -> usize
+    requires { ⌜ at + length (answerLine answer (now bytes)) ≤ length (now out) ⌝ }
+    ensures { λ r. ⌜ Placed at (answerLine answer (now (bytes .entry))) (now (out .entry)) (now (out .exit)) r ⌝ }
+{
+    let length = encode_answer(answer, bytes, &mut out[at..]);
+    at + length
+}
+
+// The same with the first bytes of a block.
+pub fn show<'a>(
+    answer: Answer,
+    small: &'a [u8],
+    large: &'a [u8],
+    block: usize,
+    count: u16,
+    out: &mut [u8],
+    at: usize,
+) -> usize
+    requires { ⌜ Showable answer (now small) (now large) block count (now out) at ⌝ }
+    ensures { λ r. ⌜ Placed at (answerLine answer (blockBytes (now (small .entry)) (now (large .entry)) block count)) (now (out .entry)) (now (out .exit)) r ⌝ }
+{
+    if count == 0 {
+        return put_answer(answer, no_part(small), out, at);
+    }
+    put_answer(
+        answer,
+        block_part(small, large, block, count as usize),
+        out,
+        at,
+    )
+}
+
+// A line on any record with any stores; the line of its answer goes to the start of a buffer.
+pub fn execute(p: Pool, small: &mut [u8], large: &mut [u8], line: &[u8], out: &mut [u8]) -> Executed
+    requires { ⌜ 531 ≤ length (now out) ⌝ }
+    ensures { λ r. ⌜ Executes (now (line .entry)) p (now (small .entry)) (now (large .entry)) (now (out .entry)) r (now (small .exit)) (now (large .exit)) (now (out .exit)) ⌝ }
+{
+    let mut bytes = [0u8; 256];
+    let frame = decode(line, &mut bytes);
+    let Frame::Request(request, count) = frame else {
+        let refusal = refusal_of(frame);
+        return Executed {
+            pool: p,
+            number: answer_number(refusal),
+            length: put_answer(refusal, no_part(small), out, 0),
+        };
+    };
+    let called = call(p, small, large, request, &bytes[..count]);
+    let answer = called.answer;
+    let block = called.block;
+    let shown = called.length;
+    let pool = called.pool;
+    let length = show(answer, small, large, block, shown, out, 0);
+    Executed {
+        pool: pool,
+        number: answer_number(answer),
+        length: length,
+    }
+}

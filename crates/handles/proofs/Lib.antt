@@ -1,0 +1,3 @@
+pub mod Apart
+pub mod Counting
+pub mod Digits

@@ -1,0 +1,130 @@
+-- Each line turns the run on: refused with nothing changed, or carried out by the one dispatch.
+use Prim.Native.Nat.{ℕ, _+_, _-_, _≤_, _<_}
+use native.Mathlib.Omega.{arith}
+use mathlib.Core.List.{List, []}
+use mathlib.Core.Path.{_≡_, refl, sym, _∙_}
+use borrow.Author.Needs.{needs}
+use lib.ListN.{length}
+use lib.Seq.{length-take-le}
+use Rattle.ledger.specs.declared.Answer.{Answer}
+use Rattle.record.specs.Tables.{Sized, pooled}
+use Rattle.record.specs.declared.Pool.{Pool}
+use Rattle.pool.proofs.Sizes.{columns-sized}
+use Rattle.frames.specs.Answers.{answerLine}
+use Rattle.text.specs.Hex.{Placed}
+use Rattle.script.specs.Output.{lineIn}
+use Rattle.execute.proofs.Showing.{serves-showable, short-line}
+use Rattle.execute.proofs.Carrying.{bytes-in}
+use Rattle.script.proofs.Running.{Running, Turn, ready, refused-turn, served-turn, run-starts-lent, run-line, run-room, run-nears, run-turns, run-ends}
+use Rattle.script.proofs.run_on.Statement.{statement}
+use Rattle.script.proofs.run_on.Tie as tie
+
+abbrev Inv-loop : tie.InvT-loop
+Inv-loop p small₀ large₀ script start out₀ bytes₀ at₀ written₀ head₀ handles₀ lengths₀ clocks₀ named₀ dues₀ small large out bytes at written head handles lengths clocks named dues =
+    Running p small₀ large₀ script start out₀ (pooled head handles lengths clocks named dues) small large out bytes at written
+    × Sized handles lengths clocks named dues
+
+abbrev μ-loop : tie.MeasureT-loop
+μ-loop p small₀ large₀ script start out₀ bytes₀ at₀ written₀ head₀ handles₀ lengths₀ clocks₀ named₀ dues₀ small large out bytes at written head handles lengths clocks named dues =
+    length script - at
+
+loop-holds : tie.Need-loop-holds Inv-loop μ-loop
+loop-holds c =
+    let start = c .before .before .before .before .before .before .before .before .before .before in
+    (run-starts-lent _ _ (start .pre) refl (c .before .before .before .before .before .head-of .ensures), columns-sized (start .args .p) _ (start .good .0))
+
+-- a line that was read: there is room for its answer, the place moves on, and its turn keeps the invariant
+module _ (r : tie.After-next-frame Inv-loop μ-loop) where
+  abbrev loop : tie.At-loop Inv-loop μ-loop
+  loop = r .before .before .before
+
+  abbrev start : tie.Start Inv-loop μ-loop
+  start = loop .before .before .before .before .before .before .before .before .before .before .before
+
+  room : loop .loop .written + 531 ≤ length (loop .loop .out)
+  room = run-room (loop .loop .inv .0) (r .before .before .loop-test .taken)
+
+  told : (answer : Answer) (none : List ℕ) → none ≡ [] → loop .loop .written + length (answerLine answer none) ≤ length (loop .loop .out)
+  told answer none z = short-line answer none (loop .loop .out) (loop .loop .written) z room
+
+  nears : length (start .args .script .now) - r .next-frame .result .next < length (start .args .script .now) - loop .loop .at
+  nears = run-nears (loop .loop .inv .0) (r .before .before .loop-test .taken) (r .next-frame .ensures .next)
+
+  abbrev before : Pool
+  before = pooled (loop .loop .head) (loop .loop .handles) (loop .loop .lengths) (loop .loop .clocks) (loop .loop .named) (loop .loop .dues)
+
+  turns : {p′ : Pool} {small′ large′ answer : List ℕ}
+      → Turn (lineIn (start .args .script .now) (loop .loop .at)) before (loop .loop .small) (loop .loop .large) p′ small′ large′ answer
+      → loop .loop .written + length answer ≤ length (loop .loop .out) → {out′ : List ℕ} {written′ : ℕ}
+      → Placed (loop .loop .written) answer (loop .loop .out) out′ written′
+      → Running (start .args .p) (start .args .small .now) (start .args .large .now) (start .args .script .now) (start .args .start) (start .args .out .now)
+      p′ small′ large′ out′ (r .next-frame .last .1 .1 .0) (r .next-frame .result .next) written′
+  turns t fits placed =
+      run-turns (loop .loop .inv .0) (run-line (loop .loop .inv .0) (r .before .before .loop-test .taken)) t fits placed (r .next-frame .ensures .next)
+      (r .next-frame .ensures .size ∙ loop .loop .inv .0 .buffer)
+
+next-frame-requires : tie.Need-next-frame-requires Inv-loop μ-loop
+next-frame-requires c κs =
+    let l = c .before .before .loop in record { within = run-line (l .inv .0) (c .before .loop-test .taken); room = omega (arith, l .inv .0 .buffer) }
+
+put-answer-requires : tie.Need-put-answer-requires Inv-loop μ-loop
+put-answer-requires c κs = told (c .before .before .before .before .before .before .before) _ _ (c .before .no-part .ensures)
+
+loop-again : tie.Need-loop-again Inv-loop μ-loop
+loop-again c =
+    let r = c .before .before .before .before .before .before .before .before .before .before in
+    let none = c .before .before .before .before .no-part .ensures in (
+      turns r (refused-turn (r .next-frame .ensures .decodes) (c .before .before .before .before .before .before .before .enum-told .given .1) (c .before .before .before .before .before .before .refusal-of .ensures) none) (told r _ _ none) (c .before .before .put-answer .ensures),
+      loop r .loop .inv .1,
+    )
+
+-- the bytes of a request are in the buffer
+array-share-prefix-bytes : tie.Need-array-share-prefix-bytes Inv-loop μ-loop
+array-share-prefix-bytes c = bytes-in (c .before .before .before .before .before .before .before .before .before .before .before .next-frame .ensures .decodes) (c .before .before .before .before .before .before .before .before .frame .given .1)
+
+call-requires : tie.Need-call-requires Inv-loop μ-loop
+call-requires c κs = let l = c .before .before .before .before .before .before .before .before .before .before .before .before .before .before .before .loop in (l .inv .1, ready _ (l .inv .0 .runnable))
+
+show-requires : tie.Need-show-requires Inv-loop μ-loop
+show-requires c κs = serves-showable (c .before .before .before .before .before .before .before .before .call .ensures .1) _ _ (room (c .before .before .before .before .before .before .before .before .before .before .before .before .before .before .before .before .before .before .before .before .before))
+
+loop-again-2 : tie.Need-loop-again-2 Inv-loop μ-loop
+loop-again-2 c =
+    let r = c .before .before .before .before .before .before .before .before .before .before .before .before .before .before .before .before .before .before .before .before .before .before .before .before in
+    let served = c .before .before .before .before .before .before .before .before .before .before .before .call .ensures in
+    let turn = served-turn (r .next-frame .ensures .decodes) (loop r .loop .inv .0 .runnable) (c .before .before .before .before .before .before .before .before .before .before .before .before .before .before .before .before .before .before .before .before .before .frame .given .1) (served .1) in (
+      turns r turn (serves-showable (served .1) (loop r .loop .out) (loop r .loop .written) (room r) .room) (c .before .before .show .ensures),
+      served .0,
+    )
+
+returns : tie.Need-returns Inv-loop μ-loop
+returns c = run-ends (c .before .before .before .loop .inv .0) (c .before .before .loop-test .left)
+
+pub run-on-spec : {M : Type 1} → statement M
+run-on-spec =
+    tie.close
+    (tie.spec
+    Inv-loop
+    μ-loop
+    (λ c κs. search needs)
+    loop-holds
+    (λ c. omega (arith, c .loop .inv .0 .fits))
+    (λ c. search needs)
+    next-frame-requires
+    (λ c. search needs)
+    (λ c. search needs)
+    (λ c κs. search needs)
+    (λ c κs. search needs)
+    put-answer-requires
+    (λ c. nears (c .before .before .before .before .before .before .before .before .before .before))
+    loop-again
+    array-share-prefix-bytes
+    (λ c. sym (length-take-le _ _ (array-share-prefix-bytes (c .before))))
+    call-requires
+    show-requires
+    (λ c. nears (c .before .before .before .before .before .before .before .before .before .before .before .before .before .before .before .before .before .before .before .before .before .before .before .before))
+    loop-again-2
+    (λ c. search needs)
+    (λ c. search needs)
+    (λ c. search needs)
+    returns)
