@@ -11,7 +11,7 @@ use frames::decode;
 use record::Pool;
 use record::head_of;
 use stores::no_part;
-use text::line_at;
+use text::read_line;
 
 // The frame of a line, and where the next line starts.
 pub struct Step {
@@ -23,7 +23,7 @@ fn next_frame(script: &[u8], at: usize, bytes: &mut [u8]) -> Step
     requires { ⌜ Readable (now script) at (now bytes) ⌝ }
     ensures { λ r. ⌜ Steps (now (script .entry)) at (now (bytes .entry)) r (now (bytes .exit)) ⌝ }
 {
-    let line = line_at(script, at);
+    let line = read_line(script, at);
     let end = line.end;
     let next = line.next;
     let frame = decode(&script[at..end], bytes);

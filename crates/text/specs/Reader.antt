@@ -7,7 +7,3 @@ use Rattle.text.specs.declared.reader.Reader.{Reader}
 -- the line at the reader's offset
 abbrev pub nextLine : Reader → Line
 nextLine reader = lineAt (now (reader .script)) (reader .next)
-
--- the same script, at the line after it
-abbrev pub afterLine : Reader → Reader
-afterLine reader = record { script = reader .script; next = nextLine reader .next }

@@ -4,7 +4,6 @@ mod lines;
 mod reader;
 
 pub use lines::Line;
-pub use lines::line_at;
-pub use lines::line_end;
 pub use reader::Reader;
+pub use reader::read_line;
 pub use reader::step;

@@ -2,7 +2,8 @@
 use super::lines::Line;
 use super::lines::line_at;
 ghost use mathlib.Core.Path.{_≡_};
-ghost use Rattle.text.specs.Reader.{nextLine, afterLine};
+ghost use Rattle.text.specs.Lines.{lineAt};
+ghost use Rattle.text.specs.Reader.{nextLine};
 
 // 01: a reader holds the script and the offset of its next line.
 pub struct Reader<'a> {
@@ -10,11 +11,19 @@ pub struct Reader<'a> {
     pub next: usize,
 }
 
-// The next line; the reader goes on to the one after it.
-pub fn step<'s, 'a>(reader: &'s mut Reader<'a>) -> Line
-    ensures { λ r. ⌜ (r ≡ nextLine (now (reader .entry))) × (now (reader .exit) ≡ afterLine (now (reader .entry))) ⌝ }
+// The reader's next line, which says where the one after it starts.
+pub fn step<'a>(reader: Reader<'a>) -> Line
+    ensures { λ r. ⌜ r ≡ nextLine (reader .entry) ⌝ }
 {
-    let line = line_at(reader.script, reader.next);
-    reader.next = line.next;
-    line
+    line_at(reader.script, reader.next)
+}
+
+// A reader at a place of a script, and its step: for callers that hold no reader.
+pub fn read_line(script: &[u8], at: usize) -> Line
+    ensures { λ r. ⌜ r ≡ lineAt (now (script .entry)) at ⌝ }
+{
+    step(Reader {
+        script: script,
+        next: at,
+    })
 }

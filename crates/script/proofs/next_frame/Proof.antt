@@ -9,21 +9,21 @@ use Rattle.script.proofs.next_frame.Tie as tie
 sub-decode : tie.Need-sub-decode
 sub-decode c =
     let start = c .before .before .before in
-    rw (c .line-at .ensures) (end-within (start .args .script .now) (start .args .at) (omega (arith, start .pre .within)) .0)
+    rw (c .read-line .ensures) (end-within (start .args .script .now) (start .args .at) (omega (arith, start .pre .within)) .0)
 
 part-decode-start : tie.Need-part-decode-start
 part-decode-start c =
     let start = c .before .before .before in
-    rw (c .line-at .ensures) (end-within (start .args .script .now) (start .args .at) (omega (arith, start .pre .within)) .0)
+    rw (c .read-line .ensures) (end-within (start .args .script .now) (start .args .at) (omega (arith, start .pre .within)) .0)
 
 part-decode-end : tie.Need-part-decode-end
 part-decode-end c =
     let start = c .before .before .before in
-    rw (c .line-at .ensures) (end-within (start .args .script .now) (start .args .at) (omega (arith, start .pre .within)) .1)
+    rw (c .read-line .ensures) (end-within (start .args .script .now) (start .args .at) (omega (arith, start .pre .within)) .1)
 
 returns : tie.Need-returns
 returns c =
-    let e = c .before .before .before .before .before .line-at .ensures in
+    let e = c .before .before .before .before .before .read-line .ensures in
     record { decodes = rw e at (c .before .before .decode .ensures); next = rw e; size = search needs }
 
 pub next-frame-spec : {M : Type 1} → statement M
