@@ -122,7 +122,7 @@ module _ {task handle : ℕ} {p : Pool} {small large : List ℕ} (types : Typed 
             let b : placeOf handle (tablesOf p .blocks) ≡ block = cc in
             let n : getD (tablesOf p .blocks) (placeOf handle (tablesOf p .blocks)) freeBlock .length ≡ count = cc in
             let (small-whole, large-whole) = halves small large (ready .whole refl) in
-            let (L, reads) = every-fit-record-reads (tablesOf p) types (ready .fit) small large in
+            let (L, reads) = every-fit-record-reads p types (ready .fit) small large in
             rw (← n, ← b) (read-place (ready .fit) types reads small-whole large-whole task handle e);
       }
   locates-by (Refused r) e =
@@ -147,7 +147,7 @@ module _ {task handle offset : ℕ} {p : Pool} {small large : List ℕ} (types :
   write-at-by Accepted e block count f =
       let b : placeOf handle (tablesOf p .blocks) ≡ block = cc in
       let (small-whole, large-whole) = halves small large (ready .whole refl) in
-      let (L, reads) = every-fit-record-reads (tablesOf p) types (ready .fit) small large in
+      let (L, reads) = every-fit-record-reads p types (ready .fit) small large in
       rw (← b) (
         write-place (ready .fit) types reads small-whole large-whole task handle offset new e,
         record {

@@ -34,7 +34,7 @@ use Rattle.calls.proofs.Promises.{refused-obeys, carried-obeys}
 module _ (p : Pool) (types : Typed (tablesOf p)) (w : isWellFormed p ≡ true) (small large : List ℕ) where
   -- the ledger that the record reads as with these stores
   some : (L : Ledger) × Reads p small large L
-  some = every-fit-record-reads (tablesOf p) types w small large
+  some = every-fit-record-reads p types w small large
 
   -- refresh, whatever the stores
   module _ (task : ℕ) (kind : Kind) (extension handle : ℕ) where

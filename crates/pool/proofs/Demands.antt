@@ -17,12 +17,12 @@ use Rattle.pool.specs.Demands.{Runs, done, call, Demand2, PoolDemand3}
 -- from any well-formed record that reads as a ledger, with whole stores
 runs-follow : {p p′ : Pool} {small small′ large large′ : List ℕ} {ss : List Sent} {ys : List Reply} → Runs p small large ss ys p′ small′ large′
     → isWellFormed p ≡ true → areWhole small large ≡ true → (L : Ledger) → Reads p small large L
-    → (ys ≡ replies L ss) × Reads p′ small′ large′ (afterAll L ss)
+    → (ys ≡ replies L ss) × Reads p′ small′ large′ (afterAll L ss) × (isWellFormed p′ ≡ true)
 unfolding replies afterAll
-runs-follow done w whole L reads = (refl, reads)
+runs-follow done w whole L reads = (refl, reads, w)
 runs-follow (call {s = s} o rest) w whole L reads =
-    let (same, left) = runs-follow rest (o .fits w) (rw (o .sizes .0, o .sizes .1) whole) (afterRequest L (s .request) (s .bytes)) (o .leaves w (λ e. whole) L reads) in
-    (ap₂ _∷_ (o .answers w (λ e. whole) L reads) same, left)
+    let (same, left, fit) = runs-follow rest (o .fits w) (rw (o .sizes .0, o .sizes .1) whole) (afterRequest L (s .request) (s .bytes)) (o .leaves w (λ e. whole) L reads) in
+    (ap₂ _∷_ (o .answers w (λ e. whole) L reads) same, left, fit)
 
 pub demand2 : Demand2
 unfolding limits smallSize largeSize
@@ -31,5 +31,4 @@ demand2 small large a b ss ys p′ small′ large′ runs =
 
 pub pool-demand3 : PoolDemand3
 pool-demand3 small large a b us ys p′ small′ large′ runs =
-    let (same, left) = demand2 small large a b (map sent us) ys p′ small′ large′ runs in
-    rw same (demand3 us)
+    rw (demand2 small large a b (map sent us) ys p′ small′ large′ runs .0) (demand3 us)

@@ -9,7 +9,7 @@ use Rattle.ledger.specs.Objects.{Reply, freshMemory}
 use Rattle.ledger.specs.Ledger.{Sent, fresh, replies, afterAll}
 use Rattle.ledger.specs.Heap.{Used, sent, heapReplies, allInTimeAndBounds}
 use Rattle.record.specs.Reading.{freshPool}
-use Rattle.record.specs.Pools.{Reads}
+use Rattle.record.specs.Pools.{isWellFormed, Reads}
 use Rattle.record.specs.declared.Pool.{Pool}
 use Rattle.calls.specs.Contract.{Obeys}
 
@@ -20,13 +20,13 @@ pub data Runs : Pool → List ℕ → List ℕ → List Sent → List Reply → 
       → Obeys (s .request) (s .bytes) p small large y p′ small′ large′ → Runs p′ small′ large′ ss ys p″ small″ large″
       → Runs p small large (s ∷ ss) (y ∷ ys) p″ small″ large″
 
--- Demand 2: for every list of the ten calls from a fresh pool, with stores of 01's lengths and any bytes in them, each answer is the ledger's, and record
--- and stores then read as the ledger. (Every beginning of a list is a list: so they do after each call.)
+-- Demand 2: for every list of the ten calls from a fresh pool, with stores of 01's lengths and any bytes in them, each answer is the ledger's, record and
+-- stores then read as the ledger, and the record is fit. (Every beginning of a list is a list: so it is after each call.)
 abbrev pub Demand2 : Type 0
 Demand2 =
     (small large : List ℕ) → length small ≡ 2048 → length large ≡ 8192
     → (ss : List Sent) (ys : List Reply) (p′ : Pool) (small′ large′ : List ℕ) → Runs freshPool small large ss ys p′ small′ large′
-    → (ys ≡ replies fresh ss) × Reads p′ small′ large′ (afterAll fresh ss)
+    → (ys ≡ replies fresh ss) × Reads p′ small′ large′ (afterAll fresh ss) × (isWellFormed p′ ≡ true)
 
 -- Demand 3: for every such list of the nine calls the answers equal the unbounded heap's exactly when all use was in time and in bounds.
 abbrev pub PoolDemand3 : Type 0

@@ -26,7 +26,8 @@ use Rattle.record.specs.Codes.{taskOf}
 use Rattle.record.specs.Reading.{isSmallBlock, isWholeSmall, isWholeLarge, isWhole, blockBytes, objectIn, recordView, Typed, Reads}
 use Rattle.record.specs.WellFormed.{isNaming, isSizedFor, isFitBlock, isWellFormed}
 use Rattle.record.specs.declared.TaskEntry.{TaskEntry}
-use Rattle.record.specs.Tables.{BlockEntry, ExpirationEntry, Tables}
+use Rattle.record.specs.Tables.{BlockEntry, ExpirationEntry, Tables, tablesOf}
+use Rattle.record.specs.Pools.{EveryFitRecordReads}
 use Rattle.record.proofs.Facts.{fit-parts}
 use Rattle.record.proofs.Distinct.{Apart, apart-blocks}
 
@@ -120,10 +121,9 @@ module _ (small large : List ℕ) where
       let others = all-imp (λ c a. a (eqb-false (b .handle) 0 z)) bs d in
       rw z (handles-read (λ (h : ℕ). b .handle ≢ h) (suc i) bs others, objects-apart (suc i) bs ds))
 
-pub every-fit-record-reads : (p : Tables) → Typed p → isWellFormed p ≡ true → (small large : List ℕ)
-    → (L : Ledger) × Reads p small large L
+fit-tables-read : (p : Tables) → Typed p → isWellFormed p ≡ true → (small large : List ℕ) → (L : Ledger) × Reads p small large L
 unfolding recordView ledgerOf
-every-fit-record-reads p range e small large =
+fit-tables-read p range e small large =
     let fit = fit-parts p e in
     let v = recordView p small large in
     let tasks = map-map wrappedTask taskOf (p .tasks) ∙ map-same _ _ (p .tasks) (all-imp task-shown (p .tasks) (range .clocks)) in
@@ -136,3 +136,6 @@ every-fit-record-reads p range e small large =
         ascending = sort-ascending handleOfObject (v .objects) apart;
       },
     )
+
+pub every-fit-record-reads : EveryFitRecordReads
+every-fit-record-reads p = fit-tables-read (tablesOf p)
