@@ -6,6 +6,7 @@ use mathlib.Core.List.{List}
 use mathlib.Core.Path.{_≡_, refl, sym, ap, _∙_}
 use lib.Dec.{eqb, leb, ltb}
 use lib.ListN.{length, getD, set, replicate, length-set}
+use lib.Seq.{getD-set-same}
 use Rattle.ledger.specs.Limits.{taskCount, largeSize, lastHandle}
 use Rattle.ledger.specs.declared.Answer.the-variants.{Handle}
 use Rattle.ledger.specs.declared.Answer.the-variants.{Refused as RefusedAnswer}
@@ -95,6 +96,9 @@ module _ {h : Head} (hs ls cs : List ℕ) {ns ds : List ℕ} (types : HeadTyped 
         (sym (ap (λ (b : BlockEntry). b .handle) (block-at hs ls (sized .blocks .of-handles) (sized .blocks .of-lengths) (freePlace size (blocksOf hs ls))))
         ∙ taken .block .free)
 
+    holds : getD (set hs (plan .place) (h .given + 1)) (plan .place) 0 ≡ h .given + 1
+    holds = getD-set-same hs (plan .place) (h .given + 1) 0 (omega (arith, make-may-set .2, sized .blocks .of-handles))
+
     pub make-set-lent : {cs′ ns′ ds′ : List ℕ} → Sets (newEntry (h .tasks) (h .global) kind task extension (plan .place)) cs ns ds cs′ ns′ ds′
         → {small′ large′ : List ℕ} → small′ ≡ smallAfter (plan .place) 0 (replicate (sizeOf (plan .place)) 0) small
         → large′ ≡ largeAfter (plan .place) 0 (replicate (sizeOf (plan .place)) 0) large
@@ -108,6 +112,6 @@ module _ {h : Head} (hs ls cs : List ℕ) {ns ds : List ℕ} (types : HeadTyped 
         blocks = record { of-handles = rw length-set (sized .blocks .of-handles); of-lengths = rw length-set (sized .blocks .of-lengths) };
         entries = sets .sized;
       },
-      make-cleared of-entries ready (plan .place) planned-place free
+      make-cleared of-entries ready (plan .place) planned-place free holds
           (made-left h hs ls cs ns ds kind task extension (plan .place) sets size at-free) (verdict-of ∙ v) s l,
     )

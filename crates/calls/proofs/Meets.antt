@@ -93,12 +93,12 @@ module _ {task : ℕ} {kind : Kind} {extension size : ℕ} {p : Pool} {small lar
       refused-makes task kind extension size p small large why (make-refused p types (ready .fit) small large (ready .whole refl) task kind extension size why v)
 
   -- accepted: the block is cleared
-  pub make-cleared : {p′ : Pool} (place : ℕ) → place ≡ freePlace size (tablesOf p .blocks) → getD (p .handles) place 0 ≡ 0
+  pub make-cleared : {p′ : Pool} (place : ℕ) → place ≡ freePlace size (tablesOf p .blocks) → getD (p .handles) place 0 ≡ 0 → getD (p′ .handles) place 0 ≡ p .given + 1
       → tablesOf p′ ≡ madePool task kind extension size (tablesOf p)
       → makeVerdict task extension size (tablesOf p) ≡ Accepted → {small′ large′ : List ℕ}
       → small′ ≡ smallAfter place 0 (replicate (sizeOf place) 0) small → large′ ≡ largeAfter place 0 (replicate (sizeOf place) 0) large
       → Makes task kind extension size p small large (record { answer = Handle (p .given + 1); pool = p′ }) small′ large′
-  make-cleared {p′} place at free left v s l =
+  make-cleared {p′} place at free holds left v s l =
       record {
         obeys = rw (s, l, at) (make-done p types (ready .fit) small large (ready .whole refl) task kind extension size left v);
         placed = λ handle h. (
@@ -106,6 +106,7 @@ module _ {task : ℕ} {kind : Kind} {extension size : ℕ} {p : Pool} {small lar
           record {
             known = rw at (place-known v);
             free = free;
+            holds = rw holds cc;
             smallCleared = s;
             largeCleared = l;
           },

@@ -61,14 +61,14 @@ no-bytes-scheduled Tick task new L = (refl, refl)
 
 -- a call that hands back no bytes
 pub serves-plain : {request : Request} {new : List ℕ} {p p′ : Pool} {small large small′ large′ : List ℕ} {answer : Answer}
-    → Beyond request new p small large answer small′ large′ → Obeys request new p small large (plain answer) p′ small′ large′
+    → Beyond request new p small large answer p′ small′ large′ → Obeys request new p small large (plain answer) p′ small′ large′
     → Serves request new p small large (withoutBytes answer p′) small′ large′
 serves-plain {small′ = small′} {large′ = large′} b o =
     record { obeys = rw (no-bytes small′ large′) o; beyond = b; inside = λ l. absurd (omega arith) }
 
 -- a refusal makes no object and writes no bytes
 nothing-beyond : (request : Request) (new : List ℕ) (p : Pool) (small large : List ℕ) (why : Refusal)
-    → Beyond request new p small large (RefusedAnswer why) small large
+    → Beyond request new p small large (RefusedAnswer why) p small large
 nothing-beyond (Use (Schedule event task)) new p small large why = tt
 nothing-beyond (Use (Make task kind extension size)) new p small large why = λ handle h. absurd (true≢false (ap isRefusal h))
 nothing-beyond (Use (Refresh task kind extension handle)) new p small large why = tt

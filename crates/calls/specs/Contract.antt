@@ -76,16 +76,17 @@ pub record Obeys (request : Request) (new : List ℕ) (p : Pool) (small large : 
 abbrev pub Follows : Request → Pool → Answer → Pool → Type 0
 Follows request p answer p′ = (small large : List ℕ) → Obeys request [] p small large (plain answer) p′ small large
 
--- make: the block that it clears is the one part that is left open, and it belonged to no standing object
-pub record Placed (p : Pool) (small large small′ large′ : List ℕ) (block : ℕ) : Type 0 where
+-- make: the new object's block is the one part that is left open. It belonged to no standing object, and it is the one that is cleared.
+pub record Placed (p : Pool) (small large : List ℕ) (handle : ℕ) (p′ : Pool) (small′ large′ : List ℕ) (block : ℕ) : Type 0 where
   pub known : block < blockCount
   pub free : getD (p .handles) block 0 ≡ 0
+  pub holds : getD (p′ .handles) block 0 ≡ handle
   pub smallCleared : small′ ≡ smallAfter block 0 (replicate (sizeOf block) 0) small
   pub largeCleared : large′ ≡ largeAfter block 0 (replicate (sizeOf block) 0) large
 
 pub record Makes (task : ℕ) (kind : Kind) (extension size : ℕ) (p : Pool) (small large : List ℕ) (r : Outcome) (small′ large′ : List ℕ) : Type 0 where
   pub obeys : Obeys (Use (Make task kind extension size)) [] p small large (plain (r .answer)) (r .pool) small′ large′
-  pub placed : (handle : ℕ) → r .answer ≡ Handle handle → (block : ℕ) × Placed p small large small′ large′ block
+  pub placed : (handle : ℕ) → r .answer ≡ Handle handle → (block : ℕ) × Placed p small large handle (r .pool) small′ large′ block
 
 -- write: the record stays, and those bytes of its block are replaced and no other byte of either store
 pub record Writes (task handle offset : ℕ) (new : List ℕ) (p : Pool) (small large : List ℕ) (answer : Answer) (small′ large′ : List ℕ) : Type 0 where

@@ -23,19 +23,19 @@ abbrev pub replyOf : Called → List ℕ → List ℕ → Reply
 replyOf r small large = record { answer = r .answer; bytes = blockBytes small large (r .block) (r .length) }
 
 -- make's block, and the bytes of a write
-abbrev pub Beyond : Request → List ℕ → Pool → List ℕ → List ℕ → Answer → List ℕ → List ℕ → Type 0
-Beyond (Use (Schedule event task)) new p small large answer small′ large′ = Unit
-Beyond (Use (Make task kind extension size)) new p small large answer small′ large′ =
-    (handle : ℕ) → answer ≡ Handle handle → (block : ℕ) × Placed p small large small′ large′ block
-Beyond (Use (Refresh task kind extension handle)) new p small large answer small′ large′ = Unit
-Beyond (Use (Read task handle)) new p small large answer small′ large′ = Unit
-Beyond (Use (Write task handle offset)) new p small large answer small′ large′ =
+abbrev pub Beyond : Request → List ℕ → Pool → List ℕ → List ℕ → Answer → Pool → List ℕ → List ℕ → Type 0
+Beyond (Use (Schedule event task)) new p small large answer p′ small′ large′ = Unit
+Beyond (Use (Make task kind extension size)) new p small large answer p′ small′ large′ =
+    (handle : ℕ) → answer ≡ Handle handle → (block : ℕ) × Placed p small large handle p′ small′ large′ block
+Beyond (Use (Refresh task kind extension handle)) new p small large answer p′ small′ large′ = Unit
+Beyond (Use (Read task handle)) new p small large answer p′ small′ large′ = Unit
+Beyond (Use (Write task handle offset)) new p small large answer p′ small′ large′ =
     answer ≡ Done
     → (small′ ≡ smallAfter (placeIn handle (p .handles)) offset new small) × (large′ ≡ largeAfter (placeIn handle (p .handles)) offset new large)
-Beyond Report new p small large answer small′ large′ = Unit
+Beyond Report new p small large answer p′ small′ large′ = Unit
 
 pub record Serves (request : Request) (new : List ℕ) (p : Pool) (small large : List ℕ) (r : Called) (small′ large′ : List ℕ) : Type 0 where
   pub obeys : Obeys request new p small large (replyOf r small′ large′) (r .pool) small′ large′
-  pub beyond : Beyond request new p small large (r .answer) small′ large′
+  pub beyond : Beyond request new p small large (r .answer) (r .pool) small′ large′
   -- the bytes lie in a block of the stores
   pub inside : 0 < r .length → InBlock small′ large′ (r .block) (r .length)
