@@ -26,6 +26,7 @@ use Rattle.steps.specs.Objects.{placeOf, freePlace, makeVerdict, refreshVerdict
 use Rattle.steps.proofs.Chosen.{make-takes}
 use Rattle.steps.proofs.Finding.{blockOf, every-object-stands}
 use Rattle.steps.proofs.StoreBytes.{made-bytes}
+use Rattle.steps.proofs.Staying.{same-stays, make-stays, refresh-stays}
 use Rattle.steps.proofs.Verdicts.{make-verdict, refresh-verdict, read-verdict, write-verdict}
 use Rattle.steps.proofs.ObjectsFollow.{same-given, make-fits, make-reads, refresh-fits, refresh-reads, read-bytes, write-sizes, write-reads}
 use Rattle.calls.specs.Contract.{areWhole, Obeys}
@@ -52,7 +53,7 @@ module _ (p : Pool) (types : Typed (tablesOf p)) (w : isWellFormed p ≡ true) (
         carried-obeys _ [] p small large w (λ s. absurd (false≢true s)) (plain Done) p′ small large refl
         (λ L reads. refresh-verdict types (fit-parts (tablesOf p) w) reads task kind extension handle [] ∙ ap asRefusal v)
         (λ L reads. refl) (λ L reads. rw left (refresh-reads w types reads task kind extension handle v))
-        (rw left (refresh-fits w types (some .1) task kind extension handle v)) (refl, refl)
+        (rw left (refresh-fits w types (some .1) task kind extension handle v)) (rw left (refresh-stays task kind extension handle (tablesOf p))) (refl, refl)
 
   -- the calls that test 14 first
   module _ (whole : areWhole small large ≡ true) where
@@ -83,7 +84,8 @@ module _ (p : Pool) (types : Typed (tablesOf p)) (w : isWellFormed p ≡ true) (
           (λ L reads. make-verdict types (fit-parts (tablesOf p) w) reads task kind extension size [] ∙ ap asRefusal v)
           (λ L reads. rw (same-given w types reads))
           (λ L reads. rw left (make-reads w types reads small-whole large-whole task kind extension size v))
-          (rw left (make-fits w types (some .1) task kind extension size v)) (bytes .small-size, bytes .large-size)
+          (rw left (make-fits w types (some .1) task kind extension size v)) (rw left (make-stays task kind extension size (tablesOf p) (taken .block .listed)))
+          (bytes .small-size, bytes .large-size)
 
     module _ (task handle : ℕ) where
       pub read-refused : (r : Refusal) → readVerdict task handle (tablesOf p) ≡ Refused r
@@ -100,7 +102,7 @@ module _ (p : Pool) (types : Typed (tablesOf p)) (w : isWellFormed p ≡ true) (
           carried-obeys _ [] p small large w (λ s. whole) _ p small large refl
           (λ L reads. read-verdict types (fit-parts (tablesOf p) w) reads task handle [] ∙ ap asRefusal v)
           (λ L reads. rw (read-bytes w types reads small-whole large-whole task handle v))
-          (λ L reads. rw (every-object-stands (fit-parts (tablesOf p) w) reads) reads) w (refl, refl)
+          (λ L reads. rw (every-object-stands (fit-parts (tablesOf p) w) reads) reads) w (same-stays refl) (refl, refl)
 
       module _ (offset : ℕ) (new : List ℕ) where
         pub write-refused : (r : Refusal) → writeVerdict task handle offset (length new) (tablesOf p) ≡ Refused r
@@ -117,4 +119,4 @@ module _ (p : Pool) (types : Typed (tablesOf p)) (w : isWellFormed p ≡ true) (
             carried-obeys _ new p small large w (λ s. whole) (plain Done) p _ _ refl
             (λ L reads. write-verdict types (fit-parts (tablesOf p) w) reads task handle offset new ∙ ap asRefusal v)
             (λ L reads. refl) (λ L reads. write-reads w types reads small-whole large-whole task handle offset new v)
-            w (write-sizes w types (some .1) small-whole large-whole task handle offset new v)
+            w (same-stays refl) (write-sizes w types (some .1) small-whole large-whole task handle offset new v)

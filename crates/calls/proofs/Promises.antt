@@ -15,9 +15,12 @@ use Rattle.ledger.specs.declared.Refusal.{Refusal}
 use Rattle.ledger.specs.declared.Refusal.the-variants.{WrongStoreLength, NotWellFormed}
 use Rattle.ledger.specs.declared.Request.{Request}
 use Rattle.ledger.specs.declared.Request.the-variants.{Use}
+use Rattle.record.specs.Tables.{tablesOf}
 use Rattle.record.specs.Pools.{isWellFormed, Reads}
 use Rattle.record.specs.declared.Pool.{Pool}
+use Rattle.steps.specs.Staying.{Stays}
 use Rattle.steps.proofs.ObjectsFollow.{carried}
+use Rattle.steps.proofs.Staying.{same-stays}
 use Rattle.calls.specs.Contract.{isStored, areWhole, TellsWhole, Ready, Refuses, Obeys}
 
 abbrev pub isRefusal : Answer → Bool
@@ -42,6 +45,7 @@ module _ (request : Request) (new : List ℕ) (p : Pool) (small large : List ℕ
         leaves = λ w s L reads. absurd (true≢false (sym w ∙ u));
         fits = λ w. w;
         keeps = kept p small large NotWellFormed;
+        stays = same-stays refl;
         sizes = (refl, refl);
       }
 
@@ -60,6 +64,7 @@ module _ {request : Request} {p : Pool} {small large : List ℕ} {fit stored who
         leaves = λ v known L reads. absurd (true≢false (sym (known (sym s ∙ touched)) ∙ n));
         fits = λ v. v;
         keeps = kept p small large WrongStoreLength;
+        stays = same-stays refl;
         sizes = (refl, refl);
       }
 
@@ -83,6 +88,7 @@ module _ (call : Call) (new : List ℕ) (p : Pool) (small large : List ℕ) (w :
         leaves = λ x s L reads. rw (v L reads) reads;
         fits = λ x. w;
         keeps = kept p small large r;
+        stays = same-stays refl;
         sizes = (refl, refl);
       }
 
@@ -90,10 +96,10 @@ module _ (call : Call) (new : List ℕ) (p : Pool) (small large : List ℕ) (w :
       → ((L : Ledger) → Reads p small large L → verdictOn L call new ≡ none)
       → ((L : Ledger) → Reads p small large L → y ≡ replyTo call (L .memory))
       → ((L : Ledger) → Reads p small large L → Reads p′ small′ large′ (carried call new L))
-      → isWellFormed p′ ≡ true → (length small′ ≡ length small) × (length large′ ≡ length large)
+      → isWellFormed p′ ≡ true → Stays (tablesOf p) (tablesOf p′) → (length small′ ≡ length small) × (length large′ ≡ length large)
       → Obeys (Use call) new p small large y p′ small′ large′
   unfolding reply next
-  carried-obeys y p′ small′ large′ accepted v answers leaves fits sizes =
+  carried-obeys y p′ small′ large′ accepted v answers leaves fits stays sizes =
       record {
         unfit = λ u. absurd (true≢false (sym w ∙ u));
         wrong = λ x s n. absurd (true≢false (sym (whole s) ∙ n));
@@ -101,5 +107,6 @@ module _ (call : Call) (new : List ℕ) (p : Pool) (small large : List ℕ) (w :
         leaves = λ x s L reads. rw (v L reads) (leaves L reads);
         fits = λ x. fits;
         keeps = λ why e. absurd (false≢true (sym accepted ∙ ap isRefusal e));
+        stays = stays;
         sizes = sizes;
       }

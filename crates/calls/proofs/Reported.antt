@@ -12,6 +12,7 @@ use Rattle.record.specs.declared.Pool.{Pool}
 use Rattle.record.proofs.Facts.{fit-parts}
 use Rattle.steps.specs.Usage.{usageOf}
 use Rattle.steps.proofs.Rooms.{usage-alike}
+use Rattle.steps.proofs.Staying.{same-stays}
 use Rattle.calls.specs.Contract.{Obeys}
 use Rattle.calls.proofs.Promises.{isRefusal}
 
@@ -25,5 +26,6 @@ report-obeys p w small large =
       leaves = λ x s L reads. reads;
       fits = λ x. w;
       keeps = λ why e. absurd (false≢true (ap isRefusal e));
+      stays = same-stays refl;
       sizes = (refl, refl);
     }

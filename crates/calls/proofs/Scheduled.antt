@@ -39,6 +39,7 @@ use Rattle.record.proofs.Facts.{fit-parts}
 use Rattle.steps.specs.Events.{verdictOf, verdictAt, movedEntry, movedTasks, leaverOf, keptEntry, keptBlock, swept, withTimes, poolAfter, answerAfter, outcomeBy, scheduled}
 use Rattle.steps.proofs.EventsFollow.{schedule-follows, schedule-fits}
 use Rattle.steps.proofs.Standing.{none-freed, swept-none}
+use Rattle.steps.proofs.Staying.{event-stays}
 use Rattle.tasks.specs.Steps.{mayEnd, testedAfter, plannedAfter, plannedBy, planned}
 use Rattle.tasks.specs.declared.Planned.{Planned}
 use Rattle.expirations.specs.Ending.{isEnding, endedEntry}
@@ -69,6 +70,7 @@ schedule-obeys event task {p} types w small large a left keeps =
       leaves = λ x s L reads. rw left (schedule-follows event task (tablesOf p) small large L w reads .1);
       fits = λ x. rw left (schedule-fits event task (tablesOf p) types w);
       keeps = λ why e. record { refused = ap plain e; samePool = keeps why e; sameSmall = refl; sameLarge = refl };
+      stays = rw left (event-stays event task (tablesOf p));
       sizes = (refl, refl);
     }
 

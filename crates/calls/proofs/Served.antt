@@ -47,6 +47,7 @@ whatever-bytes new same then o =
       leaves = λ w s L r. rw (← then L) (o .leaves w s L r);
       fits = o .fits;
       keeps = o .keeps;
+      stays = o .stays;
       sizes = o .sizes;
     }
 

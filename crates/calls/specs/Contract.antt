@@ -17,9 +17,11 @@ use Rattle.ledger.specs.declared.Request.{Request}
 use Rattle.ledger.specs.declared.Request.the-variants.{Use, Report}
 use Rattle.stores.specs.Places.{blockCount, sizeOf, InBlock, smallAfter, largeAfter}
 use Rattle.record.specs.Reading.{isWholeSmall, isWholeLarge, blockBytes}
+use Rattle.record.specs.Tables.{tablesOf}
 use Rattle.record.specs.Pools.{isWellFormed, Reads}
 use Rattle.record.specs.declared.Pool.{Pool}
 use Rattle.steps.specs.Objects.{placeIn}
+use Rattle.steps.specs.Staying.{Stays}
 use Rattle.objects.specs.declared.Found.{Found}
 use Rattle.objects.specs.declared.Found.the-variants.{At}
 use Rattle.objects.specs.declared.Found.the-variants.{Refused as RefusedFound}
@@ -69,7 +71,8 @@ pub record Obeys (request : Request) (new : List ℕ) (p : Pool) (small large : 
   -- and the record is well-formed
   pub fits : isWellFormed p ≡ true → isWellFormed p′ ≡ true
   pub keeps : (why : Refusal) → y .answer ≡ Refused why → Refuses why p small large y p′ small′ large′
-  -- a store keeps its length
+  -- objects that stand on stay where they are, and a store keeps its length
+  pub stays : Stays (tablesOf p) (tablesOf p′)
   pub sizes : (length small′ ≡ length small) × (length large′ ≡ length large)
 
 -- a call that touches no store, whatever stores stand beside the record

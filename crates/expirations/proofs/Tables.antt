@@ -10,13 +10,14 @@ use lib.ListN.{length, getD, length-map, List·getD-map}
 use lib.Seq.{ext-getD}
 use Rattle.lists.specs.Tables.{mapFrom}
 use Rattle.lists.specs.Tests.{any}
-use Rattle.lists.proofs.Cases.{by-test, or-right, cond-same}
-use Rattle.lists.proofs.Tables.{length-mapFrom, getD-mapFrom}
+use Rattle.lists.proofs.Cases.{by-test, or-right}
+use Rattle.lists.proofs.Tables.{length-mapFrom}
 use Rattle.record.specs.Codes.{dueBy, dueOf, isDated, freeBlock, freeEntry, freedBlock, freedEntry}
 use Rattle.record.specs.Tables.{ExpirationEntry, blockEntry, expirationEntry, blocksOf, entriesOf, SizedEntries}
 use Rattle.record.specs.WellFormed.{isNaming}
 use Rattle.record.proofs.Columns.{length-blocks, block-at, length-entries, entry-at}
 use Rattle.steps.specs.Events.{keptBlock}
+use Rattle.steps.proofs.KeptBlocks.{block-left}
 use Rattle.expirations.specs.Ending.{isEnding, endedEntry, isEndingAt, Ended, Ends}
 use Rattle.expirations.specs.Places.{Asked, Changed}
 use Rattle.expirations.specs.Releasing.{Flags, keptByFlag}
@@ -107,7 +108,7 @@ released {cs} {ns} {hs} {hs′} {flags} ls ds s z sized h l =
     (size ∙ sym (length-mapFrom 0 (keptBlock xs) blocks ∙ length-blocks hs ls h l))
     (λ k m.
     let within : k < 96 = omega arith in
-    rw (block-at hs′ ls (z .size ∙ h) l k, z .inside k (omega arith) within, getD-mapFrom freeBlock (keptBlock xs) (λ i. cond-same (any (isNaming i) xs) freeBlock) blocks k, block-at hs ls h l k, ← flag-names s sized k (omega arith))
+    rw (block-at hs′ ls (z .size ∙ h) l k, z .inside k (omega arith) within, block-left xs blocks k, block-at hs ls h l k, ← flag-names s sized k (omega arith))
     (kept-entry (getD flags k false) (getD hs k 0) (getD ls k 0)))
 
 -- an entry by whether it ends

@@ -1,4 +1,4 @@
--- Blocks that an expiration names stay as they were.
+-- The blocks that an event leaves: those that an expiration names stay as they were.
 use Prim.Native.Nat.{ℕ}
 use mathlib.Core.Bool.{true}
 use mathlib.Core.List.{List}
@@ -13,7 +13,10 @@ use Rattle.record.specs.WellFormed.{isNaming}
 use Rattle.record.specs.Tables.{BlockEntry, ExpirationEntry}
 use Rattle.steps.specs.Events.{keptBlock}
 
+pub block-left : (xs : List ExpirationEntry) (blocks : List BlockEntry) (block : ℕ)
+    → getD (mapFrom 0 (keptBlock xs) blocks) block freeBlock ≡ keptBlock xs block (getD blocks block freeBlock)
+block-left xs = getD-mapFrom freeBlock (keptBlock xs) (λ i. cond-same (any (isNaming i) xs) freeBlock)
+
 pub kept-block : (xs : List ExpirationEntry) (blocks : List BlockEntry) (block : ℕ) → any (isNaming block) xs ≡ true
     → getD (mapFrom 0 (keptBlock xs) blocks) block freeBlock ≡ getD blocks block freeBlock
-kept-block xs blocks block named =
-    rw (getD-mapFrom freeBlock (keptBlock xs) (λ i. cond-same (any (isNaming i) xs) freeBlock) blocks block, named)
+kept-block xs blocks block named = rw (block-left xs blocks block, named)

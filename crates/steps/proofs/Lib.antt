@@ -20,3 +20,4 @@ pub mod ReadWritten
 pub mod Chosen
 pub mod ObjectsFollow
 pub mod ObjectTypes
+pub mod Staying

@@ -1,3 +1,4 @@
 pub mod Events
 pub mod Objects
 pub mod Usage
+pub mod Staying

@@ -1,0 +1,67 @@
+-- Objects that stand on stay in their blocks: an event only frees blocks, a make sets one that was free, a refresh none.
+use Prim.Native.Nat.{ℕ, _<_}
+use native.Mathlib.Omega.{arith}
+use mathlib.Core.Bool.{true, false}
+use mathlib.Core.List.{List, map}
+use mathlib.Core.Path.{_≡_, refl}
+use borrow.Author.Tests.{eqb-true, eqb-false}
+use lib.Dec.{eqb}
+use lib.ListN.{length, getD}
+use lib.Seq.{getD-set-same, getD-set-other}
+use Rattle.lists.specs.Tests.{any}
+use Rattle.lists.proofs.Cases.{by-test}
+use Rattle.ledger.specs.Tasks.{isTested}
+use Rattle.ledger.specs.declared.Event.{Event}
+use Rattle.ledger.specs.declared.Kind.{Kind}
+use Rattle.ledger.specs.declared.Verdict.{Verdict}
+use Rattle.ledger.specs.declared.Verdict.the-variants.{Accepted, Refused}
+use Rattle.record.specs.Codes.{freeBlock}
+use Rattle.record.specs.WellFormed.{isNaming}
+use Rattle.record.specs.declared.TaskEntry.{TaskEntry}
+use Rattle.record.specs.declared.GlobalTime.{GlobalTime}
+use Rattle.record.specs.Tables.{Tables}
+use Rattle.steps.specs.Events.{verdictAt, keptEntry, swept, poolAfter, outcomeBy, scheduled}
+use Rattle.steps.specs.Objects.{freePlace, madePool, refreshedPool}
+use Rattle.steps.specs.Staying.{Stays}
+use Rattle.steps.proofs.KeptBlocks.{block-left}
+
+-- blocks that are the same
+pub same-stays : {p p′ : Tables} → p′ .blocks ≡ p .blocks → Stays p p′
+same-stays e = record { same = λ block used given. rw e }
+
+-- an event: a block that nothing names is freed
+swept-stays : (leaver : ℕ) (tasks : List TaskEntry) (global : GlobalTime) (p : Tables) → Stays p (swept leaver tasks global p)
+unfolding swept
+swept-stays leaver tasks global p =
+    let xs = map (keptEntry leaver tasks global) (p .expirations) in
+    record {
+      same = λ block.
+          rw (block-left xs (p .blocks) block)
+          (by-test (any (isNaming block) xs) (λ named. rw named (λ used given. refl)) (λ none. rw none (λ used given. absurd (omega arith))));
+    }
+
+stays-by : (v : Verdict) (event : Event) (task : ℕ) (p : Tables) → Stays p (outcomeBy v event task p .pool)
+unfolding poolAfter
+stays-by Accepted event task p = by-test (isTested event) (λ t. rw t (swept-stays _ _ _ p)) (λ t. rw t (same-stays refl))
+stays-by (Refused r) event task p = same-stays refl
+
+pub event-stays : (event : Event) (task : ℕ) (p : Tables) → Stays p (scheduled event task p .pool)
+unfolding scheduled
+event-stays event task p = stays-by (verdictAt event task (p .tasks)) event task p
+
+-- a make: the one block that it sets has a handle that was not given
+pub make-stays : (task : ℕ) (kind : Kind) (extension size : ℕ) (p : Tables) → freePlace size (p .blocks) < length (p .blocks)
+    → Stays p (madePool task kind extension size p)
+unfolding madePool
+make-stays task kind extension size p listed =
+    let place = freePlace size (p .blocks) in
+    record {
+      same = λ block.
+          by-test (eqb block place)
+          (λ here. rw (eqb-true block place here, getD-set-same (p .blocks) place _ freeBlock listed) (λ used given. absurd (omega arith)))
+          (λ other. rw (getD-set-other (p .blocks) place block _ freeBlock (eqb-false block place other)) (λ used given. refl));
+    }
+
+pub refresh-stays : (task : ℕ) (kind : Kind) (extension handle : ℕ) (p : Tables) → Stays p (refreshedPool task kind extension handle p)
+unfolding refreshedPool
+refresh-stays task kind extension handle p = same-stays refl
