@@ -16,7 +16,7 @@ use Rattle.ledger.specs.declared.Refusal.the-variants.{WrongStoreLength, NotWel
 use Rattle.ledger.specs.declared.Request.{Request}
 use Rattle.ledger.specs.declared.Request.the-variants.{Use, Report}
 use Rattle.stores.specs.Places.{blockCount, sizeOf, InBlock, smallAfter, largeAfter}
-use Rattle.record.specs.Reading.{isWholeSmall, isWholeLarge, blockBytes}
+use Rattle.record.specs.Reading.{isWholeSmall, isWholeLarge, blockBytes, Typed}
 use Rattle.record.specs.Tables.{tablesOf}
 use Rattle.record.specs.Pools.{isWellFormed, Reads}
 use Rattle.record.specs.declared.Pool.{Pool}
@@ -74,6 +74,14 @@ pub record Obeys (request : Request) (new : List ℕ) (p : Pool) (small large : 
   -- objects that stand on stay where they are, and a store keeps its length
   pub stays : Stays (tablesOf p) (tablesOf p′)
   pub sizes : (length small′ ≡ length small) × (length large′ ≡ length large)
+
+-- The contract settles the reply: any two that it allows for one request on one record with its stores are the same. `Typed` is what the record's type gives of every
+-- value; of numbers out of its range there may be no ledger to answer by.
+abbrev pub Settled : Type 0
+Settled =
+    (request : Request) (new : List ℕ) (p : Pool) (small large : List ℕ) → Typed (tablesOf p)
+    → (y y₂ : Reply) (p′ p″ : Pool) (small′ small″ large′ large″ : List ℕ)
+    → Obeys request new p small large y p′ small′ large′ → Obeys request new p small large y₂ p″ small″ large″ → y ≡ y₂
 
 -- a call that touches no store, whatever stores stand beside the record
 abbrev pub Follows : Request → Pool → Answer → Pool → Type 0

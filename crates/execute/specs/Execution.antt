@@ -8,7 +8,8 @@ use Rattle.ledger.specs.declared.Answer.{Answer}
 use Rattle.ledger.specs.declared.Answer.the-variants.{Refused, Done}
 use Rattle.ledger.specs.declared.Refusal.{Refusal}
 use Rattle.stores.specs.Places.{InBlock}
-use Rattle.record.specs.Reading.{blockBytes}
+use Rattle.record.specs.Reading.{blockBytes, Typed}
+use Rattle.record.specs.Tables.{tablesOf}
 use Rattle.record.specs.declared.Pool.{Pool}
 use Rattle.calls.specs.Served.{withoutBytes, replyOf, Serves}
 use Rattle.calls.specs.declared.Called.{Called}
@@ -41,6 +42,15 @@ pub record Executes (line : List ℕ) (p : Pool) (small large out : List ℕ) (r
   pub left : r .pool ≡ called .pool
   pub numbered : r .number ≡ answerNumber (called .answer)
   pub shown : Placed 0 (answerLine (called .answer) (replyOf called small′ large′ .bytes)) out out′ (r .length)
+
+-- The contract settles the answer: any two results that it allows for one line on one record with its stores and buffer have the same number, length and buffer.
+-- `Typed` is what the record's type gives of every value.
+abbrev pub SettledLine : Type 0
+SettledLine =
+    (line : List ℕ) (p : Pool) (small large out : List ℕ) → Typed (tablesOf p)
+    → (r r₂ : Executed) (small′ small″ large′ large″ out′ out″ : List ℕ)
+    → Executes line p small large out r small′ large′ out′ → Executes line p small large out r₂ small″ large″ out″
+    → (r .number ≡ r₂ .number) × (r .length ≡ r₂ .length) × (out′ ≡ out″)
 
 -- The answer is 00 with its data or one number of 01, and a refusal is its number alone and leaves record and both stores the same.
 pub record Answered (p : Pool) (small large out : List ℕ) (r : Executed) (small′ large′ out′ : List ℕ) : Type 0 where
