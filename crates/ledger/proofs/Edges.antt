@@ -1,5 +1,6 @@
--- The thirteen edges hold: the checker computes one test over the whole table, and what passes it holds.
+-- The thirteen edges hold, and the rows beside them: the checker computes one test over each table, and what passes it holds.
 use mathlib.Core.Bool.{Bool, _&&_}
+use mathlib.Core.Path.{_≡_, refl}
 use lib.Dec.{T, eqb, eqb→eq}
 use Rattle.lists.specs.Blocks.{overwritten}
 use Rattle.lists.specs.Tests.{all}
@@ -10,7 +11,9 @@ use Rattle.ledger.specs.Expirations.{dueAfter, remaining, lasting}
 use Rattle.ledger.specs.Objects.{freshMemory, objectAt, written, replyTo, memoryAfter, expirationsAfter, usage}
 use Rattle.ledger.specs.Refusals.{testsOf, verdict}
 use Rattle.ledger.specs.Ledger.{fresh, reply, next, replies, afterAll}
-use Rattle.ledger.specs.Edges.{Row, answered, expected, clockAfter, RowHolds, edges, EdgesHold}
+use Rattle.ledger.specs.Rows.{Row, answered, expected, clockAfter, RowHolds}
+use Rattle.ledger.specs.Edges.{edges, EdgesHold}
+use Rattle.ledger.specs.MoreEdges.{moreEdges, MoreEdgesHold}
 
 -- a row's two equations as a test
 passes : Row → Bool
@@ -25,13 +28,17 @@ passing-holds row t =
       clock = eqb→eq (clockAfter row) (row .clock) clock;
     }
 
--- the checker runs all calls of the table
-all-pass : T (all passes edges)
-unfolding passes edges fresh reply next replies afterAll testsOf verdict
+-- the checker runs all calls of both tables
+all-pass : T (all passes edges) × T (all passes moreEdges)
+unfolding passes edges moreEdges fresh reply next replies afterAll testsOf verdict
     freshMemory objectAt written overwritten replyTo memoryAfter expirationsAfter usage dueAfter remaining lasting
     freshClocks moved allTicked tasksAfter advances clocksAfter
     limits taskCount smallSize largeSize lastHandle counterRange
-all-pass = tt
+all-pass = (tt, tt)
 
 pub edges-hold : EdgesHold
-edges-hold = all→All passes passing-holds edges all-pass
+unfolding edges
+edges-hold = record { thirteen = refl; rows = all→All passes passing-holds edges (all-pass .0) }
+
+pub more-edges-hold : MoreEdgesHold
+more-edges-hold = all→All passes passing-holds moreEdges (all-pass .1)

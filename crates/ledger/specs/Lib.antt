@@ -8,4 +8,6 @@ pub mod Ledger
 pub mod Heap
 pub mod Compared
 pub mod Kept
+pub mod Rows
 pub mod Edges
+pub mod MoreEdges

@@ -1,0 +1,119 @@
+-- Rules of document 01 that none of the thirteen edges tries, in rows of the same kind: writing, waiting, leaving, the last handle, refusals 1 to 6.
+use mathlib.Core.List.{List, [], _∷_}
+use Rattle.lists.specs.Tests.{All}
+use Rattle.ledger.specs.Ledger.{fresh}
+use Rattle.ledger.specs.Rows.{join, leave, block, resume, tick, make, refresh, read, write, report, refused, done, standsStill, advanced, handle, contents, zeros, figures, _⇒_, _⨾_, Row, _runs_clockReads_, RowHolds, lateStart}
+use Rattle.ledger.specs.declared.Kind.the-variants.{Local, Global}
+
+unfoldable pub moreEdges : List Row
+moreEdges =
+    -- A byte written at offset 1 is read back there; the bytes beside it and another object stay.
+    fresh runs
+    join 0 ⇒ done ⨾
+    make 0 Local 0 4 ⇒ handle 1 ⨾
+    make 0 Local 0 4 ⇒ handle 2 ⨾
+    write 0 1 1 (165 ∷ []) ⇒ done ⨾
+    read 0 1 ⇒ contents (0 ∷ 165 ∷ 0 ∷ 0 ∷ []) ⨾
+    read 0 2 ⇒ zeros 4
+    clockReads 0 ∷
+    -- A leaver's common date counts on.
+    fresh runs
+    join 0 ⇒ done ⨾
+    join 1 ⇒ done ⨾
+    make 1 Global 0 4 ⇒ handle 1 ⨾
+    leave 1 ⇒ standsStill ⨾
+    tick 0 ⇒ advanced ⨾
+    read 0 1 ⇒ zeros 4 ⨾
+    tick 0 ⇒ advanced ⨾
+    read 0 1 ⇒ refused 12
+    clockReads 2 ∷
+    -- A task that waits keeps its clock and its dates. Resumed it has no mark: the tick of 1 alone makes no advance.
+    fresh runs
+    join 0 ⇒ done ⨾
+    join 1 ⇒ done ⨾
+    make 0 Local 1 4 ⇒ handle 1 ⨾
+    tick 0 ⇒ standsStill ⨾
+    block 0 ⇒ standsStill ⨾
+    resume 0 ⇒ done ⨾
+    tick 1 ⇒ standsStill ⨾
+    read 1 1 ⇒ zeros 4 ⨾
+    tick 0 ⇒ advanced ⨾
+    read 1 1 ⇒ refused 12
+    clockReads 2 ∷
+    -- A task that waits may leave: its own dates go, no advance follows, and when it joins again its clock is 0.
+    fresh runs
+    join 0 ⇒ done ⨾
+    join 1 ⇒ done ⨾
+    make 0 Local 30 4 ⇒ handle 1 ⨾
+    tick 0 ⇒ standsStill ⨾
+    block 0 ⇒ standsStill ⨾
+    leave 0 ⇒ standsStill ⨾
+    read 1 1 ⇒ refused 12 ⨾
+    join 0 ⇒ done
+    clockReads 0 ∷
+    -- The last handle is given, and then 8. Its object stands.
+    lateStart 0 4294967294 runs
+    make 0 Local 30 4 ⇒ handle 4294967295 ⨾
+    make 0 Local 30 4 ⇒ refused 8 ⨾
+    read 0 4294967295 ⇒ zeros 4 ⨾
+    report ⇒ figures 1 0 1 4294967295
+    clockReads 0 ∷
+    -- 1: there is no task 16.
+    fresh runs
+    join 15 ⇒ done ⨾
+    join 16 ⇒ refused 1 ⨾
+    leave 16 ⇒ refused 1 ⨾
+    block 16 ⇒ refused 1 ⨾
+    resume 16 ⇒ refused 1 ⨾
+    tick 16 ⇒ refused 1 ⨾
+    make 16 Local 0 4 ⇒ refused 1
+    clockReads 0 ∷
+    -- 2: a task that runs or waits does not join.
+    fresh runs
+    join 0 ⇒ done ⨾
+    join 0 ⇒ refused 2 ⨾
+    block 0 ⇒ standsStill ⨾
+    join 0 ⇒ refused 2
+    clockReads 0 ∷
+    -- 3: an absent task only joins.
+    fresh runs
+    leave 0 ⇒ refused 3 ⨾
+    block 0 ⇒ refused 3 ⨾
+    resume 0 ⇒ refused 3 ⨾
+    tick 0 ⇒ refused 3 ⨾
+    make 0 Local 0 4 ⇒ refused 3 ⨾
+    read 0 1 ⇒ refused 3
+    clockReads 0 ∷
+    -- 4: a task that waits neither ticks nor uses an object; 5: one that runs is not resumed.
+    fresh runs
+    join 0 ⇒ done ⨾
+    resume 0 ⇒ refused 5 ⨾
+    make 0 Local 0 4 ⇒ handle 1 ⨾
+    block 0 ⇒ standsStill ⨾
+    block 0 ⇒ refused 4 ⨾
+    tick 0 ⇒ refused 4 ⨾
+    make 0 Local 0 4 ⇒ refused 4 ⨾
+    refresh 0 1 Local 0 ⇒ refused 4 ⨾
+    read 0 1 ⇒ refused 4 ⨾
+    write 0 1 0 [] ⇒ refused 4
+    clockReads 0 ∷
+    -- 6: extension 31, tested before the length and before the object. A refused make spends no handle.
+    fresh runs
+    join 0 ⇒ done ⨾
+    make 0 Local 31 0 ⇒ refused 6 ⨾
+    make 0 Global 31 4 ⇒ refused 6 ⨾
+    make 0 Global 30 4 ⇒ handle 1 ⨾
+    refresh 0 2 Local 31 ⇒ refused 6
+    clockReads 0 ∷
+    -- 11: no object has handle 0.
+    fresh runs
+    join 0 ⇒ done ⨾
+    make 0 Local 0 4 ⇒ handle 1 ⨾
+    refresh 0 0 Local 0 ⇒ refused 11 ⨾
+    read 0 0 ⇒ refused 11 ⨾
+    write 0 0 0 [] ⇒ refused 11
+    clockReads 0 ∷
+    []
+
+abbrev pub MoreEdgesHold : Type 0
+MoreEdgesHold = All RowHolds moreEdges
