@@ -14,7 +14,7 @@ use Rattle.lists.proofs.All.{all-imp, all-both, all-filter, all-any, at-set}
 use Rattle.lists.proofs.Counts.{any-left, length-filter}
 use Rattle.ledger.specs.Limits.{limits}
 use Rattle.ledger.specs.Tasks.{Task, Clocks, taskAt, absentTask, isAbsent, isTested, moved, unticked, tasksAfter, advances, clocksAfter}
-use Rattle.ledger.specs.Expirations.{Due, byLocal, byGlobal, Expiration, dueAfter, remaining, isLive, isSetBy, isOf, lasting}
+use Rattle.ledger.specs.Expirations.{DueTime, byLocal, byGlobal, Expiration, dueAfter, remaining, isLive, isSetBy, isOf, lasting}
 use Rattle.ledger.specs.Objects.{Object, Memory, stands, standing}
 use Rattle.ledger.specs.Refusals.{testsOf}
 use Rattle.ledger.specs.Kept.{Within, isOwned, ExpirationKept, ExpirationsKept}
@@ -43,11 +43,11 @@ module _ (m : Memory) (xs : List Expiration) (new : List ℕ) (task : ℕ) where
   Lasts event = ExpirationKept (after event) (m .objects)
 
   -- the event leaves an expiration that its own task set within bounds
-  abbrev Spares : Event → Due → Type 0
+  abbrev Spares : Event → DueTime → Type 0
   Spares event due = isSetBy task due ≡ true → (at : ℕ) → LocalWithin before at → LocalWithin (moved event before) at
 
   -- then it leaves all within bounds: no clock goes back
-  within-after : (event : Event) (due : Due) → Spares event due → Within (m .clocks) due → Within (after event) due
+  within-after : (event : Event) (due : DueTime) → Spares event due → Within (m .clocks) due → Within (after event) due
   unfolding clocksAfter remaining
   within-after event (byLocal setter at) f h =
       tasks-after (λ ts. LocalWithin (getD ts setter absentTask) at) (λ ts h. rw (List·getD-map unticked ts setter absentTask) h)
@@ -72,7 +72,7 @@ module _ (m : Memory) (xs : List Expiration) (new : List ℕ) (task : ℕ) where
   Still event =
       (at : ℕ) → LocalWithin before at → (moved event before .clock ≡ before .clock) × (isAbsent (moved event before .state) ≡ false)
 
-  ahead-still : (event : Event) → isTested event ≡ false → Still event → (due : Due) → Within (m .clocks) due
+  ahead-still : (event : Event) → isTested event ≡ false → Still event → (due : DueTime) → Within (m .clocks) due
       → 1 ≤ remaining (m .clocks) due → 1 ≤ remaining (after event) due
   unfolding remaining clocksAfter tasksAfter advances
   ahead-still event e f (byLocal setter at) w h =
@@ -82,7 +82,7 @@ module _ (m : Memory) (xs : List Expiration) (new : List ℕ) (task : ℕ) where
   still : (event : Event) → isTested event ≡ false → Still event → ExpirationsKept (m .clocks) (m .objects) xs
       → ExpirationsKept (after event) (m .objects) xs
   still event e f k =
-      let spared : (due : Due) → Spares event due = λ due own at h. (rw (f at h .0) (h .0), f at h .1) in
+      let spared : (due : DueTime) → Spares event due = λ due own at h. (rw (f at h .0) (h .0), f at h .1) in
       record {
         each = all-imp (λ x h. lasts event x (spared (x .due)) h (ahead-still event e f (x .due) (h .within) (h .ahead))) xs (k .each);
         room = k .room;

@@ -5,7 +5,7 @@ use mathlib.Core.List.{List, [], map, List·Permᴰ}
 use mathlib.Core.Path.{_≡_}
 use Rattle.ledger.specs.Limits.{counterRange}
 use Rattle.ledger.specs.Tasks.{Task, Clocks}
-use Rattle.ledger.specs.Expirations.{Due, byLocal, byGlobal, Expiration, remaining}
+use Rattle.ledger.specs.Expirations.{DueTime, byLocal, byGlobal, Expiration, remaining}
 use Rattle.ledger.specs.Objects.{Object}
 use Rattle.ledger.specs.Ledger.{Ledger}
 
@@ -25,7 +25,7 @@ pub record Shown : Type 0 where
   pub handle : ℕ
   pub left : Left
 
-unfoldable pub leftOf : Clocks → Due → Left
+unfoldable pub leftOf : Clocks → DueTime → Left
 leftOf clocks (byLocal setter at) = localLeft setter (remaining clocks (byLocal setter at))
 leftOf clocks (byGlobal at) = globalLeft (remaining clocks (byGlobal at))
 

@@ -11,22 +11,22 @@ use Rattle.ledger.specs.declared.Event.{Event}
 use Rattle.ledger.specs.declared.Event.the-variants.{Join, Leave, Block, Resume, Tick}
 
 -- when an expiration is due: by the clock of the task that set it, or by the global time
-pub data Due : Type 0 where
-  byLocal : (setter at : ℕ) → Due
-  byGlobal : (at : ℕ) → Due
+pub data DueTime : Type 0 where
+  byLocal : (setter at : ℕ) → DueTime
+  byGlobal : (at : ℕ) → DueTime
 
 -- "A date belongs to one object"
 pub record Expiration : Type 0 where
   pub handle : ℕ
-  pub due : Due
+  pub due : DueTime
 
 -- "Own, set at own clock c: due when that clock is c + e + 1. Common, set at common time g: due when common time is g + e + 2"
-unfoldable pub dueAfter : Clocks → ℕ → Kind → ℕ → Due
+unfoldable pub dueAfter : Clocks → ℕ → Kind → ℕ → DueTime
 dueAfter clocks task Local extension = byLocal task (taskAt clocks task .clock + extension + 1)
 dueAfter clocks task Global extension = byGlobal (clocks .global + extension + 2)
 
 -- 01: units left
-unfoldable pub remaining : Clocks → Due → ℕ
+unfoldable pub remaining : Clocks → DueTime → ℕ
 remaining clocks (byLocal setter at) = at - taskAt clocks setter .clock
 remaining clocks (byGlobal at) = at - clocks .global
 
@@ -34,7 +34,7 @@ remaining clocks (byGlobal at) = at - clocks .global
 abbrev pub isLive : Clocks → Expiration → Bool
 isLive clocks x = ltb 0 (remaining clocks (x .due))
 
-abbrev pub isSetBy : ℕ → Due → Bool
+abbrev pub isSetBy : ℕ → DueTime → Bool
 isSetBy task (byLocal setter at) = eqb setter task
 isSetBy task (byGlobal at) = false
 

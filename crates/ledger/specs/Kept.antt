@@ -7,7 +7,7 @@ use lib.ListN.{length}
 use Rattle.lists.specs.Tests.{any, All}
 use Rattle.ledger.specs.Limits.{limits, taskCount, largeSize, lastHandle}
 use Rattle.ledger.specs.Tasks.{Task, Clocks, taskAt, isAbsent, isRunning, allTicked}
-use Rattle.ledger.specs.Expirations.{Due, byLocal, byGlobal, Expiration, remaining, isOf}
+use Rattle.ledger.specs.Expirations.{DueTime, byLocal, byGlobal, Expiration, remaining, isOf}
 use Rattle.ledger.specs.Objects.{Object, stands, smallOnes, largeOnes}
 use Rattle.ledger.specs.Ledger.{Ledger}
 
@@ -44,7 +44,7 @@ pub record ObjectsKept (given : ℕ) (os : List Object) : Type 0 where
   pub large : largeOnes os ≤ limits .largeBlocks
 
 -- own dates "up to one more than the largest extension, and their task is not absent", common ones "up to two more"
-abbrev pub Within : Clocks → Due → Type 0
+abbrev pub Within : Clocks → DueTime → Type 0
 Within clocks (byLocal setter at) =
     (remaining clocks (byLocal setter at) ≤ limits .extension + 1) × (isAbsent (taskAt clocks setter .state) ≡ false)
 Within clocks (byGlobal at) = remaining clocks (byGlobal at) ≤ limits .extension + 2

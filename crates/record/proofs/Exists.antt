@@ -18,7 +18,7 @@ use Rattle.lists.proofs.Tables.{all-readFrom}
 use Rattle.lists.proofs.Sorting.{sortBy, sort-perm, sort-ascending}
 use Rattle.ledger.specs.Limits.{smallSize, largeSize, counterRange, isSmall}
 use Rattle.ledger.specs.Tasks.{Clocks, taskAt}
-use Rattle.ledger.specs.Expirations.{Due, byLocal, byGlobal, remaining}
+use Rattle.ledger.specs.Expirations.{DueTime, byLocal, byGlobal, remaining}
 use Rattle.ledger.specs.Objects.{Object}
 use Rattle.ledger.specs.Compared.{wrapped, wrappedTask, Left, localLeft, globalLeft, Shown, leftOf, shownObject, View, viewOf, Alike}
 use Rattle.ledger.specs.Ledger.{Ledger}
@@ -32,7 +32,7 @@ use Rattle.record.proofs.Facts.{fit-parts}
 use Rattle.record.proofs.Distinct.{Apart, apart-blocks}
 
 -- due with these units left
-dueIn : Clocks → Left → Due
+dueIn : Clocks → Left → DueTime
 dueIn clocks (localLeft setter units) = byLocal setter (taskAt clocks setter .clock + units)
 dueIn clocks (globalLeft units) = byGlobal (clocks .global + units)
 

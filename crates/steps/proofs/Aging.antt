@@ -16,7 +16,7 @@ use Rattle.lists.proofs.Tables.{readBy-same, map-filter-as-read, readBy-map, re
 use Rattle.ledger.specs.Limits.{taskCount, counterRange}
 use Rattle.ledger.specs.Tasks.{Task, Clocks, absentTask, taskAt, moved, isTested, unticked, tasksAfter, advances, clocksAfter}
 use Rattle.ledger.specs.Expirations.{Expiration, remaining, isLive, isSetBy, lasting}
-use Rattle.ledger.specs.Expirations.{Due as LedgerDue, byLocal, byGlobal}
+use Rattle.ledger.specs.Expirations.{DueTime, byLocal, byGlobal}
 use Rattle.ledger.specs.Compared.{wrapped, Left, localLeft, globalLeft, Shown, leftOf, shown}
 use Rattle.ledger.specs.declared.Event.{Event}
 use Rattle.ledger.specs.declared.Event.the-variants.{Join, Leave, Block, Resume, Tick}
@@ -124,7 +124,7 @@ module _ (event : Event) (task : ℕ) (c : Clocks) (tested : isTested event ≡ 
   global-ages units handle step = by-test (advances event task c) (λ e. rw (e, step)) (λ e. rw e)
 
   -- the ledger's side
-  ledger-due : (handle : ℕ) (d : LedgerDue)
+  ledger-due : (handle : ℕ) (d : DueTime)
       → (let after = clocksAfter event task c in
       cond (not (isEnding event && isSetBy task d) && ltb 0 (remaining after d)) (record { handle = handle; left = leftOf after d } ∷ []) [])
       ≡ agedLeft event task (advances event task c) handle (leftOf c d)

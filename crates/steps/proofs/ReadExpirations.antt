@@ -14,7 +14,7 @@ use Rattle.lists.proofs.Tables.{readBy-same, all-readBy}
 use Rattle.lists.proofs.Permutations.{readBy-perm, all-perm}
 use Rattle.ledger.specs.Tasks.{Task, Clocks, absentTask, taskAt, isAbsent, moved, isTested, advances, clocksAfter}
 use Rattle.ledger.specs.Expirations.{Expiration, remaining, lasting}
-use Rattle.ledger.specs.Expirations.{Due as LedgerDue, byLocal, byGlobal}
+use Rattle.ledger.specs.Expirations.{DueTime, byLocal, byGlobal}
 use Rattle.ledger.specs.Compared.{Left, localLeft, globalLeft, Shown, leftOf, shown}
 use Rattle.ledger.specs.declared.State.{State}
 use Rattle.ledger.specs.declared.State.the-variants.{Absent, Running, Waiting}
@@ -91,7 +91,7 @@ module _ (event : Event) (task : ℕ) (c : Clocks) (untested : isTested event �
       rw e (moved-stays event (taskAt c i) (taskAt c i .state) untested (rw own accepted) present))
       (λ e. rw e))
 
-  ledger-stays : (d : LedgerDue) → SetterPresent c (leftOf c d) → leftOf (clocksAfter event task c) d ≡ leftOf c d
+  ledger-stays : (d : DueTime) → SetterPresent c (leftOf c d) → leftOf (clocksAfter event task c) d ≡ leftOf c d
   unfolding leftOf remaining clocksAfter advances
   ledger-stays (byLocal setter at) present = rw (clock-stays setter present)
   ledger-stays (byGlobal at) present = rw untested
