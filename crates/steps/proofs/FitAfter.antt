@@ -26,11 +26,11 @@ use Rattle.record.specs.declared.Due.the-variants.{Free, Local, Global, Unknown
 use Rattle.record.proofs.Facts.{Fit, fit-parts, fit-whole}
 use Rattle.steps.specs.Events.{verdictOf, untickedEntry, advancedTasks, advancedTime, swept, withTimes, poolAfter}
 use Rattle.ledger.specs.declared.Verdict.the-variants.{Accepted}
-use Rattle.steps.proofs.FitTasks.{Later, later-same, later-next, Follows, AllFollow, set-follows, join-absent, tick-running, ticked-fits, unticked-fits, advanced-unticked, running-unticked}
+use Rattle.steps.proofs.FitTasks.{Later, later-same, later-next, StaysPresent, OthersStayPresent, set-stays-present, join-absent, tick-running, ticked-fits, unticked-fits, advanced-unticked, running-unticked}
 use Rattle.steps.proofs.FitSwept.{local-fits, fit-swept}
 
 -- an expiration stays fit while its task stays present with the same clock
-same-fits : (before after : TaskEntry) (global : GlobalTime) (used : Bool) (due : Due) → Follows _≡_ before after
+same-fits : (before after : TaskEntry) (global : GlobalTime) (used : Bool) (due : Due) → StaysPresent _≡_ before after
     → isFitDue before global used due ≡ true → isFitDue after global used due ≡ true
 unfolding isFitDue
 same-fits before after global used Free f e = refl
@@ -42,7 +42,7 @@ same-fits before after global used Unknown f e = e
 
 -- the record after the advance test
 fit-advanced : (advanced : Bool) (leaver : ℕ) (tasks : List TaskEntry) (p : Tables) → Fit p → p .global .0 < counterRange
-    → AllFollow leaver (p .tasks) tasks → all isFitTask tasks ≡ true → allTicked (map taskOf (advancedTasks advanced tasks)) ≡ false
+    → OthersStayPresent leaver (p .tasks) tasks → all isFitTask tasks ≡ true → allTicked (map taskOf (advancedTasks advanced tasks)) ≡ false
     → Fit (swept leaver (advancedTasks advanced tasks) (advancedTime advanced (p .global)) p)
 fit-advanced true leaver tasks p f r follows fits unticked =
     fit-swept leaver (map untickedEntry tasks) (advancedTime true (p .global)) p
@@ -57,17 +57,17 @@ module _ (p : Tables) (f : Fit p) (task : ℕ) (e : TaskEntry) (fits : isFitTask
   set-fits = passes-set isFitTask (p .tasks) task e (f .tasks) fits
 
   -- by an event with the advance test
-  fit-tested : Typed p → (leaver : ℕ) → (eqb task leaver ≡ false → Follows Later (getD (p .tasks) task absentEntry) e)
+  fit-tested : Typed p → (leaver : ℕ) → (eqb task leaver ≡ false → StaysPresent Later (getD (p .tasks) task absentEntry) e)
       → let tasks = set (p .tasks) task e in
       let advanced = allTicked (map taskOf tasks) in
       Fit (swept leaver (advancedTasks advanced tasks) (advancedTime advanced (p .global)) p)
   fit-tested r leaver follows =
       let tasks = set (p .tasks) task e in
       fit-advanced (allTicked (map taskOf tasks)) leaver tasks p f (r .global)
-      (λ any other. set-follows Later later-same (p .tasks) task e any (λ at. follows (rw (← at) other))) set-fits (advanced-unticked tasks)
+      (λ any other. set-stays-present Later later-same (p .tasks) task e any (λ at. follows (rw (← at) other))) set-fits (advanced-unticked tasks)
 
   -- by an event that makes the task run
-  fit-running : stateOf (e .state) ≡ Running → eqb (e .ticked) 1 ≡ false → Follows _≡_ (getD (p .tasks) task absentEntry) e
+  fit-running : stateOf (e .state) ≡ Running → eqb (e .ticked) 1 ≡ false → StaysPresent _≡_ (getD (p .tasks) task absentEntry) e
       → Fit (withTimes (set (p .tasks) task e) (p .global) p)
   fit-running running unticked follows =
       record {
@@ -75,7 +75,7 @@ module _ (p : Tables) (f : Fit p) (task : ℕ) (e : TaskEntry) (fits : isFitTask
         unticked = running-unticked (p .tasks) task e running unticked (f .unticked);
         entries =
             passes-imp
-            (λ x. same-fits _ _ _ _ (dueOf x) (set-follows _≡_ (λ now. refl) (p .tasks) task e _ (λ at. follows)))
+            (λ x. same-fits _ _ _ _ (dueOf x) (set-stays-present _≡_ (λ now. refl) (p .tasks) task e _ (λ at. follows)))
             (p .expirations) (f .entries);
         blocks = f .blocks;
         distinct = f .distinct;

@@ -25,7 +25,7 @@ use Rattle.record.specs.declared.Due.the-variants.{Free, Local, Global, Unknown
 use Rattle.record.proofs.Facts.{Fit}
 use Rattle.steps.proofs.KeptBlocks.{kept-block}
 use Rattle.steps.specs.Events.{isLasting, keptEntry, keptBlock, swept}
-use Rattle.steps.proofs.FitTasks.{Later, Follows, AllFollow}
+use Rattle.steps.proofs.FitTasks.{Later, StaysPresent, OthersStayPresent}
 
 -- what is due is ahead still if it was, by no more than the most
 abbrev pub StaysAhead : ℕ → ℕ → ℕ → ℕ → Type 0
@@ -40,7 +40,7 @@ left-ahead most due before after l k e =
 
 -- an expiration by a task's clock stays fit while the task is present and it is ahead
 pub local-fits : (before after : TaskEntry) (global later : GlobalTime) (used : Bool) (setter : ℕ) (at : LocalTime)
-    → Follows (StaysAhead (limits .extension + 1) (at .0)) before after
+    → StaysPresent (StaysAhead (limits .extension + 1) (at .0)) before after
     → isFitDue before global used (Local setter at) ≡ true → isFitDue after later used (Local setter at) ≡ true
 unfolding isFitDue
 local-fits before after global later used setter at f e =
@@ -50,7 +50,7 @@ local-fits before after global later used setter at f e =
 
 -- one that lasts stays fit as the times go on
 lasting-fits : (leaver : ℕ) (before after : TaskEntry) (global later : GlobalTime) (used : Bool) (due : Due)
-    → (eqb (setterOf due) leaver ≡ false → Follows Later before after) → Later (global .0) (later .0)
+    → (eqb (setterOf due) leaver ≡ false → StaysPresent Later before after) → Later (global .0) (later .0)
     → isFitDue before global used due ≡ true → isLasting leaver after later due ≡ true → isFitDue after later used due ≡ true
 unfolding isFitDue
 lasting-fits leaver before after global later used Free f l e k = refl
@@ -110,7 +110,7 @@ kept-distinct xs block (b ∷ bs) e =
 
 -- The record after a sweep with these tasks and this time
 module _ (leaver : ℕ) (tasks : List TaskEntry) (global : GlobalTime) (p : Tables)
-    (follows : AllFollow leaver (p .tasks) tasks) (later : Later (p .global .0) (global .0)) where
+    (follows : OthersStayPresent leaver (p .tasks) tasks) (later : Later (p .global .0) (global .0)) where
   -- what it keeps is fit, with its block as it was
   entry-fits : (e : ExpirationEntry) → isFitEntry (p .tasks) (p .global) (p .blocks) e ≡ true
       → isFitEntry tasks global (p .blocks) (keptEntry leaver tasks global e) ≡ true

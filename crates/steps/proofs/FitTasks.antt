@@ -35,22 +35,22 @@ unfolding counterRange
 later-next now r due h = omega arith
 
 -- A task that was present is present, and its clock has moved so.
-abbrev pub Follows : (ℕ → ℕ → Type 0) → TaskEntry → TaskEntry → Type 0
-Follows moves before after =
+abbrev pub StaysPresent : (ℕ → ℕ → Type 0) → TaskEntry → TaskEntry → Type 0
+StaysPresent moves before after =
     isAbsent (stateOf (before .state)) ≡ false
     → (isAbsent (stateOf (after .state)) ≡ false) × moves (before .clock .0) (after .clock .0)
 
--- every task but the leaver follows, by its clock the same or later
-abbrev pub AllFollow : ℕ → List TaskEntry → List TaskEntry → Type 0
-AllFollow leaver before after =
-    (task : ℕ) → eqb task leaver ≡ false → Follows Later (getD before task absentEntry) (getD after task absentEntry)
+-- every task but the leaver stays present, by its clock the same or later
+abbrev pub OthersStayPresent : ℕ → List TaskEntry → List TaskEntry → Type 0
+OthersStayPresent leaver before after =
+    (task : ℕ) → eqb task leaver ≡ false → StaysPresent Later (getD before task absentEntry) (getD after task absentEntry)
 
--- after one entry is set, each follows if that one does
-pub set-follows : (moves : ℕ → ℕ → Type 0) → ((now : ℕ) → moves now now) → (tasks : List TaskEntry) (task : ℕ) (e : TaskEntry) (any : ℕ)
-    → (any ≡ task → Follows moves (getD tasks task absentEntry) e)
-    → Follows moves (getD tasks any absentEntry) (getD (set tasks task e) any absentEntry)
-set-follows moves same tasks task e any f =
-    at-set (Follows moves (getD tasks any absentEntry)) tasks task any absentEntry
+-- after one entry is set, each stays present if that one does
+pub set-stays-present : (moves : ℕ → ℕ → Type 0) → ((now : ℕ) → moves now now) → (tasks : List TaskEntry) (task : ℕ) (e : TaskEntry) (any : ℕ)
+    → (any ≡ task → StaysPresent moves (getD tasks task absentEntry) e)
+    → StaysPresent moves (getD tasks any absentEntry) (getD (set tasks task e) any absentEntry)
+set-stays-present moves same tasks task e any f =
+    at-set (StaysPresent moves (getD tasks any absentEntry)) tasks task any absentEntry
     (λ at. rw at (f at)) (λ present. (present, same _))
 
 -- the state of a task that may join, and of one that may tick
