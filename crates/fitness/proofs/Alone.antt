@@ -47,7 +47,7 @@ pub clocks-end : {tasks : List TaskEntry} {i : ℕ} {out : List LocalTime} → C
 clocks-end m h = record { size = m .size; so = λ t l. m .so t (omega arith) }
 
 -- the parts of a local one, in the other order
-swapped : (b p a : Bool) → (b && p && a) ≡ (b && a && p)
+swapped : (b p a : Bool) → (b && (p && a)) ≡ (b && a && p)
 swapped true true a = sym (and-true a)
 swapped true false a = sym (and-false a)
 swapped false p a = refl
@@ -63,7 +63,7 @@ module _ (tasks : List TaskEntry) (global : GlobalTime) (fit : all isFitTask tas
         = ap (λ k. getD nows k noTime) (omega arith) ∙ clocks .so (e .clock - 16) (omega arith) in
         let known = absent-is-0 setter (passes-at isFitTask tasks (e .clock - 16) absentEntry fit refl) in
         rw
-        (ne-eqb (e .clock) 0 (omega arith), ne-eqb (e .clock) 32 (omega arith), le-leb 16 (e .clock) least, lt-ltb (e .clock) 32 below, le-leb (e .clock) 32 (omega arith), mod-eq-of-lt below, le-leb 16 (e .clock) least, lt-ltb (e .clock - 16) 16 (omega arith), now, known, and-true (ltb (e .block) 96))
+        (ne-eqb (e .clock) 0 (omega arith), ne-eqb (e .clock) 32 (omega arith), le-leb 16 (e .clock) least, lt-ltb (e .clock) 32 below, le-leb (e .clock) 32 (omega arith), mod-eq-of-lt below, le-leb 16 (e .clock) least, lt-ltb (e .clock - 16) 16 (omega arith), now, known)
         (swapped (ltb (e .block) 96) (not (eqb (setter .state) 0)) _)
 
   -- one whose code there is not

@@ -22,10 +22,9 @@ use Rattle.record.specs.declared.TaskEntry.{TaskEntry}
 use Rattle.record.specs.declared.GlobalTime.{GlobalTime}
 use Rattle.record.specs.declared.LocalTime.{LocalTime}
 use Rattle.record.proofs.Columns.{length-entries, entry-at}
-use Rattle.record.proofs.Facts.{fit-local}
 use Rattle.fitness.specs.Checks.{isCodedBy, isCoded, Coded, isTimely, Clocks, isPresent, isBy, isPresentIn, Seen}
 use Rattle.fitness.proofs.Alone.{alone-parts}
-use Rattle.fitness.proofs.Named.{isFitAlone}
+use Rattle.fitness.proofs.Named.{isWithin, isFitAlone}
 
 -- three tests of all, made at once
 shuffle : (a b c x y z : Bool) → ((a && b && c) && (x && y && z)) ≡ ((a && x) && (b && y) && (c && z))
@@ -113,18 +112,19 @@ module _ (tasks : List TaskEntry) (global : GlobalTime) (xs : List ExpirationEnt
   coded-of : (e : ExpirationEntry) → isFitAlone tasks global e ≡ true → isCoded e ≡ true
   unfolding isFitDue dueBy
   coded-of e f =
+      let (within, rest) = and-eq-true-iff (isWithin e) _ .0 f in
       by-test (eqb (e .clock) 0)
       (λ z. rw z)
       (λ z.
       by-test (eqb (e .clock) 32)
-      (λ g. rw (eqb-true (e .clock) 32 g) (and-eq-true-iff (ltb (e .block) 96) _ .0 (rw (eqb-true (e .clock) 32 g) at f) .0))
+      (λ g. rw (eqb-true (e .clock) 32 g) (rw (eqb-true (e .clock) 32 g) at within))
       (λ g.
       by-test (leb 16 (e .clock) && ltb (e .clock) 32)
       (λ l.
       let (least, below) = and-eq-true-iff (leb 16 (e .clock)) (ltb (e .clock) 32) .0 l in
       let most : leb (e .clock) 32 ≡ true = le-leb (e .clock) 32 (omega (arith, ltb-true (e .clock) 32 below)) in
-      rw (z, least, most) (fit-local (getD tasks (e .clock - 16) absentEntry) global (ltb (e .block) 96) (e .clock - 16) (record { 0 = e .due }) (rw (z, g, l) at f) .naming))
-      (λ l. absurd (false≢true (rw (z, g, l) at f)))))
+      rw (z, least, most) (rw (z, g, l) at within))
+      (λ l. absurd (false≢true (rw (z, g, l) at rest)))))
 
   pub uncoded : all isCoded xs ≡ false → all (isFitAlone tasks global) xs ≡ false
   uncoded e = refuted _ (λ t. true≢false (sym (passes-imp coded-of xs t) ∙ e))
