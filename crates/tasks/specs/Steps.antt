@@ -25,7 +25,8 @@ isLeave Block = false
 isLeave Resume = false
 isLeave Tick = false
 
--- a tested event may end expirations of a well-formed record: a block moves no local time
+-- whether an accepted event may end expirations of a well-formed record: a join and a resume end none, and a block, which moves no local time, only where the
+-- global time advances
 abbrev pub mayEnd : Event → Bool → Bool
 mayEnd Join advanced = false
 mayEnd Leave advanced = true
