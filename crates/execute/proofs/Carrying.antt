@@ -15,7 +15,7 @@ use Rattle.calls.specs.Served.{withoutBytes, Serves}
 use Rattle.calls.specs.declared.Called.{Called}
 use Rattle.frames.specs.Answers.{answerLine}
 use Rattle.frames.specs.Frames.{frameOf, payloadOf, Decodes}
-use Rattle.text.specs.Hex.{Placed}
+use Rattle.text.specs.Hex.{Puts}
 use Rattle.frames.specs.declared.Frame.{Frame}
 use Rattle.frames.proofs.Payloads.{requested, payload-front}
 use Rattle.execute.specs.Execution.{refusalOf, Performs, Executes}
@@ -29,26 +29,26 @@ module _ {line : List ℕ} {old new : List ℕ} {frame : Frame} (d : Decodes lin
 
   module _ (p : Pool) (small large out out′ : List ℕ) (n : ℕ) where
     pub refused-executes : {why : Refusal} → frame ≡ Frame.Refused why → {answer : Answer} → answer ≡ refusalOf frame → {none : List ℕ} → none ≡ []
-        → {number : ℕ} → number ≡ answerNumber answer → Placed 0 (answerLine answer none) out out′ n
+        → {number : ℕ} → number ≡ answerNumber answer → Puts 0 (answerLine answer none) out out′ n
         → Executes line p small large out (record { pool = p; number = number; length = n }) small large out′
-    refused-executes {why} e a z m placed =
+    refused-executes {why} e a z m put =
         record {
           called = withoutBytes (Refused why) p;
           performs = rw (← d .frame, e) (refl, refl, refl);
           left = refl;
           numbered = rw (a, e) at m;
-          shown = rw (shows-none small large 0 refl) (rw (a, e, z) at placed);
+          shown = rw (shows-none small large 0 refl) (rw (a, e, z) at put);
         }
 
     pub served-executes : {request : Request} {count : ℕ} → frame ≡ Frame.Request request count → {r : Called} {small′ large′ : List ℕ}
         → Serves request (take count new) p small large r small′ large′
-        → {number : ℕ} → number ≡ answerNumber (r .answer) → Placed 0 (answerLine (r .answer) (blockBytes small′ large′ (r .block) (r .length))) out out′ n
+        → {number : ℕ} → number ≡ answerNumber (r .answer) → Puts 0 (answerLine (r .answer) (blockBytes small′ large′ (r .block) (r .length))) out out′ n
         → Executes line p small large out (record { pool = r .pool; number = number; length = n }) small′ large′ out′
-    served-executes e {r} s m placed =
+    served-executes e {r} s m put =
         record {
           called = r;
           performs = rw (← d .frame, e) (rw (payload-front (rw e at d)) at s);
           left = refl;
           numbered = m;
-          shown = placed;
+          shown = put;
         }

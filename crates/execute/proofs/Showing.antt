@@ -18,7 +18,7 @@ use Rattle.record.specs.declared.Pool.{Pool}
 use Rattle.calls.specs.Served.{Serves}
 use Rattle.calls.specs.declared.Called.{Called}
 use Rattle.frames.specs.Answers.{answerLine}
-use Rattle.text.specs.Hex.{Placed}
+use Rattle.text.specs.Hex.{Puts}
 use Rattle.frames.proofs.AnswerLines.{line-within}
 use Rattle.execute.specs.Execution.{Showable}
 
@@ -54,8 +54,8 @@ pub start-within : (new old : List ℕ) → length new ≤ length (overwritten 0
 unfolding overwritten
 start-within new old = omega (arith, length-append new (drop (0 + length new) old))
 
-pub placed-within : {new old after : List ℕ} {n : ℕ} → Placed 0 new old after n → n ≤ length after
-placed-within {new} {old} p = rw (p .bytes) (omega (arith, p .next, start-within new old))
+pub puts-within : {new old after : List ℕ} {n : ℕ} → Puts 0 new old after n → n ≤ length after
+puts-within {new} {old} p = rw (p .bytes) (omega (arith, p .next, start-within new old))
 
 -- what the pool serves has room in 531 bytes
 pub serves-showable : {request : Request} {new : List ℕ} {p : Pool} {small large small′ large′ : List ℕ} {r : Called}
@@ -72,10 +72,10 @@ pub short-line : (answer : Answer) (none out : List ℕ) (at : ℕ) → none ≡
 short-line answer none out at e room = rw e (omega (arith, line-within answer []))
 
 -- a line at the start of a buffer's part from a place on, and the buffer when the part comes back
-pub placed-from : (at : ℕ) {line out part : List ℕ} {n : ℕ} → Placed 0 line (take (length out - at) (drop at out)) part n
-    → Placed at line out (take at out ++ (part ++ drop (length out - at) (drop at out))) (at + n)
+pub puts-from : (at : ℕ) {line out part : List ℕ} {n : ℕ} → Puts 0 line (take (length out - at) (drop at out)) part n
+    → Puts at line out (take at out ++ (part ++ drop (length out - at) (drop at out))) (at + n)
 unfolding overwritten
-placed-from at {line} {out} p =
+puts-from at {line} {out} p =
     let all : take (length out - at) (drop at out) ≡ drop at out = take-all (length out - at) (drop at out) (omega (arith, length-drop at out)) in
     let none : drop (length out - at) (drop at out) ≡ [] = drop-of-length-le (drop at out) {i = length out - at} (omega (arith, length-drop at out)) in
     record { bytes = rw (none, append-nil, p .bytes, all, zero-add, drop-drop, append-assoc); next = omega (arith, p .next) }

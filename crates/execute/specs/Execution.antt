@@ -15,7 +15,7 @@ use Rattle.calls.specs.Served.{withoutBytes, replyOf, Serves}
 use Rattle.calls.specs.declared.Called.{Called}
 use Rattle.frames.specs.Answers.{answerLine}
 use Rattle.frames.specs.Frames.{frameOf, payloadOf}
-use Rattle.text.specs.Hex.{Placed}
+use Rattle.text.specs.Hex.{Puts}
 use Rattle.frames.specs.declared.Frame.{Frame}
 use Rattle.execute.specs.declared.Executed.{Executed}
 
@@ -41,7 +41,7 @@ pub record Executes (line : List ℕ) (p : Pool) (small large out : List ℕ) (r
   pub performs : Performs (frameOf line) (payloadOf line) p small large called small′ large′
   pub left : r .pool ≡ called .pool
   pub numbered : r .number ≡ answerNumber (called .answer)
-  pub shown : Placed 0 (answerLine (called .answer) (replyOf called small′ large′ .bytes)) out out′ (r .length)
+  pub shown : Puts 0 (answerLine (called .answer) (replyOf called small′ large′ .bytes)) out out′ (r .length)
 
 -- The contract settles the answer: any two results that it allows for one line on one record with its stores and buffer have the same number, length and buffer.
 -- `Typed` is what the record's type gives of every value.
@@ -57,7 +57,7 @@ pub record Answered (p : Pool) (small large out : List ℕ) (r : Executed) (smal
   pub answer : Answer
   pub bytes : List ℕ
   pub numbered : r .number ≡ answerNumber answer
-  pub line : Placed 0 (answerLine answer bytes) out out′ (r .length)
+  pub line : Puts 0 (answerLine answer bytes) out out′ (r .length)
   pub refused : (why : Refusal) → answer ≡ Refused why → (bytes ≡ []) × (r .pool ≡ p) × (small′ ≡ small) × (large′ ≡ large)
 
 -- Demand 1, of all that the contract allows and so of this code; every call ends, as every Rattle function does

@@ -4,7 +4,7 @@ ghost use mathlib.Core.Path.{_≡_};
 ghost use lib.ListN.{length};
 ghost use Rattle.record.specs.Reading.{blockBytes};
 ghost use Rattle.frames.specs.Answers.{answerLine};
-ghost use Rattle.text.specs.Hex.{Placed};
+ghost use Rattle.text.specs.Hex.{Puts};
 ghost use Rattle.execute.specs.Execution.{refusalOf, Showable, Executes};
 use frames::Frame;
 use frames::decode;
@@ -39,7 +39,7 @@ pub fn refusal_of(frame: Frame) -> Answer
 // The line of an answer from a place of a buffer on; the place after it.
 pub fn put_answer(answer: Answer, bytes: &[u8], out: &mut [u8], at: usize) -> usize
     requires { ⌜ at + length (answerLine answer (now bytes)) ≤ length (now out) ⌝ }
-    ensures { λ r. ⌜ Placed at (answerLine answer (now (bytes .entry))) (now (out .entry)) (now (out .exit)) r ⌝ }
+    ensures { λ r. ⌜ Puts at (answerLine answer (now (bytes .entry))) (now (out .entry)) (now (out .exit)) r ⌝ }
 {
     let length = encode_answer(answer, bytes, &mut out[at..]);
     at + length
@@ -56,7 +56,7 @@ pub fn show<'a>(
     at: usize,
 ) -> usize
     requires { ⌜ Showable answer (now small) (now large) block count (now out) at ⌝ }
-    ensures { λ r. ⌜ Placed at (answerLine answer (blockBytes (now (small .entry)) (now (large .entry)) block count)) (now (out .entry)) (now (out .exit)) r ⌝ }
+    ensures { λ r. ⌜ Puts at (answerLine answer (blockBytes (now (small .entry)) (now (large .entry)) block count)) (now (out .entry)) (now (out .exit)) r ⌝ }
 {
     if count == 0 {
         return put_answer(answer, no_part(small), out, at);

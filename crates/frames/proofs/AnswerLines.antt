@@ -11,9 +11,9 @@ use Rattle.ledger.specs.declared.Answer.{Answer}
 use Rattle.ledger.specs.declared.Answer.the-variants.{Refused, Done, Advanced, Handle, Bytes, Counted}
 use Rattle.frames.specs.Answers.{answerHead, answerLine}
 use Rattle.text.specs.Fields.{inBytes}
-use Rattle.text.specs.Hex.{digitFor, hexOf, Placed}
+use Rattle.text.specs.Hex.{digitFor, hexOf, Puts}
 use Rattle.text.proofs.Digits.{length-hex, hex-append}
-use Rattle.text.proofs.Placing.{placed-one, placed-on, hex-placed}
+use Rattle.text.proofs.Puts.{puts-one, puts-on, puts-hex}
 
 bool-byte : (b : Bool) → boolByte b ≡ cond b 1 0 % 256
 bool-byte true = refl
@@ -43,21 +43,21 @@ length-line answer bytes = rw line-parts (simp (length-append, length-hex))
 
 -- head, bytes and LF, one after the other, are the line
 module _ (answer : Answer) (bytes : List ℕ) {old first : List ℕ} {middle : ℕ} (fits : length (answerLine answer bytes) ≤ length old)
-    (p : Placed 0 (hexOf (answerHead answer)) old first middle) where
+    (p : Puts 0 (hexOf (answerHead answer)) old first middle) where
   pub room-after-head : middle + 2 * length bytes < length old
   room-after-head = omega (arith, length-line answer bytes, p .next, length-hex (answerHead answer))
 
-  module _ {second : List ℕ} {end : ℕ} (q : Placed middle (hexOf bytes) first second end) where
+  module _ {second : List ℕ} {end : ℕ} (q : Puts middle (hexOf bytes) first second end) where
     pub room-after-bytes : end < length old
     room-after-bytes = omega (arith, room-after-head, q .next, length-hex bytes)
 
-    pub line-placed : length second ≡ length old → Placed 0 (answerLine answer bytes) old (set second end 10) (end + 1)
-    line-placed same =
+    pub puts-line : length second ≡ length old → Puts 0 (answerLine answer bytes) old (set second end 10) (end + 1)
+    puts-line same =
         let head = hexOf (answerHead answer) in
         rw line-parts
-        (placed-on
-        (placed-on p q (omega (arith, p .next, q .next, room-after-bytes)))
-        (placed-one second end 10 (omega (arith, room-after-bytes)))
+        (puts-on
+        (puts-on p q (omega (arith, p .next, q .next, room-after-bytes)))
+        (puts-one second end 10 (omega (arith, room-after-bytes)))
         (omega (arith, p .next, q .next, room-after-bytes, length-append head (hexOf bytes))))
 
 -- of 256 bytes of a read, 531 at most

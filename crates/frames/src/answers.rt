@@ -9,7 +9,7 @@ ghost use mathlib.Core.Path.{_≡_};
 ghost use lib.ListN.{length};
 ghost use Rattle.frames.specs.Answers.{answerHead, answerLine};
 ghost use Rattle.text.specs.Fields.{inBytes};
-ghost use Rattle.text.specs.Hex.{hexOf, Placed};
+ghost use Rattle.text.specs.Hex.{hexOf, Puts};
 ghost use Rattle.ledger.specs.declared.Answer.the-variants.{Counted};
 
 // A number in four bytes, high byte first.
@@ -27,7 +27,7 @@ fn word(value: u32) -> [u8; 4]
 // A number in four bytes as digits at a place of a buffer; the place after them.
 fn put_word(out: &mut [u8], at: usize, value: u32) -> usize
     requires { ⌜ at + 8 ≤ length (now out) ⌝ }
-    ensures { λ r. ⌜ Placed at (hexOf (inBytes 4 value)) (now (out .entry)) (now (out .exit)) r ⌝ }
+    ensures { λ r. ⌜ Puts at (hexOf (inBytes 4 value)) (now (out .entry)) (now (out .exit)) r ⌝ }
 {
     put_hex(out, at, &word(value))
 }
@@ -54,7 +54,7 @@ fn counts(usage: Usage) -> [u8; 9]
 // The head as digits at the start of a buffer; the place after them.
 fn put_head(out: &mut [u8], answer: Answer) -> usize
     requires { ⌜ 2 * length (answerHead answer) ≤ length (now out) ⌝ }
-    ensures { λ r. ⌜ Placed 0 (hexOf (answerHead answer)) (now (out .entry)) (now (out .exit)) r ⌝ }
+    ensures { λ r. ⌜ Puts 0 (hexOf (answerHead answer)) (now (out .entry)) (now (out .exit)) r ⌝ }
 {
     match answer {
         Answer::Refused(refusal) => put_byte(out, 0, number_of(refusal)),
@@ -75,7 +75,7 @@ fn put_head(out: &mut [u8], answer: Answer) -> usize
 // The line of an answer, with the bytes of a read, at the start of a buffer; how long it is.
 pub fn encode_answer(answer: Answer, bytes: &[u8], out: &mut [u8]) -> usize
     requires { ⌜ length (answerLine answer (now bytes)) ≤ length (now out) ⌝ }
-    ensures { λ r. ⌜ Placed 0 (answerLine answer (now (bytes .entry))) (now (out .entry)) (now (out .exit)) r ⌝ }
+    ensures { λ r. ⌜ Puts 0 (answerLine answer (now (bytes .entry))) (now (out .entry)) (now (out .exit)) r ⌝ }
 {
     let middle = put_head(out, answer);
     let end = put_hex(out, middle, bytes);

@@ -26,10 +26,10 @@ use Rattle.calls.specs.Served.{Serves}
 use Rattle.calls.specs.declared.Called.{Called}
 use Rattle.frames.specs.Answers.{answerLine}
 use Rattle.frames.specs.Frames.{frameOf, payloadOf, Decodes}
-use Rattle.text.specs.Hex.{Placed}
+use Rattle.text.specs.Hex.{Puts}
 use Rattle.text.specs.Lines.{linesOf, lineAt}
 use Rattle.frames.specs.declared.Frame.{Frame}
-use Rattle.text.proofs.Placing.{placed-on}
+use Rattle.text.proofs.Puts.{puts-on}
 use Rattle.frames.proofs.Payloads.{payload-front}
 use Rattle.text.proofs.Scripts.{lines-on, next-within}
 use Rattle.execute.specs.Execution.{refusalOf}
@@ -83,7 +83,7 @@ module _ {line old new : List ℕ} {frame : Frame} (d : Decodes line old frame n
 pub record Running (p₀ : Pool) (small₀ large₀ script : List ℕ) (start : ℕ) (out₀ : List ℕ) (p : Pool) (small large out bytes : List ℕ) (at written : ℕ) : Type 0 where
   pub runnable : Runnable p small large script at
   pub done : List ℕ
-  pub placed : Placed 0 done out₀ out written
+  pub put : Puts 0 done out₀ out written
   pub size : length out ≡ length out₀
   pub fits : written ≤ length out
   pub answers : (L : Ledger) → Reads p₀ small₀ large₀ L → (L′ : Ledger) × Reads p small large L′
@@ -99,7 +99,7 @@ run-starts out bytes r b =
     record {
       runnable = r;
       done = [];
-      placed = record { bytes = refl; next = refl };
+      put = record { bytes = refl; next = refl };
       size = refl;
       fits = omega arith;
       answers = λ L reads. (L, reads, refl);
@@ -131,14 +131,14 @@ module _ {p₀ : Pool} {small₀ large₀ script : List ℕ} {start : ℕ} {out�
     run-nears e = omega (arith, e, next-within script at run-line, run-line)
 
   pub run-turns : at < length script → {p′ : Pool} {small′ large′ answer : List ℕ} → Turn (lineIn script at) p small large p′ small′ large′ answer
-      → written + length answer ≤ length out → {out′ : List ℕ} {written′ : ℕ} → Placed written answer out out′ written′
+      → written + length answer ≤ length out → {out′ : List ℕ} {written′ : ℕ} → Puts written answer out out′ written′
       → {next : ℕ} → next ≡ lineAt script at .next → {bytes′ : List ℕ} → length bytes′ ≡ 256
       → Running p₀ small₀ large₀ script start out₀ p′ small′ large′ out′ bytes′ next written′
   unfolding answersTo
-  run-turns more {p′} {small′} {large′} {answer} turn room {out′} placed {next} e b =
+  run-turns more {p′} {small′} {large′} {answer} turn room {out′} put {next} e b =
       let on = next-within script at more in
-      let same : length out′ ≡ length out = rw (placed .bytes) (length-overwritten written answer out room) in
-      let far = run .placed .next in
+      let same : length out′ ≡ length out = rw (put .bytes) (length-overwritten written answer out room) in
+      let far = run .put .next in
       record {
         runnable =
             record {
@@ -148,9 +148,9 @@ module _ {p₀ : Pool} {small₀ large₀ script : List ℕ} {start : ℕ} {out�
               within = rw e (on .1);
             };
         done = run .done ++ answer;
-        placed = placed-on (run .placed) placed (omega (arith, far, run .size));
+        put = puts-on (run .put) put (omega (arith, far, run .size));
         size = same ∙ run .size;
-        fits = omega (arith, placed .next, same);
+        fits = omega (arith, put .next, same);
         answers = λ L reads.
             let (L′, reads′, so) = run .answers L reads in
             (afterLine L′ (lineIn script at), turn .leaves L′ reads′, so ∙ rw (lines-on script at more, ← turn .answers L′ reads′, e, append-assoc));
@@ -165,7 +165,7 @@ module _ {p₀ : Pool} {small₀ large₀ script : List ℕ} {start : ℕ} {out�
       record {
         runnable = run .runnable;
         written = run .done;
-        placed = run .placed;
+        put = run .put;
         answers = run .answers;
         moves = λ more room.
             by-test (ltb start at) (λ e. ltb-true start at e)

@@ -10,7 +10,7 @@ use Rattle.ledger.specs.declared.Answer.the-variants.{Refused}
 use Rattle.frames.specs.Answers.{answerLine}
 use Rattle.frames.specs.Frames.{frameOf, payloadOf, Decodes}
 use Rattle.text.specs.Lines.{linesOf, lineEnd, lineAt}
-use Rattle.text.specs.Hex.{Placed}
+use Rattle.text.specs.Hex.{Puts}
 use Rattle.frames.specs.declared.Frame.{Frame}
 use Rattle.record.specs.Reading.{freshPool}
 use Rattle.record.specs.Pools.{isWellFormed, Reads}
@@ -72,7 +72,7 @@ pub record Runnable (p : Pool) (small large script : List ℕ) (at : ℕ) : Type
 pub record Continues (p : Pool) (small large script : List ℕ) (at : ℕ) (r : Ran) (small′ large′ out out′ : List ℕ) : Type 0 where
   pub runnable : Runnable (r .pool) small′ large′ script (r .next)
   pub written : List ℕ
-  pub placed : Placed 0 written out out′ (r .written)
+  pub put : Puts 0 written out out′ (r .written)
   pub answers : (L : Ledger) → Reads p small large L → (L′ : Ledger) × Reads (r .pool) small′ large′ L′
       × (answersTo L (linesOf (drop at script)) ≡ written ++ answersTo L′ (linesOf (drop (r .next) script)))
   -- a buffer of 531 bytes has room for a line

@@ -1,4 +1,4 @@
 pub mod Fields
 pub mod Digits
-pub mod Placing
+pub mod Puts
 pub mod Scripts

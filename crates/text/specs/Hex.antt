@@ -44,6 +44,6 @@ pub record Spells (line : List ℕ) (count : ℕ) : Type 0 where
   pub enough : 2 * count ≤ length line
 
 -- Bytes from a place of a buffer on, of which nothing else changes, and the place after them.
-pub record Placed (at : ℕ) (new old after : List ℕ) (end : ℕ) : Type 0 where
+pub record Puts (at : ℕ) (new old after : List ℕ) (end : ℕ) : Type 0 where
   pub bytes : after ≡ overwritten at new old
   pub next : end ≡ at + length new

@@ -4,7 +4,7 @@ ghost use mathlib.Core.List.{[], _∷_};
 ghost use mathlib.Core.Path.{_≡_};
 ghost use lib.ListN.{length, drop};
 ghost use Rattle.text.specs.Fields.{fieldAt};
-ghost use Rattle.text.specs.Hex.{digitOf, isDigit, isHex, bytesOf, digitFor, hexOf, Spells, Placed};
+ghost use Rattle.text.specs.Hex.{digitOf, isDigit, isHex, bytesOf, digitFor, hexOf, Spells, Puts};
 
 // Whether a character is 0-9 or A-F.
 fn is_digit(c: u8) -> bool
@@ -100,7 +100,7 @@ fn spell_out(part: &mut [u8], bytes: &[u8])
 // Bytes as digits from a place of a buffer on; the place after them.
 pub fn put_hex(out: &mut [u8], at: usize, bytes: &[u8]) -> usize
     requires { ⌜ at + 2 * length (now bytes) ≤ length (now out) ⌝ }
-    ensures { λ r. ⌜ Placed at (hexOf (now (bytes .entry))) (now (out .entry)) (now (out .exit)) r ⌝ }
+    ensures { λ r. ⌜ Puts at (hexOf (now (bytes .entry))) (now (out .entry)) (now (out .exit)) r ⌝ }
 {
     let end = at + 2 * bytes.len();
     spell_out(&mut out[at..end], bytes);
@@ -110,7 +110,7 @@ pub fn put_hex(out: &mut [u8], at: usize, bytes: &[u8]) -> usize
 // A byte as two digits at a place of a buffer; the place after them.
 pub fn put_byte(out: &mut [u8], at: usize, byte: u8) -> usize
     requires { ⌜ at + 2 ≤ length (now out) ⌝ }
-    ensures { λ r. ⌜ Placed at (hexOf (byte ∷ [])) (now (out .entry)) (now (out .exit)) r ⌝ }
+    ensures { λ r. ⌜ Puts at (hexOf (byte ∷ [])) (now (out .entry)) (now (out .exit)) r ⌝ }
 {
     out[at] = digit_for(byte / 16);
     out[at + 1] = digit_for(byte % 16);

@@ -1,11 +1,11 @@
 -- The line goes to the part from the place on.
 use borrow.Author.Needs.{needs}
-use Rattle.execute.proofs.Showing.{placed-from}
+use Rattle.execute.proofs.Showing.{puts-from}
 use Rattle.execute.proofs.put_answer.Statement.{statement}
 use Rattle.execute.proofs.put_answer.Tie as tie
 
 returns : tie.Need-returns
-returns c = placed-from _ (c .before .before .encode-answer .ensures)
+returns c = puts-from _ (c .before .before .encode-answer .ensures)
 
 pub put-answer-spec : {M : Type 1} → statement M
 put-answer-spec =

@@ -7,7 +7,7 @@ use lib.ListN.{length}
 use lib.Seq.{length-take-le}
 use Rattle.record.proofs.FreshReads.{fresh-well-formed}
 use Rattle.script.specs.Output.{Runnable}
-use Rattle.execute.proofs.Showing.{placed-within}
+use Rattle.execute.proofs.Showing.{puts-within}
 use Rattle.poolrun.proofs.answer.Statement.{statement}
 use Rattle.poolrun.proofs.answer.Tie as tie
 
@@ -24,7 +24,7 @@ loop-holds c = (
 )
 
 array-share-prefix-out : tie.Need-array-share-prefix-out Inv-loop μ-loop
-array-share-prefix-out c = placed-within (c .before .before .before .before .run-on .ensures .placed)
+array-share-prefix-out c = puts-within (c .before .before .before .before .run-on .ensures .put)
 
 loop-less : tie.Need-loop-less Inv-loop μ-loop
 loop-less c =

@@ -11,7 +11,7 @@ use Rattle.record.specs.Tables.{Sized, pooled}
 use Rattle.record.specs.declared.Pool.{Pool}
 use Rattle.pool.proofs.Sizes.{columns-sized}
 use Rattle.frames.specs.Answers.{answerLine}
-use Rattle.text.specs.Hex.{Placed}
+use Rattle.text.specs.Hex.{Puts}
 use Rattle.script.specs.Output.{lineIn}
 use Rattle.execute.proofs.Showing.{serves-showable, short-line}
 use Rattle.execute.proofs.Carrying.{bytes-in}
@@ -56,11 +56,11 @@ module _ (r : tie.After-next-frame Inv-loop μ-loop) where
   turns : {p′ : Pool} {small′ large′ answer : List ℕ}
       → Turn (lineIn (start .args .script .now) (loop .loop .at)) before (loop .loop .small) (loop .loop .large) p′ small′ large′ answer
       → loop .loop .written + length answer ≤ length (loop .loop .out) → {out′ : List ℕ} {written′ : ℕ}
-      → Placed (loop .loop .written) answer (loop .loop .out) out′ written′
+      → Puts (loop .loop .written) answer (loop .loop .out) out′ written′
       → Running (start .args .p) (start .args .small .now) (start .args .large .now) (start .args .script .now) (start .args .start) (start .args .out .now)
       p′ small′ large′ out′ (r .next-frame .last .1 .1 .0) (r .next-frame .result .next) written′
-  turns t fits placed =
-      run-turns (loop .loop .inv .0) (run-line (loop .loop .inv .0) (r .before .before .loop-test .taken)) t fits placed (r .next-frame .ensures .next)
+  turns t fits put =
+      run-turns (loop .loop .inv .0) (run-line (loop .loop .inv .0) (r .before .before .loop-test .taken)) t fits put (r .next-frame .ensures .next)
       (r .next-frame .ensures .size ∙ loop .loop .inv .0 .buffer)
 
 next-frame-requires : tie.Need-next-frame-requires Inv-loop μ-loop

@@ -3,7 +3,7 @@ use Prim.Native.Nat.{_<_}
 use native.Mathlib.Omega.{arith}
 use borrow.Author.Needs.{needs}
 use lib.ListN.{length, length-set}
-use Rattle.frames.proofs.AnswerLines.{length-line, room-after-head, room-after-bytes, line-placed}
+use Rattle.frames.proofs.AnswerLines.{length-line, room-after-head, room-after-bytes, puts-line}
 use Rattle.frames.proofs.answers.encode_answer.Statement.{statement}
 use Rattle.frames.proofs.answers.encode_answer.Tie as tie
 
@@ -28,7 +28,7 @@ returns : tie.Need-returns
 returns c =
     let head = c .before .before .before .before .before .before in
     let start = head .before .before .before .before in
-    line-placed (start .args .answer) (start .args .bytes .now) (start .pre) (head .put-head .ensures) (c .before .before .put-hex .ensures)
+    puts-line (start .args .answer) (start .args .bytes .now) (start .pre) (head .put-head .ensures) (c .before .before .put-hex .ensures)
     (search needs)
 
 pub encode-answer-spec : {M : Type 1} → statement M

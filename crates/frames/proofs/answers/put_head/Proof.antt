@@ -7,7 +7,7 @@ use lib.ListN.{length}
 use Rattle.frames.specs.Answers.{answerHead}
 use Rattle.text.specs.Fields.{inBytes}
 use Rattle.frames.proofs.AnswerLines.{head-one, advanced-head, handle-head}
-use Rattle.text.proofs.Placing.{hex-placed}
+use Rattle.text.proofs.Puts.{puts-hex}
 use Rattle.frames.proofs.answers.put_head.Statement.{statement}
 use Rattle.frames.proofs.answers.put_head.Tie as tie
 
@@ -60,14 +60,14 @@ returns-4 c =
     let number = c .before .before .before .before .before .before in
     let known = number .before .before .before in
     let head = advanced-head (known .answer2 .given .1) in
-    rw head (hex-placed (0 ∷ []) (_ ∷ []) (number .put-byte4 .ensures) (c .before .before .put-byte5 .ensures) (omega (arith, known .before .before .before .pre, ap length head)))
+    rw head (puts-hex (0 ∷ []) (_ ∷ []) (number .put-byte4 .ensures) (c .before .before .put-byte5 .ensures) (omega (arith, known .before .before .before .pre, ap length head)))
 
 returns-5 : tie.Need-returns-5
 returns-5 c =
     let number = c .before .before .before .before .before .before in
     let known = number .before .before .before in
     let head = handle-head (known .answer3 .given .1) in
-    rw head (hex-placed (0 ∷ []) (inBytes 4 (known .answer3 .given .0 .0)) (number .put-byte6 .ensures) (c .before .before .put-word .ensures) (omega (arith, known .before .before .before .pre, ap length head)))
+    rw head (puts-hex (0 ∷ []) (inBytes 4 (known .answer3 .given .0 .0)) (number .put-byte6 .ensures) (c .before .before .put-word .ensures) (omega (arith, known .before .before .before .pre, ap length head)))
 
 returns-6 : tie.Need-returns-6
 returns-6 c = rw (c .before .before .before .before .before .before .before .answer4 .given .1) (rw (c .before .before .before .before .counts .ensures) at (c .before .before .put-hex .ensures))
