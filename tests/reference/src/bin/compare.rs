@@ -1,5 +1,6 @@
 //! Compares a program that runs scripts with the reference, and the reference's two ledgers with each
-//! other: `compare PROGRAM COUNT [FIRST_SEED]`.
+//! other: `compare PROGRAM COUNT [FIRST_SEED]`. After the scripts of the seeds come the longest script
+//! that is run and one that is a byte longer.
 
 use std::process::{Command, ExitCode};
 use std::sync::atomic::{AtomicU64, Ordering};
@@ -39,6 +40,11 @@ fn main() -> ExitCode {
         println!("seed {seed}\n{finding}");
         return ExitCode::FAILURE;
     }
+    if let Err(finding) = compare_at_limit(&order) {
+        println!("{finding}");
+        return ExitCode::FAILURE;
+    }
+    println!("scripts of {LIMIT} bytes and of one more: alike");
     println!("{} scripts in time and in bounds throughout, {} not", tally.in_time, tally.scripts - tally.in_time);
     println!("{} scripts, {} lines: all alike", tally.scripts, tally.lines);
     ExitCode::SUCCESS
@@ -108,19 +114,34 @@ impl Tally {
 fn compare_one(program: &str, seed: u64) -> Result<(usize, bool), String> {
     let script = generate::script(seed);
     let expected = run(&script);
-    let output = run_program(&mut Command::new(program), &script);
+    check_program(program, &script, &expected)?;
+    let mut room = vec![0; script.len() / 2];
+    let calls = calls(&script, &mut room);
+    check_indexed(&calls)?;
+    Ok((lines(&expected).count(), check_heap(&calls)?))
+}
+
+/// The longest script that is run gives the reference's answers, and a byte more the one line.
+fn compare_at_limit(order: &Order) -> Result<(), String> {
+    let mut script = generate::script_of(None, order.first_seed, LIMIT);
+    assert_eq!(script.len(), LIMIT);
+    check_program(&order.program, &script, &run(&script)).map_err(|finding| format!("longest script\n{finding}"))?;
+    script.push(b'\n');
+    check_program(&order.program, &script, b"script too long\n").map_err(|finding| format!("a byte more\n{finding}"))
+}
+
+/// The program writes what is expected.
+fn check_program(program: &str, script: &[u8], expected: &[u8]) -> Result<(), String> {
+    let output = run_program(&mut Command::new(program), script);
     let output = output.map_err(|error| format!("{program} does not run: {error}"))?;
-    if let Some(difference) = difference(&script, &expected, &output.stdout) {
+    if let Some(difference) = difference(script, expected, &output.stdout) {
         return Err(difference);
     }
     // A script that is too long may end a program in any way.
     if script.len() <= LIMIT && !output.status.success() {
         return Err(format!("{program} answered all and failed: {}", output.status));
     }
-    let mut room = vec![0; script.len() / 2];
-    let calls = calls(&script, &mut room);
-    check_indexed(&calls)?;
-    Ok((lines(&expected).count(), check_heap(&calls)?))
+    Ok(())
 }
 
 /// The first line whose answers differ, with both.
