@@ -5,7 +5,6 @@ use mathlib.Core.List.{List, []}
 use mathlib.Core.Path.{_≡_, refl, sym, _∙_}
 use lib.ListN.{length, take}
 use Rattle.ledger.specs.Numbers.{answerNumber}
-use Rattle.ledger.specs.declared.Answer.{Answer}
 use Rattle.ledger.specs.declared.Answer.the-variants.{Refused}
 use Rattle.ledger.specs.declared.Refusal.{Refusal}
 use Rattle.ledger.specs.declared.Request.{Request}
@@ -18,7 +17,7 @@ use Rattle.frames.specs.Frames.{frameOf, payloadOf, Decodes}
 use Rattle.text.specs.Hex.{Puts}
 use Rattle.frames.specs.declared.Frame.{Frame}
 use Rattle.frames.proofs.Payloads.{requested, payload-front}
-use Rattle.execute.specs.Execution.{refusalOf, Performs, Executes}
+use Rattle.execute.specs.Execution.{Performs, Executes}
 use Rattle.execute.specs.declared.Executed.{Executed}
 use Rattle.execute.proofs.Showing.{start-within, shows-none}
 
@@ -28,16 +27,16 @@ module _ {line : List ℕ} {old new : List ℕ} {frame : Frame} (d : Decodes lin
   bytes-in e = rw (d .bytes) (omega (arith, requested line (sym (d .frame) ∙ e) .counted, start-within (payloadOf line) old))
 
   module _ (p : Pool) (small large out out′ : List ℕ) (n : ℕ) where
-    pub refused-executes : {why : Refusal} → frame ≡ Frame.Refused why → {answer : Answer} → answer ≡ refusalOf frame → {none : List ℕ} → none ≡ []
-        → {number : ℕ} → number ≡ answerNumber answer → Puts 0 (answerLine answer none) out out′ n
+    pub refused-executes : {why : Refusal} → frame ≡ Frame.Refused why → {none : List ℕ} → none ≡ []
+        → {number : ℕ} → number ≡ answerNumber (Refused why) → Puts 0 (answerLine (Refused why) none) out out′ n
         → Executes line p small large out (record { pool = p; number = number; length = n }) small large out′
-    refused-executes {why} e a z m put =
+    refused-executes {why} e z m put =
         record {
           called = withoutBytes (Refused why) p;
           performs = rw (← d .frame, e) (refl, refl, refl);
           left = refl;
-          numbered = rw (a, e) at m;
-          shown = rw (shows-none small large 0 refl) (rw (a, e, z) at put);
+          numbered = m;
+          shown = rw (shows-none small large 0 refl) (rw z at put);
         }
 
     pub served-executes : {request : Request} {count : ℕ} → frame ≡ Frame.Request request count → {r : Called} {small′ large′ : List ℕ}

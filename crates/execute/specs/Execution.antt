@@ -1,16 +1,18 @@
 -- Demand 1: a line of any bytes is carried out or refused, on any record with any stores.
 use Prim.Native.Nat.{ℕ, _+_, _≤_, _<_}
-use mathlib.Core.List.{List, []}
+use mathlib.Core.List.{List}
 use mathlib.Core.Path.{_≡_}
 use lib.ListN.{length}
 use Rattle.ledger.specs.Numbers.{answerNumber}
+use Rattle.ledger.specs.Objects.{Reply, plain}
 use Rattle.ledger.specs.declared.Answer.{Answer}
-use Rattle.ledger.specs.declared.Answer.the-variants.{Refused, Done}
+use Rattle.ledger.specs.declared.Answer.the-variants.{Refused}
 use Rattle.ledger.specs.declared.Refusal.{Refusal}
 use Rattle.stores.specs.Places.{InBlock}
 use Rattle.record.specs.Reading.{blockBytes, Typed}
 use Rattle.record.specs.Tables.{tablesOf}
 use Rattle.record.specs.declared.Pool.{Pool}
+use Rattle.calls.specs.Contract.{Refuses, Obeys}
 use Rattle.calls.specs.Served.{withoutBytes, replyOf, Serves}
 use Rattle.calls.specs.declared.Called.{Called}
 use Rattle.frames.specs.Answers.{answerLine}
@@ -18,11 +20,6 @@ use Rattle.frames.specs.Frames.{frameOf, payloadOf}
 use Rattle.text.specs.Hex.{Puts}
 use Rattle.frames.specs.declared.Frame.{Frame}
 use Rattle.execute.specs.declared.Executed.{Executed}
-
--- what a frame answers that yields no call; a request's answer comes from the pool
-abbrev pub refusalOf : Frame → Answer
-refusalOf (Frame.Request request count) = Done
-refusalOf (Frame.Refused why) = Refused why
 
 -- The bytes that an answer shows lie in a block of the stores, and its line has room in a buffer from a place on.
 pub record Showable (answer : Answer) (small large : List ℕ) (block count : ℕ) (out : List ℕ) (at : ℕ) : Type 0 where
@@ -52,16 +49,21 @@ SettledLine =
     → Executes line p small large out r small′ large′ out′ → Executes line p small large out r₂ small″ large″ out″
     → (r .number ≡ r₂ .number) × (r .length ≡ r₂ .length) × (out′ ≡ out″)
 
--- The answer is 00 with its data or one number of 01, and a refusal is its number alone and leaves record and both stores the same.
-pub record Answered (p : Pool) (small large out : List ℕ) (r : Executed) (small′ large′ out′ : List ℕ) : Type 0 where
-  pub answer : Answer
-  pub bytes : List ℕ
-  pub numbered : r .number ≡ answerNumber answer
-  pub line : Puts 0 (answerLine answer bytes) out out′ (r .length)
-  pub refused : (why : Refusal) → answer ≡ Refused why → (bytes ≡ []) × (r .pool ≡ p) × (small′ ≡ small) × (large′ ≡ large)
+-- the reply to a frame: its refusal where it yields no call, else one that the pool's contract allows for its request
+abbrev pub IsReplyTo : Frame → List ℕ → Pool → List ℕ → List ℕ → Reply → Pool → List ℕ → List ℕ → Type 0
+IsReplyTo (Frame.Request request count) bytes p small large y p′ small′ large′ = Obeys request bytes p small large y p′ small′ large′
+IsReplyTo (Frame.Refused why) bytes p small large y p′ small′ large′ = y ≡ plain (Refused why)
+
+-- A line has that reply, by its number and in its line; and every refusal is its number alone and leaves record and both stores the same.
+pub record Answered (line : List ℕ) (p : Pool) (small large out : List ℕ) (r : Executed) (small′ large′ out′ : List ℕ) : Type 0 where
+  pub reply : Reply
+  pub replies : IsReplyTo (frameOf line) (payloadOf line) p small large reply (r .pool) small′ large′
+  pub numbered : r .number ≡ answerNumber (reply .answer)
+  pub shown : Puts 0 (answerLine (reply .answer) (reply .bytes)) out out′ (r .length)
+  pub refused : (why : Refusal) → reply .answer ≡ Refused why → Refuses why p small large reply (r .pool) small′ large′
 
 -- Demand 1, of all that the contract allows and so of this code; every call ends, as every Rattle function does
 abbrev pub Demand1 : Type 0
 Demand1 =
     (line : List ℕ) (p : Pool) (small large out : List ℕ) (r : Executed) (small′ large′ out′ : List ℕ)
-    → Executes line p small large out r small′ large′ out′ → Answered p small large out r small′ large′ out′
+    → Executes line p small large out r small′ large′ out′ → Answered line p small large out r small′ large′ out′

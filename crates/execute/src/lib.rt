@@ -2,14 +2,17 @@
 ghost use Prim.Native.Nat.{_+_, _≤_};
 ghost use mathlib.Core.Path.{_≡_};
 ghost use lib.ListN.{length};
+ghost use Rattle.ledger.specs.declared.Refusal.{Refusal};
 ghost use Rattle.record.specs.Reading.{blockBytes};
 ghost use Rattle.frames.specs.Answers.{answerLine};
+ghost use Rattle.frames.specs.declared.Frame.{Frame};
 ghost use Rattle.text.specs.Hex.{Puts};
-ghost use Rattle.execute.specs.Execution.{refusalOf, Showable, Executes};
+ghost use Rattle.execute.specs.Execution.{Showable, Executes};
 use frames::Frame;
 use frames::decode;
 use frames::encode_answer;
 use ledger::Answer;
+use ledger::Refusal;
 use ledger::answer_number;
 use record::Pool;
 use requests::call;
@@ -26,13 +29,14 @@ pub struct Executed {
     pub length: usize,
 }
 
-// What a frame answers that yields no call.
-pub fn refusal_of(frame: Frame) -> Answer
-    ensures { λ r. ⌜ r ≡ refusalOf frame ⌝ }
+// Why a frame yields no call; no request comes here.
+pub fn refusal_of(frame: Frame) -> Refusal
+    requires { ⌜ ((why : Refusal) × (frame ≡ Frame.Refused why)) ⌝ }
+    ensures { λ r. ⌜ frame ≡ Frame.Refused r ⌝ }
 {
     match frame {
-        Frame::Request(_, _) => Answer::Done,
-        Frame::Refused(why) => Answer::Refused(why),
+        Frame::Request(_, _) => Refusal::NotHexadecimal,
+        Frame::Refused(why) => why,
     }
 }
 
@@ -77,7 +81,7 @@ pub fn execute(p: Pool, small: &mut [u8], large: &mut [u8], line: &[u8], out: &m
     let mut bytes = [0u8; 256];
     let frame = decode(line, &mut bytes);
     let Frame::Request(request, count) = frame else {
-        let refusal = refusal_of(frame);
+        let refusal = Answer::Refused(refusal_of(frame));
         return Executed {
             pool: p,
             number: answer_number(refusal),

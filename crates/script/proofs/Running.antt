@@ -13,7 +13,7 @@ use Rattle.lists.proofs.Cases.{by-test}
 use Rattle.ledger.specs.Limits.{limits, smallSize, largeSize}
 use Rattle.ledger.specs.Objects.{Reply}
 use Rattle.ledger.specs.Ledger.{Ledger}
-use Rattle.ledger.specs.declared.Answer.{Answer}
+use Rattle.ledger.specs.declared.Answer.the-variants.{Refused}
 use Rattle.ledger.specs.declared.Refusal.{Refusal}
 use Rattle.ledger.specs.declared.Request.{Request}
 use Rattle.record.specs.Reading.{blockBytes}
@@ -32,7 +32,6 @@ use Rattle.frames.specs.declared.Frame.{Frame}
 use Rattle.text.proofs.Puts.{puts-on}
 use Rattle.frames.proofs.Payloads.{payload-front}
 use Rattle.text.proofs.Scripts.{lines-on, next-within}
-use Rattle.execute.specs.Execution.{refusalOf}
 use Rattle.script.specs.Output.{answerTo, afterLine, answersTo, lineIn, Runnable, Continues}
 
 -- the stores have 01's lengths
@@ -55,15 +54,15 @@ pub record Turn (line : List ℕ) (p : Pool) (small large : List ℕ) (p′ : Po
   pub answers : (L : Ledger) → Reads p small large L → answer ≡ answerTo L line
 
 module _ {line old new : List ℕ} {frame : Frame} (d : Decodes line old frame new) {p : Pool} {small large : List ℕ} where
-  pub refused-turn : {why : Refusal} → frame ≡ Frame.Refused why → {answer : Answer} → answer ≡ refusalOf frame → {none : List ℕ} → none ≡ []
-      → Turn line p small large p small large (answerLine answer none)
-  refused-turn e a z =
+  pub refused-turn : {why : Refusal} → frame ≡ Frame.Refused why → {none : List ℕ} → none ≡ []
+      → Turn line p small large p small large (answerLine (Refused why) none)
+  refused-turn e z =
       let f = sym (d .frame) ∙ e in
       record {
         fit = λ w. w;
         sizes = (refl, refl);
         leaves = λ L reads. rw f reads;
-        answers = λ L reads. rw (a, e, z, f);
+        answers = λ L reads. rw (z, f);
       }
 
   pub served-turn : {script : List ℕ} {at : ℕ} → Runnable p small large script at → {request : Request} {count : ℕ} → frame ≡ Frame.Request request count

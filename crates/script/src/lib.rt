@@ -8,6 +8,7 @@ use execute::refusal_of;
 use execute::show;
 use frames::Frame;
 use frames::decode;
+use ledger::Answer;
 use record::Pool;
 use record::head_of;
 use stores::no_part;
@@ -66,7 +67,12 @@ pub fn run_on(
         let frame = step.frame;
         at = step.next;
         let Frame::Request(request, count) = frame else {
-            written = put_answer(refusal_of(frame), no_part(small), out, written);
+            written = put_answer(
+                Answer::Refused(refusal_of(frame)),
+                no_part(small),
+                out,
+                written,
+            );
             continue;
         };
         let done = call(

@@ -16,7 +16,7 @@ put-answer-requires c κs =
 returns : tie.Need-returns
 returns c =
     let told = c .before .before .before .before .before .before .before in
-    refused-executes (told .before .before .before .before .decode .ensures) _ _ _ _ _ _ (told .before .enum-told .given .1) (told .refusal-of .ensures) (c .before .before .before .before .no-part .ensures) (c .before .before .before .before .before .before .answer-number .ensures) (c .before .before .put-answer .ensures)
+    refused-executes (told .before .before .before .before .decode .ensures) _ _ _ _ _ _ (told .refusal-of .ensures) (c .before .before .before .before .no-part .ensures) (c .before .before .before .before .before .before .answer-number .ensures) (c .before .before .put-answer .ensures)
 
 array-share-prefix-bytes : tie.Need-array-share-prefix-bytes
 array-share-prefix-bytes c =

@@ -74,7 +74,7 @@ loop-again : tie.Need-loop-again Inv-loop μ-loop
 loop-again c =
     let r = c .before .before .before .before .before .before .before .before .before .before in
     let none = c .before .before .before .before .no-part .ensures in (
-      turns r (refused-turn (r .next-frame .ensures .decodes) (c .before .before .before .before .before .before .before .enum-told .given .1) (c .before .before .before .before .before .before .refusal-of .ensures) none) (told r _ _ none) (c .before .before .put-answer .ensures),
+      turns r (refused-turn (r .next-frame .ensures .decodes) (c .before .before .before .before .before .before .refusal-of .ensures) none) (told r _ _ none) (c .before .before .put-answer .ensures),
       loop r .loop .inv .1,
     )
 
