@@ -5,7 +5,7 @@ use lib.Dec.{T, eqb, eqb→eq}
 use Rattle.lists.specs.Blocks.{overwritten}
 use Rattle.lists.specs.Tests.{all}
 use Rattle.lists.proofs.Tests.{both, sameBy, sameBy→eq, all→All}
-use Rattle.ledger.specs.Limits.{counterRange, limits, taskCount, smallSize, largeSize, lastHandle}
+use Rattle.ledger.specs.Limits.{counterRange, limits, lastHandle}
 use Rattle.ledger.specs.Tasks.{freshClocks, moved, allTicked, tasksAfter, advances, clocksAfter}
 use Rattle.ledger.specs.Expirations.{dueAfter, remaining, lasting}
 use Rattle.ledger.specs.Objects.{freshMemory, objectAt, written, replyTo, memoryAfter, expirationsAfter, usage}
@@ -33,7 +33,7 @@ all-pass : T (all passes edges) × T (all passes moreEdges)
 unfolding passes edges moreEdges fresh reply next replies afterAll testsOf verdict
     freshMemory objectAt written overwritten replyTo memoryAfter expirationsAfter usage dueAfter remaining lasting
     freshClocks moved allTicked tasksAfter advances clocksAfter
-    limits taskCount smallSize largeSize lastHandle counterRange
+    limits lastHandle counterRange
 all-pass = (tt, tt)
 
 pub edges-hold : EdgesHold

@@ -25,7 +25,7 @@ use Rattle.ledger.proofs.KeptObjects.{objects-settled, objects-made, ob
 use Rattle.ledger.proofs.KeptExpirations.{expirations-after, reowned, expirations-settled, expirations-set}
 
 pub kept-fresh : Kept fresh
-unfolding fresh freshMemory freshClocks taskCount allTicked
+unfolding fresh freshMemory freshClocks allTicked
 kept-fresh =
     record {
       clocks = record { sixteen = refl; tasks = all-replicate TaskKept taskCount absent-kept; unticked = refl };

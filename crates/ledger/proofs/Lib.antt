@@ -1,3 +1,4 @@
+pub mod Figures
 pub mod Verdicts
 pub mod Demand3
 pub mod Edges

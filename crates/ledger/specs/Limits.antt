@@ -10,18 +10,23 @@ pub record Limits : Type 0 where
   pub expirations : ℕ
   pub extension : ℕ
 
+-- the largest of each: what a record has room for
+abbrev pub capacity : Limits
+capacity = record { smallBlocks = 64; largeBlocks = 32; expirations = 256; extension = 30 }
+
+-- 01's: all that there is room for
 unfoldable pub limits : Limits
-limits = record { smallBlocks = 64; largeBlocks = 32; expirations = 256; extension = 30 }
+limits = capacity
 
 -- tasks are 0 to 15
-unfoldable pub taskCount : ℕ
+abbrev pub taskCount : ℕ
 taskCount = 16
 
 -- the bytes of a small and of a large block
-unfoldable pub smallSize : ℕ
+abbrev pub smallSize : ℕ
 smallSize = 32
 
-unfoldable pub largeSize : ℕ
+abbrev pub largeSize : ℕ
 largeSize = 256
 
 -- the largest handle

@@ -10,12 +10,16 @@ pub struct Limits {
     pub extension: u32,
 }
 
-pub const LIMITS: Limits = Limits {
+// The largest of each: what a record has room for.
+pub const CAPACITY: Limits = Limits {
     small_blocks: 64,
     large_blocks: 32,
     expirations: 256,
     extension: 30,
 };
+
+// 01's: all that there is room for.
+pub const LIMITS: Limits = CAPACITY;
 
 // 01: tasks are 0 to 15.
 pub const TASK_COUNT: usize = 16;

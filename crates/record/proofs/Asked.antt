@@ -6,43 +6,44 @@ use mathlib.Core.Path.{_≡_, sym, _∙_}
 use borrow.Author.Tests.{eqb-true, eqb-false, eq-eqb, ne-eqb, leb-true, le-leb, lt-ltb}
 use lib.Dec.{eqb, leb, ltb}
 use Rattle.lists.proofs.Cases.{by-test}
-use Rattle.record.specs.Codes.{dueBy, leftAt, isDueLocal, isDueGlobal}
+use Rattle.ledger.specs.Limits.{taskCount}
+use Rattle.record.specs.Codes.{dueBy, leftAt, isDueLocal, isDueGlobal, localCode, globalCode}
 use Rattle.record.specs.declared.GlobalTime.{GlobalTime}
 use Rattle.record.specs.declared.LocalTime.{LocalTime}
 
-pub asked-global : (clock due : ℕ) (now : GlobalTime) → (eqb clock 32 && eqb (leftAt due (now .0)) 0) ≡ isDueGlobal now (dueBy clock due)
+pub asked-global : (clock due : ℕ) (now : GlobalTime) → (eqb clock globalCode && eqb (leftAt due (now .0)) 0) ≡ isDueGlobal now (dueBy clock due)
 unfolding dueBy
 asked-global clock due now =
-    by-test (eqb clock 32)
-    (λ g. rw (eqb-true clock 32 g))
+    by-test (eqb clock globalCode)
+    (λ g. rw (eqb-true clock globalCode g))
     (λ g.
     by-test (eqb clock 0)
     (λ z. rw (g, z))
-    (λ z. by-test (leb 16 clock && ltb clock 32) (λ l. rw (g, z, l)) (λ l. rw (g, z, l))))
+    (λ z. by-test (leb localCode clock && ltb clock globalCode) (λ l. rw (g, z, l)) (λ l. rw (g, z, l))))
 
 -- the code of a task's clock
-local-code : (clock task : ℕ) → (leb 16 clock && ltb clock 32) ≡ true → eqb clock (16 + task) ≡ eqb (clock - 16) task
+local-code : (clock task : ℕ) → (leb localCode clock && ltb clock globalCode) ≡ true → eqb clock (localCode + task) ≡ eqb (clock - localCode) task
 local-code clock task l =
-    let least = leb-true 16 clock (and-eq-true-iff _ _ .0 l .0) in
-    by-test (eqb (clock - 16) task)
-    (λ t. rw t (eq-eqb clock (16 + task) (omega (arith, eqb-true (clock - 16) task t))))
-    (λ t. rw t (ne-eqb clock (16 + task) (λ e. eqb-false (clock - 16) task t (omega arith))))
+    let least = leb-true localCode clock (and-eq-true-iff _ _ .0 l .0) in
+    by-test (eqb (clock - localCode) task)
+    (λ t. rw t (eq-eqb clock (localCode + task) (omega (arith, eqb-true (clock - localCode) task t))))
+    (λ t. rw t (ne-eqb clock (localCode + task) (λ e. eqb-false (clock - localCode) task t (omega arith))))
 
 -- and no other
-other-code : (clock task : ℕ) → task < 16 → (leb 16 clock && ltb clock 32) ≡ false → eqb clock (16 + task) ≡ false
+other-code : (clock task : ℕ) → task < taskCount → (leb localCode clock && ltb clock globalCode) ≡ false → eqb clock (localCode + task) ≡ false
 other-code clock task known l =
-    ne-eqb clock (16 + task) (λ e. false≢true (sym l ∙ rw (e, le-leb 16 (16 + task) (omega arith), lt-ltb (16 + task) 32 (omega arith))))
+    ne-eqb clock (localCode + task) (λ e. false≢true (sym l ∙ rw (e, le-leb localCode (localCode + task) (omega arith), lt-ltb (localCode + task) globalCode (omega arith))))
 
-pub asked-local : (clock due task : ℕ) (now : LocalTime) → task < 16
-    → (eqb clock (16 + task) && eqb (leftAt due (now .0)) 0) ≡ isDueLocal task now (dueBy clock due)
+pub asked-local : (clock due task : ℕ) (now : LocalTime) → task < taskCount
+    → (eqb clock (localCode + task) && eqb (leftAt due (now .0)) 0) ≡ isDueLocal task now (dueBy clock due)
 unfolding dueBy
 asked-local clock due task now known =
     by-test (eqb clock 0)
-    (λ z. rw (z, ne-eqb clock (16 + task) (λ e. omega (arith, eqb-true clock 0 z))))
+    (λ z. rw (z, ne-eqb clock (localCode + task) (λ e. omega (arith, eqb-true clock 0 z))))
     (λ z.
-    by-test (eqb clock 32)
-    (λ g. rw (z, g, ne-eqb clock (16 + task) (λ e. omega (arith, eqb-true clock 32 g))))
+    by-test (eqb clock globalCode)
+    (λ g. rw (z, g, ne-eqb clock (localCode + task) (λ e. omega (arith, eqb-true clock globalCode g))))
     (λ g.
-    by-test (leb 16 clock && ltb clock 32)
+    by-test (leb localCode clock && ltb clock globalCode)
     (λ l. rw (z, g, l, local-code clock task l))
     (λ l. rw (z, g, l, other-code clock task known l))))

@@ -3,7 +3,7 @@ use Prim.Native.Nat.{ℕ}
 use mathlib.Core.Bool.{true}
 use mathlib.Core.List.{List, List·Permᴰ·nil}
 use mathlib.Core.Path.{_≡_, refl}
-use Rattle.ledger.specs.Limits.{taskCount, counterRange}
+use Rattle.ledger.specs.Limits.{counterRange}
 use Rattle.ledger.specs.Tasks.{freshClocks, allTicked}
 use Rattle.ledger.specs.Objects.{freshMemory}
 use Rattle.ledger.specs.Ledger.{fresh}
@@ -14,7 +14,7 @@ use Rattle.record.specs.Reading.{shownDue, objectIn, recordView, Reads, 
 use Rattle.record.specs.WellFormed.{isFitTask, isFitDue, isFitBlock, isWellFormed}
 
 pub fresh-reads : (small large : List ℕ) → Reads (tablesOf freshPool) small large fresh
-unfolding freshPool tablesOf tablesBy blocksOf entriesOf recordView objectIn shownDue dueBy viewOf fresh freshMemory freshClocks taskCount counterRange
+unfolding freshPool tablesOf tablesBy blocksOf entriesOf recordView objectIn shownDue dueBy viewOf fresh freshMemory freshClocks counterRange
 fresh-reads small large =
     record {
       alike = record { tasks = refl; global = refl; given = refl; objects = List·Permᴰ·nil; expirations = List·Permᴰ·nil };

@@ -11,7 +11,7 @@ use mir.Val.{Val}
 use Rattle.lists.specs.Tests.{All}
 use Rattle.ledger.specs.Limits.{counterRange}
 use Rattle.record.specs.Reading.{HeadTyped, Typed}
-use Rattle.record.specs.Tables.{BlockEntry, ExpirationEntry, tablesBy}
+use Rattle.record.specs.Tables.{blockEntries, expirationEntries, BlockEntry, ExpirationEntry, tablesBy}
 use Rattle.record.specs.declared.Head.{Head}
 use Rattle.record.proofs.Head.{the-row as the-head}
 
@@ -33,8 +33,8 @@ head-typed h vs t =
       given = omega arith;
     }
 
--- with tables of as many entries as 01 has
-pub typed-by : {h : Head} (blocks : List BlockEntry) (xs : List ExpirationEntry) → HeadTyped h → length blocks ≡ 96 → length xs ≡ 256
+-- with tables of as many entries as the record's
+pub typed-by : {h : Head} (blocks : List BlockEntry) (xs : List ExpirationEntry) → HeadTyped h → length blocks ≡ blockEntries → length xs ≡ expirationEntries
     → Typed (tablesBy h blocks xs)
 unfolding tablesBy
 typed-by blocks xs t b x =

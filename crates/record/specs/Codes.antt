@@ -2,7 +2,7 @@
 use Prim.Native.Nat.{ℕ, _+_, _-_, _%_}
 use mathlib.Core.Bool.{Bool, true, false, cond, not, _&&_}
 use lib.Dec.{eqb, leb, ltb}
-use Rattle.ledger.specs.Limits.{counterRange}
+use Rattle.ledger.specs.Limits.{taskCount, counterRange}
 use Rattle.ledger.specs.Tasks.{Task, isRunning}
 use Rattle.ledger.specs.declared.State.{State}
 use Rattle.ledger.specs.declared.State.the-variants.{Absent, Running, Waiting}
@@ -27,12 +27,18 @@ isRunningEntry e = isRunning (stateOf (e .state))
 abbrev pub isPendingEntry : TaskEntry → Bool
 isPendingEntry e = isRunningEntry e && not (eqb (e .ticked) 1)
 
--- an expiration by the code of its clock: 0 none, 16 and the number of a task, or 32 the global time
+-- the clock of an expiration by its code: 0 none, from localCode on those of the tasks, and then the global time
+abbrev pub localCode : ℕ
+localCode = 16
+
+abbrev pub globalCode : ℕ
+globalCode = localCode + taskCount
+
 unfoldable pub dueBy : ℕ → ℕ → Due
 dueBy clock due =
     cond (eqb clock 0) Free
-    (cond (eqb clock 32) (Global (record { 0 = due }))
-    (cond (leb 16 clock && ltb clock 32) (Local (clock - 16) (record { 0 = due })) Unknown))
+    (cond (eqb clock globalCode) (Global (record { 0 = due }))
+    (cond (leb localCode clock && ltb clock globalCode) (Local (clock - localCode) (record { 0 = due })) Unknown))
 
 abbrev pub dueOf : ExpirationEntry → Due
 dueOf e = dueBy (e .clock) (e .due)

@@ -7,21 +7,21 @@ use lib.Dec.{eqb, ltb}
 use lib.ListN.{length, getD, take, drop, replicate}
 use Rattle.lists.specs.Tests.{All}
 use Rattle.lists.specs.Tables.{readBy, readFrom}
-use Rattle.ledger.specs.Limits.{limits, counterRange, smallSize, largeSize, isSmall}
+use Rattle.ledger.specs.Limits.{limits, taskCount, counterRange, smallSize, largeSize, isSmall}
 use Rattle.ledger.specs.Objects.{Object}
 use Rattle.ledger.specs.Compared.{Shown, localLeft, globalLeft, View, viewOf, Alike}
 use Rattle.ledger.specs.Kept.{Ascending}
 use Rattle.ledger.specs.Ledger.{Ledger}
 use Rattle.record.specs.Codes.{taskOf, dueOf, leftAt, absentEntry, freeBlock, freeEntry}
 use Rattle.record.specs.declared.TaskEntry.{TaskEntry}
-use Rattle.record.specs.Tables.{BlockEntry, ExpirationEntry, Tables}
+use Rattle.record.specs.Tables.{blockEntries, expirationEntries, BlockEntry, ExpirationEntry, Tables}
 use Rattle.record.specs.declared.GlobalTime.{GlobalTime}
 use Rattle.record.specs.declared.Head.{Head}
 use Rattle.record.specs.declared.Pool.{Pool}
 use Rattle.record.specs.declared.Due.{Due}
 use Rattle.record.specs.declared.Due.the-variants.{Free, Local, Global, Unknown}
 
--- blocks 0 to 63 are the small store's, 64 to 95 the large one's
+-- the small store's blocks come first, then the large one's
 abbrev pub isSmallBlock : ℕ → Bool
 isSmallBlock block = ltb block (limits .smallBlocks)
 
@@ -36,12 +36,19 @@ shownDue tasks global handle Unknown = []
 abbrev pub shownEntry : List TaskEntry → GlobalTime → List BlockEntry → ExpirationEntry → List Shown
 shownEntry tasks global blocks e = shownDue tasks global (getD blocks (e .block) freeBlock .handle) (dueOf e)
 
+-- the bytes of either store
+abbrev pub smallBytes : ℕ
+smallBytes = limits .smallBlocks * smallSize
+
+abbrev pub largeBytes : ℕ
+largeBytes = limits .largeBlocks * largeSize
+
 -- "nor bytes, where a store has another length"
 abbrev pub isWholeSmall : List ℕ → Bool
-isWholeSmall small = eqb (length small) (limits .smallBlocks * smallSize)
+isWholeSmall small = eqb (length small) smallBytes
 
 abbrev pub isWholeLarge : List ℕ → Bool
-isWholeLarge large = eqb (length large) (limits .largeBlocks * largeSize)
+isWholeLarge large = eqb (length large) largeBytes
 
 abbrev pub isWhole : List ℕ → List ℕ → ℕ → Bool
 isWhole small large size = cond (isSmall size) (isWholeSmall small) (isWholeLarge large)
@@ -70,16 +77,16 @@ recordView p small large =
 
 -- What the record's type gives of every value: "sixteen task entries" and the other tables, "each counter is kept in 32 bits".
 pub record Typed (p : Tables) : Type 0 where
-  pub tasks : length (p .tasks) ≡ 16
-  pub blocks : length (p .blocks) ≡ 96
-  pub expirations : length (p .expirations) ≡ 256
+  pub tasks : length (p .tasks) ≡ taskCount
+  pub blocks : length (p .blocks) ≡ blockEntries
+  pub expirations : length (p .expirations) ≡ expirationEntries
   pub clocks : All (λ (e : TaskEntry). e .clock .0 < counterRange) (p .tasks)
   pub global : p .global .0 < counterRange
   pub given : p .given < counterRange
 
 -- the same of what goes by value
 pub record HeadTyped (h : Head) : Type 0 where
-  pub tasks : length (h .tasks) ≡ 16
+  pub tasks : length (h .tasks) ≡ taskCount
   pub clocks : All (λ (e : TaskEntry). e .clock .0 < counterRange) (h .tasks)
   pub global : h .global .0 < counterRange
   pub given : h .given < counterRange
@@ -94,12 +101,12 @@ pub record Reads (p : Tables) (small large : List ℕ) (L : Ledger) : Type 0 whe
 unfoldable pub freshPool : Pool
 freshPool =
     record {
-      tasks = replicate 16 absentEntry;
+      tasks = replicate taskCount absentEntry;
       global = record { 0 = 0 };
       given = 0;
-      handles = replicate 96 0;
-      lengths = replicate 96 0;
-      clocks = replicate 256 0;
-      named = replicate 256 0;
-      dues = replicate 256 0;
+      handles = replicate blockEntries 0;
+      lengths = replicate blockEntries 0;
+      clocks = replicate expirationEntries 0;
+      named = replicate expirationEntries 0;
+      dues = replicate expirationEntries 0;
     }

@@ -1,14 +1,22 @@
 -- The record's tables as lists of entries: what stands at one place of all arrays of a table.
-use Prim.Native.Nat.{ℕ}
+use Prim.Native.Nat.{ℕ, _+_}
 use mathlib.Core.List.{List, map}
 use mathlib.Core.Path.{_≡_}
 use lib.ListN.{length}
 use Rattle.lists.specs.Columns.{_⊛_}
+use Rattle.ledger.specs.Limits.{capacity}
 use Rattle.ledger.specs.declared.Answer.{Answer}
 use Rattle.record.specs.declared.TaskEntry.{TaskEntry}
 use Rattle.record.specs.declared.GlobalTime.{GlobalTime}
 use Rattle.record.specs.declared.Head.{Head}
 use Rattle.record.specs.declared.Pool.{Pool}
+
+-- the entries of the record's two tables: those of the small store's blocks, then those of the large one's; and those of expirations
+abbrev pub blockEntries : ℕ
+blockEntries = capacity .smallBlocks + capacity .largeBlocks
+
+abbrev pub expirationEntries : ℕ
+expirationEntries = capacity .expirations
 
 -- a block of a store and the object in it; handle (01: number) 0 is a free block
 pub record BlockEntry : Type 0 where
@@ -54,15 +62,15 @@ tablesOf p = tablesBy (headOf p) (blocksOf (p .handles) (p .lengths)) (entriesOf
 abbrev pub lent : Head → List ℕ → List ℕ → List ℕ → List ℕ → List ℕ → Tables
 lent h handles lengths clocks named dues = tablesBy h (blocksOf handles lengths) (entriesOf clocks named dues)
 
--- Columns of as many entries as 01 has: of a lent array the length is not known by itself.
+-- Columns of as many entries as the record's: of a lent array the length is not known by itself.
 pub record SizedBlocks (handles lengths : List ℕ) : Type 0 where
-  pub of-handles : length handles ≡ 96
-  pub of-lengths : length lengths ≡ 96
+  pub of-handles : length handles ≡ blockEntries
+  pub of-lengths : length lengths ≡ blockEntries
 
 pub record SizedEntries (clocks named dues : List ℕ) : Type 0 where
-  pub of-clocks : length clocks ≡ 256
-  pub of-named : length named ≡ 256
-  pub of-dues : length dues ≡ 256
+  pub of-clocks : length clocks ≡ expirationEntries
+  pub of-named : length named ≡ expirationEntries
+  pub of-dues : length dues ≡ expirationEntries
 
 pub record Sized (handles lengths clocks named dues : List ℕ) : Type 0 where
   pub blocks : SizedBlocks handles lengths

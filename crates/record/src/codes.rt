@@ -1,11 +1,13 @@
 // What the numbers of an entry mean, and the units left by counters that go on from 4,294,967,295 to 0.
 ghost use Prim.Native.Nat.{_<_};
 ghost use mathlib.Core.Path.{_≡_};
+ghost use Rattle.ledger.specs.Limits.{taskCount};
 ghost use Rattle.record.specs.Codes.{stateOf, dueBy, leftAt, isDueLocal, isDueGlobal};
 use super::Due;
 use super::GlobalTime;
 use super::LocalTime;
 use ledger::State;
+use ledger::TASK_COUNT;
 
 // The state of a task entry.
 pub const ABSENT: u16 = 0;
@@ -19,7 +21,7 @@ pub const FREE: u8 = 0;
 
 pub const LOCAL: u8 = 16;
 
-pub const GLOBAL: u8 = 32;
+pub const GLOBAL: u8 = LOCAL + (TASK_COUNT as u8);
 
 pub fn state_of(code: u16) -> State
     ensures { λ r. ⌜ r ≡ stateOf code ⌝ }
@@ -54,7 +56,7 @@ pub fn due_by(clock: u8, due: u32) -> Due
 
 // What due_by reads, asked at once: whether an expiration goes by this task's clock and is due,
 pub fn is_due_local(clock: u8, due: u32, task: u8, now: LocalTime) -> bool
-    requires { ⌜ task < 16 ⌝ }
+    requires { ⌜ task < taskCount ⌝ }
     ensures { λ r. ⌜ r ≡ isDueLocal task now (dueBy clock due) ⌝ }
 {
     (clock == LOCAL + task) & (local_left(LocalTime(due), now) == 0)

@@ -9,14 +9,14 @@ pub mod running;
 
 use codes::ABSENT;
 use codes::FREE;
-use ledger::LIMITS;
+use ledger::CAPACITY;
 use ledger::TASK_COUNT;
 
 // The entries of the block table: those of the small store's blocks, then those of the large one's.
-pub const BLOCK_COUNT: usize = LIMITS.small_blocks + LIMITS.large_blocks;
+pub const BLOCK_COUNT: usize = CAPACITY.small_blocks + CAPACITY.large_blocks;
 
 // The entries of the expiration table.
-pub const EXPIRATION_COUNT: usize = LIMITS.expirations;
+pub const EXPIRATION_COUNT: usize = CAPACITY.expirations;
 
 // 01: own ticks, a task's own clock.
 #[repr(C)]
@@ -34,7 +34,7 @@ pub struct TaskEntry {
     pub clock: LocalTime,
 }
 
-// Block i has the object `handles[i]` (01: number; 0 is a free block) of `lengths[i]` bytes; blocks 0 to 63 are the small store's, 64 to 95 the large one's.
+// Block i has the object `handles[i]` (01: number; 0 is a free block) of `lengths[i]` bytes; the small store's blocks come first, then the large one's.
 // Expiration i (01: date) goes by the clock `clocks[i]`, a code of codes.rt in which 0 is a free entry, belongs to the object in the block `named[i]`, and is due
 // when that clock reads `dues[i]`.
 #[repr(C)]

@@ -4,16 +4,17 @@ use mathlib.Core.Bool.{_&&_}
 use borrow.Author.Needs.{needs}
 use Rattle.lists.specs.Tests.{all}
 use Rattle.lists.proofs.Loops.{Scanned, scanned-start, all-kept, all-kept-end}
+use Rattle.ledger.specs.Limits.{taskCount}
 use Rattle.record.specs.Codes.{absentEntry}
 use Rattle.record.specs.WellFormed.{isFitTask}
 use Rattle.record.proofs.running.all_fit_tasks.Statement.{statement}
 use Rattle.record.proofs.running.all_fit_tasks.Tie as tie
 
 abbrev Inv-loop : tie.InvT-loop
-Inv-loop tasks fit₀ i₀ fit i = Scanned (all isFitTask tasks) tasks 16 i (λ ys. fit && all isFitTask ys)
+Inv-loop tasks fit₀ i₀ fit i = Scanned (all isFitTask tasks) tasks taskCount i (λ ys. fit && all isFitTask ys)
 
 abbrev μ-loop : tie.MeasureT-loop
-μ-loop tasks fit₀ i₀ fit i = 16 - i
+μ-loop tasks fit₀ i₀ fit i = taskCount - i
 
 pub all-fit-tasks-spec : {M : Type 1} → statement M
 all-fit-tasks-spec =
@@ -21,7 +22,7 @@ all-fit-tasks-spec =
     (tie.spec
     Inv-loop
     μ-loop
-    (λ c. scanned-start (all isFitTask) _ 16 (search needs))
+    (λ c. scanned-start (all isFitTask) _ taskCount (search needs))
     (λ c. search needs)
     (λ c. search needs)
     (λ c κs. search needs)

@@ -3,16 +3,17 @@ use Prim.Native.Nat.{_-_}
 use mathlib.Core.Path.{sym, _∙_}
 use borrow.Author.Needs.{needs}
 use Rattle.lists.proofs.Loops.{Scanned, scanned-start, scanned-turn, scanned-stop, scanned-end}
+use Rattle.ledger.specs.Limits.{taskCount}
 use Rattle.record.specs.Codes.{absentEntry}
 use Rattle.record.proofs.States.{tickedFrom, ticked-start, ticked-turn, ticked-stop, ticked-end}
 use Rattle.record.proofs.running.all_ticked.Statement.{statement}
 use Rattle.record.proofs.running.all_ticked.Tie as tie
 
 abbrev Inv-loop : tie.InvT-loop
-Inv-loop tasks some₀ i₀ some i = Scanned (tickedFrom some₀ tasks) tasks 16 i (tickedFrom some)
+Inv-loop tasks some₀ i₀ some i = Scanned (tickedFrom some₀ tasks) tasks taskCount i (tickedFrom some)
 
 abbrev μ-loop : tie.MeasureT-loop
-μ-loop tasks some₀ i₀ some i = 16 - i
+μ-loop tasks some₀ i₀ some i = taskCount - i
 
 returns : tie.Need-returns Inv-loop μ-loop
 returns c =
@@ -32,7 +33,7 @@ all-ticked-spec =
     (tie.spec
     Inv-loop
     μ-loop
-    (λ c. scanned-start (tickedFrom _) _ 16 (search needs))
+    (λ c. scanned-start (tickedFrom _) _ taskCount (search needs))
     (λ c. search needs)
     (λ c. search needs)
     (λ c κs. search needs)
