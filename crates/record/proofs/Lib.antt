@@ -1,3 +1,4 @@
+pub mod Figures
 pub mod Columns
 pub mod Asked
 pub mod Facts

@@ -1,9 +1,10 @@
 -- What an accepted verdict shows: the task may set an expiration, and the block and the entry that are chosen are free.
 use Prim.Native.Nat.{ℕ, _+_, _<_}
+use native.Mathlib.Nat.{zero-add}
 use native.Mathlib.Omega.{arith}
 use mathlib.Core.Bool.{Bool, true, false, _||_}
 use mathlib.Core.Path.{_≡_, refl, sym, _∙_}
-use borrow.Author.Tests.{leb-false, ltb-false, eqb-true, eqb-false, lt-ltb, le-ltb}
+use borrow.Author.Tests.{leb-false, ltb-false, eqb-true, eqb-false, lt-ltb, le-ltb, lt-leb}
 use lib.Dec.{eqb, leb, ltb}
 use lib.ListN.{length, getD, take, drop, length-take, length-drop}
 use lib.Seq.{getD-take, getD-drop}
@@ -11,6 +12,7 @@ use Rattle.lists.specs.Tables.{firstFrom}
 use Rattle.lists.proofs.Cases.{by-test, or-false-parts}
 use Rattle.lists.proofs.First.{first-at, first-full}
 use Rattle.ledger.specs.Limits.{limits, taskCount, largeSize, lastHandle, isSmall}
+use Rattle.ledger.proofs.Figures.{allowed}
 use Rattle.ledger.specs.Tasks.{isAbsent}
 use Rattle.ledger.specs.declared.State.{State}
 use Rattle.ledger.specs.declared.State.the-variants.{Absent, Running, Waiting}
@@ -19,9 +21,10 @@ use Rattle.ledger.specs.declared.Refusal.the-variants.{LengthOutOfRange, Handle
 use Rattle.ledger.specs.declared.Verdict.{Verdict}
 use Rattle.ledger.specs.declared.Verdict.the-variants.{Accepted, Refused}
 use Rattle.stores.specs.Places.{blockCount}
+use Rattle.stores.proofs.Places.{blocks-listed}
 use Rattle.record.specs.Codes.{stateOf, absentEntry, freeBlock, freeEntry}
 use Rattle.record.specs.Reading.{isSmallBlock, Typed}
-use Rattle.record.specs.Tables.{Tables}
+use Rattle.record.specs.Tables.{Tables, blockEntries}
 use Rattle.steps.specs.Objects.{isFreeBlock, endFor, freePlace, isFreeEntry, standingIn, freeSlot, andThen, refuseIf, byState, taskVerdict, extensionVerdict, foundVerdict, handleVerdict, roomVerdict, makeVerdict, refreshVerdict}
 use Rattle.steps.proofs.Taken.{MaySet, SlotFree, PlaceFree}
 
@@ -51,17 +54,18 @@ may-set task extension p t x =
 
 -- the first free entry, where there is one
 slot-free : (p : Tables) → Typed p → roomVerdict (standingIn (p .expirations)) ≡ Accepted → SlotFree (freeSlot (p .expirations)) (p .expirations)
-unfolding limits
 slot-free p types v =
     let xs = p .expirations in
-    let full : leb (0 + length xs) (freeSlot xs) ≡ false = sym (first-full isFreeEntry 0 xs) ∙ rw (types .expirations) (not-refused _ _ v) in
+    let few = leb-false (limits .expirations) (standingIn xs) (not-refused _ _ v) in
+    let room : standingIn xs < length xs = omega (arith, few, types .expirations, allowed .most-expirations) in
+    let full : leb (0 + length xs) (freeSlot xs) ≡ false = sym (first-full isFreeEntry 0 xs) ∙ lt-leb (length xs) (standingIn xs) room in
     let (k, listed, at, free) = first-at isFreeEntry freeEntry 0 xs full in
     let place : freeSlot xs ≡ k = omega (arith, at) in
     rw place (record { listed = listed; free = eqb-true _ 0 free })
 
 -- the first free block of a size's store, where there is one
 module _ (p : Tables) (types : Typed p) (size : ℕ) (range : (eqb size 0 || ltb largeSize size) ≡ false) where
-  place-at : (place : ℕ) → place < 96 → isFreeBlock (getD (p .blocks) place freeBlock) ≡ true → isSmallBlock place ≡ isSmall size
+  place-at : (place : ℕ) → place < blockEntries → isFreeBlock (getD (p .blocks) place freeBlock) ≡ true → isSmallBlock place ≡ isSmall size
       → PlaceFree place size (p .blocks)
   place-at place listed free store =
       let (least, most) = or-false-parts (eqb size 0) (ltb largeSize size) range in
@@ -74,24 +78,28 @@ module _ (p : Tables) (types : Typed p) (size : ℕ) (range : (eqb size 0 || ltb
       }
 
   place-free : leb (endFor size) (freePlace size (p .blocks)) ≡ false → PlaceFree (freePlace size (p .blocks)) size (p .blocks)
-  unfolding freePlace limits blockCount
+  unfolding freePlace
   place-free room =
+      let n = limits .smallBlocks in
       by-test (isSmall size)
       (λ s.
-      let part = take 64 (p .blocks) in
-      let count : length part ≡ 64 = simp length-take (omega (arith, types .blocks)) in
-      let full : leb (0 + length part) (firstFrom 0 isFreeBlock part) ≡ false = rw count (rw s at room) in
+      let part = take n (p .blocks) in
+      let count : length part ≡ n = simp length-take (omega (arith, types .blocks, allowed .most-small)) in
+      let full : leb (0 + length part) (firstFrom 0 isFreeBlock part) ≡ false = rw (zero-add, count) (rw s at room) in
       let (k, listed, at, free) = first-at isFreeBlock freeBlock 0 part full in
-      let below : k < 64 = omega (arith, count) in
+      let below : k < n = omega (arith, count) in
       let here : firstFrom 0 isFreeBlock part ≡ k = omega (arith, at) in
-      rw (s, here) (place-at k (omega arith) (rw (getD-take 64 (p .blocks) k freeBlock below) at free) (lt-ltb k 64 below ∙ sym s)))
+      rw (s, here)
+      (place-at k (omega (arith, allowed .most-small)) (rw (getD-take n (p .blocks) k freeBlock below) at free) (lt-ltb k n below ∙ sym s)))
       (λ s.
-      let part = drop 64 (p .blocks) in
-      let count : length part ≡ 32 = simp length-drop (omega (arith, types .blocks)) in
-      let full : leb (64 + length part) (firstFrom 64 isFreeBlock part) ≡ false = rw count (rw s at room) in
-      let (k, listed, at, free) = first-at isFreeBlock freeBlock 64 part full in
+      let part = drop n (p .blocks) in
+      let count : n + length part ≡ blockEntries = simp length-drop (omega (arith, types .blocks, allowed .most-small)) in
+      let first = firstFrom n isFreeBlock part in
+      let below : first < blockCount = leb-false blockCount first (rw s at room) in
+      let full : leb (n + length part) first ≡ false = lt-leb (n + length part) first (omega (arith, blocks-listed)) in
+      let (k, listed, at, free) = first-at isFreeBlock freeBlock n part full in
       rw (s, at)
-      (place-at (64 + k) (omega (arith, count)) (rw (getD-drop 64 (p .blocks) k freeBlock) at free) (le-ltb (64 + k) 64 (omega arith) ∙ sym s)))
+      (place-at (n + k) (omega (arith, count)) (rw (getD-drop n (p .blocks) k freeBlock) at free) (le-ltb (n + k) n (omega arith) ∙ sym s)))
 
 -- what a make that is accepted takes
 pub record Taken (task extension size : ℕ) (p : Tables) : Type 0 where
@@ -130,11 +138,11 @@ refresh-takes task extension handle p types v =
     let (found, slot-ok) = both-accept _ _ v₂ in
     record { may = may-set task extension p task-ok extension-ok; found = found; entry = slot-free p types slot-ok }
 
--- a handle that is found is not 0, and its place is that of a block
-pub handle-found : (handle given place : ℕ) → foundVerdict handle given place ≡ Accepted → (eqb handle 0 ≡ false) × (leb blockCount place ≡ false)
+-- a handle that is found is not 0, and its place is that of an entry
+pub handle-found : (handle given place : ℕ) → foundVerdict handle given place ≡ Accepted → (eqb handle 0 ≡ false) × (leb blockEntries place ≡ false)
 handle-found handle given place v =
     let (given-ok, place-ok) = both-accept _ _ v in
     (or-false-parts (eqb handle 0) _ (not-refused _ _ given-ok) .0, not-refused _ _ place-ok)
 
-pub place-listed : (handle given place : ℕ) → foundVerdict handle given place ≡ Accepted → place < blockCount
+pub place-listed : (handle given place : ℕ) → foundVerdict handle given place ≡ Accepted → place < blockEntries
 place-listed handle given place v = leb-false _ _ (handle-found handle given place v .1)

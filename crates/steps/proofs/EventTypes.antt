@@ -9,7 +9,7 @@ use Rattle.lists.specs.Tests.{All}
 use Rattle.lists.proofs.All.{all-set, all-map, all-getD}
 use Rattle.lists.proofs.Tables.{length-mapFrom}
 use Rattle.lists.proofs.Cases.{by-test}
-use Rattle.ledger.specs.Limits.{counterRange}
+use Rattle.ledger.specs.Limits.{counterRange, taskCount}
 use Rattle.ledger.specs.Tasks.{isTested, allTicked}
 use Rattle.ledger.specs.declared.Event.{Event}
 use Rattle.ledger.specs.declared.Event.the-variants.{Join, Leave, Block, Resume, Tick}
@@ -36,7 +36,7 @@ moved-range Resume e h = h
 moved-range Tick e h = omega arith
 
 -- the entries after an event
-pub moved-sixteen : (event : Event) (task : ℕ) (tasks : List TaskEntry) → length tasks ≡ 16 → length (movedTasks event task tasks) ≡ 16
+pub moved-sixteen : (event : Event) (task : ℕ) (tasks : List TaskEntry) → length tasks ≡ taskCount → length (movedTasks event task tasks) ≡ taskCount
 moved-sixteen event task tasks h = rw length-set h
 
 pub moved-clocks : (event : Event) (task : ℕ) (tasks : List TaskEntry) → All InRange tasks → All InRange (movedTasks event task tasks)
@@ -45,7 +45,7 @@ moved-clocks event task tasks h =
     all-set InRange tasks task h (moved-range event (getD tasks task absentEntry) (all-getD InRange absentEntry (omega arith) tasks h task))
 
 -- the entries and the global time after the advance test
-pub advanced-sixteen : (advanced : Bool) (tasks : List TaskEntry) → length tasks ≡ 16 → length (advancedTasks advanced tasks) ≡ 16
+pub advanced-sixteen : (advanced : Bool) (tasks : List TaskEntry) → length tasks ≡ taskCount → length (advancedTasks advanced tasks) ≡ taskCount
 advanced-sixteen true tasks h = length-map tasks untickedEntry ∙ h
 advanced-sixteen false tasks h = h
 
@@ -59,7 +59,7 @@ advanced-global true global h = omega arith
 advanced-global false global h = h
 
 -- The record with these tasks and this time, before and after a sweep
-module _ (tasks : List TaskEntry) (global : GlobalTime) (p : Tables) (types : Typed p) (sixteen : length tasks ≡ 16) (clocks : All InRange tasks)
+module _ (tasks : List TaskEntry) (global : GlobalTime) (p : Tables) (types : Typed p) (sixteen : length tasks ≡ taskCount) (clocks : All InRange tasks)
     (range : global .0 < counterRange) where
   pub typed-put : Typed (record { tasks = tasks; global = global; given = p .given; blocks = p .blocks; expirations = p .expirations })
   typed-put =

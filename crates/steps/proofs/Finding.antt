@@ -23,7 +23,7 @@ use Rattle.ledger.specs.Ledger.{Ledger}
 use Rattle.record.specs.Codes.{dueOf, isDated, freeBlock}
 use Rattle.record.specs.Reading.{isWhole, blockBytes, objectIn, recordView, Typed, Reads}
 use Rattle.record.specs.WellFormed.{isUsed}
-use Rattle.record.specs.Tables.{BlockEntry, Tables}
+use Rattle.record.specs.Tables.{BlockEntry, Tables, blockEntries}
 use Rattle.record.proofs.Facts.{Fit, FitUsed, fit-used}
 use Rattle.record.proofs.Distinct.{handleAt, same-handle}
 use Rattle.steps.proofs.ReadObjects.{shown-stands, named-stands}
@@ -140,9 +140,8 @@ module _ {p : Tables} {small large : List ℕ} {L : Ledger} (fit : Fit p) (reads
         let same = same-handle (p .blocks) (fit .distinct) place i (rw its (eqb-false handle 0 nonzero)) in
         ap here (eqb-true i place (sym same ∙ rw its e))))
 
-    -- the place is past the last block just where the object is gone
-    pub gone-alike : Typed p → leb blockCount (placeOf handle (p .blocks)) ≡ not (stands (L .expirations) handle)
-    unfolding limits blockCount
+    -- the place is past the last entry just where the object is gone
+    pub gone-alike : Typed p → leb blockEntries (placeOf handle (p .blocks)) ≡ not (stands (L .expirations) handle)
     gone-alike typed = rw (← block-stands, ← first-none (isBlockOf handle) 0 (p .blocks), zero-add, typed .blocks)
 
     pub found : stands (L .expirations) handle ≡ true → Found small large (p .blocks) handle (objectAt handle (L .memory .objects))

@@ -21,7 +21,7 @@ use Rattle.stores.specs.Places.{sizeOf, InBlock, smallAfter, largeAfter}
 use Rattle.record.specs.Codes.{freeBlock}
 use Rattle.record.specs.Reading.{isWholeSmall, isWholeLarge, blockBytes, recordView, Typed, Reads}
 use Rattle.record.specs.WellFormed.{isWellFormed}
-use Rattle.record.specs.Tables.{Tables}
+use Rattle.record.specs.Tables.{Tables, blockEntries}
 use Rattle.record.proofs.Distinct.{handleAt}
 use Rattle.record.proofs.Facts.{fit-parts, fit-whole}
 use Rattle.steps.specs.Objects.{taskVerdict, placeOf, freePlace, handleVerdict, makeVerdict, refreshVerdict, readVerdict, writeVerdict, madePool, refreshedPool}
@@ -86,7 +86,7 @@ module _ {p : Tables} {small large : List ℕ} {L : Ledger} (w : isWellFormed p 
     unfolding madePool
     make-reads task kind extension size v =
         let taken = make-takes task extension size p types v in
-        let listed : freePlace size (p .blocks) < 96 = omega (arith, taken .block .listed, types .blocks) in
+        let listed : freePlace size (p .blocks) < blockEntries = omega (arith, taken .block .listed, types .blocks) in
         made-reads p small large _ _ L (fit-parts p w) types reads kind task extension size _ _ (taken .may) (taken .block) (taken .entry)
         small-whole large-whole (made-bytes small large small-whole large-whole _ listed)
 
@@ -95,14 +95,15 @@ module _ {p : Tables} {small large : List ℕ} {L : Ledger} (w : isWellFormed p 
         ≡ blockBytes small large (placeOf handle (p .blocks)) (blockOf handle (p .blocks) .length)
     unfolding readVerdict
     read-bytes task handle v =
-        place-found handle (both-accept (taskVerdict task (p .tasks)) _ v .1) .bytes (both-whole small large small-whole large-whole _)
+        place-found handle (both-accept (taskVerdict task (p .tasks)) _ v .1) .bytes
+        (both-whole small large small-whole large-whole (blockOf handle (p .blocks) .length))
 
     pub read-place : (task handle : ℕ) → readVerdict task handle p ≡ Accepted
         → InBlock small large (placeOf handle (p .blocks)) (blockOf handle (p .blocks) .length)
     unfolding readVerdict
     read-place task handle v =
         let here = place-found handle (both-accept (taskVerdict task (p .tasks)) _ v .1) in
-        let known : placeOf handle (p .blocks) < 96 = omega (arith, here .within, types .blocks) in
+        let known : placeOf handle (p .blocks) < blockEntries = omega (arith, here .within, types .blocks) in
         used-in-block small large small-whole large-whole p (fit-parts p w) _ known (here .used)
 
     -- a write that is accepted lies in a block in use

@@ -29,7 +29,7 @@ use Rattle.stores.specs.Places.{sizeOf}
 use Rattle.record.specs.Codes.{dueBy, dueOf, freeBlock, freeEntry}
 use Rattle.record.specs.Reading.{isSmallBlock, shownDue, shownEntry, isWholeSmall, isWholeLarge, isWhole, objectIn, recordView, Typed, Reads}
 use Rattle.record.specs.WellFormed.{handleOf}
-use Rattle.record.specs.Tables.{BlockEntry, Tables}
+use Rattle.record.specs.Tables.{BlockEntry, Tables, blockEntries}
 use Rattle.record.proofs.Facts.{Fit}
 use Rattle.record.proofs.Distinct.{handleAt}
 use Rattle.steps.proofs.ReadObjects.{same-shown}
@@ -137,7 +137,7 @@ module _ (p : Tables) (small large small′ large′ : List ℕ) (L : Ledger) (f
       by-test (eqb (b .handle) 0)
       (λ z. rw z)
       (λ z.
-      let known : i < 96 = omega (arith, entry-within freeBlock (p .blocks) i (λ e. eqb-false (b .handle) 0 z (ap handleOf e)), types .blocks) in
+      let known : i < blockEntries = omega (arith, entry-within freeBlock (p .blocks) i (λ e. eqb-false (b .handle) 0 z (ap handleOf e)), types .blocks) in
       let part = used-in-block small large small-whole large-whole p fit i known (rw z) in
       rw (z, cleared .others i (λ at. eqb-false (b .handle) 0 z (rw at (block .free))) (b .length) part))
 

@@ -23,7 +23,7 @@ use Rattle.ledger.proofs.KeptObjects.{ascending-written}
 use Rattle.record.specs.Codes.{freeBlock}
 use Rattle.record.specs.Reading.{isWholeSmall, isWholeLarge, isWhole, blockBytes, objectIn, recordView, Typed, Reads}
 use Rattle.record.specs.WellFormed.{handleOf}
-use Rattle.record.specs.Tables.{BlockEntry, Tables}
+use Rattle.record.specs.Tables.{BlockEntry, Tables, blockEntries}
 use Rattle.record.proofs.Facts.{Fit}
 use Rattle.record.proofs.Distinct.{handleAt, same-handle}
 use Rattle.stores.specs.Places.{InBlock, smallAfter, largeAfter}
@@ -72,7 +72,7 @@ module _ (p : Tables) (small large : List ℕ) (L : Ledger) (fit : Fit p) (types
   -- the bytes of an object lie in its block
   object-in-block : (j : ℕ) → handleAt (p .blocks) j ≢ 0 → InBlock small large j (getD (p .blocks) j freeBlock .length)
   object-in-block j u =
-      let known : j < 96 = rw (types .blocks) at (entry-within freeBlock (p .blocks) j (λ e. u (ap handleOf e))) in
+      let known : j < blockEntries = rw (types .blocks) at (entry-within freeBlock (p .blocks) j (λ e. u (ap handleOf e))) in
       used-in-block small large small-whole large-whole p fit j known (rw (ne-eqb _ 0 u))
 
   pub in-place : InBlock small large block (offset + length new)

@@ -7,7 +7,7 @@ use mathlib.Core.List.{List, _++_}
 use mathlib.Core.Path.{_≡_, refl, sym, ap, _∙_}
 use borrow.Author.Tests.{lt-ltb, le-ltb}
 use lib.Dec.{eqb, leb, ltb}
-use lib.ListN.{length, take, drop, length-take, length-drop, length-map}
+use lib.ListN.{length, getD, take, drop, length-take, length-drop, length-map}
 use lib.Seq.{length-take-le, getD-take, getD-drop}
 use Rattle.lists.specs.Tests.{count, All}
 use Rattle.lists.specs.Tables.{readFrom}
@@ -19,10 +19,11 @@ use Rattle.lists.proofs.First.{first-full}
 use Rattle.lists.proofs.Permutations.{length-perm, count-perm}
 use Rattle.lists.proofs.Tables.{all-places, readFrom-split, length-readFrom, length-readBy}
 use Rattle.ledger.specs.Limits.{limits, isSmall, blocksFor}
+use Rattle.ledger.proofs.Figures.{allowed}
 use Rattle.ledger.specs.Objects.{Object, smallOnes, largeOnes, inStoreOf, usage}
 use Rattle.ledger.specs.Compared.{shown, shownObject, viewOf}
 use Rattle.ledger.specs.Ledger.{Ledger}
-use Rattle.record.specs.Codes.{dueBy, dueOf, isDated, freeBlock}
+use Rattle.record.specs.Codes.{dueBy, dueOf, isDated, freeBlock, localCode, globalCode}
 use Rattle.record.specs.Reading.{isWhole, shownDue, objectIn, recordView, Typed, Reads}
 use Rattle.record.specs.WellFormed.{isUsed, isFitDue, isFitEntry}
 use Rattle.record.specs.declared.TaskEntry.{TaskEntry}
@@ -33,6 +34,7 @@ use Rattle.record.specs.declared.Due.the-variants.{Free, Local, Global, Unknown
 use Rattle.record.proofs.Facts.{Fit}
 use Rattle.record.proofs.Exists.{sized-small}
 use Rattle.stores.specs.Places.{blockCount}
+use Rattle.stores.proofs.Places.{all-blocks}
 use Rattle.steps.specs.Objects.{isFreeBlock, endFor, freePlace, isFreeEntry, standingIn}
 use Rattle.steps.specs.Usage.{usageOf}
 use Rattle.steps.proofs.Finding.{each-used}
@@ -60,9 +62,9 @@ fit-dated tasks global blocks e fit =
     by-test (eqb (e .clock) 0)
     (λ z. rw z)
     (λ z.
-    by-test (eqb (e .clock) 32)
+    by-test (eqb (e .clock) globalCode)
     (λ g. rw (z, g))
-    (λ g. by-test (leb 16 (e .clock) && ltb (e .clock) 32) (λ l. rw (z, g, l)) (λ l. absurd (false≢true (rw (z, g, l) at fit)))))
+    (λ g. by-test (leb localCode (e .clock) && ltb (e .clock) globalCode) (λ l. rw (z, g, l)) (λ l. absurd (false≢true (rw (z, g, l) at fit)))))
 
 -- the blocks of the small store, and those of the large one
 abbrev smallPart : List BlockEntry → List BlockEntry
@@ -73,8 +75,9 @@ largePart bs = drop (limits .smallBlocks) bs
 
 -- they are as many as the store has
 divided : {p : Tables} → Typed p → (length (smallPart (p .blocks)) ≡ limits .smallBlocks) × (length (largePart (p .blocks)) ≡ limits .largeBlocks)
-unfolding limits
-divided {p} typed = (length-take-le _ (p .blocks) (omega (arith, typed .blocks)), rw (length-drop, typed .blocks))
+unfolding blockCount
+divided {p} typed =
+    (length-take-le _ (p .blocks) (omega (arith, typed .blocks, allowed .most-small)), rw (length-drop, typed .blocks) (omega (arith, all-blocks)))
 
 -- the objects in them
 abbrev inSmall : List ℕ → List ℕ → List BlockEntry → List Object
@@ -92,7 +95,7 @@ module _ {p : Tables} {small large : List ℕ} {L : Ledger} (fit : Fit p) (reads
       (λ i h.
       let within : i < n = omega (arith, length-take n (p .blocks)) in
       rw (zero-add, getD-take n (p .blocks) i freeBlock within)
-      (each-used fit small large _ i (λ f. sized-small i _ (f .sized) ∙ lt-ltb i n within)))
+      (each-used fit small large _ i (λ f. sized-small i (getD (p .blocks) i freeBlock .length) (f .sized) ∙ lt-ltb i n within)))
 
   all-large : All (λ (o : Object). isSmall (o .size) ≡ false) (inLarge small large (p .blocks))
   all-large =
@@ -100,7 +103,7 @@ module _ {p : Tables} {small large : List ℕ} {L : Ledger} (fit : Fit p) (reads
       all-places _ freeBlock (objectIn small large) n (largePart (p .blocks))
       (λ i h.
       rw (getD-drop n (p .blocks) i freeBlock)
-      (each-used fit small large _ (n + i) (λ f. sized-small (n + i) _ (f .sized) ∙ le-ltb (n + i) n (omega arith))))
+      (each-used fit small large _ (n + i) (λ f. sized-small (n + i) (getD (p .blocks) (n + i) freeBlock .length) (f .sized) ∙ le-ltb (n + i) n (omega arith))))
 
   -- a count of objects by their size is the same of ledger and record
   count-alike : (r : ℕ → Bool)

@@ -11,13 +11,14 @@ use lib.ListN.{length, getD, replicate, length-replicate}
 use Rattle.lists.specs.Tests.{any}
 use Rattle.lists.proofs.Cases.{by-test, and₃}
 use Rattle.lists.proofs.Tables.{allFrom-at}
-use Rattle.ledger.specs.Limits.{limits, smallSize}
+use Rattle.ledger.specs.Limits.{smallSize}
 use Rattle.record.specs.Codes.{freeBlock}
 use Rattle.record.specs.Reading.{isSmallBlock, isWholeSmall, isWholeLarge, blockBytes}
 use Rattle.record.specs.WellFormed.{isUsed, isNaming, isSizedFor, isFitBlock}
-use Rattle.record.specs.Tables.{Tables}
+use Rattle.record.specs.Tables.{Tables, blockEntries}
 use Rattle.record.proofs.Facts.{Fit}
-use Rattle.stores.specs.Places.{blockCount, sizeOf, InBlock, smallAfter, largeAfter}
+use Rattle.stores.specs.Places.{sizeOf, InBlock, smallAfter, largeAfter}
+use Rattle.stores.proofs.Places.{all-blocks}
 use Rattle.stores.proofs.Changes.{bytes-changed, bytes-cleared}
 
 -- a block that was cleared whole: zeros in it, and every other block's bytes as they were
@@ -37,12 +38,11 @@ sized-within block size e =
 
 module _ (small large : List ℕ) (small-whole : isWholeSmall small ≡ true) (large-whole : isWholeLarge large ≡ true) where
   -- a block's first bytes lie in its store
-  in-block : (block : ℕ) → block < 96 → (n : ℕ) → n ≤ sizeOf block → InBlock small large block n
-  unfolding blockCount limits
-  in-block block known n within = record { known = known; small-whole = small-whole; large-whole = large-whole; within = within }
+  in-block : (block : ℕ) → block < blockEntries → (n : ℕ) → n ≤ sizeOf block → InBlock small large block n
+  in-block block known n within = record { known = omega (arith, all-blocks); small-whole = small-whole; large-whole = large-whole; within = within }
 
   -- and so do those of its object, where a block is in use
-  pub used-in-block : (p : Tables) → Fit p → (j : ℕ) → j < 96 → isUsed (getD (p .blocks) j freeBlock) ≡ true
+  pub used-in-block : (p : Tables) → Fit p → (j : ℕ) → j < blockEntries → isUsed (getD (p .blocks) j freeBlock) ≡ true
       → InBlock small large j (getD (p .blocks) j freeBlock .length)
   unfolding isFitBlock
   used-in-block p fit j known used =
@@ -52,7 +52,7 @@ module _ (small large : List ℕ) (small-whole : isWholeSmall small ≡ true) (l
       in-block j known (b .length) (sized-within j (b .length) sized)
 
   -- a make clears its block whole
-  pub made-bytes : (place : ℕ) → place < 96
+  pub made-bytes : (place : ℕ) → place < blockEntries
       → BytesCleared small large (smallAfter place 0 (replicate (sizeOf place) 0) small) (largeAfter place 0 (replicate (sizeOf place) 0) large) place
   made-bytes place known =
       let zeros : List ℕ = replicate (sizeOf place) 0 in

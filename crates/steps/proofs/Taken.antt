@@ -13,8 +13,9 @@ use Rattle.lists.proofs.Cases.{by-test, and₃}
 use Rattle.lists.proofs.All.{all-getD}
 use Rattle.lists.proofs.Tables.{allFrom→All}
 use Rattle.ledger.specs.Limits.{limits, taskCount, largeSize, counterRange, isSmall}
+use Rattle.ledger.proofs.Figures.{allowed}
 use Rattle.ledger.specs.Tasks.{isAbsent}
-use Rattle.record.specs.Codes.{dueBy, stateOf, dueOf, isDated, leftAt, absentEntry, freeBlock, freeEntry}
+use Rattle.record.specs.Codes.{dueBy, stateOf, dueOf, isDated, leftAt, absentEntry, freeBlock, freeEntry, localCode, globalCode}
 use Rattle.record.specs.Reading.{isSmallBlock, Typed}
 use Rattle.record.specs.WellFormed.{isFitDue, isFitEntry, isNaming, isSizedFor, isFitBlock}
 use Rattle.record.specs.declared.TaskEntry.{TaskEntry}
@@ -53,16 +54,16 @@ unfolding dueBy
 slot-due slot xs entry = rw (entry .free)
 
 -- the clock of a task is its own
-pub local-due : (task due : ℕ) → task < taskCount → dueBy (16 + task) due ≡ Local task (record { 0 = due })
-unfolding dueBy taskCount
+pub local-due : (task due : ℕ) → task < taskCount → dueBy (localCode + task) due ≡ Local task (record { 0 = due })
+unfolding dueBy
 local-due task due known =
-    let same : 16 + task - 16 ≡ task = omega arith in
-    rw (ne-eqb (16 + task) 0 (λ e. omega arith), ne-eqb (16 + task) 32 (λ e. omega arith), le-leb 16 (16 + task) (omega arith), lt-ltb (16 + task) 32 (omega arith), same)
+    let same : localCode + task - localCode ≡ task = omega arith in
+    rw (ne-eqb (localCode + task) 0 (λ e. omega arith), ne-eqb (localCode + task) globalCode (λ e. omega arith), le-leb localCode (localCode + task) (omega arith), lt-ltb (localCode + task) globalCode (omega arith), same)
 
 -- units left right after they are set: no counter goes round in so few
 pub units-set : (now units : ℕ) → now < counterRange → units ≤ limits .extension + 2 → leftAt ((now + units) % counterRange) now ≡ units
-unfolding counterRange limits
-units-set now units range few = omega arith
+unfolding counterRange
+units-set now units range few = omega (arith, allowed .most-extension)
 
 pub clock-range : (p : Tables) → Typed p → (task : ℕ) → getD (p .tasks) task absentEntry .clock .0 < counterRange
 unfolding counterRange

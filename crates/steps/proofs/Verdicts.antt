@@ -24,7 +24,7 @@ use Rattle.ledger.specs.declared.Refusal.the-variants.{TaskAbsent, TaskWaiting}
 use Rattle.ledger.specs.declared.Verdict.{Verdict}
 use Rattle.ledger.specs.declared.Verdict.the-variants.{Accepted, Refused}
 use Rattle.record.specs.Reading.{recordView, Typed, Reads}
-use Rattle.record.specs.Tables.{Tables}
+use Rattle.record.specs.Tables.{Tables, blockEntries}
 use Rattle.record.proofs.Facts.{Fit}
 use Rattle.steps.proofs.ReadTasks.{state-alike}
 use Rattle.stores.specs.Places.{blockCount}
@@ -48,7 +48,7 @@ abbrev isUngiven : ℕ → Tables → Bool
 isUngiven handle p = eqb handle 0 || ltb (p .given) handle
 
 abbrev isGone : ℕ → Tables → Bool
-isGone handle p = leb blockCount (placeOf handle (p .blocks))
+isGone handle p = leb blockEntries (placeOf handle (p .blocks))
 
 -- a test's refusal, and whether the test holds
 abbrev refusalOf : Test → Refusal
@@ -86,10 +86,10 @@ module _ {p : Tables} {small large : List ℕ} {L : Ledger} (typed : Typed p) (f
   given-alike = sym (reads .alike .given)
 
   -- 1, 3, 4
-  task-tests : {task : ℕ} {ts : List Test} {v : Verdict} → Agree (L .memory) (L .expirations) ts v
+  task-tests : (task : ℕ) {ts : List Test} {v : Verdict} → Agree (L .memory) (L .expirations) ts v
       → Agree (L .memory) (L .expirations) (noSuchTask task ∷ taskAbsent task ∷ taskWaiting task ∷ ts) (andThen (taskVerdict task (p .tasks)) v)
   unfolding recordView viewOf
-  task-tests {task} h =
+  task-tests task h =
       simp (state-alike (p .tasks) (L .memory .clocks) (reads .alike .tasks) task, by-state, then-assoc)
       (test-alike refl (λ e. test-alike refl (λ e. test-alike refl (λ e. h))))
 
@@ -118,7 +118,7 @@ module _ {p : Tables} {small large : List ℕ} {L : Ledger} (typed : Typed p) (f
       → verdictOn L (Make task kind extension size) new ≡ asRefusal (makeVerdict task extension size p)
   unfolding testsOf makeVerdict
   make-verdict task kind extension size new =
-      task-tests
+      task-tests task
       (test-alike refl
       (λ e. test-alike refl
       (λ e. test-alike (ap (leb lastHandle) given-alike)
@@ -128,15 +128,15 @@ module _ {p : Tables} {small large : List ℕ} {L : Ledger} (typed : Typed p) (f
       → verdictOn L (Refresh task kind extension handle) new ≡ asRefusal (refreshVerdict task extension handle p)
   unfolding testsOf refreshVerdict
   refresh-verdict task kind extension handle new =
-      task-tests (test-alike refl (λ e. handle-tests handle (λ given stays. last-alike (ap (leb (limits .expirations)) (entries-alike fit reads))))) .so
+      task-tests task (test-alike refl (λ e. handle-tests handle (λ given stays. last-alike (ap (leb (limits .expirations)) (entries-alike fit reads))))) .so
 
   pub read-verdict : (task handle : ℕ) (new : List ℕ) → verdictOn L (Read task handle) new ≡ asRefusal (readVerdict task handle p)
   unfolding testsOf readVerdict
-  read-verdict task handle new = task-tests (test-alike (given-test handle) (λ given. last-alike (gone-test handle given))) .so
+  read-verdict task handle new = task-tests task (test-alike (given-test handle) (λ given. last-alike (gone-test handle given))) .so
 
   pub write-verdict : (task handle offset : ℕ) (new : List ℕ)
       → verdictOn L (Write task handle offset) new ≡ asRefusal (writeVerdict task handle offset (length new) p)
   unfolding testsOf writeVerdict readVerdict
   write-verdict task handle offset new =
       rw (then-assoc (taskVerdict task (p .tasks)) (handleVerdict handle p))
-      (task-tests (handle-tests handle (λ given stays. last-alike (size-test handle given stays (offset + length new)))) .so)
+      (task-tests task (handle-tests handle (λ given stays. last-alike (size-test handle given stays (offset + length new)))) .so)

@@ -77,7 +77,7 @@ advancedTasks advanced tasks = cond advanced (map untickedEntry tasks) tasks
 abbrev pub advancedTime : Bool → GlobalTime → GlobalTime
 advancedTime advanced global = record { 0 = cond advanced (nextTime (global .0)) (global .0) }
 
--- the task whose own dates go: 16 for none
+-- the task whose own dates go: taskCount for none
 abbrev pub leaverOf : Event → ℕ → ℕ
 leaverOf Join task = taskCount
 leaverOf Block task = taskCount

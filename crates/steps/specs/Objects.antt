@@ -16,15 +16,15 @@ use Rattle.ledger.specs.declared.Refusal.the-variants.{NoSuchTask, TaskAbsent, 
 use Rattle.ledger.specs.declared.Verdict.{Verdict}
 use Rattle.ledger.specs.declared.Verdict.the-variants.{Accepted, Refused}
 use Rattle.stores.specs.Places.{blockCount}
-use Rattle.record.specs.Codes.{stateOf, absentEntry, freeBlock}
+use Rattle.record.specs.Codes.{stateOf, absentEntry, freeBlock, localCode, globalCode}
 use Rattle.record.specs.declared.TaskEntry.{TaskEntry}
-use Rattle.record.specs.Tables.{BlockEntry, ExpirationEntry, Tables}
+use Rattle.record.specs.Tables.{BlockEntry, ExpirationEntry, Tables, blockEntries}
 use Rattle.record.specs.declared.GlobalTime.{GlobalTime}
 
 abbrev pub isBlockOf : ℕ → BlockEntry → Bool
 isBlockOf handle b = eqb (b .handle) handle
 
--- the block of the object with this handle, or blockCount
+-- the block of the object with this handle, or as many as there are entries
 abbrev pub placeOf : ℕ → List BlockEntry → ℕ
 placeOf handle blocks = firstFrom 0 (isBlockOf handle) blocks
 
@@ -62,7 +62,6 @@ abbrev pub standingIn : List ExpirationEntry → ℕ
 standingIn xs = count (λ (e : ExpirationEntry). not (isFreeEntry e)) xs
 
 -- the first free expiration entry, or their count
-
 abbrev pub freeSlot : List ExpirationEntry → ℕ
 freeSlot xs = firstFrom 0 isFreeEntry xs
 
@@ -90,7 +89,7 @@ extensionVerdict extension = refuseIf (ltb (limits .extension) extension) Extens
 -- 11, 12, by the handles given and the place that was found
 abbrev pub foundVerdict : ℕ → ℕ → ℕ → Verdict
 foundVerdict handle given place =
-    andThen (refuseIf (eqb handle 0 || ltb given handle) HandleNotGiven) (refuseIf (leb blockCount place) ObjectGone)
+    andThen (refuseIf (eqb handle 0 || ltb given handle) HandleNotGiven) (refuseIf (leb blockEntries place) ObjectGone)
 
 abbrev pub handleVerdict : ℕ → Tables → Verdict
 handleVerdict handle p = foundVerdict handle (p .given) (placeOf handle (p .blocks))
@@ -137,9 +136,9 @@ writeVerdict task handle offset count p = andThen (readVerdict task handle p) (e
 -- the entry of an expiration that a task sets on a block: "c + e + 1", "g + e + 2", by counters that wrap
 abbrev pub entryBy : Kind → ℕ → ℕ → ℕ → List TaskEntry → GlobalTime → ExpirationEntry
 entryBy Local task extension block tasks global =
-    record { clock = 16 + task; block = block; due = (getD tasks task absentEntry .clock .0 + (extension + 1)) % counterRange }
+    record { clock = localCode + task; block = block; due = (getD tasks task absentEntry .clock .0 + (extension + 1)) % counterRange }
 entryBy Global task extension block tasks global =
-    record { clock = 32; block = block; due = (global .0 + (extension + 2)) % counterRange }
+    record { clock = globalCode; block = block; due = (global .0 + (extension + 2)) % counterRange }
 
 unfoldable pub entryFor : Kind → ℕ → ℕ → ℕ → Tables → ExpirationEntry
 entryFor kind task extension block p = entryBy kind task extension block (p .tasks) (p .global)

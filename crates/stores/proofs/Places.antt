@@ -8,13 +8,24 @@ use borrow.Author.Tests.{ltb-true, ltb-false, eqb-true}
 use lib.ListN.{length, take, drop}
 use Rattle.lists.proofs.Blocks.{apart}
 use Rattle.lists.proofs.Cases.{by-test}
-use Rattle.ledger.specs.Limits.{limits, smallSize, largeSize}
+use Rattle.ledger.specs.Limits.{capacity, limits, largeSize}
+use Rattle.ledger.proofs.Figures.{allowed, at-capacity}
 use Rattle.record.specs.Reading.{isSmallBlock, blockBytes}
+use Rattle.record.specs.Tables.{blockEntries}
 use Rattle.stores.specs.Places.{blockCount, storeOf, indexOf, sizeOf, startOf, InBlock}
 
 -- the blocks of the store that has the block
 abbrev pub countOf : ℕ → ℕ
 countOf block = cond (isSmallBlock block) (limits .smallBlocks) (limits .largeBlocks)
+
+-- every block has an entry, and today every entry is a block's
+pub blocks-listed : blockCount ≤ blockEntries
+unfolding blockCount
+blocks-listed = omega (arith, allowed .most-small, allowed .most-large)
+
+pub all-blocks : blockEntries ≡ blockCount
+unfolding blockCount
+all-blocks = rw at-capacity
 
 module _ {small large : List ℕ} {block count : ℕ} (p : InBlock small large block count) where
   pub index-within : indexOf block < countOf block
@@ -32,9 +43,11 @@ module _ {small large : List ℕ} {block count : ℕ} (p : InBlock small large b
       (λ e. rw e (eqb-true _ _ (p .large-whole)))
 
   -- so few bytes that no offset in it wraps
-  pub store-bound : length (storeOf small large block) ≤ 8192
-  unfolding sizeOf limits smallSize largeSize
-  store-bound = rw store-size (by-test (isSmallBlock block) (λ e. rw e (omega arith)) (λ e. rw e (omega arith)))
+  pub store-bound : length (storeOf small large block) ≤ capacity .largeBlocks * largeSize
+  unfolding sizeOf
+  store-bound =
+      rw store-size
+      (by-test (isSmallBlock block) (λ e. rw e (omega (arith, allowed .most-small))) (λ e. rw e (omega (arith, allowed .most-large))))
 
   pub part-within : startOf block + count ≤ length (storeOf small large block)
   unfolding startOf

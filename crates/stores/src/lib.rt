@@ -6,13 +6,14 @@ ghost use lib.ListN.{length, take, drop, replicate};
 ghost use Rattle.lists.specs.Blocks.{overwritten};
 ghost use Rattle.record.specs.Reading.{blockBytes};
 ghost use Rattle.stores.specs.Places.{blockCount, sizeOf, startOf, InBlock, smallAfter, largeAfter};
+use ledger::LIMITS;
 
-// 01's figures: the blocks of the small store, the bytes of a small and of a large block.
-const SMALL_BLOCKS: usize = 64;
+// The blocks of the small store, the bytes of a small and of a large block.
+const SMALL_BLOCKS: usize = LIMITS.small_blocks;
 
-const SMALL_SIZE: usize = 32;
+pub const SMALL_SIZE: usize = ledger::SMALL_SIZE as usize;
 
-const LARGE_SIZE: usize = 256;
+pub const LARGE_SIZE: usize = ledger::LARGE_SIZE as usize;
 
 // All bytes zero.
 fn clear(part: &mut [u8])

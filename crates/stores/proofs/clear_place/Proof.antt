@@ -1,33 +1,32 @@
 -- The block lies in the store that the test picks.
 use native.Mathlib.Nat.{add-zero}
 use borrow.Author.Needs.{needs}
-use borrow.Author.Tests.{lt-ltb, le-ltb}
-use Rattle.ledger.specs.Limits.{limits, smallSize, largeSize}
+use Rattle.record.proofs.Figures.{small-block, large-block}
 use Rattle.stores.specs.Places.{sizeOf, smallAfter, largeAfter}
 use Rattle.stores.proofs.Places.{part-within}
 use Rattle.stores.proofs.clear_place.Statement.{statement}
 use Rattle.stores.proofs.clear_place.Tie as tie
 
 clear-block-requires : tie.Need-clear-block-requires
-unfolding limits smallSize sizeOf
+unfolding sizeOf
 clear-block-requires c κs =
-    rw (c .before .before .block-start .ensures) (rw (lt-ltb _ _ (c .before .if1 .taken)) at (part-within (c .before .before .before .before .before .pre)))
+    rw (c .before .before .block-start .ensures) (rw (small-block (c .before .if1 .taken)) at (part-within (c .before .before .before .before .before .pre)))
 
 returns : tie.Need-returns
-unfolding limits smallSize sizeOf smallAfter largeAfter
+unfolding sizeOf smallAfter largeAfter
 returns c =
-    let e = lt-ltb _ _ (c .before .before .before .before .if1 .taken) in
+    let e = small-block (c .before .before .before .before .if1 .taken) in
     (rw (e, add-zero, ← c .before .before .before .before .before .block-start .ensures) (c .before .before .clear-block .ensures), rw e)
 
 clear-block-requires-2 : tie.Need-clear-block-requires-2
-unfolding limits largeSize sizeOf
+unfolding sizeOf
 clear-block-requires-2 c κs =
-    rw (c .before .before .block-start .ensures) (rw (le-ltb _ _ (c .before .if1 .left)) at (part-within (c .before .before .before .before .before .pre)))
+    rw (c .before .before .block-start .ensures) (rw (large-block (c .before .if1 .left)) at (part-within (c .before .before .before .before .before .pre)))
 
 returns-2 : tie.Need-returns-2
-unfolding limits largeSize sizeOf smallAfter largeAfter
+unfolding sizeOf smallAfter largeAfter
 returns-2 c =
-    let e = le-ltb _ _ (c .before .before .before .before .if1 .left) in
+    let e = large-block (c .before .before .before .before .if1 .left) in
     (rw e, rw (e, add-zero, ← c .before .before .before .before .before .block-start .ensures) (c .before .before .clear-block2 .ensures))
 
 pub clear-place-spec : {M : Type 1} → statement M
