@@ -6,7 +6,8 @@ use mathlib.Core.Path.{_≡_, refl, sym, _∙_}
 use borrow.Author.Tests.{eqb-true, eq-eqb, ne-eqb, leb-true, le-leb, lt-ltb}
 use lib.Dec.{eqb, leb, ltb}
 use Rattle.lists.proofs.Cases.{by-test, refuted}
-use Rattle.record.specs.Codes.{dueBy, isDueLocal, isDueGlobal}
+use Rattle.ledger.specs.Limits.{taskCount}
+use Rattle.record.specs.Codes.{dueBy, isDueLocal, isDueGlobal, localCode, globalCode}
 use Rattle.record.specs.declared.Due.{Due}
 use Rattle.record.specs.declared.Due.the-variants.{Free, Local, Global, Unknown}
 use Rattle.record.specs.declared.GlobalTime.{GlobalTime}
@@ -15,8 +16,8 @@ use Rattle.expirations.specs.Ending.{isEnding, isEndingLocal}
 use Rattle.expirations.specs.declared.Passing.{Passing}
 
 -- only what goes by the global time
-pub global-clock : (now : GlobalTime) (clock due : ℕ) → isDueGlobal now (dueBy clock due) ≡ true → eqb clock 32 ≡ true
-global-clock now clock due e = and-eq-true-iff (eqb clock 32) _ .0 (asked-global clock due now ∙ e) .0
+pub global-clock : (now : GlobalTime) (clock due : ℕ) → isDueGlobal now (dueBy clock due) ≡ true → eqb clock globalCode ≡ true
+global-clock now clock due e = and-eq-true-iff (eqb clock globalCode) _ .0 (asked-global clock due now ∙ e) .0
 
 module _ (t : Passing) where
   -- by either clock
@@ -39,35 +40,35 @@ module _ (t : Passing) where
       global-ends a = rw (by-either (dueBy clock due), e, a)
 
   -- only what goes by the task's clock
-  pub local-clock : (clock due : ℕ) → isEndingLocal t (dueBy clock due) ≡ true → eqb clock (16 + t .task) ≡ true
+  pub local-clock : (clock due : ℕ) → isEndingLocal t (dueBy clock due) ≡ true → eqb clock (localCode + t .task) ≡ true
   unfolding dueBy
   local-clock clock due e =
       by-test (eqb clock 0)
       (λ z. absurd (false≢true (rw z at e)))
       (λ z.
-      by-test (eqb clock 32)
+      by-test (eqb clock globalCode)
       (λ g. absurd (false≢true (rw (z, g) at e)))
       (λ g.
-      by-test (leb 16 clock && ltb clock 32)
+      by-test (leb localCode clock && ltb clock globalCode)
       (λ l.
-      let least = leb-true 16 clock (and-eq-true-iff _ _ .0 l .0) in
-      let same = eqb-true (clock - 16) (t .task) (and-eq-true-iff _ _ .0 (rw (z, g, l) at e) .0) in
-      eq-eqb clock (16 + t .task) (omega arith))
+      let least = leb-true localCode clock (and-eq-true-iff _ _ .0 l .0) in
+      let same = eqb-true (clock - localCode) (t .task) (and-eq-true-iff _ _ .0 (rw (z, g, l) at e) .0) in
+      eq-eqb clock (localCode + t .task) (omega arith))
       (λ l. absurd (false≢true (rw (z, g, l) at e)))))
 
-  module _ (known : t .task < 16) where
-    own-due : (due : ℕ) → dueBy (16 + t .task) due ≡ Local (t .task) (record { 0 = due })
+  module _ (known : t .task < taskCount) where
+    own-due : (due : ℕ) → dueBy (localCode + t .task) due ≡ Local (t .task) (record { 0 = due })
     unfolding dueBy
     own-due due =
-        let same : 16 + t .task - 16 ≡ t .task = omega arith in
-        rw (ne-eqb (16 + t .task) 0 (omega arith), ne-eqb (16 + t .task) 32 (omega arith), le-leb 16 (16 + t .task) (omega arith), lt-ltb (16 + t .task) 32 (omega arith), same)
+        let same : localCode + t .task - localCode ≡ t .task = omega arith in
+        rw (ne-eqb (localCode + t .task) 0 (omega arith), ne-eqb (localCode + t .task) globalCode (omega arith), le-leb localCode (localCode + t .task) (omega arith), lt-ltb (localCode + t .task) globalCode (omega arith), same)
 
     pub by-local : (clock due : ℕ)
-        → (t .leaves && eqb clock (16 + t .task) || isDueLocal (t .task) (t .local) (dueBy clock due)) ≡ isEndingLocal t (dueBy clock due)
+        → (t .leaves && eqb clock (localCode + t .task) || isDueLocal (t .task) (t .local) (dueBy clock due)) ≡ isEndingLocal t (dueBy clock due)
     by-local clock due =
-        by-test (eqb clock (16 + t .task))
+        by-test (eqb clock (localCode + t .task))
         (λ e.
-        rw (e, eqb-true clock (16 + t .task) e, own-due due, eq-eqb (t .task) (t .task) refl, and-true))
+        rw (e, eqb-true clock (localCode + t .task) e, own-due due, eq-eqb (t .task) (t .task) refl, and-true))
         (λ e.
         rw (e, and-false, ← asked-local clock due (t .task) (t .local) known, e)
         (sym (refuted (isEndingLocal t (dueBy clock due)) (λ h. false≢true (sym e ∙ local-clock clock due h)))))

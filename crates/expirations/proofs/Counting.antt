@@ -13,12 +13,12 @@ use Rattle.lists.proofs.Counts.{count-append, length-filter}
 use Rattle.lists.proofs.Filters.{count-length}
 use Rattle.lists.proofs.First.{first-full}
 use Rattle.lists.proofs.Loops.{Scanned}
-use Rattle.record.specs.Tables.{ExpirationEntry, entriesOf, SizedEntries}
+use Rattle.record.specs.Tables.{ExpirationEntry, entriesOf, SizedEntries, expirationEntries}
 use Rattle.record.proofs.Columns.{clocks-of, entries-set}
 use Rattle.steps.specs.Objects.{freeSlot}
 use Rattle.expirations.specs.Setting.{entryOf, Sets}
 use Rattle.expirations.specs.declared.Entry.{Entry}
-use Rattle.expirations.specs.Standing.{isUsedClock, standingOf, freeIn}
+use Rattle.expirations.specs.Standing.{isUsedClock, standingOf, freeIn, halfSize}
 
 abbrev pub isFree : ℕ → Bool
 isFree clock = eqb clock 0
@@ -30,15 +30,15 @@ part-within from to m {clocks} s =
     let part = drop from (take to clocks) in
     omega (arith, s .so, count-length isUsedClock part, length-filter isUsedClock part, length-drop from (take to clocks), length-take to clocks)
 
-pub halves : (clocks : List ℕ) → length clocks ≡ 256
-    → standingOf clocks ≡ standingOf (drop 0 (take 128 clocks)) + standingOf (drop 128 (take 256 clocks))
+pub halves : (clocks : List ℕ) → length clocks ≡ expirationEntries
+    → standingOf clocks ≡ standingOf (drop 0 (take halfSize clocks)) + standingOf (drop halfSize (take expirationEntries clocks))
 halves clocks h =
-    ap standingOf (sym (take-append-drop 128 clocks))
-    ∙ count-append isUsedClock (take 128 clocks) (drop 128 clocks)
-    ∙ rw (take-all 256 clocks (omega arith))
+    ap standingOf (sym (take-append-drop halfSize clocks))
+    ∙ count-append isUsedClock (take halfSize clocks) (drop halfSize clocks)
+    ∙ rw (take-all expirationEntries clocks (omega arith))
 
 -- where fewer stand than there are entries, there is a free one
-pub free-within : {clocks named dues : List ℕ} {at : ℕ} → SizedEntries clocks named dues → standingOf clocks < 256 → at ≡ freeIn clocks → at < 256
+pub free-within : {clocks named dues : List ℕ} {at : ℕ} → SizedEntries clocks named dues → standingOf clocks < expirationEntries → at ≡ freeIn clocks → at < expirationEntries
 free-within {clocks} s k e =
     let full = sym (first-full isFree 0 clocks) ∙ lt-leb (length clocks) (standingOf clocks) (omega (arith, s .of-clocks)) in
     omega (arith, s .of-clocks, leb-false (0 + length clocks) (freeIn clocks) full)

@@ -9,15 +9,16 @@ use lib.Dec.{eqb}
 use lib.ListN.{getD, set, replicate, length-set, length-replicate, getD-replicate}
 use lib.Seq.{getD-set-same, getD-set-other}
 use Rattle.lists.proofs.Cases.{by-test}
+use Rattle.record.specs.Tables.{byteValues}
 use Rattle.expirations.specs.Releasing.{isNamedAt, Flags}
 use Rattle.expirations.specs.Standing.{isDatedAt}
 use Rattle.expirations.proofs.Places.{asked-start, asked-turn, asked-skip}
 
-pub flags-start : (clocks named : List ℕ) → Flags clocks named 0 (replicate 256 false)
+pub flags-start : (clocks named : List ℕ) → Flags clocks named 0 (replicate byteValues false)
 flags-start clocks named =
     record {
-      size = length-replicate 256 false;
-      so = λ block b. rw (getD-replicate 256 block false false b) (asked-start (isNamedAt clocks named block) 0);
+      size = length-replicate byteValues false;
+      so = λ block b. rw (getD-replicate byteValues block false false b) (asked-start (isNamedAt clocks named block) 0);
     }
 
 module _ {clocks named : List ℕ} {i : ℕ} {flags : List Bool} (s : Flags clocks named i flags) where

@@ -12,8 +12,8 @@ use Rattle.lists.specs.Tables.{mapFrom}
 use Rattle.lists.specs.Tests.{any}
 use Rattle.lists.proofs.Cases.{by-test, or-right}
 use Rattle.lists.proofs.Tables.{length-mapFrom}
-use Rattle.record.specs.Codes.{dueBy, dueOf, isDated, freeBlock, freeEntry, freedBlock, freedEntry}
-use Rattle.record.specs.Tables.{ExpirationEntry, blockEntry, expirationEntry, blocksOf, entriesOf, SizedEntries}
+use Rattle.record.specs.Codes.{dueBy, dueOf, isDated, freeBlock, freeEntry, freedBlock, freedEntry, localCode, globalCode}
+use Rattle.record.specs.Tables.{ExpirationEntry, blockEntry, expirationEntry, blocksOf, entriesOf, SizedEntries, blockEntries, expirationEntries, byteValues}
 use Rattle.record.specs.WellFormed.{isNaming}
 use Rattle.record.proofs.Columns.{length-blocks, block-at, length-entries, entry-at}
 use Rattle.steps.specs.Events.{keptBlock}
@@ -65,29 +65,29 @@ dated-clock clock due =
     by-test (eqb clock 0)
     (λ z. rw (eqb-true clock 0 z))
     (λ z.
-    by-test (eqb clock 32)
-    (λ g. rw (eqb-true clock 32 g))
+    by-test (eqb clock globalCode)
+    (λ g. rw (eqb-true clock globalCode g))
     (λ g.
-    by-test (ltb clock 32)
-    (λ l. by-test (leb 16 clock) (λ m. rw (z, g, l, m, le-leb clock 32 (omega (arith, ltb-true clock 32 l)))) (λ m. rw (z, g, l, m)))
+    by-test (ltb clock globalCode)
+    (λ l. by-test (leb localCode clock) (λ m. rw (z, g, l, m, le-leb clock globalCode (omega (arith, ltb-true clock globalCode l)))) (λ m. rw (z, g, l, m)))
     (λ l.
-    let past : 32 < clock = omega (arith, ltb-false clock 32 l, eqb-false clock 32 g) in
-    rw (z, g, l, le-leb 16 clock (omega arith), lt-leb clock 32 past))))
+    let past : globalCode < clock = omega (arith, ltb-false clock globalCode l, eqb-false clock globalCode g) in
+    rw (z, g, l, le-leb localCode clock (omega arith), lt-leb clock globalCode past))))
 
 -- what a test of the entries finds, by a test of their numbers at each place
 module _ {cs ns ds : List ℕ} (sized : SizedEntries cs ns ds) where
-  size-of : length (entriesOf cs ns ds) ≡ 256
+  size-of : length (entriesOf cs ns ds) ≡ expirationEntries
   size-of = length-entries cs ns ds (sized .of-clocks) (sized .of-named) (sized .of-dues)
 
   entry-of : (k : ℕ) → getD (entriesOf cs ns ds) k freeEntry ≡ expirationEntry (getD cs k 0) (getD ns k 0) (getD ds k 0)
   entry-of = entry-at cs ns ds (sized .of-clocks) (sized .of-named) (sized .of-dues)
 
   asked-entries : (p : ExpirationEntry → Bool) {q : ℕ → Bool} {r : Bool}
-      → ((k : ℕ) → q k ≡ p (expirationEntry (getD cs k 0) (getD ns k 0) (getD ds k 0))) → Asked q 0 256 r → r ≡ any p (entriesOf cs ns ds)
+      → ((k : ℕ) → q k ≡ p (expirationEntry (getD cs k 0) (getD ns k 0) (getD ds k 0))) → Asked q 0 expirationEntries r → r ≡ any p (entriesOf cs ns ds)
   asked-entries p f s = asked-any p freeEntry (entriesOf cs ns ds) size-of (asked-same s (λ k l m. f k ∙ ap p (sym (entry-of k))))
 
 -- a block is named where its flag is set
-flag-names : {cs ns ds : List ℕ} {flags : List Bool} → Flags cs ns 256 flags → SizedEntries cs ns ds → (block : ℕ) → block < 256
+flag-names : {cs ns ds : List ℕ} {flags : List Bool} → Flags cs ns expirationEntries flags → SizedEntries cs ns ds → (block : ℕ) → block < byteValues
     → getD flags block false ≡ any (isNaming block) (entriesOf cs ns ds)
 flag-names {cs} {ns} {ds} s sized block l =
     asked-entries sized (isNaming block) (λ k. rw (dated-clock (getD cs k 0) (getD ds k 0))) (s .so block l)
@@ -98,8 +98,8 @@ kept-entry true handle size = refl
 kept-entry false handle size = refl
 
 -- the blocks after their handles are kept by the flags
-released : {cs ns hs hs′ : List ℕ} {flags : List Bool} (ls ds : List ℕ) → Flags cs ns 256 flags → Changed 0 (keptByFlag flags) 0 96 hs hs′
-    → SizedEntries cs ns ds → length hs ≡ 96 → length ls ≡ 96 → blocksOf hs′ ls ≡ mapFrom 0 (keptBlock (entriesOf cs ns ds)) (blocksOf hs ls)
+released : {cs ns hs hs′ : List ℕ} {flags : List Bool} (ls ds : List ℕ) → Flags cs ns expirationEntries flags → Changed 0 (keptByFlag flags) 0 blockEntries hs hs′
+    → SizedEntries cs ns ds → length hs ≡ blockEntries → length ls ≡ blockEntries → blocksOf hs′ ls ≡ mapFrom 0 (keptBlock (entriesOf cs ns ds)) (blocksOf hs ls)
 released {cs} {ns} {hs} {hs′} {flags} ls ds s z sized h l =
     let xs = entriesOf cs ns ds in
     let blocks = blocksOf hs ls in
@@ -107,7 +107,7 @@ released {cs} {ns} {hs} {hs′} {flags} ls ds s z sized h l =
     ext-getD freeBlock (blocksOf hs′ ls) (mapFrom 0 (keptBlock xs) blocks)
     (size ∙ sym (length-mapFrom 0 (keptBlock xs) blocks ∙ length-blocks hs ls h l))
     (λ k m.
-    let within : k < 96 = omega arith in
+    let within : k < blockEntries = omega arith in
     rw (block-at hs′ ls (z .size ∙ h) l k, z .inside k (omega arith) within, block-left xs blocks k, block-at hs ls h l k, ← flag-names s sized k (omega arith))
     (kept-entry (getD flags k false) (getD hs k 0) (getD ls k 0)))
 
@@ -117,7 +117,7 @@ ended-entry : (ends : Bool) (clock block due : ℕ)
 ended-entry true clock block due = refl
 ended-entry false clock block due = refl
 
-module _ {t : Passing} {cs ns ds cs′ : List ℕ} {r : Bool} (s : Ended t ds 0 256 cs cs′ r) (sized : SizedEntries cs ns ds) where
+module _ {t : Passing} {cs ns ds cs′ : List ℕ} {r : Bool} (s : Ended t ds 0 expirationEntries cs cs′ r) (sized : SizedEntries cs ns ds) where
   sized′ : SizedEntries cs′ ns ds
   sized′ = record { of-clocks = s .changed .size ∙ sized .of-clocks; of-named = sized .of-named; of-dues = sized .of-dues }
 
@@ -139,9 +139,9 @@ module _ {t : Passing} {cs ns ds cs′ : List ℕ} {r : Bool} (s : Ended t ds 0 
   ended-any : r ≡ any (λ (e : ExpirationEntry). isEnding t (dueOf e)) (entriesOf cs ns ds)
   ended-any = asked-entries sized _ (λ k. refl) (s .asked)
 
-  module _ {hs : List ℕ} (h : length hs ≡ 96) where
+  module _ {hs : List ℕ} (h : length hs ≡ blockEntries) where
     -- where any was, blocks are released
-    pub ends-some : {hs′ : List ℕ} {flags : List Bool} → r ≡ true → Flags cs′ ns 256 flags → Changed 0 (keptByFlag flags) 0 96 hs hs′
+    pub ends-some : {hs′ : List ℕ} {flags : List Bool} → r ≡ true → Flags cs′ ns expirationEntries flags → Changed 0 (keptByFlag flags) 0 blockEntries hs hs′
         → Ends t ns ds hs cs hs′ cs′
     ends-some e f z =
         record {

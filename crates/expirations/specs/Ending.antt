@@ -8,7 +8,7 @@ use lib.ListN.{length, getD}
 use Rattle.lists.specs.Tests.{any}
 use Rattle.lists.specs.Tables.{mapFrom}
 use Rattle.record.specs.Codes.{dueBy, dueOf, leftAt, isDueGlobal, freedEntry}
-use Rattle.record.specs.Tables.{ExpirationEntry, blocksOf, entriesOf}
+use Rattle.record.specs.Tables.{ExpirationEntry, blocksOf, entriesOf, blockEntries, expirationEntries}
 use Rattle.record.specs.declared.Due.{Due}
 use Rattle.record.specs.declared.Due.the-variants.{Free, Local, Global, Unknown}
 use Rattle.record.specs.declared.GlobalTime.{GlobalTime}
@@ -57,10 +57,10 @@ pub record Ended (t : Passing) (dues : List ℕ) (a b : ℕ) (clocks clocks′ :
 
 -- Both tables after an event: what it ends is ended; and where it ends anything, the blocks that none names any more are free.
 pub record Ends (t : Passing) (named dues handles clocks handles′ clocks′ : List ℕ) : Type 0 where
-  pub handlesSize : length handles′ ≡ 96
-  pub clocksSize : length clocks′ ≡ 256
+  pub handlesSize : length handles′ ≡ blockEntries
+  pub clocksSize : length clocks′ ≡ expirationEntries
   pub entries : entriesOf clocks′ named dues ≡ map (endedEntry t) (entriesOf clocks named dues)
-  pub blocks : (lengths : List ℕ) → length lengths ≡ 96
+  pub blocks : (lengths : List ℕ) → length lengths ≡ blockEntries
       → blocksOf handles′ lengths
       ≡ cond (any (λ (e : ExpirationEntry). isEnding t (dueOf e)) (entriesOf clocks named dues))
       (mapFrom 0 (keptBlock (entriesOf clocks′ named dues)) (blocksOf handles lengths)) (blocksOf handles lengths)

@@ -1,11 +1,23 @@
 -- Which entries are in use, and how many, by their clocks.
-use Prim.Native.Nat.{ℕ}
+use Prim.Native.Nat.{ℕ, _/_}
 use mathlib.Core.Bool.{Bool, not, _&&_}
 use mathlib.Core.List.{List}
 use lib.Dec.{eqb, leb}
 use lib.ListN.{getD}
 use Rattle.lists.specs.Tests.{count}
 use Rattle.lists.specs.Tables.{firstFrom}
+use Rattle.record.specs.Tables.{expirationEntries}
+use Rattle.record.specs.Codes.{localCode, globalCode}
+
+-- the entries of a half, whose count a byte can hold, and of a group that is asked at once; and the groups
+abbrev pub halfSize : ℕ
+halfSize = expirationEntries / 2
+
+abbrev pub groupSize : ℕ
+groupSize = 32
+
+abbrev pub groupCount : ℕ
+groupCount = expirationEntries / groupSize
 
 -- the clock of an entry in use
 abbrev pub isUsedClock : ℕ → Bool
@@ -21,7 +33,7 @@ freeIn clocks = firstFrom 0 (λ (clock : ℕ). eqb clock 0) clocks
 
 -- the clock of an expiration: of a task, or the global time
 abbrev pub isDatedClock : ℕ → Bool
-isDatedClock clock = leb 16 clock && leb clock 32
+isDatedClock clock = leb localCode clock && leb clock globalCode
 
 -- what the entry at a place has
 abbrev pub isClockAt : ℕ → List ℕ → ℕ → Bool

@@ -3,8 +3,9 @@
 ghost use Prim.Native.Nat.{_+_, _≤_};
 ghost use mathlib.Core.Path.{_≡_};
 ghost use lib.ListN.{length, take, drop};
+ghost use Rattle.record.specs.Tables.{expirationEntries};
 ghost use Rattle.expirations.specs.Places.{Asked};
-ghost use Rattle.expirations.specs.Standing.{standingOf, freeIn, isDatedClock, isClockAt, isDatedAt};
+ghost use Rattle.expirations.specs.Standing.{standingOf, freeIn, isDatedClock, isClockAt, isDatedAt, halfSize, groupSize};
 use record::EXPIRATION_COUNT;
 use record::codes::FREE;
 use record::codes::GLOBAL;
@@ -15,8 +16,8 @@ pub const HALF: usize = EXPIRATION_COUNT / 2;
 
 // How many stand in one half.
 pub fn standing_in(clocks: &[u8; EXPIRATION_COUNT], from: usize) -> u8
-    requires { ⌜ (length (now clocks) ≡ 256) × (from + 128 ≤ 256) ⌝ }
-    ensures { λ r. ⌜ r ≡ standingOf (drop from (take (from + 128) (now (clocks .entry)))) ⌝ }
+    requires { ⌜ (length (now clocks) ≡ expirationEntries) × (from + halfSize ≤ expirationEntries) ⌝ }
+    ensures { λ r. ⌜ r ≡ standingOf (drop from (take (from + halfSize) (now (clocks .entry)))) ⌝ }
 {
     let mut n: u8 = 0;
     for i in from..from + HALF {
@@ -32,7 +33,7 @@ pub const GROUP_COUNT: usize = EXPIRATION_COUNT / GROUP;
 
 // Whether one of these entries has this clock.
 pub fn has_clock(clocks: &[u8; EXPIRATION_COUNT], clock: u8, from: usize, to: usize) -> bool
-    requires { ⌜ (length (now clocks) ≡ 256) × (from ≤ to) × (to ≤ 256) ⌝ }
+    requires { ⌜ (length (now clocks) ≡ expirationEntries) × (from ≤ to) × (to ≤ expirationEntries) ⌝ }
     ensures { λ r. ⌜ Asked (isClockAt clock (now (clocks .entry))) from to r ⌝ }
 {
     let mut some = false;
@@ -44,7 +45,7 @@ pub fn has_clock(clocks: &[u8; EXPIRATION_COUNT], clock: u8, from: usize, to: us
 
 // The first free entry: sixteen at a time, then one by one.
 pub fn free_entry(clocks: &[u8; EXPIRATION_COUNT]) -> usize
-    requires { ⌜ length (now clocks) ≡ 256 ⌝ }
+    requires { ⌜ length (now clocks) ≡ expirationEntries ⌝ }
     ensures { λ r. ⌜ r ≡ freeIn (now (clocks .entry)) ⌝ }
 {
     let mut n = 0;
@@ -71,8 +72,8 @@ pub fn is_dated(clock: u8) -> bool
 
 // Whether one of a group is in use.
 pub fn any_dated(clocks: &[u8; EXPIRATION_COUNT], from: usize) -> bool
-    requires { ⌜ (length (now clocks) ≡ 256) × (from + 32 ≤ 256) ⌝ }
-    ensures { λ r. ⌜ Asked (isDatedAt (now (clocks .entry))) from (from + 32) r ⌝ }
+    requires { ⌜ (length (now clocks) ≡ expirationEntries) × (from + groupSize ≤ expirationEntries) ⌝ }
+    ensures { λ r. ⌜ Asked (isDatedAt (now (clocks .entry))) from (from + groupSize) r ⌝ }
 {
     let mut some = false;
     for i in from..from + GROUP {

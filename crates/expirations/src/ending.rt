@@ -3,9 +3,12 @@ ghost use Prim.Native.Nat.{_+_, _≤_, _<_};
 ghost use mathlib.Core.Bool.{cond};
 ghost use mathlib.Core.Path.{_≡_};
 ghost use lib.ListN.{length};
+ghost use Rattle.ledger.specs.Limits.{taskCount};
 ghost use Rattle.record.specs.Codes.{dueBy};
+ghost use Rattle.record.specs.Tables.{expirationEntries};
 ghost use Rattle.expirations.specs.Places.{Asked};
 ghost use Rattle.expirations.specs.Ending.{isEnding, isEndingLocal, isEndingAt, isLocalAt, isGlobalAt, Ended};
+ghost use Rattle.expirations.specs.Standing.{groupSize};
 use super::Passing;
 use super::asking::GROUP;
 use super::asking::GROUP_COUNT;
@@ -20,7 +23,7 @@ use record::codes::is_due_local;
 
 // Whether an event ends an expiration by its task's local time.
 fn ends_local(t: Passing, clock: u8, due: u32) -> bool
-    requires { ⌜ t .task < 16 ⌝ }
+    requires { ⌜ t .task < taskCount ⌝ }
     ensures { λ r. ⌜ r ≡ isEndingLocal t (dueBy clock due) ⌝ }
 {
     let local = t.local;
@@ -34,8 +37,8 @@ fn any_local<'a>(
     dues: &'a [u32; EXPIRATION_COUNT],
     from: usize,
 ) -> bool
-    requires { ⌜ (t .task < 16) × (length (now clocks) ≡ 256) × (length (now dues) ≡ 256) × (from + 32 ≤ 256) ⌝ }
-    ensures { λ r. ⌜ Asked (isLocalAt t (now (clocks .entry)) (now (dues .entry))) from (from + 32) r ⌝ }
+    requires { ⌜ (t .task < taskCount) × (length (now clocks) ≡ expirationEntries) × (length (now dues) ≡ expirationEntries) × (from + groupSize ≤ expirationEntries) ⌝ }
+    ensures { λ r. ⌜ Asked (isLocalAt t (now (clocks .entry)) (now (dues .entry))) from (from + groupSize) r ⌝ }
 {
     if !has_clock(clocks, LOCAL + t.task, from, from + GROUP) {
         return false;
@@ -53,8 +56,8 @@ fn any_global<'a>(
     dues: &'a [u32; EXPIRATION_COUNT],
     from: usize,
 ) -> bool
-    requires { ⌜ (length (now clocks) ≡ 256) × (length (now dues) ≡ 256) × (from + 32 ≤ 256) ⌝ }
-    ensures { λ r. ⌜ Asked (isGlobalAt global (now (clocks .entry)) (now (dues .entry))) from (from + 32) r ⌝ }
+    requires { ⌜ (length (now clocks) ≡ expirationEntries) × (length (now dues) ≡ expirationEntries) × (from + groupSize ≤ expirationEntries) ⌝ }
+    ensures { λ r. ⌜ Asked (isGlobalAt global (now (clocks .entry)) (now (dues .entry))) from (from + groupSize) r ⌝ }
 {
     if !has_clock(clocks, GLOBAL, from, from + GROUP) {
         return false;
@@ -72,8 +75,8 @@ fn any_ends<'a>(
     dues: &'a [u32; EXPIRATION_COUNT],
     from: usize,
 ) -> bool
-    requires { ⌜ (t .task < 16) × (length (now clocks) ≡ 256) × (length (now dues) ≡ 256) × (from + 32 ≤ 256) ⌝ }
-    ensures { λ r. ⌜ Asked (isEndingAt t (now (clocks .entry)) (now (dues .entry))) from (from + 32) r ⌝ }
+    requires { ⌜ (t .task < taskCount) × (length (now clocks) ≡ expirationEntries) × (length (now dues) ≡ expirationEntries) × (from + groupSize ≤ expirationEntries) ⌝ }
+    ensures { λ r. ⌜ Asked (isEndingAt t (now (clocks .entry)) (now (dues .entry))) from (from + groupSize) r ⌝ }
 {
     if any_local(t, clocks, dues, from) {
         return true;
@@ -87,7 +90,7 @@ fn any_ends<'a>(
 
 // What is left of a clock.
 fn kept_clock(t: Passing, clock: u8, due: u32) -> u8
-    requires { ⌜ t .task < 16 ⌝ }
+    requires { ⌜ t .task < taskCount ⌝ }
     ensures { λ r. ⌜ r ≡ cond (isEnding t (dueBy clock due)) 0 clock ⌝ }
 {
     let global = t.global;
@@ -105,8 +108,8 @@ fn end_in(
     dues: &[u32; EXPIRATION_COUNT],
     from: usize,
 ) -> bool
-    requires { ⌜ (t .task < 16) × (length (now clocks) ≡ 256) × (length (now dues) ≡ 256) × (from + 32 ≤ 256) ⌝ }
-    ensures { λ r. ⌜ Ended t (now (dues .entry)) from (from + 32) (now (clocks .entry)) (now (clocks .exit)) r ⌝ }
+    requires { ⌜ (t .task < taskCount) × (length (now clocks) ≡ expirationEntries) × (length (now dues) ≡ expirationEntries) × (from + groupSize ≤ expirationEntries) ⌝ }
+    ensures { λ r. ⌜ Ended t (now (dues .entry)) from (from + groupSize) (now (clocks .entry)) (now (clocks .exit)) r ⌝ }
 {
     if !any_ends(t, clocks, dues, from) {
         return false;
@@ -123,8 +126,8 @@ pub fn end_due(
     clocks: &mut [u8; EXPIRATION_COUNT],
     dues: &[u32; EXPIRATION_COUNT],
 ) -> bool
-    requires { ⌜ (t .task < 16) × (length (now clocks) ≡ 256) × (length (now dues) ≡ 256) ⌝ }
-    ensures { λ r. ⌜ Ended t (now (dues .entry)) 0 256 (now (clocks .entry)) (now (clocks .exit)) r ⌝ }
+    requires { ⌜ (t .task < taskCount) × (length (now clocks) ≡ expirationEntries) × (length (now dues) ≡ expirationEntries) ⌝ }
+    ensures { λ r. ⌜ Ended t (now (dues .entry)) 0 expirationEntries (now (clocks .entry)) (now (clocks .exit)) r ⌝ }
 {
     let mut some = false;
     for g in 0..GROUP_COUNT {

@@ -1,12 +1,13 @@
-// How expirations (01: dates) are kept: a table of 256 entries, of which those with clock 0 are free. A call knows how many stand, sets one on a block, and has an
+// How expirations (01: dates) are kept: a table of entries, of which those with clock 0 are free. A call knows how many stand, sets one on a block, and has an
 // event end those that are over; where an entry stands is known here alone.
 ghost use Prim.Native.Nat.{_<_};
 ghost use mathlib.Core.Path.{_≡_};
 ghost use lib.ListN.{length};
+ghost use Rattle.ledger.specs.Limits.{taskCount};
 ghost use Rattle.expirations.specs.Standing.{standingOf};
 ghost use Rattle.expirations.specs.Setting.{entryFor, Sets};
 ghost use Rattle.expirations.specs.Ending.{Ends};
-ghost use Rattle.record.specs.Tables.{SizedEntries};
+ghost use Rattle.record.specs.Tables.{SizedEntries, blockEntries, expirationEntries};
 
 mod asking;
 mod ending;
@@ -32,7 +33,7 @@ use std::num::wrapping_add_u32;
 
 // How many expirations stand.
 pub fn standing(clocks: &[u8; EXPIRATION_COUNT]) -> u16
-    requires { ⌜ length (now clocks) ≡ 256 ⌝ }
+    requires { ⌜ length (now clocks) ≡ expirationEntries ⌝ }
     ensures { λ r. ⌜ r ≡ standingOf (now (clocks .entry)) ⌝ }
 {
     standing_in(clocks, 0) as u16 + standing_in(clocks, HALF) as u16
@@ -54,7 +55,7 @@ fn entry_for(
     extension: u8,
     block: usize,
 ) -> Entry
-    requires { ⌜ (task < 16) × (block < 96) ⌝ }
+    requires { ⌜ (task < taskCount) × (block < blockEntries) ⌝ }
     ensures { λ r. ⌜ r ≡ entryFor tasks global kind task extension block ⌝ }
 {
     match kind {
@@ -74,7 +75,7 @@ fn entry_for(
     }
 }
 
-// One expiration more, where fewer than 256 stand.
+// One expiration more, where there is a free entry.
 pub fn set(
     h: Head,
     kind: Kind,
@@ -85,7 +86,7 @@ pub fn set(
     named: &mut [u8; EXPIRATION_COUNT],
     dues: &mut [u32; EXPIRATION_COUNT],
 )
-    requires { ⌜ SizedEntries (now clocks) (now named) (now dues) × (standingOf (now clocks) < 256) × (task < 16) × (block < 96) ⌝ }
+    requires { ⌜ SizedEntries (now clocks) (now named) (now dues) × (standingOf (now clocks) < expirationEntries) × (task < taskCount) × (block < blockEntries) ⌝ }
     ensures { λ _. ⌜ Sets (entryFor (h .tasks) (h .global) kind task extension block) (now (clocks .entry)) (now (named .entry)) (now (dues .entry)) (now (clocks .exit)) (now (named .exit)) (now (dues .exit)) ⌝ }
 {
     let tasks = h.tasks;
@@ -115,7 +116,7 @@ pub fn end(
     named: &[u8; EXPIRATION_COUNT],
     dues: &[u32; EXPIRATION_COUNT],
 )
-    requires { ⌜ (t .task < 16) × (length (now handles) ≡ 96) × SizedEntries (now clocks) (now named) (now dues) ⌝ }
+    requires { ⌜ (t .task < taskCount) × (length (now handles) ≡ blockEntries) × SizedEntries (now clocks) (now named) (now dues) ⌝ }
     ensures { λ _. ⌜ Ends t (now (named .entry)) (now (dues .entry)) (now (handles .entry)) (now (clocks .entry)) (now (handles .exit)) (now (clocks .exit)) ⌝ }
 {
     if end_due(t, clocks, dues) {

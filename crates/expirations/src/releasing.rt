@@ -3,17 +3,17 @@ ghost use Prim.Native.Nat.{_+_, _≤_};
 ghost use mathlib.Core.Bool.{cond, false};
 ghost use mathlib.Core.Path.{_≡_};
 ghost use lib.ListN.{length};
+ghost use Rattle.record.specs.Tables.{blockEntries, expirationEntries};
 ghost use Rattle.expirations.specs.Places.{Changed};
 ghost use Rattle.expirations.specs.Releasing.{FlagFor, Flags, keptByFlag};
+ghost use Rattle.expirations.specs.Standing.{groupSize};
 use super::asking::GROUP;
 use super::asking::GROUP_COUNT;
 use super::asking::any_dated;
 use super::asking::is_dated;
 use record::BLOCK_COUNT;
+use record::BYTE_VALUES;
 use record::EXPIRATION_COUNT;
-
-// The numbers that a byte can be.
-const BYTES: usize = 256;
 
 // The flag of a block's number.
 fn flag_for(block: u8) -> usize
@@ -24,13 +24,13 @@ fn flag_for(block: u8) -> usize
 
 // Marks what the entries of a group name.
 fn mark_in<'a>(
-    flags: &mut [bool; BYTES],
+    flags: &mut [bool; BYTE_VALUES],
     clocks: &'a [u8; EXPIRATION_COUNT],
     named: &'a [u8; EXPIRATION_COUNT],
     from: usize,
 )
-    requires { ⌜ Flags (now clocks) (now named) from (now flags) × (length (now clocks) ≡ 256) × (length (now named) ≡ 256) × (from + 32 ≤ 256) ⌝ }
-    ensures { λ _. ⌜ Flags (now (clocks .entry)) (now (named .entry)) (from + 32) (now (flags .exit)) ⌝ }
+    requires { ⌜ Flags (now clocks) (now named) from (now flags) × (length (now clocks) ≡ expirationEntries) × (length (now named) ≡ expirationEntries) × (from + groupSize ≤ expirationEntries) ⌝ }
+    ensures { λ _. ⌜ Flags (now (clocks .entry)) (now (named .entry)) (from + groupSize) (now (flags .exit)) ⌝ }
 {
     if !any_dated(clocks, from) {
         return;
@@ -48,11 +48,11 @@ fn mark_in<'a>(
 pub fn flags_of<'a>(
     clocks: &'a [u8; EXPIRATION_COUNT],
     named: &'a [u8; EXPIRATION_COUNT],
-) -> [bool; BYTES]
-    requires { ⌜ (length (now clocks) ≡ 256) × (length (now named) ≡ 256) ⌝ }
-    ensures { λ r. ⌜ Flags (now (clocks .entry)) (now (named .entry)) 256 r ⌝ }
+) -> [bool; BYTE_VALUES]
+    requires { ⌜ (length (now clocks) ≡ expirationEntries) × (length (now named) ≡ expirationEntries) ⌝ }
+    ensures { λ r. ⌜ Flags (now (clocks .entry)) (now (named .entry)) expirationEntries r ⌝ }
 {
-    let mut flags = [false; BYTES];
+    let mut flags = [false; BYTE_VALUES];
     for g in 0..GROUP_COUNT {
         mark_in(&mut flags, clocks, named, g * GROUP);
     }
@@ -67,9 +67,9 @@ fn kept_handle(named: bool, handle: u32) -> u32
 }
 
 // What none names is free.
-pub fn keep_named(flags: [bool; BYTES], handles: &mut [u32; BLOCK_COUNT])
-    requires { ⌜ length (now handles) ≡ 96 ⌝ }
-    ensures { λ _. ⌜ Changed 0 (keptByFlag flags) 0 96 (now (handles .entry)) (now (handles .exit)) ⌝ }
+pub fn keep_named(flags: [bool; BYTE_VALUES], handles: &mut [u32; BLOCK_COUNT])
+    requires { ⌜ length (now handles) ≡ blockEntries ⌝ }
+    ensures { λ _. ⌜ Changed 0 (keptByFlag flags) 0 blockEntries (now (handles .entry)) (now (handles .exit)) ⌝ }
 {
     for i in 0..BLOCK_COUNT {
         handles[i] = kept_handle(flags[i], handles[i]);

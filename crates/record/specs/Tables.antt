@@ -18,6 +18,10 @@ blockEntries = capacity .smallBlocks + capacity .largeBlocks
 abbrev pub expirationEntries : ℕ
 expirationEntries = capacity .expirations
 
+-- the numbers that a byte can be: a table by clocks or blocks as they come has a place for each
+abbrev pub byteValues : ℕ
+byteValues = 256
+
 -- a block of a store and the object in it; handle (01: number) 0 is a free block
 pub record BlockEntry : Type 0 where
   pub handle : ℕ

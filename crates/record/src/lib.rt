@@ -18,6 +18,9 @@ pub const BLOCK_COUNT: usize = CAPACITY.small_blocks + CAPACITY.large_blocks;
 // The entries of the expiration table.
 pub const EXPIRATION_COUNT: usize = CAPACITY.expirations;
 
+// The numbers that a byte can be: a table by clocks or blocks as they come has a place for each.
+pub const BYTE_VALUES: usize = 256;
+
 // 01: own ticks, a task's own clock.
 #[repr(C)]
 pub struct LocalTime(pub u32);

@@ -1,6 +1,7 @@
 // What an event (join, leave, block, resume or tick of a task) decides: the advance test, and whether expirations may end.
 ghost use Prim.Native.Nat.{_<_};
 ghost use mathlib.Core.Path.{_≡_};
+ghost use Rattle.ledger.specs.Limits.{taskCount};
 ghost use Rattle.tasks.specs.Steps.{unmoved, plannedAfter, planned};
 
 mod moves;
@@ -52,7 +53,7 @@ fn unmoved(answer: Answer, tasks: [TaskEntry; TASK_COUNT], global: GlobalTime) -
 
 // What an accepted event decides.
 fn accepted(tasks: [TaskEntry; TASK_COUNT], global: GlobalTime, event: Event, task: u8) -> Planned
-    requires { ⌜ task < 16 ⌝ }
+    requires { ⌜ task < taskCount ⌝ }
     ensures { λ r. ⌜ r ≡ plannedAfter event task tasks global ⌝ }
 {
     let mut next = tasks;

@@ -1,24 +1,23 @@
 -- First 1, then by the verdict on the task's state.
 use borrow.Author.Needs.{needs}
 use borrow.Author.Tests.{le-leb, lt-leb}
-use Rattle.ledger.specs.Limits.{taskCount}
 use Rattle.tasks.specs.Steps.{planned}
 use Rattle.tasks.proofs.plan.Statement.{statement}
 use Rattle.tasks.proofs.plan.Tie as tie
 
 returns : tie.Need-returns
-unfolding planned taskCount
+unfolding planned
 returns c = rw (le-leb _ _ (c .before .if1 .taken)) (c .unmoved .ensures)
 
 returns-2 : tie.Need-returns-2
-unfolding planned taskCount
+unfolding planned
 returns-2 c =
     let j = c .before .before .before in
     rw (lt-leb _ _ (j .before .before .before .if1 .left), ← j .before .state-of .ensures, ← j .judge .ensures, c .before .enum-told .given .1)
     (c .accepted .ensures)
 
 returns-3 : tie.Need-returns-3
-unfolding planned taskCount
+unfolding planned
 returns-3 c =
     let j = c .before .before .before .before in
     rw (lt-leb _ _ (j .before .before .before .if1 .left), ← j .before .state-of .ensures, ← j .judge .ensures, c .before .before .r .given .1)

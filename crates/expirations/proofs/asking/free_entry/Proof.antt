@@ -5,6 +5,7 @@ use borrow.Author.Needs.{needs}
 use borrow.Author.Tests.{eq-eqb, ne-eqb}
 use Rattle.lists.specs.Tables.{firstFrom}
 use Rattle.lists.proofs.Loops.{Scanned, scanned-start, first-turn, first-stop, first-end}
+use Rattle.record.specs.Tables.{expirationEntries}
 use Rattle.expirations.specs.Standing.{freeIn}
 use Rattle.expirations.proofs.Counting.{isFree}
 use Rattle.expirations.proofs.Places.{first-past}
@@ -12,16 +13,16 @@ use Rattle.expirations.proofs.asking.free_entry.Statement.{statement}
 use Rattle.expirations.proofs.asking.free_entry.Tie as tie
 
 abbrev Inv-loop : tie.InvT-loop
-Inv-loop clocks n₀ n = Scanned (freeIn clocks) clocks 256 n (firstFrom n isFree)
+Inv-loop clocks n₀ n = Scanned (freeIn clocks) clocks expirationEntries n (firstFrom n isFree)
 
 abbrev μ-loop : tie.MeasureT-loop
-μ-loop clocks n₀ n = 256 - n
+μ-loop clocks n₀ n = expirationEntries - n
 
 abbrev Inv-loop2 : tie.InvT-loop2
-Inv-loop2 clocks n i₀ i = Scanned (freeIn clocks) clocks 256 i (firstFrom i isFree)
+Inv-loop2 clocks n i₀ i = Scanned (freeIn clocks) clocks expirationEntries i (firstFrom i isFree)
 
 abbrev μ-loop2 : tie.MeasureT-loop2
-μ-loop2 clocks n i₀ i = 256 - i
+μ-loop2 clocks n i₀ i = expirationEntries - i
 
 pub free-entry-spec : {M : Type 1} → statement M
 free-entry-spec =
@@ -31,7 +32,7 @@ free-entry-spec =
     μ-loop
     Inv-loop2
     μ-loop2
-    (λ c. scanned-start (firstFrom 0 isFree) _ 256 (search needs))
+    (λ c. scanned-start (firstFrom 0 isFree) _ expirationEntries (search needs))
     (λ c. omega arith)
     (λ c. omega arith)
     (λ c κs. search needs)

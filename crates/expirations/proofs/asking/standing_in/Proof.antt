@@ -6,7 +6,7 @@ use borrow.Author.Needs.{needs}
 use lib.ListN.{take, drop}
 use Rattle.lists.specs.Tests.{count}
 use Rattle.lists.proofs.Loops.{Scanned, count-from, count-turn, count-end}
-use Rattle.expirations.specs.Standing.{isUsedClock, standingOf}
+use Rattle.expirations.specs.Standing.{isUsedClock, standingOf, halfSize}
 use Rattle.expirations.proofs.Counting.{part-within}
 use Rattle.expirations.proofs.asking.standing_in.Statement.{statement}
 use Rattle.expirations.proofs.asking.standing_in.Tie as tie
@@ -32,7 +32,7 @@ standing-in-spec =
     (λ c. count-from isUsedClock (c .args .from) (search needs) (omega arith))
     (λ c. omega arith)
     (λ c. omega arith)
-    (λ c. let from = c .before .before .before .args .from in omega (arith, part-within from (from + 128) _ (loop-again c)))
+    (λ c. let from = c .before .before .before .args .from in omega (arith, part-within from (from + halfSize) _ (loop-again c)))
     (λ c. omega arith)
     (λ c. omega arith)
     loop-again

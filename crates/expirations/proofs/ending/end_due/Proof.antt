@@ -3,15 +3,16 @@ use Prim.Native.Nat.{_*_, _≤_, _-_}
 use native.Mathlib.Omega.{arith}
 use mathlib.Core.Path.{_∙_}
 use Rattle.expirations.specs.Ending.{Ended}
+use Rattle.expirations.specs.Standing.{groupSize, groupCount}
 use Rattle.expirations.proofs.Tables.{ended-start, ended-join, ended-end}
 use Rattle.expirations.proofs.ending.end_due.Statement.{statement}
 use Rattle.expirations.proofs.ending.end_due.Tie as tie
 
 abbrev Inv-loop : tie.InvT-loop
-Inv-loop t clocks₀ dues some₀ g₀ clocks some g = (g ≤ 8) × Ended t dues 0 (g * 32) clocks₀ clocks some
+Inv-loop t clocks₀ dues some₀ g₀ clocks some g = (g ≤ groupCount) × Ended t dues 0 (g * groupSize) clocks₀ clocks some
 
 abbrev μ-loop : tie.MeasureT-loop
-μ-loop t clocks₀ dues some₀ g₀ clocks some g = 8 - g
+μ-loop t clocks₀ dues some₀ g₀ clocks some g = groupCount - g
 
 pub end-due-spec : {M : Type 1} → statement M
 end-due-spec =

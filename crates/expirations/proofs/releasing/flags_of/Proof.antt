@@ -2,15 +2,16 @@
 use Prim.Native.Nat.{_*_, _≤_, _-_}
 use native.Mathlib.Omega.{arith}
 use Rattle.expirations.specs.Releasing.{Flags}
+use Rattle.expirations.specs.Standing.{groupSize, groupCount}
 use Rattle.expirations.proofs.Flags.{flags-start, flags-end}
 use Rattle.expirations.proofs.releasing.flags_of.Statement.{statement}
 use Rattle.expirations.proofs.releasing.flags_of.Tie as tie
 
 abbrev Inv-loop : tie.InvT-loop
-Inv-loop clocks named flags₀ g₀ flags g = (g ≤ 8) × Flags clocks named (g * 32) flags
+Inv-loop clocks named flags₀ g₀ flags g = (g ≤ groupCount) × Flags clocks named (g * groupSize) flags
 
 abbrev μ-loop : tie.MeasureT-loop
-μ-loop clocks named flags₀ g₀ flags g = 8 - g
+μ-loop clocks named flags₀ g₀ flags g = groupCount - g
 
 pub flags-of-spec : {M : Type 1} → statement M
 flags-of-spec =

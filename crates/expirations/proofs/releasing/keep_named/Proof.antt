@@ -2,6 +2,7 @@
 use Prim.Native.Nat.{_≤_, _-_}
 use native.Mathlib.Omega.{arith}
 use borrow.Author.Needs.{needs}
+use Rattle.record.specs.Tables.{blockEntries}
 use Rattle.expirations.specs.Places.{Changed}
 use Rattle.expirations.specs.Releasing.{keptByFlag}
 use Rattle.expirations.proofs.Places.{changed-start, changed-turn, changed-end}
@@ -9,10 +10,10 @@ use Rattle.expirations.proofs.releasing.keep_named.Statement.{statement
 use Rattle.expirations.proofs.releasing.keep_named.Tie as tie
 
 abbrev Inv-loop : tie.InvT-loop
-Inv-loop handles₀ flags i₀ handles i = (i ≤ 96) × Changed 0 (keptByFlag flags) 0 i handles₀ handles
+Inv-loop handles₀ flags i₀ handles i = (i ≤ blockEntries) × Changed 0 (keptByFlag flags) 0 i handles₀ handles
 
 abbrev μ-loop : tie.MeasureT-loop
-μ-loop handles₀ flags i₀ handles i = 96 - i
+μ-loop handles₀ flags i₀ handles i = blockEntries - i
 
 loop-again : tie.Need-loop-again Inv-loop μ-loop
 loop-again c =

@@ -2,16 +2,17 @@
 use Prim.Native.Nat.{_-_}
 use borrow.Author.Needs.{needs}
 use Rattle.lists.proofs.Loops.{Mapped, mapped-start, mapped-turn, mapped-all}
+use Rattle.ledger.specs.Limits.{taskCount}
 use Rattle.record.specs.Codes.{absentEntry}
 use Rattle.steps.specs.Events.{untickedEntry}
 use Rattle.tasks.proofs.moves.all_unticked.Statement.{statement}
 use Rattle.tasks.proofs.moves.all_unticked.Tie as tie
 
 abbrev Inv-loop : tie.InvT-loop
-Inv-loop out₀ i₀ out i = Mapped (λ k. untickedEntry) out₀ 16 i out
+Inv-loop out₀ i₀ out i = Mapped (λ k. untickedEntry) out₀ taskCount i out
 
 abbrev μ-loop : tie.MeasureT-loop
-μ-loop out₀ i₀ out i = 16 - i
+μ-loop out₀ i₀ out i = taskCount - i
 
 pub all-unticked-spec : {M : Type 1} → statement M
 all-unticked-spec =
@@ -19,7 +20,7 @@ all-unticked-spec =
     (tie.spec
     Inv-loop
     μ-loop
-    (λ c. mapped-start _ _ 16 (search needs))
+    (λ c. mapped-start _ _ taskCount (search needs))
     (λ c. search needs)
     (λ c. search needs)
     (λ c κs. search needs)
