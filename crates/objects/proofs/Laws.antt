@@ -6,7 +6,7 @@ use mathlib.Core.Path.{_≡_, refl, sym, ap, _∙_}
 use lib.ListN.{length, take, drop}
 use Rattle.lists.specs.Tables.{firstFrom}
 use Rattle.lists.proofs.Counts.{count-map}
-use Rattle.record.specs.Tables.{BlockEntry, ExpirationEntry, blocksOf, tablesBy}
+use Rattle.record.specs.Tables.{BlockEntry, ExpirationEntry, blocksOf, tablesBy, blockEntries}
 use Rattle.record.specs.declared.Head.{Head}
 use Rattle.record.proofs.Columns.{handles-of}
 use Rattle.steps.specs.Objects.{placeOf, placeIn, freePlace, freePlaceIn, standingIn, makeVerdict, refreshVerdict, readVerdict, writeVerdict}
@@ -43,7 +43,7 @@ unfolding usageIn usageOf tablesBy
 usage-in h blocks xs = simp (take-map, drop-map, count-map)
 
 -- the two columns of the blocks
-module _ (hs ls : List ℕ) (a : length hs ≡ 96) (b : length ls ≡ 96) where
+module _ (hs ls : List ℕ) (a : length hs ≡ blockEntries) (b : length ls ≡ blockEntries) where
   pub place-of : (handle : ℕ) → placeIn handle hs ≡ placeOf handle (blocksOf hs ls)
   place-of handle = ap (placeIn handle) (sym (handles-of hs ls a b)) ∙ first-map _ _ 0 (blocksOf hs ls)
 

@@ -1,7 +1,7 @@
 // What a call decides, on the tables that it reads: nothing is changed here.
 ghost use mathlib.Core.Path.{_≡_};
 ghost use lib.ListN.{length};
-ghost use Rattle.record.specs.Tables.{blocksOf, SizedBlocks};
+ghost use Rattle.record.specs.Tables.{blocksOf, SizedBlocks, blockEntries};
 ghost use Rattle.steps.specs.Objects.{placeIn, freePlaceIn};
 ghost use Rattle.objects.specs.Outcomes.{makePlan, refreshPlan, foundIn, foundForWriteIn};
 use super::Found;
@@ -28,7 +28,7 @@ pub fn plan_make(
     extension: u8,
     size: u16,
 ) -> Plan
-    requires { ⌜ length (now handles) ≡ 96 ⌝ }
+    requires { ⌜ length (now handles) ≡ blockEntries ⌝ }
     ensures { λ r. ⌜ r ≡ makePlan task extension size h (freePlaceIn size (now (handles .entry))) standing ⌝ }
 {
     let size = size as u32;
@@ -51,7 +51,7 @@ pub fn plan_refresh(
     extension: u8,
     handle: u32,
 ) -> Plan
-    requires { ⌜ length (now handles) ≡ 96 ⌝ }
+    requires { ⌜ length (now handles) ≡ blockEntries ⌝ }
     ensures { λ r. ⌜ r ≡ refreshPlan task extension handle h (placeIn handle (now (handles .entry))) standing ⌝ }
 {
     let place = locate(handles, handle);

@@ -11,7 +11,6 @@ use ledger::State;
 use ledger::TASK_COUNT;
 use ledger::Verdict;
 use record::BLOCK_COUNT;
-use record::EXPIRATION_COUNT;
 use record::TaskEntry;
 use record::codes::state_of;
 
@@ -81,7 +80,7 @@ pub fn found_verdict(handle: u32, given: u32, place: usize) -> Verdict
 fn room_verdict(standing: usize) -> Verdict
     ensures { λ r. ⌜ r ≡ roomVerdict standing ⌝ }
 {
-    refuse_if(EXPIRATION_COUNT <= standing, Refusal::NoFreeExpiration)
+    refuse_if(LIMITS.expirations <= standing, Refusal::NoFreeExpiration)
 }
 
 // 7, 8, 9 between the others, in 01's order

@@ -3,6 +3,7 @@ ghost use Prim.Native.Nat.{_≤_};
 ghost use mathlib.Core.Path.{_≡_};
 ghost use lib.ListN.{length, take, drop};
 ghost use Rattle.lists.specs.Tests.{count};
+ghost use Rattle.record.specs.Tables.{blockEntries};
 ghost use Rattle.objects.specs.Usage.{isGiven, usageIn};
 use ledger::LIMITS;
 use ledger::Usage;
@@ -10,7 +11,7 @@ use record::BLOCK_COUNT;
 
 // The blocks in use from one place to before another.
 fn used_blocks(handles: &[u32; BLOCK_COUNT], start: usize, end: usize) -> u8
-    requires { ⌜ (length (now handles) ≡ 96) × (start ≤ end) × (end ≤ 96) ⌝ }
+    requires { ⌜ (length (now handles) ≡ blockEntries) × (start ≤ end) × (end ≤ blockEntries) ⌝ }
     ensures { λ r. ⌜ r ≡ count isGiven (drop start (take end (now (handles .entry)))) ⌝ }
 {
     let mut n: u8 = 0;
@@ -22,7 +23,7 @@ fn used_blocks(handles: &[u32; BLOCK_COUNT], start: usize, end: usize) -> u8
 
 // With so many expirations standing.
 pub fn usage(given: u32, handles: &[u32; BLOCK_COUNT], standing: u16) -> Usage
-    requires { ⌜ length (now handles) ≡ 96 ⌝ }
+    requires { ⌜ length (now handles) ≡ blockEntries ⌝ }
     ensures { λ r. ⌜ r ≡ usageIn given (now (handles .entry)) standing ⌝ }
 {
     Usage {

@@ -5,6 +5,7 @@ ghost use lib.Dec.{eqb};
 ghost use lib.ListN.{length, take, drop};
 ghost use Rattle.lists.specs.Tests.{any};
 ghost use Rattle.lists.specs.Tables.{firstFrom};
+ghost use Rattle.record.specs.Tables.{blockEntries};
 ghost use Rattle.steps.specs.Objects.{placeIn, freePlaceIn, endFor};
 use ledger::LIMITS;
 use ledger::SMALL_SIZE;
@@ -15,7 +16,7 @@ const GROUP: usize = 8;
 
 // Whether one of the blocks from..to has this handle, with no way out before the last.
 fn is_among(handles: &[u32; BLOCK_COUNT], handle: u32, from: usize, to: usize) -> bool
-    requires { ⌜ (length (now handles) ≡ 96) × (from ≤ to) × (to ≤ 96) ⌝ }
+    requires { ⌜ (length (now handles) ≡ blockEntries) × (from ≤ to) × (to ≤ blockEntries) ⌝ }
     ensures { λ r. ⌜ r ≡ any (λ (h : ℕ). eqb h handle) (drop from (take to (now (handles .entry)))) ⌝ }
 {
     let mut found = false;
@@ -27,7 +28,7 @@ fn is_among(handles: &[u32; BLOCK_COUNT], handle: u32, from: usize, to: usize) -
 
 // The first of the blocks from..to with this handle: a group at a time while none of the group has it, then one by one.
 fn first_with(handles: &[u32; BLOCK_COUNT], handle: u32, from: usize, to: usize) -> usize
-    requires { ⌜ (length (now handles) ≡ 96) × (from ≤ to) × (to ≤ 96) ⌝ }
+    requires { ⌜ (length (now handles) ≡ blockEntries) × (from ≤ to) × (to ≤ blockEntries) ⌝ }
     ensures { λ r. ⌜ r ≡ firstFrom from (λ (h : ℕ). eqb h handle) (drop from (take to (now (handles .entry)))) ⌝ }
 {
     let mut n = from;
@@ -47,7 +48,7 @@ fn first_with(handles: &[u32; BLOCK_COUNT], handle: u32, from: usize, to: usize)
 
 // The one finding of an object by its handle (01: number).
 pub fn locate(handles: &[u32; BLOCK_COUNT], handle: u32) -> usize
-    requires { ⌜ length (now handles) ≡ 96 ⌝ }
+    requires { ⌜ length (now handles) ≡ blockEntries ⌝ }
     ensures { λ r. ⌜ r ≡ placeIn handle (now (handles .entry)) ⌝ }
 {
     first_with(handles, handle, 0, BLOCK_COUNT)
@@ -66,7 +67,7 @@ pub fn end_for(size: u32) -> usize
 
 // The first free block of a size's store: "with no spilling over".
 pub fn free_place(handles: &[u32; BLOCK_COUNT], size: u32) -> usize
-    requires { ⌜ length (now handles) ≡ 96 ⌝ }
+    requires { ⌜ length (now handles) ≡ blockEntries ⌝ }
     ensures { λ r. ⌜ r ≡ freePlaceIn size (now (handles .entry)) ⌝ }
 {
     if size <= SMALL_SIZE {

@@ -4,10 +4,8 @@ use mathlib.Core.List.{List}
 use mathlib.Core.Path.{_≡_, sym, _∙_}
 use borrow.Author.Needs.{needs}
 use lib.ListN.{getD}
-use Rattle.ledger.specs.Limits.{limits}
 use Rattle.ledger.specs.declared.Verdict.the-variants.{Accepted}
-use Rattle.stores.specs.Places.{blockCount}
-use Rattle.record.specs.Tables.{blocksOf, SizedBlocks}
+use Rattle.record.specs.Tables.{blocksOf, SizedBlocks, blockEntries}
 use Rattle.record.proofs.Columns.{block-at}
 use Rattle.steps.specs.Objects.{placeIn, readVerdictIn}
 use Rattle.steps.proofs.Chosen.{both-accept, place-listed}
@@ -28,8 +26,7 @@ verdict c =
     rw (c .and-then .ensures, c .before .found-verdict .ensures, c .before .before .task-verdict .ensures, located .locate .ensures, place-of (a .handles .now) (a .lengths .now) (sized .of-handles) (sized .of-lengths))
 
 -- an accepted one's place is one of the blocks'
-listed : (c : tie.After-enum-told) → c .before .before .before .before .before .before .locate .result < 96
-unfolding limits blockCount
+listed : (c : tie.After-enum-told) → c .before .before .before .before .before .before .locate .result < blockEntries
 listed c =
     let found = c .before .before .before in
     let located = found .before .before .before in

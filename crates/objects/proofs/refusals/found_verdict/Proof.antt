@@ -1,12 +1,9 @@
 -- By what the two tests ensure.
 use borrow.Author.Needs.{needs}
-use Rattle.ledger.specs.Limits.{limits}
-use Rattle.stores.specs.Places.{blockCount}
 use Rattle.objects.proofs.refusals.found_verdict.Statement.{statement}
 use Rattle.objects.proofs.refusals.found_verdict.Tie as tie
 
 pub found-verdict-spec : {M : Type 1} → statement M
-unfolding limits blockCount
 found-verdict-spec =
     tie.close
     (tie.spec

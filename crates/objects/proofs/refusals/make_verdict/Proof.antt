@@ -1,11 +1,11 @@
 -- Test by test, by what each ensures.
 use borrow.Author.Needs.{needs}
-use Rattle.ledger.specs.Limits.{largeSize, lastHandle}
+use Rattle.ledger.specs.Limits.{lastHandle}
 use Rattle.objects.proofs.refusals.make_verdict.Statement.{statement}
 use Rattle.objects.proofs.refusals.make_verdict.Tie as tie
 
 pub make-verdict-spec : {M : Type 1} → statement M
-unfolding largeSize lastHandle
+unfolding lastHandle
 make-verdict-spec =
     tie.close
     (tie.spec

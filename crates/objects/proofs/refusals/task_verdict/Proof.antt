@@ -1,12 +1,10 @@
 -- By the two tests.
 use borrow.Author.Needs.{needs}
 use borrow.Author.Tests.{le-leb, lt-leb}
-use Rattle.ledger.specs.Limits.{taskCount}
 use Rattle.objects.proofs.refusals.task_verdict.Statement.{statement}
 use Rattle.objects.proofs.refusals.task_verdict.Tie as tie
 
 pub task-verdict-spec : {M : Type 1} → statement M
-unfolding taskCount
 task-verdict-spec =
     tie.close
     (tie.spec

@@ -1,11 +1,10 @@
 -- By the one test.
 use borrow.Author.Tests.{le-leb, lt-leb}
-use Rattle.ledger.specs.Limits.{limits, smallSize}
-use Rattle.stores.specs.Places.{blockCount}
+use Rattle.ledger.proofs.Figures.{at-capacity}
+use Rattle.stores.proofs.Places.{all-blocks}
 use Rattle.objects.proofs.search.end_for.Statement.{statement}
 use Rattle.objects.proofs.search.end_for.Tie as tie
 
 pub end-for-spec : {M : Type 1} → statement M
-unfolding limits smallSize blockCount
 end-for-spec =
-    tie.close (tie.spec (λ c. rw (le-leb _ _ (c .if1 .taken))) (λ c. rw (lt-leb _ _ (c .if1 .left))))
+    tie.close (tie.spec (λ c. rw (at-capacity, le-leb _ _ (c .if1 .taken))) (λ c. rw (lt-leb _ _ (c .if1 .left)) all-blocks))

@@ -2,6 +2,7 @@
 use native.Mathlib.Omega.{arith}
 use borrow.Author.Needs.{needs}
 use lib.Seq.{take-all}
+use Rattle.record.specs.Tables.{blockEntries}
 use Rattle.objects.proofs.search.locate.Statement.{statement}
 use Rattle.objects.proofs.search.locate.Tie as tie
 
@@ -10,4 +11,4 @@ locate-spec =
     tie.close
     (tie.spec
     (λ c κs. search needs)
-    (λ c. rw (take-all 96 (c .before .args .handles .now) (omega arith)) at (c .first-with .ensures)))
+    (λ c. rw (take-all blockEntries (c .before .args .handles .now) (omega arith)) at (c .first-with .ensures)))
