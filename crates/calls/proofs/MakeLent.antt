@@ -18,7 +18,7 @@ use Rattle.ledger.specs.declared.Request.the-variants.{Use}
 use Rattle.ledger.specs.declared.Verdict.the-variants.{Accepted, Refused}
 use Rattle.stores.specs.Places.{sizeOf, InBlock, smallAfter, largeAfter}
 use Rattle.record.specs.Reading.{HeadTyped, Typed}
-use Rattle.record.specs.Tables.{BlockEntry, SizedBlocks, SizedEntries, Sized, blocksOf, entriesOf, tablesBy, tablesOf, pooled}
+use Rattle.record.specs.Tables.{BlockEntry, SizedBlocks, SizedEntries, Sized, blocksOf, entriesOf, tablesBy, tablesOf, pooled, blockEntries, expirationEntries}
 use Rattle.record.specs.declared.Head.{Head}
 use Rattle.record.proofs.Columns.{block-at}
 use Rattle.steps.specs.Objects.{endFor, freePlace, freePlaceIn, refuseIf, taskVerdict, extensionVerdict, roomVerdict, makeVerdict}
@@ -73,8 +73,7 @@ module _ {h : Head} (hs ls cs : List ℕ) {ns ds : List ℕ} (types : HeadTyped 
         both-accept (refuseIf (leb (endFor size) (freePlaceIn size hs)) NoFreeBlock) _ v₄ .1
 
     -- what the setting asks
-    pub make-may-set : (standingOf cs < 256) × (task < 16) × (plan .place < 96)
-    unfolding taskCount
+    pub make-may-set : (standingOf cs < expirationEntries) × (task < taskCount) × (plan .place < blockEntries)
     make-may-set = (
       room-left (standingOf cs) room,
       taken .may .known,

@@ -5,7 +5,6 @@ use mathlib.Core.Bool.{true, true≢false, and-eq-true-iff}
 use mathlib.Core.List.{List, []}
 use mathlib.Core.Path.{_≡_, refl, sym, ap, _∙_}
 use lib.ListN.{length, getD, replicate}
-use Rattle.ledger.specs.Limits.{limits}
 use Rattle.ledger.specs.Objects.{plain}
 use Rattle.ledger.specs.declared.Kind.{Kind}
 use Rattle.ledger.specs.declared.Answer.the-variants.{Done, Handle, Bytes}
@@ -16,6 +15,7 @@ use Rattle.ledger.specs.declared.Request.the-variants.{Use}
 use Rattle.ledger.specs.declared.Verdict.{Verdict}
 use Rattle.ledger.specs.declared.Verdict.the-variants.{Accepted, Refused}
 use Rattle.stores.specs.Places.{blockCount, sizeOf, InBlock, smallAfter, largeAfter}
+use Rattle.stores.proofs.Places.{all-blocks}
 use Rattle.record.specs.Reading.{isWholeSmall, isWholeLarge, blockBytes, Typed}
 use Rattle.record.specs.Tables.{tablesOf}
 use Rattle.record.specs.Pools.{isWellFormed}
@@ -78,8 +78,7 @@ module _ {p : Pool} (types : Typed (tablesOf p)) (w : isWellFormed p ≡ true) (
 module _ {task : ℕ} {kind : Kind} {extension size : ℕ} {p : Pool} {small large : List ℕ} (types : Typed (tablesOf p))
     (ready : Ready (Use (Make task kind extension size)) p small large) where
   pub place-known : makeVerdict task extension size (tablesOf p) ≡ Accepted → freePlace size (tablesOf p .blocks) < blockCount
-  unfolding blockCount limits
-  place-known v = omega (arith, make-takes task extension size (tablesOf p) types v .block .listed, types .blocks)
+  place-known v = omega (arith, all-blocks, make-takes task extension size (tablesOf p) types v .block .listed, types .blocks)
 
   pub block-in : (block : ℕ) → block < blockCount → InBlock small large block (sizeOf block)
   block-in block known =

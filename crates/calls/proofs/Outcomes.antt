@@ -17,7 +17,7 @@ use Rattle.ledger.specs.declared.Request.the-variants.{Use}
 use Rattle.ledger.specs.declared.Verdict.the-variants.{Accepted, Refused}
 use Rattle.stores.specs.Places.{sizeOf, smallAfter, largeAfter}
 use Rattle.record.specs.Reading.{isWholeSmall, isWholeLarge, blockBytes, Typed}
-use Rattle.record.specs.Tables.{tablesBy, tablesOf}
+use Rattle.record.specs.Tables.{tablesBy, tablesOf, blockEntries}
 use Rattle.record.specs.Pools.{isWellFormed, Reads}
 use Rattle.record.specs.declared.Pool.{Pool}
 use Rattle.record.proofs.Facts.{fit-parts}
@@ -78,7 +78,7 @@ module _ (p : Pool) (types : Typed (tablesOf p)) (w : isWellFormed p ≡ true) (
       unfolding replyTo tablesOf tablesBy
       make-done {p′} left v =
           let taken = make-takes task extension size (tablesOf p) types v in
-          let listed : freePlace size (tablesOf p .blocks) < 96 = omega (arith, taken .block .listed, types .blocks) in
+          let listed : freePlace size (tablesOf p .blocks) < blockEntries = omega (arith, taken .block .listed, types .blocks) in
           let bytes = made-bytes small large small-whole large-whole _ listed in
           carried-obeys _ [] p small large w (λ s. whole) (plain (Handle (p .given + 1))) p′ _ _ refl
           (λ L reads. make-verdict types (fit-parts (tablesOf p) w) reads task kind extension size [] ∙ ap asRefusal v)

@@ -35,21 +35,19 @@ abbrev pub passingOf : ℕ → Planned → Passing
 passingOf task q = record { task = task; leaves = q .leaves; local = q .local; advanced = q .advanced; global = q .global }
 
 -- the leaver's own go, and nobody else's
-own-leaver : (event : Event) (task : ℕ) → task < 16 → eqb task (leaverOf event task) ≡ isLeave event
-unfolding taskCount
-own-leaver Join task known = ne-eqb task 16 (λ e. omega arith)
+own-leaver : (event : Event) (task : ℕ) → task < taskCount → eqb task (leaverOf event task) ≡ isLeave event
+own-leaver Join task known = ne-eqb task taskCount (λ e. omega arith)
 own-leaver Leave task known = eq-eqb task task refl
-own-leaver Block task known = ne-eqb task 16 (λ e. omega arith)
-own-leaver Resume task known = ne-eqb task 16 (λ e. omega arith)
-own-leaver Tick task known = ne-eqb task 16 (λ e. omega arith)
+own-leaver Block task known = ne-eqb task taskCount (λ e. omega arith)
+own-leaver Resume task known = ne-eqb task taskCount (λ e. omega arith)
+own-leaver Tick task known = ne-eqb task taskCount (λ e. omega arith)
 
-other-leaver : (event : Event) (task s : ℕ) → s < 16 → s ≢ task → eqb s (leaverOf event task) ≡ false
-unfolding taskCount
-other-leaver Join task s known other = ne-eqb s 16 (λ e. omega arith)
+other-leaver : (event : Event) (task s : ℕ) → s < taskCount → s ≢ task → eqb s (leaverOf event task) ≡ false
+other-leaver Join task s known other = ne-eqb s taskCount (λ e. omega arith)
 other-leaver Leave task s known other = ne-eqb s task other
-other-leaver Block task s known other = ne-eqb s 16 (λ e. omega arith)
-other-leaver Resume task s known other = ne-eqb s 16 (λ e. omega arith)
-other-leaver Tick task s known other = ne-eqb s 16 (λ e. omega arith)
+other-leaver Block task s known other = ne-eqb s taskCount (λ e. omega arith)
+other-leaver Resume task s known other = ne-eqb s taskCount (λ e. omega arith)
+other-leaver Tick task s known other = ne-eqb s taskCount (λ e. omega arith)
 
 -- units left or none
 lasts-or-ends : (gone : Bool) (n : ℕ) → (not gone && ltb 0 n) ≡ not (gone || eqb n 0)
@@ -76,7 +74,7 @@ global-lasts true at global ahead = lasts-or-ends false (leftAt at (advancedTime
 global-lasts false at global ahead = lt-ltb 0 _ ahead
 
 -- An accepted event with an advance test
-module _ (event : Event) (task : ℕ) (tasks : List TaskEntry) (global : GlobalTime) (sixteen : length tasks ≡ 16) (known : task < 16) where
+module _ (event : Event) (task : ℕ) (tasks : List TaskEntry) (global : GlobalTime) (sixteen : length tasks ≡ taskCount) (known : task < taskCount) where
   abbrev moved : List TaskEntry
   moved = movedTasks event task tasks
 
@@ -98,7 +96,6 @@ module _ (event : Event) (task : ℕ) (tasks : List TaskEntry) (global : GlobalT
     lasting-as : (used : Bool) (due : Due) → isFitDue (getD tasks (setterOf due) absentEntry) global used due ≡ true
         → isLasting (leaverOf event task) (getD (plan advanced .tasks) (setterOf due) absentEntry) (plan advanced .global) due
         ≡ not (isEnding (passingOf task (plan advanced)) due)
-    unfolding taskCount
     lasting-as used Free fit = refl
     lasting-as used (Local s at) fit =
         by-test (eqb s task)
@@ -122,7 +119,7 @@ module _ (event : Event) (task : ℕ) (tasks : List TaskEntry) (global : GlobalT
     kept-as blocks xs fits = map-same _ _ xs (all-imp (entry-as blocks) xs (all-true _ xs fits))
 
 -- A block that leaves the global time ends nothing.
-module _ (task : ℕ) (tasks : List TaskEntry) (global : GlobalTime) (sixteen : length tasks ≡ 16) (known : task < 16) where
+module _ (task : ℕ) (tasks : List TaskEntry) (global : GlobalTime) (sixteen : length tasks ≡ taskCount) (known : task < taskCount) where
   abbrev blocked : Planned
   blocked = plan Block task tasks global sixteen known false
 

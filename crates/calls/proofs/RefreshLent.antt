@@ -7,6 +7,7 @@ use borrow.Author.Tests.{leb-false}
 use lib.Dec.{leb}
 use lib.ListN.{length}
 use Rattle.ledger.specs.Limits.{limits, taskCount}
+use Rattle.ledger.proofs.Figures.{allowed}
 use Rattle.ledger.specs.declared.Answer.the-variants.{Done}
 use Rattle.ledger.specs.declared.Answer.the-variants.{Refused as RefusedAnswer}
 use Rattle.ledger.specs.declared.Call.the-variants.{Refresh}
@@ -15,9 +16,8 @@ use Rattle.ledger.specs.declared.Refusal.{Refusal}
 use Rattle.ledger.specs.declared.Refusal.the-variants.{NoSuchTask}
 use Rattle.ledger.specs.declared.Request.the-variants.{Use}
 use Rattle.ledger.specs.declared.Verdict.the-variants.{Accepted, Refused}
-use Rattle.stores.specs.Places.{blockCount}
 use Rattle.record.specs.Reading.{HeadTyped, Typed}
-use Rattle.record.specs.Tables.{SizedEntries, blocksOf, entriesOf, tablesBy, tablesOf, pooled}
+use Rattle.record.specs.Tables.{SizedEntries, blocksOf, entriesOf, tablesBy, tablesOf, pooled, blockEntries, expirationEntries}
 use Rattle.record.specs.declared.Head.{Head}
 use Rattle.record.specs.declared.TaskEntry.{TaskEntry}
 use Rattle.steps.specs.Objects.{placeIn, placeOf, refuseIf, taskVerdict, extensionVerdict, foundVerdict, roomVerdict, refreshVerdict}
@@ -33,26 +33,21 @@ use Rattle.calls.proofs.Lent.{tables-of, lent-typed}
 use Rattle.calls.proofs.MadeLent.{standing-of, refreshed-left}
 use Rattle.calls.proofs.Outcomes.{refresh-refused, refresh-done}
 
--- fewer than 256 stand where 10 is not given
-pub room-left : (n : ℕ) → roomVerdict n ≡ Accepted → n < 256
-unfolding limits
-room-left n v = leb-false 256 n (not-refused _ _ v)
+-- an entry is free where 10 is not given
+pub room-left : (n : ℕ) → roomVerdict n ≡ Accepted → n < expirationEntries
+room-left n v = omega (arith, leb-false (limits .expirations) n (not-refused _ _ v), allowed .most-expirations)
 
-pub task-known : (task : ℕ) (tasks : List TaskEntry) → taskVerdict task tasks ≡ Accepted → task < 16
-unfolding taskCount
-task-known task tasks v = leb-false 16 task (not-refused _ NoSuchTask (both-accept (refuseIf (leb 16 task) NoSuchTask) _ v .0))
+pub task-known : (task : ℕ) (tasks : List TaskEntry) → taskVerdict task tasks ≡ Accepted → task < taskCount
+task-known task tasks v =
+    leb-false taskCount task (not-refused _ NoSuchTask (both-accept (refuseIf (leb taskCount task) NoSuchTask) _ v .0))
 
-pub block-known : (handle given place : ℕ) → foundVerdict handle given place ≡ Accepted → place < 96
-unfolding blockCount limits
-block-known = place-listed
-
-module _ {h : Head} (hs : List ℕ) {cs ns ds : List ℕ} (types : HeadTyped h) (a : length hs ≡ 96) (e : SizedEntries cs ns ds) (task : ℕ) (kind : Kind) (extension handle : ℕ)
+module _ {h : Head} (hs : List ℕ) {cs ns ds : List ℕ} (types : HeadTyped h) (a : length hs ≡ blockEntries) (e : SizedEntries cs ns ds) (task : ℕ) (kind : Kind) (extension handle : ℕ)
     {plan : Plan} (so : plan ≡ refreshPlan task extension handle h (placeIn handle hs) (standingOf cs)) where
   planned-place : plan .place ≡ placeIn handle hs
   unfolding refreshPlan
   planned-place = rw so
 
-  module _ (ls : List ℕ) (l : length ls ≡ 96) where
+  module _ (ls : List ℕ) (l : length ls ≡ blockEntries) where
     of-entries : Typed (tablesOf (pooled h hs ls cs ns ds))
     of-entries = lent-typed h hs ls cs ns ds types (record { of-handles = a; of-lengths = l }) e
 
@@ -92,10 +87,10 @@ module _ {h : Head} (hs : List ℕ) {cs ns ds : List ℕ} (types : HeadTyped h) 
       let (found, room) = both-accept (foundVerdict handle (h .given) (placeIn handle hs)) _ v₂ in
       (task-ok, found, room)
 
-  pub refresh-may-set : plan .verdict ≡ Accepted → (standingOf cs < 256) × (task < 16) × (plan .place < 96)
+  pub refresh-may-set : plan .verdict ≡ Accepted → (standingOf cs < expirationEntries) × (task < taskCount) × (plan .place < blockEntries)
   refresh-may-set v =
       let (task-ok, found, room) = accepted-parts v in (
         room-left (standingOf cs) room,
         task-known task (h .tasks) task-ok,
-        rw planned-place (block-known handle (h .given) (placeIn handle hs) found),
+        rw planned-place (place-listed handle (h .given) (placeIn handle hs) found),
       )

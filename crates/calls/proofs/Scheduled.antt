@@ -108,15 +108,14 @@ unfolding planned
 refused-unmoved event task tasks global = unmoved-by (verdictAt event task tasks) event task tasks global
 
 -- an event of a task that exists
-known-task : (task : ℕ) (v : Verdict) → cond (leb taskCount task) (Refused NoSuchTask) v ≡ Accepted → task < 16
-unfolding taskCount
+known-task : (task : ℕ) (v : Verdict) → cond (leb taskCount task) (Refused NoSuchTask) v ≡ Accepted → task < taskCount
 known-task task v e =
-    by-test (leb 16 task)
+    by-test (leb taskCount task)
     (λ t.
     let refused : Refused NoSuchTask ≡ Accepted = rw t at e in
     let z : _≡_ {A = ℕ} 0 1 = cc in
     absurd (omega arith))
-    (leb-false 16 task)
+    (leb-false taskCount task)
 
 module _ (event : Event) (task : ℕ) (p : Tables) where
   abbrev pub advanced : Bool
@@ -127,7 +126,7 @@ module _ (event : Event) (task : ℕ) (p : Tables) where
   tested = testedAfter event task advanced (movedTasks event task (p .tasks)) (p .global) (movedEntry event (getD (p .tasks) task absentEntry))
 
 -- a tested event that may end nothing is a block that leaves the global time
-tested-still : (event : Event) (task : ℕ) (p : Tables) → Typed p → WellFormed.isWellFormed p ≡ true → task < 16 → isTested event ≡ true
+tested-still : (event : Event) (task : ℕ) (p : Tables) → Typed p → WellFormed.isWellFormed p ≡ true → task < taskCount → isTested event ≡ true
     → mayEnd event (advanced event task p) ≡ false
     → swept (leaverOf event task) (tested event task p .tasks) (tested event task p .global) p ≡ withTimes (tested event task p .tasks) (tested event task p .global) p
 tested-still Join task p types w known t s = absurd (false≢true t)
@@ -141,7 +140,7 @@ tested-still Tick task p types w known t s = absurd (true≢false s)
 
 -- An event by its plan: with nothing that may end, only tasks and times are new.
 module _ (event : Event) (task : ℕ) (p : Tables) (types : Typed p) (w : WellFormed.isWellFormed p ≡ true) where
-  still-by : (v : Verdict) → (v ≡ Accepted → task < 16) → plannedBy v event task (p .tasks) (p .global) .ends ≡ false
+  still-by : (v : Verdict) → (v ≡ Accepted → task < taskCount) → plannedBy v event task (p .tasks) (p .global) .ends ≡ false
       → outcomeBy v event task p .pool ≡ withTimes (plannedBy v event task (p .tasks) (p .global) .tasks) (plannedBy v event task (p .tasks) (p .global) .global) p
   unfolding poolAfter plannedAfter
   still-by Accepted known s = by-test (isTested event) (λ t. rw t (tested-still event task p types w (known refl) t (rw t at s))) (λ t. rw t)
@@ -154,13 +153,13 @@ module _ (event : Event) (task : ℕ) (p : Tables) (types : Typed p) (w : WellFo
 
 -- else it is accepted and tested, and the record is swept
 pub record Swept (event : Event) (task : ℕ) (p : Tables) (q : Planned) : Type 0 where
-  pub known : task < 16
+  pub known : task < taskCount
   pub plan : q ≡ tested event task p
   pub left : scheduled event task p .pool ≡ swept (leaverOf event task) (q .tasks) (q .global) p
 
 module _ (event : Event) (task : ℕ) (p : Tables) where
-  swept-by : (v : Verdict) → (v ≡ Accepted → task < 16) → plannedBy v event task (p .tasks) (p .global) .ends ≡ true
-      → (task < 16) × (plannedBy v event task (p .tasks) (p .global) ≡ tested event task p)
+  swept-by : (v : Verdict) → (v ≡ Accepted → task < taskCount) → plannedBy v event task (p .tasks) (p .global) .ends ≡ true
+      → (task < taskCount) × (plannedBy v event task (p .tasks) (p .global) ≡ tested event task p)
       × (outcomeBy v event task p .pool
       ≡ swept (leaverOf event task) (plannedBy v event task (p .tasks) (p .global) .tasks) (plannedBy v event task (p .tasks) (p .global) .global) p)
   unfolding poolAfter plannedAfter
@@ -176,7 +175,7 @@ unended : (t : Passing) (e : ExpirationEntry) → isEnding t (dueOf e) ≡ false
 unended t e n = rw n
 
 -- what may end something is an event of a task that exists
-pub ends-known : (event : Event) (task : ℕ) (tasks : List TaskEntry) (global : GlobalTime) {q : Planned} → q ≡ planned event task tasks global → q .ends ≡ true → task < 16
+pub ends-known : (event : Event) (task : ℕ) (tasks : List TaskEntry) (global : GlobalTime) {q : Planned} → q ≡ planned event task tasks global → q .ends ≡ true → task < taskCount
 ends-known event task tasks global so s =
     swept-planned event task (record { tasks = tasks; global = global; given = 0; blocks = []; expirations = [] }) (rw so at s) .known
 

@@ -11,7 +11,7 @@ use Rattle.ledger.specs.declared.Event.{Event}
 use Rattle.ledger.specs.declared.Refusal.{Refusal}
 use Rattle.ledger.specs.declared.Request.the-variants.{Use}
 use Rattle.record.specs.Reading.{HeadTyped}
-use Rattle.record.specs.Tables.{Tables, SizedEntries, blocksOf, entriesOf, tablesBy, tablesOf, pooled}
+use Rattle.record.specs.Tables.{Tables, SizedEntries, blocksOf, entriesOf, tablesBy, tablesOf, pooled, blockEntries}
 use Rattle.record.specs.Pools.{isWellFormed}
 use Rattle.record.specs.declared.Head.{Head}
 use Rattle.record.specs.declared.Pool.{Pool}
@@ -29,7 +29,7 @@ use Rattle.calls.proofs.Scheduled.{Swept, advanced, schedule-obeys, pla
 abbrev pub headAfter : Planned → Head → Head
 headAfter q h = record { tasks = q .tasks; global = q .global; given = h .given }
 
-module _ {h : Head} {hs cs ns ds : List ℕ} (types : HeadTyped h) (a : length hs ≡ 96) (e : SizedEntries cs ns ds) (event : Event) (task : ℕ)
+module _ {h : Head} {hs cs ns ds : List ℕ} (types : HeadTyped h) (a : length hs ≡ blockEntries) (e : SizedEntries cs ns ds) (event : Event) (task : ℕ)
     {q : Planned} (so : q ≡ planned event task (h .tasks) (h .global)) where
   -- nothing may end: the tables stay
   pub schedule-still : q .ends ≡ false → FollowsBeside (Use (Schedule event task)) h hs cs ns ds (q .answer) (headAfter q h) hs cs ns ds
@@ -49,7 +49,7 @@ module _ {h : Head} {hs cs ns ds : List ℕ} (types : HeadTyped h) (a : length h
             rw (so, u .sameTasks, u .sameTime) refl);
       }
 
-  module _ {hs′ cs′ : List ℕ} (s : q .ends ≡ true) (ends : Ends (passingOf task q) ns ds hs cs hs′ cs′) (ls : List ℕ) (l : length ls ≡ 96)
+  module _ {hs′ cs′ : List ℕ} (s : q .ends ≡ true) (ends : Ends (passingOf task q) ns ds hs cs hs′ cs′) (ls : List ℕ) (l : length ls ≡ blockEntries)
       (w : isWellFormed (pooled h hs ls cs ns ds) ≡ true) where
     abbrev before : Tables
     before = tablesBy h (blocksOf hs ls) (entriesOf cs ns ds)

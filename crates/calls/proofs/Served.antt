@@ -4,7 +4,9 @@ use native.Mathlib.Omega.{arith}
 use mathlib.Core.Bool.{Bool, true, false, true≢false, cond}
 use mathlib.Core.List.{List, []}
 use mathlib.Core.Path.{_≡_, refl, ap, _∙_}
+use borrow.Author.Tests.{lt-ltb}
 use Rattle.ledger.specs.Limits.{limits}
+use Rattle.ledger.proofs.Figures.{allowed}
 use Rattle.ledger.specs.Objects.{Reply, plain, memoryAfter}
 use Rattle.ledger.specs.Refusals.{testsOf}
 use Rattle.ledger.specs.Ledger.{Ledger, reply, next, replyToRequest, afterRequest}
@@ -31,8 +33,8 @@ either true xs = refl
 either false xs = refl
 
 pub no-bytes : (small large : List ℕ) → blockBytes small large 0 0 ≡ []
-unfolding blockBytes limits
-no-bytes small large = either (isWholeSmall small) []
+unfolding blockBytes
+no-bytes small large = rw (lt-ltb 0 (limits .smallBlocks) (allowed .some-small)) (either (isWholeSmall small) [])
 
 -- a call that does not look at the bytes beside it
 pub whatever-bytes : {request : Request} {p p′ : Pool} {small large small′ large′ : List ℕ} {y : Reply} (new : List ℕ)

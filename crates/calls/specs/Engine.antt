@@ -11,7 +11,7 @@ use Rattle.ledger.specs.declared.Request.{Request}
 use Rattle.ledger.specs.declared.Request.the-variants.{Use}
 use Rattle.ledger.specs.declared.Verdict.{Verdict}
 use Rattle.ledger.specs.declared.Verdict.the-variants.{Accepted, Refused}
-use Rattle.record.specs.Tables.{pooled, SizedEntries}
+use Rattle.record.specs.Tables.{pooled, SizedEntries, blockEntries}
 use Rattle.record.specs.Pools.{isWellFormed}
 use Rattle.record.specs.declared.Head.{Head}
 use Rattle.calls.specs.Contract.{Ready, Follows, Writes}
@@ -33,9 +33,9 @@ outcomeOf r handles lengths clocks named dues = record { answer = r .answer; poo
 -- A call that touches no store and no length, whatever lengths stand beside the handles.
 pub record FollowsBeside (request : Request) (h : Head) (handles clocks named dues : List ℕ) (answer : Answer) (h′ : Head) (handles′ clocks′ named′ dues′ : List ℕ)
     : Type 0 where
-  pub handlesSize : length handles′ ≡ 96
+  pub handlesSize : length handles′ ≡ blockEntries
   pub sized : SizedEntries clocks′ named′ dues′
-  pub follows : (lengths : List ℕ) → length lengths ≡ 96 → isWellFormed (pooled h handles lengths clocks named dues) ≡ true
+  pub follows : (lengths : List ℕ) → length lengths ≡ blockEntries → isWellFormed (pooled h handles lengths clocks named dues) ≡ true
       → Follows request (pooled h handles lengths clocks named dues) answer (pooled h′ handles′ lengths clocks′ named′ dues′)
 
 -- A write goes by the blocks alone: some expirations stand beside them that make the record well-formed,

@@ -4,7 +4,7 @@ ghost use mathlib.Core.Path.{_≡_};
 ghost use lib.ListN.{length};
 ghost use Rattle.ledger.specs.declared.Call.the-variants.{Schedule, Make, Refresh, Write};
 ghost use Rattle.ledger.specs.declared.Request.the-variants.{Use};
-ghost use Rattle.record.specs.Tables.{pooled, SizedBlocks, SizedEntries, Sized};
+ghost use Rattle.record.specs.Tables.{pooled, SizedBlocks, SizedEntries, Sized, blockEntries};
 ghost use Rattle.calls.specs.Contract.{Ready, Makes, Writes};
 ghost use Rattle.calls.specs.Engine.{refusedBy, withGiven, outcomeOf, FollowsBeside, ReadyBeside, WritesBeside};
 use expirations::Passing;
@@ -80,7 +80,7 @@ pub fn schedule(
     event: Event,
     task: u8,
 ) -> Step
-    requires { ⌜ (length (now handles) ≡ 96) × SizedEntries (now clocks) (now named) (now dues) ⌝ }
+    requires { ⌜ (length (now handles) ≡ blockEntries) × SizedEntries (now clocks) (now named) (now dues) ⌝ }
     ensures { λ r. ⌜ FollowsBeside (Use (Schedule event task)) h (now (handles .entry)) (now (clocks .entry)) (now (named .entry)) (now (dues .entry)) (r .answer) (r .head) (now (handles .exit)) (now (clocks .exit)) (now (named .entry)) (now (dues .entry)) ⌝ }
 {
     let before = h.tasks;
@@ -162,7 +162,7 @@ pub fn refresh(
     extension: u8,
     handle: u32,
 ) -> Step
-    requires { ⌜ (length (now handles) ≡ 96) × SizedEntries (now clocks) (now named) (now dues) ⌝ }
+    requires { ⌜ (length (now handles) ≡ blockEntries) × SizedEntries (now clocks) (now named) (now dues) ⌝ }
     ensures { λ r. ⌜ FollowsBeside (Use (Refresh task kind extension handle)) h (now (handles .entry)) (now (clocks .entry)) (now (named .entry)) (now (dues .entry)) (r .answer) (r .head) (now (handles .entry)) (now (clocks .exit)) (now (named .exit)) (now (dues .exit)) ⌝ }
 {
     let plan = plan_refresh(h, handles, standing(clocks), task, extension, handle);

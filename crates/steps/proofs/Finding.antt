@@ -16,7 +16,6 @@ use Rattle.lists.proofs.Filters.{filter-all}
 use Rattle.lists.proofs.First.{first-none, first-within, first-passes}
 use Rattle.lists.proofs.Permutations.{all-perm, any-perm}
 use Rattle.lists.proofs.Tables.{all-places, any-readFrom}
-use Rattle.ledger.specs.Limits.{limits}
 use Rattle.ledger.specs.Objects.{Object, objectAt, stands, standing}
 use Rattle.ledger.specs.Compared.{shownObject, viewOf}
 use Rattle.ledger.specs.Ledger.{Ledger}
@@ -27,7 +26,6 @@ use Rattle.record.specs.Tables.{BlockEntry, Tables, blockEntries}
 use Rattle.record.proofs.Facts.{Fit, FitUsed, fit-used}
 use Rattle.record.proofs.Distinct.{handleAt, same-handle}
 use Rattle.steps.proofs.ReadObjects.{shown-stands, named-stands}
-use Rattle.stores.specs.Places.{blockCount}
 use Rattle.steps.specs.Objects.{isBlockOf, placeOf, isFreeBlock}
 
 -- the block of a handle

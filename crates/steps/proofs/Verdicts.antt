@@ -27,7 +27,6 @@ use Rattle.record.specs.Reading.{recordView, Typed, Reads}
 use Rattle.record.specs.Tables.{Tables, blockEntries}
 use Rattle.record.proofs.Facts.{Fit}
 use Rattle.steps.proofs.ReadTasks.{state-alike}
-use Rattle.stores.specs.Places.{blockCount}
 use Rattle.steps.specs.Objects.{placeOf, andThen, refuseIf, byState, taskVerdict, handleVerdict, makeVerdict, refreshVerdict, readVerdict, writeVerdict}
 use Rattle.steps.proofs.Finding.{blockOf, gone-alike, found}
 use Rattle.steps.proofs.Rooms.{block-room, entries-alike}

@@ -3,7 +3,9 @@ use Prim.Native.Nat.{_+_, _<_}
 use native.Mathlib.Omega.{arith}
 use mathlib.Core.Path.{_≡_}
 use borrow.Author.Needs.{needs}
+use Rattle.ledger.specs.Limits.{taskCount}
 use Rattle.record.proofs.Types.{head-typed}
+use Rattle.record.specs.Tables.{blockEntries, expirationEntries}
 use Rattle.objects.specs.Outcomes.{makePlan}
 use Rattle.steps.specs.Objects.{freePlaceIn}
 use Rattle.expirations.specs.Standing.{standingOf}
@@ -31,7 +33,7 @@ module _ (t : tie.After-enum-told) where
   abbrev start : tie.Start
   start = t .before .before .before .before .before .before .before .before
 
-  may-set : (standingOf (start .args .clocks .now) < 256) × (start .args .task < 16) × (t .before .before .plan-make .result .place < 96)
+  may-set : (standingOf (start .args .clocks .now) < expirationEntries) × (start .args .task < taskCount) × (t .before .before .plan-make .result .place < blockEntries)
   may-set =
       make-may-set (start .args .handles .now) (start .args .lengths .now) (start .args .clocks .now) (head-typed _ _ (start .good .0)) (start .pre .0) (start .pre .1)
       (planned (t .before .before)) (t .enum-told .given .1)
