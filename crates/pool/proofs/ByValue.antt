@@ -12,7 +12,7 @@ use Rattle.ledger.specs.declared.Kind.{Kind}
 use Rattle.ledger.specs.declared.Request.{Request}
 use Rattle.ledger.specs.declared.Request.the-variants.{Use, Report}
 use Rattle.record.specs.Reading.{HeadTyped}
-use Rattle.record.specs.Tables.{SizedEntries, Sized, blocksOf, entriesOf, lent, headOf, tablesOf, pooled}
+use Rattle.record.specs.Tables.{SizedEntries, Sized, blocksOf, entriesOf, lent, headOf, tablesOf, pooled, blockEntries}
 use Rattle.record.specs.WellFormed as WellFormed
 use Rattle.record.specs.Pools.{isWellFormed}
 use Rattle.record.specs.declared.Head.{Head}
@@ -39,7 +39,7 @@ module _ (p : Pool) {h : Head} (e : h ≡ headOf p) where
   ready-by-value r = rw e r
 
   pub follows-by-value : {request : Request} {answer : Answer} {h′ : Head} {hs′ cs′ ns′ ds′ : List ℕ}
-      → FollowsBeside request h (p .handles) (p .clocks) (p .named) (p .dues) answer h′ hs′ cs′ ns′ ds′ → length (p .lengths) ≡ 96 → isWellFormed p ≡ true
+      → FollowsBeside request h (p .handles) (p .clocks) (p .named) (p .dues) answer h′ hs′ cs′ ns′ ds′ → length (p .lengths) ≡ blockEntries → isWellFormed p ≡ true
       → {p′ : Pool} → p′ ≡ pooled h′ hs′ (p .lengths) cs′ ns′ ds′ → Follows request p answer p′
   follows-by-value f l w left = rw left ((rw e at f) .follows (p .lengths) l w)
 

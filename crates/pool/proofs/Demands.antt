@@ -3,7 +3,7 @@ use Prim.Native.Nat.{ℕ}
 use mathlib.Core.Bool.{true}
 use mathlib.Core.List.{List, _∷_, map}
 use mathlib.Core.Path.{_≡_, refl, ap₂}
-use Rattle.ledger.specs.Limits.{limits, smallSize, largeSize}
+use borrow.Author.Tests.{eq-eqb}
 use Rattle.ledger.specs.Objects.{Reply}
 use Rattle.ledger.specs.Ledger.{Ledger, Sent, fresh, replies, afterAll, afterRequest}
 use Rattle.ledger.specs.Heap.{sent}
@@ -25,9 +25,8 @@ runs-follow (call {s = s} o rest) w whole L reads =
     (ap₂ _∷_ (o .answers w (λ e. whole) L reads) same, left, fit)
 
 pub demand2 : Demand2
-unfolding limits smallSize largeSize
 demand2 small large a b ss ys p′ small′ large′ runs =
-    runs-follow runs fresh-well-formed (rw (a, b)) fresh (fresh-reads small large)
+    runs-follow runs fresh-well-formed (rw (eq-eqb _ _ a, eq-eqb _ _ b)) fresh (fresh-reads small large)
 
 pub pool-demand3 : PoolDemand3
 pool-demand3 small large a b us ys p′ small′ large′ runs =

@@ -8,7 +8,7 @@ use lib.ListN.{length}
 use Rattle.ledger.specs.Objects.{Reply, freshMemory}
 use Rattle.ledger.specs.Ledger.{Sent, fresh, replies, afterAll}
 use Rattle.ledger.specs.Heap.{Used, sent, heapReplies, allInTimeAndBounds}
-use Rattle.record.specs.Reading.{freshPool}
+use Rattle.record.specs.Reading.{freshPool, wholeSmall, wholeLarge}
 use Rattle.record.specs.Pools.{isWellFormed, Reads}
 use Rattle.record.specs.declared.Pool.{Pool}
 use Rattle.calls.specs.Contract.{Obeys}
@@ -24,13 +24,13 @@ pub data Runs : Pool → List ℕ → List ℕ → List Sent → List Reply → 
 -- stores then read as the ledger, and the record is fit. (Every beginning of a list is a list: so it is after each call.)
 abbrev pub Demand2 : Type 0
 Demand2 =
-    (small large : List ℕ) → length small ≡ 2048 → length large ≡ 8192
+    (small large : List ℕ) → length small ≡ wholeSmall → length large ≡ wholeLarge
     → (ss : List Sent) (ys : List Reply) (p′ : Pool) (small′ large′ : List ℕ) → Runs freshPool small large ss ys p′ small′ large′
     → (ys ≡ replies fresh ss) × Reads p′ small′ large′ (afterAll fresh ss) × (isWellFormed p′ ≡ true)
 
 -- Demand 3: for every such list of the nine calls the answers equal the unbounded heap's exactly when all use was in time and in bounds.
 abbrev pub PoolDemand3 : Type 0
 PoolDemand3 =
-    (small large : List ℕ) → length small ≡ 2048 → length large ≡ 8192
+    (small large : List ℕ) → length small ≡ wholeSmall → length large ≡ wholeLarge
     → (us : List Used) (ys : List Reply) (p′ : Pool) (small′ large′ : List ℕ) → Runs freshPool small large (map sent us) ys p′ small′ large′
     → (ys ≡ heapReplies freshMemory us) ↔ (allInTimeAndBounds freshMemory [] us ≡ true)

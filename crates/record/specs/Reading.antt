@@ -37,18 +37,18 @@ abbrev pub shownEntry : List TaskEntry → GlobalTime → List BlockEntry → Ex
 shownEntry tasks global blocks e = shownDue tasks global (getD blocks (e .block) freeBlock .handle) (dueOf e)
 
 -- the bytes of either store
-abbrev pub smallBytes : ℕ
-smallBytes = limits .smallBlocks * smallSize
+abbrev pub wholeSmall : ℕ
+wholeSmall = limits .smallBlocks * smallSize
 
-abbrev pub largeBytes : ℕ
-largeBytes = limits .largeBlocks * largeSize
+abbrev pub wholeLarge : ℕ
+wholeLarge = limits .largeBlocks * largeSize
 
 -- "nor bytes, where a store has another length"
 abbrev pub isWholeSmall : List ℕ → Bool
-isWholeSmall small = eqb (length small) smallBytes
+isWholeSmall small = eqb (length small) wholeSmall
 
 abbrev pub isWholeLarge : List ℕ → Bool
-isWholeLarge large = eqb (length large) largeBytes
+isWholeLarge large = eqb (length large) wholeLarge
 
 abbrev pub isWhole : List ℕ → List ℕ → ℕ → Bool
 isWhole small large size = cond (isSmall size) (isWholeSmall small) (isWholeLarge large)
