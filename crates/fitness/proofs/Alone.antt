@@ -12,7 +12,6 @@ use lib.Seq.{getD-set-same, getD-set-other}
 use Rattle.lists.specs.Tests.{all}
 use Rattle.lists.proofs.Cases.{by-test, refuted, and₃}
 use Rattle.lists.proofs.Tests.{passes-at}
-use Rattle.ledger.specs.Limits.{taskCount}
 use Rattle.record.specs.Codes.{dueBy, absentEntry}
 use Rattle.record.specs.Tables.{ExpirationEntry}
 use Rattle.record.specs.WellFormed.{isFitTask, isFitDue}
@@ -56,7 +55,7 @@ module _ (tasks : List TaskEntry) (global : GlobalTime) (fit : all isFitTask tas
   -- one whose clock is a task's
   module _ (e : ExpirationEntry) (least : 16 ≤ e .clock) (below : e .clock < 32) where
     local-alone : isFitAlone tasks global e ≡ (isCoded e && isTimely nows global e && isPresent tasks e)
-    unfolding isFitDue dueBy isTimelyBy isFitTask taskCount
+    unfolding isFitDue dueBy isTimelyBy isFitTask
     local-alone =
         let setter = getD tasks (e .clock - 16) absentEntry in
         let now : getD nows (e .clock) noTime ≡ setter .clock
