@@ -7,6 +7,7 @@ use lib.Dec.{eqb, ltb}
 use lib.ListN.{length, getD}
 use Rattle.lists.specs.Tests.{count}
 use Rattle.lists.specs.Filled.{Filled}
+use Rattle.record.specs.Tables.{blockEntries}
 
 abbrev pub oneOf : ℕ → ℕ
 oneOf handle = cond (eqb handle 0) 0 1
@@ -27,10 +28,10 @@ abbrev pub isAloneIn : List Bool → ℕ → ℕ → Bool
 isAloneIn used i part = not (getD used i false) || eqb part i
 
 abbrev pub Used : List ℕ → List Bool → Type 0
-Used handles r = Filled false (λ k x. x ≡ not (eqb (getD handles k 0) 0)) 96 96 r
+Used handles r = Filled false (λ k x. x ≡ not (eqb (getD handles k 0) 0)) blockEntries blockEntries r
 
 abbrev pub FirstParts : List ℕ → List ℕ → Type 0
-FirstParts handles r = Filled 0 (λ k x. x ≡ getD handles k 0 % 64) 96 96 r
+FirstParts handles r = Filled 0 (λ k x. x ≡ getD handles k 0 % 64) blockEntries blockEntries r
 
 -- what the first parts leave of a handle: 26 bits
 pub record RestOf (handle r : ℕ) : Type 0 where
@@ -38,38 +39,42 @@ pub record RestOf (handle r : ℕ) : Type 0 where
   pub small : r < 67108864
 
 abbrev pub FirstRest : List ℕ → List ℕ → Type 0
-FirstRest handles r = Filled 0 (λ k x. RestOf (getD handles k 0) x) 96 96 r
+FirstRest handles r = Filled 0 (λ k x. RestOf (getD handles k 0) x) blockEntries blockEntries r
 
 abbrev pub Shifted : List ℕ → List ℕ → Type 0
-Shifted rest r = Filled 0 (λ k x. x ≡ getD rest k 0 / 16) 96 96 r
+Shifted rest r = Filled 0 (λ k x. x ≡ getD rest k 0 / 16) blockEntries blockEntries r
 
 -- parts, and what is left of the handles
 pub record Partable (parts rest : List ℕ) : Type 0 where
-  pub size : length parts ≡ 96
-  pub size-rest : length rest ≡ 96
-  pub below : (k : ℕ) → k < 96 → getD parts k 0 < 96
+  pub size : length parts ≡ blockEntries
+  pub size-rest : length rest ≡ blockEntries
+  pub below : (k : ℕ) → k < blockEntries → getD parts k 0 < blockEntries
 
 abbrev pub Keys : List ℕ → List ℕ → List ℕ → Type 0
-Keys parts rest r = Filled 0 (λ k x. x ≡ getD parts k 0 * 16 + getD rest k 0 % 16) 96 96 r
+Keys parts rest r = Filled 0 (λ k x. x ≡ getD parts k 0 * 16 + getD rest k 0 % 16) blockEntries blockEntries r
+
+-- parts and digits that are possible
+abbrev pub keyCount : ℕ
+keyCount = blockEntries * 16
 
 pub record Below (keys : List ℕ) : Type 0 where
-  pub size : length keys ≡ 96
-  pub below : (k : ℕ) → k < 96 → getD keys k 0 < 1536
+  pub size : length keys ≡ blockEntries
+  pub below : (k : ℕ) → k < blockEntries → getD keys k 0 < keyCount
 
 -- at the key of each block stands a block of that key
 pub record Lasts (keys r : List ℕ) : Type 0 where
-  pub size : length r ≡ 1536
-  pub below : (k : ℕ) → k < 96 → getD r (getD keys k 0) 0 < 96
-  pub so : (k : ℕ) → k < 96 → getD keys (getD r (getD keys k 0) 0) 0 ≡ getD keys k 0
+  pub size : length r ≡ keyCount
+  pub below : (k : ℕ) → k < blockEntries → getD r (getD keys k 0) 0 < blockEntries
+  pub so : (k : ℕ) → k < blockEntries → getD keys (getD r (getD keys k 0) 0) 0 ≡ getD keys k 0
 
 abbrev pub Places : List ℕ → List ℕ → List ℕ → Type 0
-Places keys lasts r = Filled 0 (λ k x. x ≡ getD lasts (getD keys k 0) 0) 96 96 r
+Places keys lasts r = Filled 0 (λ k x. x ≡ getD lasts (getD keys k 0) 0) blockEntries blockEntries r
 
 -- blocks are in one part after a digit exactly if they were before and have that digit; each part is known by one of its blocks
 pub record Refined (parts rest r : List ℕ) : Type 0 where
-  pub size : length r ≡ 96
-  pub below : (k : ℕ) → k < 96 → getD r k 0 < 96
-  pub own : (k : ℕ) → k < 96 → getD r (getD r k 0) 0 ≡ getD r k 0
-  pub same : (i j : ℕ) → i < 96 → j < 96 → getD parts i 0 ≡ getD parts j 0 → getD rest i 0 % 16 ≡ getD rest j 0 % 16 → getD r i 0 ≡ getD r j 0
-  pub finer : (i j : ℕ) → i < 96 → j < 96 → getD r i 0 ≡ getD r j 0
+  pub size : length r ≡ blockEntries
+  pub below : (k : ℕ) → k < blockEntries → getD r k 0 < blockEntries
+  pub own : (k : ℕ) → k < blockEntries → getD r (getD r k 0) 0 ≡ getD r k 0
+  pub same : (i j : ℕ) → i < blockEntries → j < blockEntries → getD parts i 0 ≡ getD parts j 0 → getD rest i 0 % 16 ≡ getD rest j 0 % 16 → getD r i 0 ≡ getD r j 0
+  pub finer : (i j : ℕ) → i < blockEntries → j < blockEntries → getD r i 0 ≡ getD r j 0
       → (getD parts i 0 ≡ getD parts j 0) × (getD rest i 0 % 16 ≡ getD rest j 0 % 16)

@@ -3,6 +3,7 @@ ghost use mathlib.Core.Path.{_≡_};
 ghost use lib.ListN.{length};
 ghost use Rattle.lists.specs.Tests.{all};
 ghost use Rattle.record.specs.WellFormed.{isDistinct};
+ghost use Rattle.record.specs.Tables.{blockEntries};
 ghost use Rattle.handles.specs.Handles.{oneOf, Counted, isFew};
 
 mod parting;
@@ -22,7 +23,7 @@ fn one_of(handle: u32) -> u8
 
 // How many blocks in use have a handle of each remainder.
 fn counts(handles: &[u32; BLOCK_COUNT]) -> [u8; REMAINDERS]
-    requires { ⌜ length (now handles) ≡ 96 ⌝ }
+    requires { ⌜ length (now handles) ≡ blockEntries ⌝ }
     ensures { λ r. ⌜ Counted (now (handles .entry)) r ⌝ }
 {
     let mut out = [0; REMAINDERS];
@@ -46,7 +47,7 @@ fn all_few(counts: [u8; REMAINDERS]) -> bool
 
 // Handles given one after another have remainders of their own; others are told apart in full.
 pub fn distinct(handles: &[u32; BLOCK_COUNT]) -> bool
-    requires { ⌜ length (now handles) ≡ 96 ⌝ }
+    requires { ⌜ length (now handles) ≡ blockEntries ⌝ }
     ensures { λ r. ⌜ r ≡ isDistinct (now (handles .entry)) ⌝ }
 {
     if all_few(counts(handles)) {

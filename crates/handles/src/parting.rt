@@ -1,22 +1,23 @@
 // Handles told apart in full, on any bytes in as many steps: the blocks are parted by the last digits of their handles, then each part by the next digit.
-// A part is known by a number below 96: by its last block, once a digit was looked at.
+// A part is known by a number below that of the blocks: by its last block, once a digit was looked at.
 ghost use mathlib.Core.Path.{_≡_};
 ghost use Prim.Native.Nat.{_+_, _*_, _%_};
 ghost use lib.Dec.{eqb};
 ghost use lib.ListN.{length};
 ghost use Rattle.lists.specs.Tables.{allFrom};
 ghost use Rattle.record.specs.WellFormed.{isDistinct};
-ghost use Rattle.handles.specs.Handles.{isAloneIn, Used, FirstParts, FirstRest, RestOf, Below, Keys, Lasts, Places, Partable, Refined, Shifted};
+ghost use Rattle.record.specs.Tables.{blockEntries};
+ghost use Rattle.handles.specs.Handles.{isAloneIn, Used, FirstParts, FirstRest, RestOf, keyCount, Below, Keys, Lasts, Places, Partable, Refined, Shifted};
 use record::BLOCK_COUNT;
 
 // Parts and digits that are possible.
-const KEYS: usize = 1536;
+const KEYS: usize = BLOCK_COUNT * 16;
 
 // The digits of a handle after those of the first parts.
 const DIGITS: usize = 7;
 
 fn used_of(handles: &[u32; BLOCK_COUNT]) -> [bool; BLOCK_COUNT]
-    requires { ⌜ length (now handles) ≡ 96 ⌝ }
+    requires { ⌜ length (now handles) ≡ blockEntries ⌝ }
     ensures { λ r. ⌜ Used (now (handles .entry)) r ⌝ }
 {
     let mut out = [false; BLOCK_COUNT];
@@ -27,7 +28,7 @@ fn used_of(handles: &[u32; BLOCK_COUNT]) -> [bool; BLOCK_COUNT]
 }
 
 fn first_parts(handles: &[u32; BLOCK_COUNT]) -> [u8; BLOCK_COUNT]
-    requires { ⌜ length (now handles) ≡ 96 ⌝ }
+    requires { ⌜ length (now handles) ≡ blockEntries ⌝ }
     ensures { λ r. ⌜ FirstParts (now (handles .entry)) r ⌝ }
 {
     let mut out = [0; BLOCK_COUNT];
@@ -44,7 +45,7 @@ fn rest_of(handle: u32) -> u32
 }
 
 fn first_rest(handles: &[u32; BLOCK_COUNT]) -> [u32; BLOCK_COUNT]
-    requires { ⌜ length (now handles) ≡ 96 ⌝ }
+    requires { ⌜ length (now handles) ≡ blockEntries ⌝ }
     ensures { λ r. ⌜ FirstRest (now (handles .entry)) r ⌝ }
 {
     let mut out = [0; BLOCK_COUNT];
@@ -92,7 +93,7 @@ fn lasts(keys: &[u16; BLOCK_COUNT]) -> [u8; KEYS]
 }
 
 fn places<'a>(keys: &'a [u16; BLOCK_COUNT], lasts: &'a [u8; KEYS]) -> [u8; BLOCK_COUNT]
-    requires { ⌜ Below (now keys) × (length (now lasts) ≡ 1536) ⌝ }
+    requires { ⌜ Below (now keys) × (length (now lasts) ≡ keyCount) ⌝ }
     ensures { λ r. ⌜ Places (now (keys .entry)) (now (lasts .entry)) r ⌝ }
 {
     let mut out = [0; BLOCK_COUNT];
@@ -113,7 +114,7 @@ fn refined<'a>(parts: &'a [u8; BLOCK_COUNT], rest: &'a [u32; BLOCK_COUNT]) -> [u
 }
 
 fn shifted(rest: &[u32; BLOCK_COUNT]) -> [u32; BLOCK_COUNT]
-    requires { ⌜ length (now rest) ≡ 96 ⌝ }
+    requires { ⌜ length (now rest) ≡ blockEntries ⌝ }
     ensures { λ r. ⌜ Shifted (now (rest .entry)) r ⌝ }
 {
     let mut out = [0; BLOCK_COUNT];
@@ -131,7 +132,7 @@ fn is_at(part: u8, i: usize) -> bool
 
 // Each block in use is alone in its part.
 fn all_alone<'a>(used: &'a [bool; BLOCK_COUNT], parts: &'a [u8; BLOCK_COUNT]) -> bool
-    requires { ⌜ (length (now used) ≡ 96) × (length (now parts) ≡ 96) ⌝ }
+    requires { ⌜ (length (now used) ≡ blockEntries) × (length (now parts) ≡ blockEntries) ⌝ }
     ensures { λ r. ⌜ r ≡ allFrom 0 (isAloneIn (now (used .entry))) (now (parts .entry)) ⌝ }
 {
     let mut alone = true;
@@ -142,7 +143,7 @@ fn all_alone<'a>(used: &'a [bool; BLOCK_COUNT], parts: &'a [u8; BLOCK_COUNT]) ->
 }
 
 pub fn parted(handles: &[u32; BLOCK_COUNT]) -> bool
-    requires { ⌜ length (now handles) ≡ 96 ⌝ }
+    requires { ⌜ length (now handles) ≡ blockEntries ⌝ }
     ensures { λ r. ⌜ r ≡ isDistinct (now (handles .entry)) ⌝ }
 {
     let used = used_of(handles);
