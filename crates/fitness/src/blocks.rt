@@ -2,14 +2,15 @@
 ghost use mathlib.Core.Path.{_≡_};
 ghost use lib.ListN.{take, drop};
 ghost use Rattle.lists.specs.Tables.{allFrom};
+ghost use Rattle.ledger.specs.Limits.{capacity};
 ghost use Rattle.record.specs.Tables.{blocksOf, SizedBlocks};
 ghost use Rattle.record.specs.WellFormed.{isSizedFor};
 ghost use Rattle.fitness.specs.Checks.{isFitBlockBy, isFitBlockIn};
-use super::entries::BYTES;
 use ledger::LARGE_SIZE;
 use ledger::LIMITS;
 use ledger::SMALL_SIZE;
 use record::BLOCK_COUNT;
+use record::BYTE_VALUES;
 
 // The small store's blocks; the large one's follow.
 const SMALL_COUNT: usize = LIMITS.small_blocks;
@@ -35,12 +36,12 @@ fn fits_block(given: u32, block: usize, named: bool, handle: u32, length: u16) -
 // The blocks of the small store. There is no way out before the end, so that several blocks are tested at once.
 fn check_small<'a>(
     given: u32,
-    flags: [bool; BYTES],
+    flags: [bool; BYTE_VALUES],
     handles: &'a [u32; BLOCK_COUNT],
     lengths: &'a [u16; BLOCK_COUNT],
 ) -> bool
     requires { ⌜ SizedBlocks (now handles) (now lengths) ⌝ }
-    ensures { λ r. ⌜ r ≡ allFrom 0 (isFitBlockIn given flags) (take 64 (blocksOf (now (handles .entry)) (now (lengths .entry)))) ⌝ }
+    ensures { λ r. ⌜ r ≡ allFrom 0 (isFitBlockIn given flags) (take (capacity .smallBlocks) (blocksOf (now (handles .entry)) (now (lengths .entry)))) ⌝ }
 {
     let mut fit = true;
     for i in 0..SMALL_COUNT {
@@ -52,12 +53,12 @@ fn check_small<'a>(
 // Those of the large one.
 fn check_large<'a>(
     given: u32,
-    flags: [bool; BYTES],
+    flags: [bool; BYTE_VALUES],
     handles: &'a [u32; BLOCK_COUNT],
     lengths: &'a [u16; BLOCK_COUNT],
 ) -> bool
     requires { ⌜ SizedBlocks (now handles) (now lengths) ⌝ }
-    ensures { λ r. ⌜ r ≡ allFrom 64 (isFitBlockIn given flags) (drop 64 (blocksOf (now (handles .entry)) (now (lengths .entry)))) ⌝ }
+    ensures { λ r. ⌜ r ≡ allFrom (capacity .smallBlocks) (isFitBlockIn given flags) (drop (capacity .smallBlocks) (blocksOf (now (handles .entry)) (now (lengths .entry)))) ⌝ }
 {
     let mut fit = true;
     for i in SMALL_COUNT..BLOCK_COUNT {
@@ -68,7 +69,7 @@ fn check_large<'a>(
 
 pub fn check_blocks<'a>(
     given: u32,
-    flags: [bool; BYTES],
+    flags: [bool; BYTE_VALUES],
     handles: &'a [u32; BLOCK_COUNT],
     lengths: &'a [u16; BLOCK_COUNT],
 ) -> bool

@@ -2,26 +2,27 @@
 ghost use Prim.Native.Nat.{_+_, _<_};
 ghost use mathlib.Core.Path.{_≡_};
 ghost use Rattle.lists.specs.Tables.{allFrom};
-ghost use Rattle.record.specs.Tables.{entriesOf};
+ghost use Rattle.record.specs.Tables.{entriesOf, expirationEntries};
 ghost use Rattle.fitness.specs.Checks.{IndexOf, MarkedTo, Codes, CodeAt, Coded, EntriesChecked, isPresentIn};
 use super::codes::slots;
 use super::times::FIRST_LOCAL;
 use super::times::clocks_of;
 use super::times::fits_four;
 use ledger::TASK_COUNT;
+use record::BYTE_VALUES;
 use record::EXPIRATION_COUNT;
 use record::GlobalTime;
 use record::TaskEntry;
 use record::codes::ABSENT;
 
-// The numbers that a byte can be.
-pub const BYTES: usize = 256;
+// The turns over all expirations, four in each.
+const TURNS: usize = EXPIRATION_COUNT / 4;
 
 // Whether all expirations are due in time, and if so the codes of clocks and the numbers of blocks that there are among them.
 pub struct Checked {
     pub fit: bool,
-    pub seen: [bool; BYTES],
-    pub named: [bool; BYTES],
+    pub seen: [bool; BYTE_VALUES],
+    pub named: [bool; BYTE_VALUES],
 }
 
 fn index_of(block: u8) -> usize
@@ -32,15 +33,15 @@ fn index_of(block: u8) -> usize
 
 // The code of an expiration's clock, which there is.
 fn code_at(clocks: &[u8; EXPIRATION_COUNT], i: usize) -> usize
-    requires { ⌜ Codes (now clocks) × (i < 256) ⌝ }
+    requires { ⌜ Codes (now clocks) × (i < expirationEntries) ⌝ }
     ensures { λ r. ⌜ CodeAt (now (clocks .entry)) i r ⌝ }
 {
     index_of(clocks[i])
 }
 
 // The flags of four more bytes.
-fn mark_four(flags: &mut [bool; BYTES], bytes: &[u8; EXPIRATION_COUNT], i: usize)
-    requires { ⌜ MarkedTo (now bytes) i (now flags) × (i + 3 < 256) ⌝ }
+fn mark_four(flags: &mut [bool; BYTE_VALUES], bytes: &[u8; EXPIRATION_COUNT], i: usize)
+    requires { ⌜ MarkedTo (now bytes) i (now flags) × (i + 3 < expirationEntries) ⌝ }
     ensures { λ _. ⌜ MarkedTo (now (bytes .entry)) (i + 4) (now (flags .exit)) ⌝ }
 {
     let a = index_of(bytes[i]);
@@ -66,9 +67,9 @@ pub fn check_entries<'a>(
 {
     let nows = clocks_of(tasks);
     let blocks = slots(clocks, named);
-    let mut seen = [false; BYTES];
-    let mut flags = [false; BYTES];
-    for j in 0..64 {
+    let mut seen = [false; BYTE_VALUES];
+    let mut flags = [false; BYTE_VALUES];
+    for j in 0..TURNS {
         let i = j * 4;
         let code0 = code_at(clocks, i);
         let code1 = code_at(clocks, i + 1);
@@ -110,7 +111,7 @@ pub fn check_entries<'a>(
 }
 
 // A task of known state is absent only where no expiration goes by its clock.
-pub fn all_present(tasks: [TaskEntry; TASK_COUNT], seen: [bool; BYTES]) -> bool
+pub fn all_present(tasks: [TaskEntry; TASK_COUNT], seen: [bool; BYTE_VALUES]) -> bool
     ensures { λ r. ⌜ r ≡ allFrom 0 (isPresentIn seen) tasks ⌝ }
 {
     let mut fit = true;
