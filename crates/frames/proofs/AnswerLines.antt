@@ -9,7 +9,8 @@ use lib.ListN.{length, set, length-append, length-set}
 use Rattle.lists.proofs.Blocks.{overwritten-on, set-overwritten}
 use Rattle.ledger.specs.declared.Answer.{Answer}
 use Rattle.ledger.specs.declared.Answer.the-variants.{Refused, Done, Advanced, Handle, Bytes, Counted}
-use Rattle.frames.specs.Answers.{answerHead, answerLine}
+use Rattle.ledger.specs.Limits.{largeSize}
+use Rattle.frames.specs.Answers.{answerHead, answerLine, longestAnswer}
 use Rattle.text.specs.Fields.{inBytes}
 use Rattle.text.specs.Hex.{digitFor, hexOf, Puts}
 use Rattle.text.proofs.Digits.{length-hex, hex-append}
@@ -60,12 +61,12 @@ module _ (answer : Answer) (bytes : List ℕ) {old first : List ℕ} {middle : �
         (puts-one second end 10 (omega (arith, room-after-bytes)))
         (omega (arith, p .next, q .next, room-after-bytes, length-append head (hexOf bytes))))
 
--- of 256 bytes of a read, 531 at most
-pub line-within : (answer : Answer) (bytes : List ℕ) → length (answerLine answer bytes) ≤ 2 * length bytes + 19
+-- with the bytes of any object
+pub line-within : (answer : Answer) (bytes : List ℕ) → length bytes ≤ largeSize → length (answerLine answer bytes) ≤ longestAnswer
 unfolding answerHead
-line-within (Refused refusal) bytes = omega (arith, length-line (Refused refusal) bytes)
-line-within Done bytes = omega (arith, length-line Done bytes)
-line-within (Advanced advanced) bytes = omega (arith, length-line (Advanced advanced) bytes)
-line-within (Handle handle) bytes = omega (arith, length-line (Handle handle) bytes)
-line-within Bytes bytes = omega (arith, length-line Bytes bytes)
-line-within (Counted usage) bytes = omega (arith, length-line (Counted usage) bytes)
+line-within (Refused refusal) bytes few = omega (arith, length-line (Refused refusal) bytes)
+line-within Done bytes few = omega (arith, length-line Done bytes)
+line-within (Advanced advanced) bytes few = omega (arith, length-line (Advanced advanced) bytes)
+line-within (Handle handle) bytes few = omega (arith, length-line (Handle handle) bytes)
+line-within Bytes bytes few = omega (arith, length-line Bytes bytes)
+line-within (Counted usage) bytes few = omega (arith, length-line (Counted usage) bytes)

@@ -13,6 +13,7 @@ use Rattle.lists.proofs.Blocks.{take-new}
 use Rattle.lists.proofs.Cases.{by-test}
 use Rattle.ledger.specs.declared.Refusal.{Refusal}
 use Rattle.ledger.specs.declared.Request.{Request}
+use Rattle.ledger.specs.Limits.{largeSize}
 use Rattle.text.specs.Fields.{fieldsAt}
 use Rattle.frames.specs.Frames.{Operation, widthsOf, headSize, mostBytes, isSizeOf, requestOf, frameWith, frameAs, operations, operationIn, frameBy, frameIn, frameOf, payloadOf, Decodes, schedule, make, refresh, read, write, report}
 use Rattle.text.specs.Hex.{isHex, bytesOf}
@@ -26,7 +27,7 @@ apart e = let z : _≡_ {A = ℕ} 0 1 = cc in omega arith
 same-count : {a b : Request} {m n : ℕ} → Frame.Request a m ≡ Frame.Request b n → m ≡ n
 same-count e = cc
 
-most-bytes : (o : Operation) → mostBytes o ≤ 256
+most-bytes : (o : Operation) → mostBytes o ≤ largeSize
 most-bytes (schedule event) = omega arith
 most-bytes make = omega arith
 most-bytes refresh = omega arith
@@ -34,13 +35,13 @@ most-bytes read = omega arith
 most-bytes write = omega arith
 most-bytes report = omega arith
 
--- a request brings at most 256 bytes, and no more than its frame has
+-- a request brings at most the bytes of the largest object, and no more than its frame has
 module _ (bytes : List ℕ) {request : Request} {count : ℕ} where
   counted-with : (r : Option Request) (n : ℕ) → frameWith r n ≡ Frame.Request request count → n ≡ count
   counted-with none n e = absurd (apart e)
   counted-with (some r) n e = same-count e
 
-  counted-as : (o : Operation) → frameAs o bytes ≡ Frame.Request request count → (count ≤ 256) × (count ≤ length bytes)
+  counted-as : (o : Operation) → frameAs o bytes ≡ Frame.Request request count → (count ≤ largeSize) × (count ≤ length bytes)
   unfolding frameAs
   counted-as o e =
       by-test (isSizeOf o (length bytes))
@@ -49,14 +50,14 @@ module _ (bytes : List ℕ) {request : Request} {count : ℕ} where
       (omega (arith, most-bytes o), omega arith))
       (λ s. absurd (apart (rw s at e)))
 
-  counted-by : (o : Option Operation) → frameBy o bytes ≡ Frame.Request request count → (count ≤ 256) × (count ≤ length bytes)
+  counted-by : (o : Option Operation) → frameBy o bytes ≡ Frame.Request request count → (count ≤ largeSize) × (count ≤ length bytes)
   counted-by none e = absurd (apart e)
   counted-by (some o) e = counted-as o e
 
 -- what a line shows that gives a request
 pub record Requested (line : List ℕ) (count : ℕ) : Type 0 where
   pub hex : isHex line ≡ true
-  pub most : count ≤ 256
+  pub most : count ≤ largeSize
   pub within : count ≤ length line / 2
   pub payload : payloadOf line ≡ drop (length line / 2 - count) (bytesOf line)
   pub counted : length (payloadOf line) ≡ count
@@ -76,7 +77,7 @@ requested line {request} {count} e =
     (λ h. absurd (apart (rw h at e)))
 
 -- the bytes of a request at the start of a buffer
-pub payload-put : (line old part : List ℕ) {request : Request} {count : ℕ} → frameOf line ≡ Frame.Request request count → 256 ≤ length old
+pub payload-put : (line old part : List ℕ) {request : Request} {count : ℕ} → frameOf line ≡ Frame.Request request count → largeSize ≤ length old
     → part ≡ drop (length line / 2 - length (take count old)) (bytesOf line) → part ++ drop count old ≡ overwritten 0 (payloadOf line) old
 unfolding overwritten
 payload-put line old part {count = count} e room p =

@@ -21,6 +21,7 @@ use Rattle.ledger.specs.declared.Kind.the-variants.{Local, Global}
 use Rattle.ledger.specs.declared.Refusal.the-variants.{NotHexadecimal, UnknownOperation, WrongFrameLength, UnknownKind}
 use Rattle.ledger.specs.declared.Request.{Request}
 use Rattle.ledger.specs.declared.Request.the-variants.{Use, Report}
+use Rattle.ledger.specs.Limits.{largeSize}
 
 -- the ten operations; five of them are the events of a task
 pub data Operation : Type 0 where
@@ -69,7 +70,7 @@ mostBytes (schedule event) = 0
 mostBytes make = 0
 mostBytes refresh = 0
 mostBytes read = 0
-mostBytes write = 256
+mostBytes write = largeSize
 mostBytes report = 0
 
 -- operation and fields

@@ -32,8 +32,10 @@ fn put_word(out: &mut [u8], at: usize, value: u32) -> usize
     put_hex(out, at, &word(value))
 }
 
-// The head of a report's answer.
-fn counts(usage: Usage) -> [u8; 9]
+// The head of a report's answer: no other answer's is as wide.
+pub const WIDEST_HEAD: usize = 9;
+
+fn counts(usage: Usage) -> [u8; WIDEST_HEAD]
     ensures { λ r. ⌜ r ≡ answerHead (Counted usage) ⌝ }
 {
     let dates = usage.expirations;

@@ -5,8 +5,10 @@ use ledger::Request;
 mod answers;
 mod requests;
 
+pub use answers::WIDEST_HEAD;
 pub use answers::encode_answer;
 pub use requests::KindByte;
+pub use requests::MOST_BYTES;
 pub use requests::decode;
 pub use requests::kind_of;
 

@@ -3,6 +3,7 @@ use super::Frame;
 use ledger::Call;
 use ledger::Event;
 use ledger::Kind;
+use ledger::LARGE_SIZE;
 use ledger::Refusal;
 use ledger::Request;
 use text::hex::byte_at;
@@ -14,6 +15,7 @@ ghost use Prim.Native.Nat.{_≤_};
 ghost use mathlib.Core.Bool.{true};
 ghost use mathlib.Core.Path.{_≡_};
 ghost use lib.ListN.{length};
+ghost use Rattle.ledger.specs.Limits.{largeSize};
 ghost use Rattle.frames.specs.Frames.{Decodes, kindOf, frameAs, frameIn, frameOf, schedule, make, refresh, read, write, report};
 ghost use Rattle.text.specs.Hex.{isHex, bytesOf};
 
@@ -108,16 +110,23 @@ fn read(line: &[u8]) -> Frame
     Frame::Request(Request::Use(Call::Read { task, handle }), 0)
 }
 
-// 09: operation, task, object in 4, offset in 1, then 0 to 256 bytes: 7 to 263 in all.
+// The bytes that may come with a request: those of the largest object.
+pub const MOST_BYTES: usize = LARGE_SIZE as usize;
+
+// 09: operation, task, object in 4, offset in 1; then bytes.
+const WRITE_HEAD: usize = 7;
+
+const LONGEST_WRITE: usize = WRITE_HEAD + MOST_BYTES;
+
 fn write(line: &[u8]) -> Frame
     requires { ⌜ isHex (now line) ≡ true ⌝ }
     ensures { λ r. ⌜ r ≡ frameAs write (bytesOf (now (line .entry))) ⌝ }
 {
     let size = line.len() / 2;
-    if size < 7 {
+    if size < WRITE_HEAD {
         return Frame::Refused(Refusal::WrongFrameLength);
     }
-    if 263 < size {
+    if LONGEST_WRITE < size {
         return Frame::Refused(Refusal::WrongFrameLength);
     }
     let task = byte_at(line, 1);
@@ -129,7 +138,7 @@ fn write(line: &[u8]) -> Frame
             handle,
             offset,
         }),
-        size - 7,
+        size - WRITE_HEAD,
     )
 }
 
@@ -180,7 +189,7 @@ fn frame_of(line: &[u8]) -> Frame
 
 // The frame of a line; the bytes that come with a request go to the start of a buffer.
 pub fn decode(line: &[u8], bytes: &mut [u8]) -> Frame
-    requires { ⌜ 256 ≤ length (now bytes) ⌝ }
+    requires { ⌜ largeSize ≤ length (now bytes) ⌝ }
     ensures { λ r. ⌜ Decodes (now (line .entry)) (now (bytes .entry)) r (now (bytes .exit)) ⌝ }
 {
     let frame = frame_of(line);
