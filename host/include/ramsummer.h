@@ -58,7 +58,7 @@ enum ramsummer_answer {
     RAMSUMMER_OUTSIDE_OBJECT = 13,      /* write: offset plus count above the object's length */
     RAMSUMMER_WRONG_STORE_LENGTH = 14,  /* a store is not RAMSUMMER_SMALL or RAMSUMMER_LARGE long */
     RAMSUMMER_NOT_WELL_FORMED = 15,     /* the record is damaged; tested first by every call but fresh */
-    RAMSUMMER_NOT_HEXADECIMAL = 16,     /* frame: another character, or an odd count of digits */
+    RAMSUMMER_NOT_HEXADECIMAL = 16,     /* frame: not all pairs of digits 0-9, A-F */
     RAMSUMMER_UNKNOWN_OPERATION = 17,   /* frame: no or an unknown operation */
     RAMSUMMER_WRONG_FRAME_LENGTH = 18,  /* frame: wrong length for its operation */
     RAMSUMMER_UNKNOWN_KIND = 19,        /* kind above 1; tested before all else */

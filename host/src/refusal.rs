@@ -46,7 +46,7 @@ pub enum Refusal {
     WrongStoreLength = 14,
     /// The record is damaged.
     NotWellFormed = 15,
-    /// Frame: another character, or an odd count of digits.
+    /// Frame: not all pairs of digits 0-9, A-F.
     NotHexadecimal = 16,
     /// Frame: no or an unknown operation.
     UnknownOperation = 17,

@@ -1,4 +1,4 @@
--- What the calls open to others promise: for each, what comes back and what record and stores then are.
+-- What the calls open to others promise: for each, its reply, and the record and stores that it leaves.
 use Prim.Native.Nat.{ℕ, _<_}
 use mathlib.Core.Bool.{Bool, true, false, _&&_}
 use mathlib.Core.List.{List, []}
@@ -27,7 +27,7 @@ use Rattle.objects.specs.declared.Found.the-variants.{At}
 use Rattle.objects.specs.declared.Found.the-variants.{Refused as RefusedFound}
 use Rattle.calls.specs.declared.Outcome.{Outcome}
 
--- the calls that test 14
+-- R35: the calls that test 14
 abbrev pub isStored : Request → Bool
 isStored (Use (Schedule event task)) = false
 isStored (Use (Make task kind extension size)) = true
@@ -49,7 +49,7 @@ pub record Ready (request : Request) (p : Pool) (small large : List ℕ) : Type 
   pub fit : isWellFormed p ≡ true
   pub whole : isStored request ≡ true → areWhole small large ≡ true
 
--- "All refusals change nothing"
+-- R31: a refusal and nothing more
 pub record Refuses (why : Refusal) (p : Pool) (small large : List ℕ) (y : Reply) (p′ : Pool) (small′ large′ : List ℕ) : Type 0 where
   pub refused : y ≡ plain (Refused why)
   pub samePool : p′ ≡ p
@@ -58,7 +58,7 @@ pub record Refuses (why : Refusal) (p : Pool) (small large : List ℕ) (y : Repl
 
 -- A call with the bytes that a write brings, on a record with two stores: its reply, and the record and stores that it leaves.
 pub record Obeys (request : Request) (new : List ℕ) (p : Pool) (small large : List ℕ) (y : Reply) (p′ : Pool) (small′ large′ : List ℕ) : Type 0 where
-  -- first 15, then 14
+  -- R34, R35: first 15, then 14
   pub unfit : isWellFormed p ≡ false → Refuses NotWellFormed p small large y p′ small′ large′
   pub wrong : isWellFormed p ≡ true → isStored request ≡ true → areWhole small large ≡ false
       → Refuses WrongStoreLength p small large y p′ small′ large′
@@ -68,7 +68,7 @@ pub record Obeys (request : Request) (new : List ℕ) (p : Pool) (small large : 
   -- what is left reads as its next,
   pub leaves : isWellFormed p ≡ true → (isStored request ≡ true → areWhole small large ≡ true) → (L : Ledger) → Reads p small large L
       → Reads p′ small′ large′ (afterRequest L request new)
-  -- and the record is well-formed
+  -- and the record is well-formed (W13)
   pub fits : isWellFormed p ≡ true → isWellFormed p′ ≡ true
   pub keeps : (why : Refusal) → y .answer ≡ Refused why → Refuses why p small large y p′ small′ large′
   -- objects that stand on stay where they are, and a store keeps its length
@@ -87,7 +87,7 @@ Settled =
 abbrev pub Follows : Request → Pool → Answer → Pool → Type 0
 Follows request p answer p′ = (small large : List ℕ) → Obeys request [] p small large (plain answer) p′ small large
 
--- make: the new object's block is the one part that is left open. It belonged to no standing object, and it is the one that is cleared.
+-- O10, O11, make: the new object's block is the one part that is left open. It belonged to no standing object, and it is the one that is cleared.
 pub record Placed (p : Pool) (small large : List ℕ) (handle : ℕ) (p′ : Pool) (small′ large′ : List ℕ) (block : ℕ) : Type 0 where
   pub known : block < blockCount
   pub free : getD (p .handles) block 0 ≡ 0
@@ -99,13 +99,13 @@ pub record Makes (task : ℕ) (kind : Kind) (extension size : ℕ) (p : Pool) (s
   pub obeys : Obeys (Use (Make task kind extension size)) [] p small large (plain (r .answer)) (r .pool) small′ large′
   pub placed : (handle : ℕ) → r .answer ≡ Handle handle → (block : ℕ) × Placed p small large handle (r .pool) small′ large′ block
 
--- write: the record stays, and those bytes of its block are replaced and no other byte of either store
+-- O20, O21, write: the record stays, the bytes go into its block, and the rest of both stores is as it was
 pub record Writes (task handle offset : ℕ) (new : List ℕ) (p : Pool) (small large : List ℕ) (answer : Answer) (small′ large′ : List ℕ) : Type 0 where
   pub obeys : Obeys (Use (Write task handle offset)) new p small large (plain answer) p small′ large′
   pub smallWritten : answer ≡ Done → small′ ≡ smallAfter (placeIn handle (p .handles)) offset new small
   pub largeWritten : answer ≡ Done → large′ ≡ largeAfter (placeIn handle (p .handles)) offset new large
 
--- read: the part that it hands back, of no bytes where it is refused
+-- O19, read: the part that it hands back, of no bytes where it is refused
 abbrev pub ReadsBack : ℕ → ℕ → Pool → List ℕ → List ℕ → Answer → List ℕ → Type 0
 ReadsBack task handle p small large answer part =
     Obeys (Use (Read task handle)) [] p small large (record { answer = answer; bytes = part }) p small large

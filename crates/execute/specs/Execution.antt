@@ -1,4 +1,4 @@
--- Demand 1: a line of any bytes is carried out or refused, on any record with any stores.
+-- D1, demand 1: a line of any bytes is carried out or refused, on any record with any stores.
 use Prim.Native.Nat.{ℕ, _+_, _≤_, _<_}
 use mathlib.Core.List.{List}
 use mathlib.Core.Path.{_≡_}
@@ -26,7 +26,7 @@ pub record Showable (answer : Answer) (small large : List ℕ) (block count : �
   pub inside : 0 < count → InBlock small large block count
   pub room : at + length (answerLine answer (blockBytes small large block count)) ≤ length out
 
--- a frame carried out: refused with nothing changed, or served by the pool
+-- F26: a frame carried out: refused with nothing changed, or served by the pool
 abbrev pub Performs : Frame → List ℕ → Pool → List ℕ → List ℕ → Called → List ℕ → List ℕ → Type 0
 Performs (Frame.Request request count) bytes p small large r small′ large′ = Serves request bytes p small large r small′ large′
 Performs (Frame.Refused why) bytes p small large r small′ large′ =

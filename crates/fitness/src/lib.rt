@@ -19,7 +19,7 @@ use record::Head;
 use record::running::all_fit_tasks;
 use record::running::all_ticked;
 
-// 01: a fit record.
+// The rules W, of the whole record.
 pub fn is_well_formed<'a>(
     h: Head,
     handles: &'a [u32; BLOCK_COUNT],

@@ -1,4 +1,4 @@
--- Document 01, "Call frames": the line of an answer.
+-- The rules F27 to F31: the line of an answer.
 use Prim.Native.Nat.{ℕ, _+_, _*_}
 use mathlib.Core.List.{List, [], _∷_, _++_}
 use Rattle.text.specs.Fields.{inFields, total}
@@ -8,7 +8,7 @@ use Rattle.ledger.specs.declared.Answer.{Answer}
 use Rattle.ledger.specs.declared.Answer.the-variants.{Refused, Done, Advanced, Handle, Bytes, Counted}
 use Rattle.ledger.specs.Limits.{largeSize}
 
--- "Report adds standing small objects (1), large (1), dates (2), numbers given (4)"
+-- F31: the figures of a report
 abbrev pub reportWidths : List ℕ
 reportWidths = 1 ∷ 1 ∷ 2 ∷ 4 ∷ []
 
@@ -16,18 +16,18 @@ reportWidths = 1 ∷ 1 ∷ 2 ∷ 4 ∷ []
 abbrev pub answerWidths : Answer → List ℕ
 answerWidths (Refused refusal) = []
 answerWidths Done = []
--- "Leave, block and tick add 01 if common time advanced, else 00"
+-- F29
 answerWidths (Advanced advanced) = 1 ∷ []
--- "Make adds the number in 4 bytes"
+-- F30
 answerWidths (Handle handle) = 4 ∷ []
 answerWidths Bytes = []
 answerWidths (Counted usage) = reportWidths
 
--- "00 and its data, or the refusal number in one byte"
+-- F28: the number of the answer, 0 or its refusal's, and what it tells
 unfoldable pub answerHead : Answer → List ℕ
 answerHead answer = answerNumber answer ∷ inFields (answerWidths answer) (answerValues answer)
 
--- "in the same hexadecimal and ended by LF"; the bytes are those of a read
+-- F27: in hexadecimal, with its LF; the bytes are those of a read
 unfoldable pub answerLine : Answer → List ℕ → List ℕ
 answerLine answer bytes = hexOf (answerHead answer ++ bytes) ++ (10 ∷ [])
 

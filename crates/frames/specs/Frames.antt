@@ -1,4 +1,4 @@
--- Document 01, "Call frames": the request or the refusal that a line gives, and the line of a request.
+-- The rules F: the request or the refusal that a line gives, and the line of a request.
 use Prim.Native.Nat.{ℕ, _+_, _-_, _≤_, _<_}
 use mathlib.Core.Bool.{Bool, cond}
 use mathlib.Core.List.{List, [], _∷_, _++_}
@@ -51,20 +51,20 @@ operationIn (o ∷ os) number = cond (eqb number (operationNumber o)) (some o) (
 
 -- the widths of the fields after the operation, in bytes
 abbrev pub widthsOf : Operation → List ℕ
--- "operation, task"
+-- F1 to F5: task
 widthsOf (schedule event) = 1 ∷ []
--- "operation, task, kind (00 own, 01 common), extension, length in 2 bytes"
+-- F6: task, kind, extension, length
 widthsOf make = 1 ∷ 1 ∷ 1 ∷ 2 ∷ []
--- "operation, task, kind, extension, object in 4"
+-- F7: task, kind, extension, handle
 widthsOf refresh = 1 ∷ 1 ∷ 1 ∷ 4 ∷ []
--- "operation, task, object in 4"
+-- F8: task, handle
 widthsOf read = 1 ∷ 4 ∷ []
--- "operation, task, object in 4, offset in 1, then 0 to 256 bytes"
+-- F9: task, handle, offset
 widthsOf write = 1 ∷ 4 ∷ 1 ∷ []
--- "operation only"
+-- F10: none
 widthsOf report = []
 
--- how many bytes may follow the fields
+-- F9: how many bytes may follow the fields
 abbrev pub mostBytes : Operation → ℕ
 mostBytes (schedule event) = 0
 mostBytes make = 0
@@ -77,11 +77,11 @@ mostBytes report = 0
 abbrev pub headSize : Operation → ℕ
 headSize o = 1 + total (widthsOf o)
 
--- 18 where this fails: "wrong length for it"
+-- R18 where this fails
 abbrev pub isSizeOf : Operation → ℕ → Bool
 isSizeOf o size = isWithin (headSize o) (headSize o + mostBytes o) size
 
--- 19 where it is unknown: "kind above 01"
+-- F21: a kind by its byte; R19 where it is unknown
 abbrev pub kindOf : ℕ → KindByte
 kindOf number = cond (eqb number 0) (Known Local) (cond (eqb number 1) (Known Global) Unknown)
 
@@ -104,14 +104,14 @@ abbrev pub frameWith : Option Request → ℕ → Frame
 frameWith none count = Frame.Refused UnknownKind
 frameWith (some request) count = Frame.Request request count
 
--- a frame of a known operation: 18, then 19; the bytes after the fields come with the request
+-- R33: a frame of a known operation: 18, then 19; the bytes after the fields come with the request
 unfoldable pub frameAs : Operation → List ℕ → Frame
 frameAs o bytes =
     cond (isSizeOf o (length bytes))
     (frameWith (requestOf o (fieldsAt 1 (widthsOf o) bytes)) (length bytes - headSize o))
     (Frame.Refused WrongFrameLength)
 
--- 17 before these: "no or unknown operation"
+-- R17 before these
 abbrev pub frameBy : Option Operation → List ℕ → Frame
 frameBy none bytes = Frame.Refused UnknownOperation
 frameBy (some o) bytes = frameAs o bytes
@@ -120,7 +120,7 @@ frameBy (some o) bytes = frameAs o bytes
 unfoldable pub frameIn : List ℕ → Frame
 frameIn bytes = frameBy (operationIn operations (getD bytes 0 0)) bytes
 
--- 16 before all
+-- R16 before all
 unfoldable pub frameOf : List ℕ → Frame
 frameOf line = cond (isHex line) (frameIn (bytesOf line)) (Frame.Refused NotHexadecimal)
 

@@ -1,4 +1,4 @@
-// Document 01, "Call frames": the request of a line, and the line of an answer.
+// The rules F: the request of a line, and the line of an answer.
 use ledger::Refusal;
 use ledger::Request;
 

@@ -19,7 +19,7 @@ ghost use Rattle.ledger.specs.Limits.{largeSize};
 ghost use Rattle.frames.specs.Frames.{Decodes, kindOf, frameAs, frameIn, frameOf, schedule, make, refresh, read, write, report};
 ghost use Rattle.text.specs.Hex.{isHex, bytesOf};
 
-// The kind that a byte names: 00 is own, 01 common.
+// F21: the kind that a byte names.
 pub enum KindByte {
     Known(Kind),
     Unknown,
@@ -35,7 +35,7 @@ pub fn kind_of(number: u8) -> KindByte
     }
 }
 
-// 01 to 05: operation, task.
+// F1 to F5: task.
 fn schedule(line: &[u8], event: Event) -> Frame
     requires { ⌜ isHex (now line) ≡ true ⌝ }
     ensures { λ r. ⌜ r ≡ frameAs (schedule event) (bytesOf (now (line .entry))) ⌝ }
@@ -47,7 +47,7 @@ fn schedule(line: &[u8], event: Event) -> Frame
     Frame::Request(Request::Use(Call::Schedule { event, task }), 0)
 }
 
-// 06: operation, task, kind, extension, length in 2 bytes.
+// F6: task, kind, extension, length.
 fn make(line: &[u8]) -> Frame
     requires { ⌜ isHex (now line) ≡ true ⌝ }
     ensures { λ r. ⌜ r ≡ frameAs make (bytesOf (now (line .entry))) ⌝ }
@@ -72,7 +72,7 @@ fn make(line: &[u8]) -> Frame
     )
 }
 
-// 07: operation, task, kind, extension, object in 4.
+// F7: task, kind, extension, handle.
 fn refresh(line: &[u8]) -> Frame
     requires { ⌜ isHex (now line) ≡ true ⌝ }
     ensures { λ r. ⌜ r ≡ frameAs refresh (bytesOf (now (line .entry))) ⌝ }
@@ -97,7 +97,7 @@ fn refresh(line: &[u8]) -> Frame
     )
 }
 
-// 08: operation, task, object in 4.
+// F8: task, handle.
 fn read(line: &[u8]) -> Frame
     requires { ⌜ isHex (now line) ≡ true ⌝ }
     ensures { λ r. ⌜ r ≡ frameAs read (bytesOf (now (line .entry))) ⌝ }
@@ -113,7 +113,7 @@ fn read(line: &[u8]) -> Frame
 // The bytes that may come with a request: those of the largest object.
 pub const MOST_BYTES: usize = LARGE_SIZE as usize;
 
-// 09: operation, task, object in 4, offset in 1; then bytes.
+// F9: operation, task, handle and offset; then the bytes to write.
 const WRITE_HEAD: usize = 7;
 
 const LONGEST_WRITE: usize = WRITE_HEAD + MOST_BYTES;
@@ -142,7 +142,7 @@ fn write(line: &[u8]) -> Frame
     )
 }
 
-// 0A: operation only.
+// F10: nothing.
 fn report(line: &[u8]) -> Frame
     requires { ⌜ isHex (now line) ≡ true ⌝ }
     ensures { λ r. ⌜ r ≡ frameAs report (bytesOf (now (line .entry))) ⌝ }
@@ -153,7 +153,7 @@ fn report(line: &[u8]) -> Frame
     Frame::Request(Request::Report, 0)
 }
 
-// By the operation's number; 17 for no or an unknown operation.
+// By the operation's number; R17 where there is none.
 fn frame_in(line: &[u8]) -> Frame
     requires { ⌜ isHex (now line) ≡ true ⌝ }
     ensures { λ r. ⌜ r ≡ frameIn (bytesOf (now (line .entry))) ⌝ }
@@ -176,7 +176,7 @@ fn frame_in(line: &[u8]) -> Frame
     }
 }
 
-// 16 comes before all.
+// R16 comes before all.
 fn frame_of(line: &[u8]) -> Frame
     ensures { λ r. ⌜ r ≡ frameOf (now (line .entry)) ⌝ }
 {

@@ -56,7 +56,7 @@ pub data HostRuns : Pool → List ℕ → List ℕ → List Sent → List ℕ �
       → Gives (s .request) (s .bytes) p small large number p′ small′ large′ → HostRuns p′ small′ large′ ss numbers p″ small″ large″
       → HostRuns p small large (s ∷ ss) (number ∷ numbers) p″ small″ large″
 
--- Demand 2 for a host: for every list of calls from a fresh record the numbers are those of the ledger's answers, and record and stores then read as the ledger.
+-- D4, demand 2 for a host: from a fresh record on, over every list of calls, the numbers are those of the ledger's answers, and record and stores then read as the ledger.
 abbrev pub HostDemand2 : Type 0
 HostDemand2 =
     (small large : List ℕ) → length small ≡ 2048 → length large ≡ 8192

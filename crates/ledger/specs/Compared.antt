@@ -1,4 +1,4 @@
--- Document 01, "The ledger and the endless heap": what is compared of a ledger, for a record with its stores to be read against.
+-- The rules L4 to L8: what is compared of a ledger, for a record with its stores to be read against.
 use Prim.Native.Nat.{ℕ, _%_}
 use mathlib.Core.Bool.{Bool, cond}
 use mathlib.Core.List.{List, [], map, List·Permᴰ}
@@ -9,14 +9,14 @@ use Rattle.ledger.specs.Expirations.{DueTime, byLocal, byGlobal, Expirat
 use Rattle.ledger.specs.Objects.{Object}
 use Rattle.ledger.specs.Ledger.{Ledger}
 
--- "a clock and the common time by the remainder on division by 4,294,967,296"
+-- L5: a time by its remainder
 abbrev pub wrapped : ℕ → ℕ
 wrapped n = n % counterRange
 
 abbrev pub wrappedTask : Task → Task
 wrappedTask t = record { state = t .state; ticked = t .ticked; clock = wrapped (t .clock) }
 
--- "a date by its kind, the setter of an own one, and the units left"
+-- L6: an expiration by its kind, its setter where it is local, and what remains
 pub data Left : Type 0 where
   localLeft : (setter units : ℕ) → Left
   globalLeft : (units : ℕ) → Left
@@ -32,7 +32,7 @@ leftOf clocks (byGlobal at) = globalLeft (remaining clocks (byGlobal at))
 abbrev pub shown : Clocks → Expiration → Shown
 shown clocks x = record { handle = x .handle; left = leftOf clocks (x .due) }
 
--- "nor bytes, where a store has another length": isWhole says of a size whether its store has 01's length
+-- L7: bytes only where the store is whole; isWhole says of a size whether its store has 01's length
 abbrev pub shownObject : (ℕ → Bool) → Object → Object
 shownObject isWhole o = record { handle = o .handle; size = o .size; bytes = cond (isWhole (o .size)) (o .bytes) [] }
 
@@ -54,7 +54,7 @@ viewOf isWhole L =
       expirations = map (shown (m .clocks)) (L .expirations);
     }
 
--- "The place of a block or date is not compared, nor the order of an object's dates"
+-- L8: places are free, and so is the order of expirations
 pub record Alike (v w : View) : Type 0 where
   pub tasks : v .tasks ≡ w .tasks
   pub global : v .global ≡ w .global

@@ -1,4 +1,4 @@
--- Document 01, "Edges to prove, and slips seen in drafts": the thirteen edges, rows of one table that carries one claim over all rows.
+-- D7: the thirteen edges of document 01, rows of one table that carries one claim over all rows.
 use mathlib.Core.List.{List, [], _∷_}
 use mathlib.Core.Path.{_≡_}
 use lib.ListN.{length}
@@ -9,7 +9,7 @@ use Rattle.ledger.specs.declared.Kind.the-variants.{Local, Global}
 
 unfoldable pub edges : List Row
 edges =
-    -- 1. "Own, e 0: gone after the setter's next tick." Another's tick does not end it.
+    -- 1. A local expiration of extension 0 ends with the next tick of its setter (E4, E8). Another's tick does not end it.
     fresh runs
     join 0 ⇒ done ⨾
     join 1 ⇒ done ⨾
@@ -19,7 +19,7 @@ edges =
     tick 0 ⇒ advanced ⨾
     read 0 1 ⇒ refused 12
     clockReads 1 ∷
-    -- 2. "Own, e 30: stands after 30 ticks, gone after 31."
+    -- 2. One of extension 30 outlasts 30 ticks, and not 31 (E4).
     fresh runs
     join 0 ⇒ done ⨾
     make 0 Local 30 4 ⇒ handle 1 ⨾
@@ -29,7 +29,7 @@ edges =
     tick 0 ⇒ advanced ⨾
     read 0 1 ⇒ refused 12
     clockReads 31 ∷
-    -- 3. "Common, e 0, one task: stands after one tick, gone after two."
+    -- 3. A global one of extension 0 outlasts one advance, and not two (E5, E11).
     fresh runs
     join 0 ⇒ done ⨾
     make 0 Global 0 4 ⇒ handle 1 ⨾
@@ -39,7 +39,7 @@ edges =
     tick 0 ⇒ advanced ⨾
     read 0 1 ⇒ refused 12
     clockReads 2 ∷
-    -- 4. "Tasks 0 and 1: 0 ticks twice, no advance; 1 ticks, one advance." The next tick of 0 makes none: the marks were cleared.
+    -- 4. Of two tasks both must have ticked for an advance (T16). The next tick of 0 makes none: no task is ticked after it (T18).
     fresh runs
     join 0 ⇒ done ⨾
     join 1 ⇒ done ⨾
@@ -47,7 +47,7 @@ edges =
     tick 1 ⇒ advanced ⨾
     tick 0 ⇒ standsStill
     clockReads 3 ∷
-    -- 5. "Task 0 ticked, 1 blocks: block advances." So does a leave, and either ends the common dates that are due.
+    -- 5. A block advances where all that still run have ticked (T14, T15). So does a leave, and either ends the global ones that are due (E11).
     fresh runs
     join 0 ⇒ done ⨾
     make 0 Global 0 4 ⇒ handle 1 ⨾
@@ -65,7 +65,7 @@ edges =
     leave 3 ⇒ advanced ⨾
     read 0 2 ⇒ refused 12
     clockReads 3 ∷
-    -- 6. "The only running task blocks: no advance." Task 1 waits and is not counted.
+    -- 6. A block after which no task runs does not advance (T16). Task 1 waits and is not counted.
     fresh runs
     join 0 ⇒ done ⨾
     join 1 ⇒ done ⨾
@@ -73,7 +73,7 @@ edges =
     tick 0 ⇒ advanced ⨾
     block 0 ⇒ standsStill
     clockReads 1 ∷
-    -- 7. "Length 32 small, 33 large; 0 and 257 give 7."
+    -- 7. Where small ends and large begins (O7), and which lengths there are (R7).
     fresh runs
     join 0 ⇒ done ⨾
     make 0 Local 30 32 ⇒ handle 1 ⨾
@@ -83,7 +83,7 @@ edges =
     make 0 Local 30 0 ⇒ refused 7 ⨾
     make 0 Local 30 257 ⇒ refused 7
     clockReads 0 ∷
-    -- 8. "64 small stand: the next gives 9; length 33 is accepted." With that 256 dates stand, and 9 is seen to come before 10.
+    -- 8. A full small store gives 9, and the large one still has room (O8, R9). With that 256 expirations stand, and 9 is seen to come before 10 (R40).
     -- (The refreshes come early: with 65 objects standing they would take the check past its step limit.)
     fresh runs
     join 0 ⇒ done ⨾
@@ -96,7 +96,7 @@ edges =
     make 0 Local 30 32 ⇒ refused 9 ⨾
     make 0 Local 30 33 ⇒ refused 10
     clockReads 0 ∷
-    -- 9. "256 dates stand: refresh gives 10; after one lapses it is accepted."
+    -- 9. Expirations have room for 256 (R10), and for one more as soon as one has ended (E14).
     fresh runs
     join 0 ⇒ done ⨾
     make 0 Local 0 4 ⇒ handle 1 ⨾
@@ -107,7 +107,7 @@ edges =
     report ⇒ figures 1 0 255 1 ⨾
     refresh 0 1 Global 30 ⇒ done
     clockReads 1 ∷
-    -- 10. "Length 4, offset 4: no bytes accepted, one byte 13."
+    -- 10. At the very end of an object a write of nothing is accepted, and one of a byte is not (O22, R13).
     fresh runs
     join 0 ⇒ done ⨾
     make 0 Local 0 4 ⇒ handle 1 ⨾
@@ -115,7 +115,7 @@ edges =
     write 0 1 4 (7 ∷ []) ⇒ refused 13 ⨾
     read 0 1 ⇒ zeros 4
     clockReads 0 ∷
-    -- 11. "An object with only a leaver's own dates goes; with another task's own date on it, it stands."
+    -- 11. A leaver's local expirations end (E9); an object that has another's as well stands on (O2).
     fresh runs
     join 0 ⇒ done ⨾
     join 1 ⇒ done ⨾
@@ -127,7 +127,7 @@ edges =
     read 0 2 ⇒ zeros 4 ⨾
     report ⇒ figures 1 0 1 2
     clockReads 0 ∷
-    -- 12. "Gone object with a bad range gives 12; a number not given, 11."
+    -- 12. 12 is tested before 13, and 11 before both (R43).
     fresh runs
     join 0 ⇒ done ⨾
     make 0 Local 0 4 ⇒ handle 1 ⨾
@@ -135,7 +135,7 @@ edges =
     write 0 1 4 (7 ∷ []) ⇒ refused 12 ⨾
     write 0 2 4 (7 ∷ []) ⇒ refused 11
     clockReads 1 ∷
-    -- 13. "Own, set at clock 4,294,967,295, e 0: gone after the next tick, when the record's clock reads 0."
+    -- 13. Edge 1 where the record's clock goes on from its last value to 0 (T8).
     lateStart 4294967295 0 runs
     make 0 Local 0 4 ⇒ handle 1 ⨾
     read 0 1 ⇒ zeros 4 ⨾

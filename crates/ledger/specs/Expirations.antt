@@ -1,4 +1,4 @@
--- Document 01, "Dates": expirations (01: dates), local (01: own) and global (01: common), when they are due and what ends them.
+-- The rules E: expirations (01: dates), local (01: own) and global (01: common), when they are due and what ends them.
 use Prim.Native.Nat.{ℕ, _+_, _-_}
 use mathlib.Core.Bool.{Bool, false, not}
 use mathlib.Core.List.{List}
@@ -10,27 +10,27 @@ use Rattle.ledger.specs.declared.Kind.the-variants.{Local, Global}
 use Rattle.ledger.specs.declared.Event.{Event}
 use Rattle.ledger.specs.declared.Event.the-variants.{Join, Leave, Block, Resume, Tick}
 
--- when an expiration is due: by the clock of the task that set it, or by the global time
+-- E2, T6: when an expiration is due: by the clock of the task that set it, or by the global time
 pub data DueTime : Type 0 where
   byLocal : (setter at : ℕ) → DueTime
   byGlobal : (at : ℕ) → DueTime
 
--- "A date belongs to one object"
+-- E1: it is of one object
 pub record Expiration : Type 0 where
   pub handle : ℕ
   pub due : DueTime
 
--- "Own, set at own clock c: due when that clock is c + e + 1. Common, set at common time g: due when common time is g + e + 2"
+-- E4, E5: when one is due that is set now
 unfoldable pub dueAfter : Clocks → ℕ → Kind → ℕ → DueTime
 dueAfter clocks task Local extension = byLocal task (taskAt clocks task .clock + extension + 1)
 dueAfter clocks task Global extension = byGlobal (clocks .global + extension + 2)
 
--- 01: units left
+-- E6: what remains (01: units left)
 unfoldable pub remaining : Clocks → DueTime → ℕ
 remaining clocks (byLocal setter at) = at - taskAt clocks setter .clock
 remaining clocks (byGlobal at) = at - clocks .global
 
--- not due yet
+-- E7: not due yet
 abbrev pub isLive : Clocks → Expiration → Bool
 isLive clocks x = ltb 0 (remaining clocks (x .due))
 
@@ -38,7 +38,7 @@ abbrev pub isSetBy : ℕ → DueTime → Bool
 isSetBy task (byLocal setter at) = eqb setter task
 isSetBy task (byGlobal at) = false
 
--- the expirations that an event leaves, by the clocks after it
+-- E8 to E12: the expirations that an event leaves, by the clocks after it
 unfoldable pub lasting : Event → ℕ → Clocks → List Expiration → List Expiration
 lasting Join task clocks xs = xs
 lasting Block task clocks xs = filter (isLive clocks) xs

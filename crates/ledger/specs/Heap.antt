@@ -1,5 +1,4 @@
--- Document 01, "The ledger and the endless heap", second half: the unbounded heap (01: endless heap), the expiration book (01: date book), "in time and
--- in bounds", and demand 3.
+-- The rules H: the unbounded heap (01: endless heap), the expiration book (01: date book), use in time and in bounds, and demand 3.
 use Prim.Native.Nat.{ℕ}
 use mathlib.Core.Bool.{Bool, true, false, not, _&&_, _||_}
 use mathlib.Core.List.{List, [], _∷_, map}
@@ -19,7 +18,7 @@ use Rattle.ledger.specs.declared.Call.{Call}
 use Rattle.ledger.specs.declared.Call.the-variants.{Schedule, Make, Refresh, Read, Write}
 use Rattle.ledger.specs.declared.Refusal.{Refusal}
 
--- The heap is a memory that never takes an object back.
+-- H3: the heap is a memory that never takes an object back.
 abbrev pub heapVerdictOn : Memory → Call → List ℕ → Option Refusal
 heapVerdictOn m call new = heapVerdict m (testsOf call new)
 
@@ -38,12 +37,12 @@ unfoldable pub heapReplies : Memory → List Used → List Reply
 heapReplies m [] = []
 heapReplies m (u ∷ us) = heapReply m (u .call) (u .bytes) ∷ heapReplies (heapNext m (u .call) (u .bytes)) us
 
--- The book is the expirations standing by the heap's clocks; the lengths that it has are the heap's.
--- "A call that the heap refuses changes nothing"
+-- H7: the book is the expirations standing by the heap's clocks; the lengths that it has are the heap's.
+-- H6: what the heap refuses leaves the book as it is
 unfoldable pub bookNext : Memory → List Expiration → Call → List ℕ → List Expiration
 bookNext m book call new = afterBy (heapVerdictOn m call new) (expirationsAfter call m book) book
 
--- what a use asks of the book when the call comes: its object stands, and a block and an expiration are free
+-- H9 to H13: what a use asks of the book when the call comes: its object stands, and a block and an expiration are free
 unfoldable pub isInTimeAndBounds : Memory → List Expiration → Call → Bool
 isInTimeAndBounds m book (Schedule event task) = true
 isInTimeAndBounds m book (Make task kind extension size) =
@@ -53,12 +52,12 @@ isInTimeAndBounds m book (Refresh task kind extension handle) =
 isInTimeAndBounds m book (Read task handle) = stands book handle
 isInTimeAndBounds m book (Write task handle offset) = stands book handle
 
--- a call that the heap refuses is left aside, but "A write that the heap refuses with 13 is counted as a use"
+-- H14, H15: a call that the heap refuses is left aside, but not a write that runs past its object
 abbrev pub isLeftAside : Option Refusal → Bool
 isLeftAside none = false
 isLeftAside (some r) = not (eqb (numberOf r) 13)
 
--- all use of the list was in time and in bounds
+-- H17: all use of the list was in time and in bounds
 unfoldable pub allInTimeAndBounds : Memory → List Expiration → List Used → Bool
 allInTimeAndBounds m book [] = true
 allInTimeAndBounds m book (u ∷ us) =

@@ -1,4 +1,4 @@
--- What every ledger keeps from fresh on: the ledger's side of 01's "Fit records".
+-- D8: what every ledger keeps from fresh on, its side of the rules W.
 use Prim.Native.Nat.{ℕ, _+_, _≤_, _<_}
 use mathlib.Core.Bool.{Bool, true, false}
 use mathlib.Core.List.{List, [], _∷_}
@@ -11,26 +11,26 @@ use Rattle.ledger.specs.Expirations.{DueTime, byLocal, byGlobal, Expirat
 use Rattle.ledger.specs.Objects.{Object, stands, smallOnes, largeOnes}
 use Rattle.ledger.specs.Ledger.{Ledger}
 
--- "only running tasks are marked", "absent tasks have clock 0"
+-- W9, W11: who is ticked runs, and an absent task has local time 0
 pub record TaskKept (t : Task) : Type 0 where
   pub ticked : t .ticked ≡ true → isRunning (t .state) ≡ true
   pub clock : isAbsent (t .state) ≡ true → t .clock ≡ 0
 
--- the sixteen entries
+-- T1: the sixteen entries
 pub record ClocksKept (clocks : Clocks) : Type 0 where
   pub sixteen : length (clocks .tasks) ≡ taskCount
   pub tasks : All TaskKept (clocks .tasks)
-  -- "if any task runs, one has no mark"
+  -- W10: not all that run are ticked
   pub unticked : allTicked (clocks .tasks) ≡ false
 
 pub record ObjectKept (given : ℕ) (o : Object) : Type 0 where
-  -- "a number from 1 to the count given"
+  -- W4: a handle that was given
   pub numbered : (1 ≤ o .handle) × (o .handle ≤ given)
-  -- "a length of its store's range", and as many bytes
+  -- W3, O1: a length that goes to a store, and as many bytes
   pub sized : (1 ≤ o .size) × (o .size ≤ largeSize)
   pub filled : length (o .bytes) ≡ o .size
 
--- "standing objects in order of number", so "no two the same"
+-- L2: in the order of their handles, and so no two alike (W5)
 abbrev pub Ascending : List Object → Type 0
 Ascending [] = Unit
 Ascending (o ∷ os) = All (λ (p : Object). o .handle < p .handle) os × Ascending os
@@ -38,12 +38,12 @@ Ascending (o ∷ os) = All (λ (p : Object). o .handle < p .handle) os × Ascend
 pub record ObjectsKept (given : ℕ) (os : List Object) : Type 0 where
   pub each : All (ObjectKept given) os
   pub ascending : Ascending os
-  -- "at most 4,294,967,295"; 64 small blocks, 32 large ones
+  -- O15: no more handles than there are; O5, O6: and no more blocks
   pub numbers : given ≤ lastHandle
   pub small : smallOnes os ≤ limits .smallBlocks
   pub large : largeOnes os ≤ limits .largeBlocks
 
--- own dates "up to one more than the largest extension, and their task is not absent", common ones "up to two more"
+-- W6 to W8: no more remains than the largest extension gives, and the setter of a local one is there
 abbrev pub Within : Clocks → DueTime → Type 0
 Within clocks (byLocal setter at) =
     (remaining clocks (byLocal setter at) ≤ limits .extension + 1) × (isAbsent (taskAt clocks setter .state) ≡ false)
@@ -53,7 +53,7 @@ Within clocks (byGlobal at) = remaining clocks (byGlobal at) ≤ limits .extensi
 abbrev pub isOwned : List Object → Expiration → Bool
 isOwned os x = any (λ (o : Object). isOf (o .handle) x) os
 
--- "each date in use names a block in use", "1 to 31 ticks ahead", "1 to 32 ahead"
+-- W1: it is of an object that stands; W6, W8: something remains of it
 pub record ExpirationKept (clocks : Clocks) (os : List Object) (x : Expiration) : Type 0 where
   pub owned : isOwned os x ≡ true
   pub ahead : 1 ≤ remaining clocks (x .due)
@@ -61,12 +61,12 @@ pub record ExpirationKept (clocks : Clocks) (os : List Object) (x : Expiration) 
 
 pub record ExpirationsKept (clocks : Clocks) (os : List Object) (xs : List Expiration) : Type 0 where
   pub each : All (ExpirationKept clocks os) xs
-  -- "At most 256 dates stand in all"
+  -- E14: they have room
   pub room : length xs ≤ limits .expirations
 
 pub record Kept (L : Ledger) : Type 0 where
   pub clocks : ClocksKept (L .memory .clocks)
   pub objects : ObjectsKept (L .memory .given) (L .memory .objects)
   pub expirations : ExpirationsKept (L .memory .clocks) (L .memory .objects) (L .expirations)
-  -- "each block in use has a date"
+  -- W2: each object has an expiration
   pub standing : All (λ (o : Object). stands (L .expirations) (o .handle) ≡ true) (L .memory .objects)

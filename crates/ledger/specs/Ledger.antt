@@ -1,4 +1,4 @@
--- Document 01, "The ledger and the endless heap", first half: the ledger, its answer to each call and its next state.
+-- The rules L1 to L3: the ledger, its answer to each call and its next state.
 use Prim.Native.Nat.{ℕ}
 use mathlib.Core.List.{List, [], _∷_}
 use mathlib.Core.Option.{Option, none, some}
@@ -11,12 +11,12 @@ use Rattle.ledger.specs.declared.Refusal.{Refusal}
 use Rattle.ledger.specs.declared.Request.{Request}
 use Rattle.ledger.specs.declared.Request.the-variants.{Use, Report}
 
--- "tasks, common time, count of numbers given, standing objects in order of number with length, bytes and dates"
+-- L1: tasks, times, handles given and objects are its memory; the expirations stand beside it
 pub record Ledger : Type 0 where
   pub memory : Memory
   pub expirations : List Expiration
 
--- a memory with these expirations, of which only standing objects are left
+-- O3: a memory with these expirations, of which only standing objects are left
 abbrev pub settled : Memory → List Expiration → Ledger
 settled m xs =
     record {
@@ -32,7 +32,7 @@ abbrev pub replyBy : Option Refusal → Reply → Reply
 replyBy none reply = reply
 replyBy (some r) reply = plain (Refused r)
 
--- "All refusals change nothing"
+-- R31: and changes nothing
 abbrev pub afterBy {ℓ} : {A : Type ℓ} → Option Refusal → A → A → A
 afterBy none next now = next
 afterBy (some r) next now = now
@@ -49,7 +49,7 @@ next L call new =
     (settled (memoryAfter call new (L .memory)) (expirationsAfter call (L .memory) (L .expirations)))
     L
 
--- all ten calls: report answers its figures and changes nothing
+-- all ten calls: report answers its figures (O24) and changes nothing (O25)
 abbrev pub replyToRequest : Ledger → Request → List ℕ → Reply
 replyToRequest L (Use call) new = reply L call new
 replyToRequest L Report new = plain (Counted (usage (L .memory) (L .expirations)))

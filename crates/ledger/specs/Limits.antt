@@ -18,26 +18,26 @@ capacity = record { smallBlocks = 64; largeBlocks = 32; expirations = 256; exten
 unfoldable pub limits : Limits
 limits = capacity
 
--- tasks are 0 to 15
+-- T1: how many tasks there are
 abbrev pub taskCount : ℕ
 taskCount = 16
 
--- the bytes of a small and of a large block
+-- O5, O6: the bytes of a small and of a large block
 abbrev pub smallSize : ℕ
 smallSize = 32
 
 abbrev pub largeSize : ℕ
 largeSize = 256
 
--- the largest handle
+-- O15: the largest handle
 unfoldable pub lastHandle : ℕ
 lastHandle = 4294967295
 
--- a counter of the record goes on from 4,294,967,295 to 0
+-- T8: how many values a counter of the record has
 unfoldable pub counterRange : ℕ
 counterRange = 4294967296
 
--- "Lengths 1 to 32 go to the small store, 33 to 256 to the large one"
+-- O7: the lengths that go to the small store; all others go to the large one
 abbrev pub isSmall : ℕ → Bool
 isSmall length = leb length smallSize
 

@@ -7,7 +7,7 @@ use Rattle.ledger.specs.declared.Refusal.the-variants.{NoSuchTask, TaskP
 use Rattle.ledger.specs.declared.Answer.{Answer}
 use Rattle.ledger.specs.declared.Answer.the-variants.{Refused, Done, Advanced, Handle, Bytes, Counted}
 
--- 01: "When a call is refused", "Call frames"
+-- R45: the refusals by number
 abbrev pub numberOf : Refusal → ℕ
 numberOf NoSuchTask = 1
 numberOf TaskPresent = 2
@@ -38,7 +38,7 @@ answerNumber (Handle h) = 0
 answerNumber Bytes = 0
 answerNumber (Counted u) = 0
 
--- its values, but for the bytes of a read, which stand beside it
+-- O26, O27: its values, but for the bytes of a read, which stand beside it
 abbrev pub answerValues : Answer → List ℕ
 answerValues (Refused r) = []
 answerValues Done = []

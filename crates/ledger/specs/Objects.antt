@@ -1,4 +1,4 @@
--- Document 01, "Objects and stores": objects, and what each call answers and changes once it is carried out.
+-- The rules O: objects, and what each call answers and changes once it is carried out.
 use Prim.Native.Nat.{ℕ, _+_}
 use mathlib.Core.Bool.{Bool, cond, not}
 use mathlib.Core.List.{List, [], _∷_, _++_, map}
@@ -15,7 +15,7 @@ use Rattle.ledger.specs.declared.Answer.the-variants.{Done, Advanced, Ha
 use Rattle.ledger.specs.declared.Call.{Call}
 use Rattle.ledger.specs.declared.Call.the-variants.{Schedule, Make, Refresh, Read, Write}
 
--- 01: an object; its handle is its number
+-- O1: an object; its handle is 01's number
 pub record Object : Type 0 where
   pub handle : ℕ
   pub size : ℕ
@@ -27,7 +27,7 @@ pub record Memory : Type 0 where
   pub given : ℕ
   pub objects : List Object
 
--- "no object, no date, no number given"
+-- O9: of a fresh pool
 unfoldable pub freshMemory : Memory
 freshMemory = record { clocks = freshClocks; given = 0; objects = [] }
 
@@ -39,7 +39,7 @@ pub record Reply : Type 0 where
 abbrev pub plain : Answer → Reply
 plain answer = record { answer = answer; bytes = [] }
 
--- a new object has "as many zero bytes as its length"
+-- O12: a new object has zeros for its bytes
 abbrev pub zeroed : ℕ → ℕ → Object
 zeroed handle size = record { handle = handle; size = size; bytes = replicate size 0 }
 
@@ -48,7 +48,7 @@ unfoldable pub objectAt : ℕ → List Object → Object
 objectAt handle [] = zeroed 0 0
 objectAt handle (o ∷ os) = cond (eqb (o .handle) handle) o (objectAt handle os)
 
--- "replaces those bytes and no other byte": from the offset on, in the object with this handle
+-- O20: new bytes from the offset on, in the object with this handle; all others stay
 unfoldable pub written : ℕ → ℕ → List ℕ → Object → Object
 written handle offset new o =
     let old = o .bytes in
@@ -58,7 +58,7 @@ written handle offset new o =
       bytes = cond (eqb (o .handle) handle) (overwritten offset new old) old;
     }
 
--- "An object stands while it has a date"
+-- O2: some expiration is of the object with this handle
 abbrev pub stands : List Expiration → ℕ → Bool
 stands xs handle = any (isOf handle) xs
 
@@ -76,7 +76,7 @@ largeOnes os = count (λ (o : Object). not (isSmall (o .size))) os
 abbrev pub inStoreOf : ℕ → List Object → ℕ
 inStoreOf size os = cond (isSmall size) (smallOnes os) (largeOnes os)
 
--- what each of the nine calls answers when it is carried out
+-- O26, O27: what each of the nine calls answers when it is carried out
 unfoldable pub replyTo : Call → Memory → Reply
 replyTo (Schedule event task) m = plain (cond (isTested event) (Advanced (advances event task (m .clocks))) Done)
 replyTo (Make task kind extension size) m = plain (Handle (m .given + 1))
@@ -84,7 +84,7 @@ replyTo (Refresh task kind extension handle) m = plain Done
 replyTo (Read task handle) m = record { answer = Bytes; bytes = objectAt handle (m .objects) .bytes }
 replyTo (Write task handle offset) m = plain Done
 
--- what it makes of tasks, times, handles given and bytes; the list is that of a write
+-- O14, O20, O25: what it makes of tasks, times, handles given and bytes; the list is that of a write
 unfoldable pub memoryAfter : Call → List ℕ → Memory → Memory
 memoryAfter (Schedule event task) new m =
     record { clocks = clocksAfter event task (m .clocks); given = m .given; objects = m .objects }
@@ -95,7 +95,7 @@ memoryAfter (Read task handle) new m = m
 memoryAfter (Write task handle offset) new m =
     record { clocks = m .clocks; given = m .given; objects = map (written handle offset new) (m .objects) }
 
--- and what it makes of the expirations: "Make and refresh set a date; dates go at ticks, leaves and advances"
+-- E12, O13, O17: and what it makes of the expirations: make and refresh set one, and only events end any
 unfoldable pub expirationsAfter : Call → Memory → List Expiration → List Expiration
 expirationsAfter (Schedule event task) m xs = lasting event task (clocksAfter event task (m .clocks)) xs
 expirationsAfter (Make task kind extension size) m xs =
@@ -105,7 +105,7 @@ expirationsAfter (Refresh task kind extension handle) m xs =
 expirationsAfter (Read task handle) m xs = xs
 expirationsAfter (Write task handle offset) m xs = xs
 
--- report: "standing small objects (1), large (1), dates (2), numbers given (4)"
+-- O24: what report counts
 unfoldable pub usage : Memory → List Expiration → Usage
 usage m xs =
     record {

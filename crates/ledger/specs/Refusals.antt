@@ -1,4 +1,4 @@
--- Document 01, "When a call is refused": each test once, and for each call its tests in 01's order. (14 and 15 come with stores and record, 16 to 19 with frames.)
+-- The rules R: each test once, and for each call its tests in their order. (14 and 15 come with stores and record, 16 to 19 with frames.)
 use Prim.Native.Nat.{ℕ, _+_}
 use mathlib.Core.Bool.{Bool, not, cond, _||_}
 use mathlib.Core.List.{List, [], _∷_}
@@ -22,60 +22,60 @@ pub data Test : Type 0 where
   shared : Refusal → (Memory → Bool) → Test
   own : Refusal → (Memory → List Expiration → Bool) → Test
 
--- 1: task above 15
+-- R1: there is no such task
 abbrev pub noSuchTask : ℕ → Test
 noSuchTask task = shared NoSuchTask (λ (m : Memory). leb taskCount task)
 
--- 2: task not absent
+-- R2: the task is there already
 abbrev pub taskPresent : ℕ → Test
 taskPresent task = shared TaskPresent (λ (m : Memory). not (isAbsent (taskAt (m .clocks) task .state)))
 
--- 3: task absent
+-- R3: the task is not there
 abbrev pub taskAbsent : ℕ → Test
 taskAbsent task = shared TaskAbsent (λ (m : Memory). isAbsent (taskAt (m .clocks) task .state))
 
--- 4: task waiting
+-- R4: the task waits
 abbrev pub taskWaiting : ℕ → Test
 taskWaiting task = shared TaskWaiting (λ (m : Memory). isWaiting (taskAt (m .clocks) task .state))
 
--- 5: task running
+-- R5: the task runs already
 abbrev pub taskRunning : ℕ → Test
 taskRunning task = shared TaskRunning (λ (m : Memory). isRunning (taskAt (m .clocks) task .state))
 
--- 6: extension above 30
+-- R6: the extension is too long
 abbrev pub extensionTooLong : ℕ → Test
 extensionTooLong extension = shared ExtensionTooLong (λ (m : Memory). ltb (limits .extension) extension)
 
--- 7: length 0 or above 256
+-- R7: no object has that length
 abbrev pub lengthOutOfRange : ℕ → Test
 lengthOutOfRange size = shared LengthOutOfRange (λ (m : Memory). eqb size 0 || ltb largeSize size)
 
--- 8: all numbers given
+-- R8: no handle is left
 abbrev pub handlesSpent : Test
 handlesSpent = shared HandlesSpent (λ (m : Memory). leb lastHandle (m .given))
 
--- 9: no free block in its store
+-- R9: its store is full
 abbrev pub noFreeBlock : ℕ → Test
 noFreeBlock size = own NoFreeBlock (λ (m : Memory) (xs : List Expiration). leb (blocksFor size) (inStoreOf size (m .objects)))
 
--- 10: 256 dates stand
+-- R10: there is no room for one expiration more
 abbrev pub noFreeExpiration : Test
 noFreeExpiration = own NoFreeExpiration (λ (m : Memory) (xs : List Expiration). leb (limits .expirations) (length xs))
 
--- 11: object 0 or above the count given
+-- R11: the handle was not given
 abbrev pub handleNotGiven : ℕ → Test
 handleNotGiven handle = shared HandleNotGiven (λ (m : Memory). eqb handle 0 || ltb (m .given) handle)
 
--- 12: object gone
+-- R12: the object does not stand
 abbrev pub objectGone : ℕ → Test
 objectGone handle = own ObjectGone (λ (m : Memory) (xs : List Expiration). not (stands xs handle))
 
--- 13: offset plus count above the length
+-- R13: the bytes would end past the object
 abbrev pub outsideObject : ℕ → ℕ → ℕ → Test
 outsideObject handle offset count =
     shared OutsideObject (λ (m : Memory). ltb (objectAt handle (m .objects) .size) (offset + count))
 
--- each call's tests in 01's order; the list is the bytes of a write
+-- R36 to R43: each call's tests in their order; the list is the bytes of a write
 unfoldable pub testsOf : Call → List ℕ → List Test
 testsOf (Schedule Join task) new = noSuchTask task ∷ taskPresent task ∷ []
 testsOf (Schedule Leave task) new = noSuchTask task ∷ taskAbsent task ∷ []
@@ -94,13 +94,13 @@ testsOf (Write task handle offset) new =
     noSuchTask task ∷ taskAbsent task ∷ taskWaiting task ∷ handleNotGiven handle ∷ objectGone handle
     ∷ outsideObject handle offset (length new) ∷ []
 
--- the pool's verdict: the first test that holds
+-- R32: the pool's verdict, by the first test that holds
 unfoldable pub verdict : Memory → List Expiration → List Test → Option Refusal
 verdict m xs [] = none
 verdict m xs (shared r holds ∷ ts) = cond (holds m) (some r) (verdict m xs ts)
 verdict m xs (own r holds ∷ ts) = cond (holds m xs) (some r) (verdict m xs ts)
 
--- the heap's: the first of the shared ones that holds
+-- H5: the heap's, by the first of the shared ones that holds
 unfoldable pub heapVerdict : Memory → List Test → Option Refusal
 heapVerdict m [] = none
 heapVerdict m (shared r holds ∷ ts) = cond (holds m) (some r) (heapVerdict m ts)

@@ -1,4 +1,4 @@
--- Document 01, "Tasks and the two times": the sixteen tasks, their local times, the global time, and what moves them.
+-- The rules T: the sixteen tasks, their local times, the global time, and what moves them.
 use Prim.Native.Nat.{ℕ, _+_}
 use mathlib.Core.Bool.{Bool, true, false, cond, not, _&&_, _||_}
 use mathlib.Core.List.{List, map}
@@ -10,13 +10,13 @@ use Rattle.ledger.specs.declared.State.the-variants.{Absent, Running, Wa
 use Rattle.ledger.specs.declared.Event.{Event}
 use Rattle.ledger.specs.declared.Event.the-variants.{Join, Leave, Block, Resume, Tick}
 
--- 01: a task entry. `ticked` is its mark, `clock` its own clock (local time), a whole number here
+-- T3: a task entry. `ticked` is 01's mark, `clock` the local time (01: own clock), a whole number here (T7)
 pub record Task : Type 0 where
   pub state : State
   pub ticked : Bool
   pub clock : ℕ
 
--- the tasks in their order, and the global time (01: common time)
+-- T4: the tasks in their order, and the global time (01: common time)
 pub record Clocks : Type 0 where
   pub tasks : List Task
   pub global : ℕ
@@ -24,7 +24,7 @@ pub record Clocks : Type 0 where
 abbrev pub absentTask : Task
 absentTask = record { state = Absent; ticked = false; clock = 0 }
 
--- "all tasks absent, clocks and common time 0"
+-- T5: no task is there, and every time is 0
 unfoldable pub freshClocks : Clocks
 freshClocks = record { tasks = replicate taskCount absentTask; global = 0 }
 
@@ -46,7 +46,7 @@ isWaiting Absent = false
 isWaiting Running = false
 isWaiting Waiting = true
 
--- 01's list of the five: what each makes of its task
+-- T9 to T13: what each of the five makes of its task
 unfoldable pub moved : Event → Task → Task
 moved Join task = record { state = Running; ticked = false; clock = 0 }
 moved Block task = record { state = Waiting; ticked = false; clock = task .clock }
@@ -54,7 +54,7 @@ moved Resume task = record { state = Running; ticked = false; clock = task .cloc
 moved Leave task = absentTask
 moved Tick task = record { state = task .state; ticked = true; clock = task .clock + 1 }
 
--- "After a tick, block or leave comes the advance test"
+-- T14: the events that the advance test follows
 abbrev pub isTested : Event → Bool
 isTested Join = false
 isTested Block = true
@@ -62,16 +62,16 @@ isTested Resume = false
 isTested Leave = true
 isTested Tick = true
 
--- "at least one task is running and every running task has its mark"
+-- T16: some task runs, and all that run have ticked
 unfoldable pub allTicked : List Task → Bool
 allTicked tasks =
     any (λ (t : Task). isRunning (t .state)) tasks && all (λ (t : Task). not (isRunning (t .state)) || t .ticked) tasks
 
--- the mark cleared
+-- T18: no longer ticked
 abbrev pub unticked : Task → Task
 unticked task = record { state = task .state; ticked = false; clock = task .clock }
 
--- the tasks after an event of one of them, before the advance test
+-- T15: the tasks after an event of one of them, before the advance test
 unfoldable pub tasksAfter : Event → ℕ → Clocks → List Task
 tasksAfter event task clocks = set (clocks .tasks) task (moved event (taskAt clocks task))
 
@@ -79,7 +79,7 @@ tasksAfter event task clocks = set (clocks .tasks) task (moved event (taskAt clo
 unfoldable pub advances : Event → ℕ → Clocks → Bool
 advances event task clocks = isTested event && allTicked (tasksAfter event task clocks)
 
--- the clocks after an event: at an advance "common time goes up by 1, all marks are cleared"
+-- T17, T18: the clocks after an event, and after the advance where it makes one
 unfoldable pub clocksAfter : Event → ℕ → Clocks → Clocks
 clocksAfter event task clocks =
     let tasks = tasksAfter event task clocks in

@@ -21,22 +21,22 @@ pub const CAPACITY: Limits = Limits {
 // 01's: all that there is room for.
 pub const LIMITS: Limits = CAPACITY;
 
-// 01: tasks are 0 to 15.
+// T1: how many tasks there are.
 pub const TASK_COUNT: usize = 16;
 
-// The bytes of a small and of a large block.
+// O5, O6: the bytes of a small and of a large block.
 pub const SMALL_SIZE: u32 = 32;
 
 pub const LARGE_SIZE: u32 = 256;
 
-// 01: the state of a task.
+// T2: the state of a task.
 pub enum State {
     Absent,
     Running,
     Waiting,
 }
 
-// 01: the kind of a date; Local is own, Global is common.
+// E2: the kind of an expiration (01: date); Local is 01's own, Global its common.
 pub enum Kind {
     Local,
     Global,
@@ -94,7 +94,7 @@ pub struct Usage {
     pub given: u32,
 }
 
-// 01: "When a call is refused" (1 to 15) and "Call frames" (16 to 19), in the order of their numbers.
+// R1 to R19, in the order of their numbers: 1 to 15 of a call, 16 to 19 of a frame.
 pub enum Refusal {
     NoSuchTask,
     TaskPresent,
@@ -133,7 +133,7 @@ pub enum Answer {
     Counted(Usage),
 }
 
-// 01's number of a refusal.
+// R45: the number of a refusal.
 pub fn number_of(refusal: Refusal) -> u8
     ensures { λ r. ⌜ r ≡ numberOf refusal ⌝ }
 {

@@ -28,7 +28,7 @@ use Rattle.execute.specs.declared.Executed.{Executed}
 abbrev pub tooShort : ℕ
 tooShort = 255
 
--- 01: "acceptance with its data: whether common time advanced for leave, block and tick, the number for make, the bytes for read, nothing for the others", and the four figures of
+-- O26, O27: whether global time advanced, the handle of a make, the bytes of a read, the four figures of
 -- report. What a lent number holds after an answer: what the answer tells, or what it held.
 abbrev pub advancedAfter : Answer → ℕ → ℕ
 advancedAfter (Refused why) old = old

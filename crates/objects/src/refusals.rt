@@ -1,4 +1,4 @@
-// The tests of 01, "When a call is refused", each by numbers that its call has found. A call is refused by the first that holds.
+// The tests of the rules R, each by numbers that its call has found. A call is refused by the first that holds (R32).
 ghost use Prim.Native.Nat.{_+_};
 ghost use lib.Dec.{ltb};
 ghost use mathlib.Core.Path.{_≡_};
@@ -83,7 +83,7 @@ fn room_verdict(standing: usize) -> Verdict
     refuse_if(LIMITS.expirations <= standing, Refusal::NoFreeExpiration)
 }
 
-// 7, 8, 9 between the others, in 01's order
+// R40: 7, 8, 9 between the others
 pub fn make_verdict(
     task: u8,
     extension: u8,
@@ -116,7 +116,7 @@ pub fn make_verdict(
     )
 }
 
-// 11, 12 and 10 after 6
+// R41: 11, 12 and 10 after 6
 pub fn refresh_verdict(
     task: u8,
     extension: u8,
@@ -137,7 +137,7 @@ pub fn refresh_verdict(
     )
 }
 
-// 13: offset plus count above the length, with no sum that could wrap.
+// R13: past the object's end, with no sum that could wrap.
 pub fn reaches_past(length: u16, offset: u8, count: usize) -> bool
     ensures { λ r. ⌜ r ≡ ltb length (offset + count) ⌝ }
 {

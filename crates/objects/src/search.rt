@@ -65,7 +65,7 @@ pub fn end_for(size: u32) -> usize
     }
 }
 
-// The first free block of a size's store: "with no spilling over".
+// The first free block of a size's store, and of no other (O8).
 pub fn free_place(handles: &[u32; BLOCK_COUNT], size: u32) -> usize
     requires { ⌜ length (now handles) ≡ blockEntries ⌝ }
     ensures { λ r. ⌜ r ≡ freePlaceIn size (now (handles .entry)) ⌝ }

@@ -1,4 +1,4 @@
--- Demands 2 and 3 of the pool, over lists of calls: statements about all that the calls' contracts allow, and so about this code.
+-- D2 and D3, demands 2 and 3 of the pool, over lists of calls: statements about all that the calls' contracts allow, and so about this code.
 use Prim.Native.Nat.{ℕ}
 use mathlib.Core.Bool.{true}
 use mathlib.Core.List.{List, [], _∷_, map}

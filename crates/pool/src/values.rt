@@ -1,4 +1,4 @@
-// The calls as others see them, on a record by value (01: the core has it by value): each tests first whether the record is well-formed (15), then the stores (14)
+// The calls as others see them, on a record by value (P7): each tests first whether the record is well-formed (15), then the stores (14)
 // where it touches one, and then has the engine carry it out.
 ghost use Rattle.ledger.specs.declared.Call.the-variants.{Schedule, Refresh};
 ghost use Rattle.ledger.specs.declared.Event.the-variants.{Join, Leave, Block, Resume, Tick};
@@ -220,7 +220,7 @@ pub fn locate(p: Pool, small: usize, large: usize, task: u8, handle: u32) -> Fou
     find(h, &p.handles, &p.lengths, task, handle)
 }
 
-// The answer's number goes to `number`; a refused read hands back a part of no bytes.
+// O19: the answer's number goes to `number`; where it is a refusal, the part is empty.
 pub fn read<'a>(
     p: Pool,
     small: &'a [u8],

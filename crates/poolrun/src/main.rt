@@ -6,7 +6,7 @@ use pool::SMALL_BYTES;
 use record::fresh;
 use script::run_on;
 
-// 01: the longest script that is run.
+// P2: the longest script that is run.
 const LONGEST_SCRIPT: usize = 65536;
 
 // From fresh, a buffer of answers at a time. A failed write ends it.

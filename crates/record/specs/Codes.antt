@@ -57,7 +57,7 @@ setterOf (Local setter at) = setter
 setterOf (Global at) = 0
 setterOf Unknown = 0
 
--- 01: units left, by counters that go on from 4,294,967,295 to 0
+-- E6: what remains (01: units left), by counters that wrap (T8)
 abbrev pub leftAt : ℕ → ℕ → ℕ
 leftAt due now = (due + (counterRange - now)) % counterRange
 

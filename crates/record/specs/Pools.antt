@@ -9,7 +9,7 @@ use Rattle.record.specs.Reading as Reading
 use Rattle.record.specs.WellFormed as WellFormed
 use Rattle.record.specs.declared.Pool.{Pool}
 
--- 01: a fit record
+-- the rules W
 abbrev pub isWellFormed : Pool → Bool
 isWellFormed p = WellFormed.isWellFormed (tablesOf p)
 

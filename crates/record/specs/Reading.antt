@@ -43,7 +43,7 @@ wholeSmall = limits .smallBlocks * smallSize
 abbrev pub wholeLarge : ℕ
 wholeLarge = limits .largeBlocks * largeSize
 
--- "nor bytes, where a store has another length"
+-- L7: whether a store has 01's length
 abbrev pub isWholeSmall : List ℕ → Bool
 isWholeSmall small = eqb (length small) wholeSmall
 
@@ -75,7 +75,7 @@ recordView p small large =
       expirations = readBy (shownEntry (p .tasks) (p .global) (p .blocks)) (p .expirations);
     }
 
--- What the record's type gives of every value: "sixteen task entries" and the other tables, "each counter is kept in 32 bits".
+-- What the record's type gives of every value: so many entries of each table, and counters of 32 bits (T8).
 pub record Typed (p : Tables) : Type 0 where
   pub tasks : length (p .tasks) ≡ taskCount
   pub blocks : length (p .blocks) ≡ blockEntries
@@ -94,10 +94,10 @@ pub record HeadTyped (h : Head) : Type 0 where
 -- The record with these stores reads as this ledger.
 pub record Reads (p : Tables) (small large : List ℕ) (L : Ledger) : Type 0 where
   pub alike : Alike (recordView p small large) (viewOf (isWhole small large) L)
-  -- "standing objects in order of number"
+  -- L2: in the order of their handles
   pub ascending : Ascending (L .memory .objects)
 
--- 01: a fresh pool
+-- T5, O9: a fresh pool
 unfoldable pub freshPool : Pool
 freshPool =
     record {

@@ -27,7 +27,7 @@ pub record BlockEntry : Type 0 where
   pub handle : ℕ
   pub length : ℕ
 
--- 01: a date
+-- an expiration (01: date)
 pub record ExpirationEntry : Type 0 where
   pub clock : ℕ
   pub block : ℕ

@@ -1,4 +1,4 @@
--- Document 01, "Fit records": when a record is well-formed, clause by clause.
+-- The rules W: when a record is well-formed (01: fit), clause by clause.
 use Prim.Native.Nat.{ℕ, _+_}
 use mathlib.Core.Bool.{Bool, true, false, cond, not, _&&_, _||_}
 use mathlib.Core.List.{List, [], _∷_, map}
@@ -20,7 +20,7 @@ use Rattle.record.specs.declared.Due.the-variants.{Free, Local, Global, 
 abbrev pub isUsed : BlockEntry → Bool
 isUsed b = not (eqb (b .handle) 0)
 
--- known codes; "only running tasks are marked"; "absent tasks have clock 0"
+-- W12: known codes; W9: who is ticked runs; W11: an absent task has local time 0
 unfoldable pub isFitTask : TaskEntry → Bool
 isFitTask e =
     ltb (e .state) 3 && ltb (e .ticked) 2 && (not (eqb (e .ticked) 1) || isRunning (stateOf (e .state)))
@@ -30,8 +30,8 @@ isFitTask e =
 abbrev pub isAhead : ℕ → ℕ → Bool
 isAhead most left = leb 1 left && leb left most
 
--- An expiration, with the entry of its setter and whether it names a block in use: "each date in use names a block in use"; "own dates are 1 to 31
--- ticks ahead, ..., and their task is not absent; common dates are 1 to 32 ahead". A code that means nothing is not fit.
+-- An expiration, with the entry of its setter and whether it names a block in use, as it must (W1). W6, W8: something remains, and no more than the largest
+-- extension gives; W7: the setter of a local one is there; W12: a code that means nothing is not fit.
 unfoldable pub isFitDue : TaskEntry → GlobalTime → Bool → Due → Bool
 isFitDue setter global used Free = true
 isFitDue setter global used (Local task at) =
@@ -44,21 +44,21 @@ abbrev pub isFitEntry : List TaskEntry → GlobalTime → List BlockEntry → Ex
 isFitEntry tasks global blocks e =
     isFitDue (getD tasks (setterOf (dueOf e)) absentEntry) global (isUsed (getD blocks (e .block) freeBlock)) (dueOf e)
 
--- some expiration names the block
+-- W2: some expiration names the block
 abbrev pub isNaming : ℕ → ExpirationEntry → Bool
 isNaming block e = isDated (dueOf e) && eqb (e .block) block
 
--- "a length of its store's range"
+-- W3: a length that goes to the block's store
 abbrev pub isSizedFor : ℕ → ℕ → Bool
 isSizedFor block size =
     cond (isSmallBlock block) (leb 1 size && leb size smallSize) (leb (smallSize + 1) size && leb size largeSize)
 
--- "each block in use has a date, a length of its store's range and a number from 1 to the count given"
+-- W2 to W4: a block in use is named, and has a length of its store and a handle that was given
 unfoldable pub isFitBlock : ℕ → List ExpirationEntry → ℕ → BlockEntry → Bool
 isFitBlock given xs block b =
     not (isUsed b) || (any (isNaming block) xs && isSizedFor block (b .length) && leb (b .handle) given)
 
--- "no two the same"; 0 is no number
+-- W5: no handle stands twice; 0 is none
 abbrev pub isDistinct : List ℕ → Bool
 isDistinct [] = true
 isDistinct (h ∷ hs) = (eqb h 0 || not (any (eqb h) hs)) && isDistinct hs
@@ -66,7 +66,7 @@ isDistinct (h ∷ hs) = (eqb h 0 || not (any (eqb h) hs)) && isDistinct hs
 abbrev pub handleOf : BlockEntry → ℕ
 handleOf b = b .handle
 
--- 01: a fit record; "if any task runs, one has no mark"
+-- all of them, and W10: not all that run are ticked
 unfoldable pub isWellFormed : Tables → Bool
 isWellFormed p =
     all isFitTask (p .tasks) && not (allTicked (map taskOf (p .tasks)))

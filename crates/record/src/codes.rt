@@ -1,4 +1,4 @@
-// What the numbers of an entry mean, and the units left by counters that go on from 4,294,967,295 to 0.
+// What the numbers of an entry mean, and what remains of an expiration (01: units left) by counters that wrap (T8).
 ghost use Prim.Native.Nat.{_<_};
 ghost use mathlib.Core.Path.{_≡_};
 ghost use Rattle.ledger.specs.Limits.{taskCount};
@@ -69,14 +69,14 @@ pub fn is_due_global(clock: u8, due: u32, now: GlobalTime) -> bool
     (clock == GLOBAL) & (global_left(GlobalTime(due), now) == 0)
 }
 
-// 01: units left of an own date.
+// E6: what remains of a local expiration.
 pub fn local_left(at: LocalTime, now: LocalTime) -> u32
     ensures { λ r. ⌜ r ≡ leftAt (at .0) (now .0) ⌝ }
 {
     std::num::wrapping_sub_u32(at.0, now.0)
 }
 
-// 01: units left of a common one.
+// E6: what remains of a global one.
 pub fn global_left(at: GlobalTime, now: GlobalTime) -> u32
     ensures { λ r. ⌜ r ≡ leftAt (at .0) (now .0) ⌝ }
 {

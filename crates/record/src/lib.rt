@@ -21,15 +21,15 @@ pub const EXPIRATION_COUNT: usize = CAPACITY.expirations;
 // The numbers that a byte can be: a table by clocks or blocks as they come has a place for each.
 pub const BYTE_VALUES: usize = 256;
 
-// 01: own ticks, a task's own clock.
+// T6: a local time (01: own clock).
 #[repr(C)]
 pub struct LocalTime(pub u32);
 
-// 01: the common time.
+// T6: a global time (01: common time).
 #[repr(C)]
 pub struct GlobalTime(pub u32);
 
-// 01: a task entry. State 0 is absent, 1 running, 2 waiting; ticked (01: mark) is 0 or 1.
+// T3: a task entry. State 0 is absent, 1 running, 2 waiting; ticked (01: mark) is 0 or 1.
 #[repr(C)]
 pub struct TaskEntry {
     pub state: u16,
@@ -59,7 +59,7 @@ pub struct Head {
     pub given: u32,
 }
 
-// When an expiration is due: a time by one clock cannot be tested against the other.
+// T6: when an expiration is due; a time by one clock cannot be tested against the other.
 pub enum Due {
     Free,
     Local { setter: u8, at: LocalTime },
@@ -86,7 +86,7 @@ pub fn head_of(p: Pool) -> Head
     }
 }
 
-// 01: a fresh pool.
+// T5, O9: a fresh pool.
 pub fn fresh() -> Pool
     ensures { λ r. ⌜ r ≡ freshPool ⌝ }
 {

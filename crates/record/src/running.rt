@@ -50,7 +50,7 @@ pub fn all_fit_tasks(tasks: [TaskEntry; TASK_COUNT]) -> bool
     fit
 }
 
-// The advance test: some task runs, and every running task has ticked.
+// T16, the advance test: some task runs, and all that run have ticked.
 pub fn all_ticked(tasks: [TaskEntry; TASK_COUNT]) -> bool
     ensures { λ r. ⌜ r ≡ allTicked (map taskOf tasks) ⌝ }
 {

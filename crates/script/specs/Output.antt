@@ -18,7 +18,7 @@ use Rattle.record.specs.declared.Pool.{Pool}
 use Rattle.script.specs.declared.Ran.{Ran}
 use Rattle.script.specs.declared.Step.{Step}
 
--- the reply to a frame with the bytes that come with it; "a frame that yields no call goes no further"
+-- the reply to a frame with the bytes that come with it; F26: a frame that is refused is no call
 abbrev pub replyToFrame : Ledger → Frame → List ℕ → Reply
 replyToFrame L (Frame.Request request count) bytes = replyToRequest L request bytes
 replyToFrame L (Frame.Refused why) bytes = plain (Refused why)
@@ -37,12 +37,12 @@ answerTo L line = answerLine (replyToLine L line .answer) (replyToLine L line .b
 abbrev pub afterLine : Ledger → List ℕ → Ledger
 afterLine L line = afterFrame L (frameOf line) (payloadOf line)
 
--- "writes one answer a line"
+-- P3: an answer line to each line
 unfoldable pub answersTo : Ledger → List (List ℕ) → List ℕ
 answersTo L [] = []
 answersTo L (line ∷ lines) = answerTo L line ++ answersTo (afterLine L line) lines
 
--- "starts fresh"
+-- P3: from a fresh pool on
 abbrev pub outputOf : List ℕ → List ℕ
 outputOf script = answersTo fresh (linesOf script)
 
@@ -85,7 +85,7 @@ pub data Written (script : List ℕ) : Pool → List ℕ → List ℕ → ℕ �
       → (c : Continues p small large script at r small′ large′ out out′) → Written script (r .pool) small′ large′ (r .next) rest
       → Written script p small large at (c .written ++ rest)
 
--- The whole output of a run from fresh, with stores of 01's lengths and any bytes in them, is this function of the script.
+-- D5: the whole output of a run from fresh, with stores of 01's lengths and any bytes in them, is this function of the script.
 abbrev pub WholeOutput : Type 0
 WholeOutput =
     (script small large whole : List ℕ) → Written script freshPool small large 0 whole → whole ≡ outputOf script

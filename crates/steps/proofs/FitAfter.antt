@@ -97,7 +97,7 @@ fit-moved Tick task p f r a =
     let range = all-getD _ absentEntry (omega arith) (p .tasks) (r .clocks) task in
     fit-tested p f task _ (ticked-fits entry (tick-running (stateOf (entry .state)) a) fits) r taskCount (λ other present. (present, later-next _ range))
 
--- "Lists from a fresh pool meet only fit records": the step of an event
+-- W13: the step of an event
 pub fit-after : (event : Event) (task : ℕ) (p : Tables) → isWellFormed p ≡ true → Typed p
     → verdictOf event (stateOf (getD (p .tasks) task absentEntry .state)) ≡ Accepted
     → isWellFormed (poolAfter event task p) ≡ true

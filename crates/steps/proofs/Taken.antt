@@ -36,7 +36,7 @@ pub record SlotFree (slot : ℕ) (xs : List ExpirationEntry) : Type 0 where
   pub listed : slot < length xs
   pub free : getD xs slot freeEntry .clock ≡ 0
 
--- "any free block of its store", for an object of a size in range
+-- O10: a free block of the right store, for an object of a size in range
 pub record PlaceFree (place size : ℕ) (blocks : List BlockEntry) : Type 0 where
   pub listed : place < length blocks
   pub free : getD blocks place freeBlock .handle ≡ 0

@@ -26,7 +26,7 @@ use Rattle.record.specs.declared.Due.the-variants.{Free, Local, Global, Unknown
 use Rattle.ledger.specs.declared.Verdict.{Verdict}
 use Rattle.ledger.specs.declared.Verdict.the-variants.{Accepted, Refused}
 
--- 01: join 2; leave 3; block and tick 3, 4; resume 3, 5
+-- R36 to R39, after 1: join 2; leave 3; block and tick 3, 4; resume 3, 5
 abbrev pub verdictOf : Event → State → Verdict
 verdictOf Join Absent = Accepted
 verdictOf Join Running = Refused TaskPresent
@@ -49,11 +49,11 @@ abbrev pub verdictAt : Event → ℕ → List TaskEntry → Verdict
 verdictAt event task tasks =
     cond (leb taskCount task) (Refused NoSuchTask) (verdictOf event (stateOf (getD tasks task absentEntry .state)))
 
--- a counter's next value: "goes on from 4,294,967,295 to 0"
+-- T8: a counter's next value
 abbrev pub nextTime : ℕ → ℕ
 nextTime n = (n + 1) % counterRange
 
--- in this state, the mark cleared
+-- in this state, not ticked
 abbrev pub clearedEntry : ℕ → TaskEntry → TaskEntry
 clearedEntry state e = record { state = state; ticked = 0; clock = e .clock }
 
@@ -77,7 +77,7 @@ advancedTasks advanced tasks = cond advanced (map untickedEntry tasks) tasks
 abbrev pub advancedTime : Bool → GlobalTime → GlobalTime
 advancedTime advanced global = record { 0 = cond advanced (nextTime (global .0)) (global .0) }
 
--- the task whose own dates go: taskCount for none
+-- E9: the task whose local expirations go: taskCount for none
 abbrev pub leaverOf : Event → ℕ → ℕ
 leaverOf Join task = taskCount
 leaverOf Block task = taskCount

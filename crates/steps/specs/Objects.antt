@@ -98,7 +98,7 @@ handleVerdict handle p = foundVerdict handle (p .given) (placeOf handle (p .bloc
 abbrev pub roomVerdict : ℕ → Verdict
 roomVerdict standing = refuseIf (leb (limits .expirations) standing) NoFreeExpiration
 
--- 01's lists for the four, first by the handles given and the places that were found
+-- R40 to R43, the tests of the four, first by the handles given and the places that were found
 abbrev pub makeVerdictBy : ℕ → ℕ → ℕ → List TaskEntry → ℕ → ℕ → ℕ → Verdict
 makeVerdictBy task extension size tasks given place standing =
     andThen (taskVerdict task tasks)
@@ -133,7 +133,7 @@ endVerdict handle end blocks = refuseIf (ltb (getD blocks (placeOf handle blocks
 unfoldable pub writeVerdict : ℕ → ℕ → ℕ → ℕ → Tables → Verdict
 writeVerdict task handle offset count p = andThen (readVerdict task handle p) (endVerdict handle (offset + count) (p .blocks))
 
--- the entry of an expiration that a task sets on a block: "c + e + 1", "g + e + 2", by counters that wrap
+-- the entry of an expiration that a task sets on a block: due by E4 and E5, by counters that wrap (T8)
 abbrev pub entryBy : Kind → ℕ → ℕ → ℕ → List TaskEntry → GlobalTime → ExpirationEntry
 entryBy Local task extension block tasks global =
     record { clock = localCode + task; block = block; due = (getD tasks task absentEntry .clock .0 + (extension + 1)) % counterRange }

@@ -34,7 +34,7 @@ fn copy(part: &mut [u8], bytes: &[u8])
     }
 }
 
-// "clears the block inside its store to zero and changes no other byte"
+// O11: all of the block zero, and the rest of the store as it was.
 pub fn clear_block(store: &mut [u8], at: usize, size: usize)
     requires { ⌜ at + size ≤ length (now store) ⌝ }
     ensures { λ _. ⌜ now (store .exit) ≡ overwritten at (replicate size 0) (now (store .entry)) ⌝ }
@@ -43,7 +43,7 @@ pub fn clear_block(store: &mut [u8], at: usize, size: usize)
     clear(&mut store[at..end]);
 }
 
-// "replaces those bytes and no other byte"
+// O20, O21: new bytes in the block, and the rest of the store as it was.
 pub fn write_block(store: &mut [u8], at: usize, bytes: &[u8])
     requires { ⌜ at + length (now bytes) ≤ length (now store) ⌝ }
     ensures { λ _. ⌜ now (store .exit) ≡ overwritten at (now (bytes .entry)) (now (store .entry)) ⌝ }
@@ -86,7 +86,7 @@ pub fn block_part<'a>(small: &'a [u8], large: &'a [u8], block: usize, length: us
     }
 }
 
-// A part of no bytes, for a refused read.
+// O19: the empty part of a refused read.
 pub fn no_part<'a>(small: &'a [u8]) -> &'a [u8]
     ensures { λ r. ⌜ now r ≡ [] ⌝ }
 {

@@ -17,7 +17,7 @@ use Rattle.record.specs.declared.GlobalTime.{GlobalTime}
 use Rattle.steps.specs.Events.{verdictAt, movedEntry, movedTasks, advancedTasks, advancedTime}
 use Rattle.tasks.specs.declared.Planned.{Planned}
 
--- the task leaves, and all its own dates go
+-- E9: the task leaves, and all its local expirations go
 abbrev pub isLeave : Event → Bool
 isLeave Join = false
 isLeave Leave = true

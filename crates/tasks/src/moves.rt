@@ -17,7 +17,7 @@ use record::TaskEntry;
 use record::codes::RUNNING;
 use record::codes::WAITING;
 
-// 01: join 2; leave 3; block and tick 3, 4; resume 3, 5.
+// R36 to R39, after 1: join 2; leave 3; block and tick 3, 4; resume 3, 5.
 pub fn judge(event: Event, state: State) -> Verdict
     ensures { λ r. ⌜ r ≡ verdictOf event state ⌝ }
 {
@@ -50,7 +50,7 @@ pub fn judge(event: Event, state: State) -> Verdict
     }
 }
 
-// An entry in this state, its mark (01) cleared.
+// An entry in this state, not ticked (01: mark).
 fn cleared(state: u16, mut e: TaskEntry) -> TaskEntry
     ensures { λ r. ⌜ r ≡ clearedEntry state e ⌝ }
 {
@@ -59,7 +59,7 @@ fn cleared(state: u16, mut e: TaskEntry) -> TaskEntry
     e
 }
 
-// One tick more, and the mark set.
+// T13: one tick more, and ticked.
 fn ticked(mut e: TaskEntry) -> TaskEntry
     ensures { λ r. ⌜ r ≡ movedEntry Tick e ⌝ }
 {
@@ -69,7 +69,7 @@ fn ticked(mut e: TaskEntry) -> TaskEntry
     e
 }
 
-// 01's list of the five: what each makes of its task.
+// T9 to T13: what each of the five makes of its task.
 pub fn moved(event: Event, e: TaskEntry) -> TaskEntry
     ensures { λ r. ⌜ r ≡ movedEntry event e ⌝ }
 {
@@ -82,7 +82,7 @@ pub fn moved(event: Event, e: TaskEntry) -> TaskEntry
     }
 }
 
-// Whether the advance test comes after the event.
+// T14: whether the advance test follows the event.
 pub fn is_tested(event: Event) -> bool
     ensures { λ r. ⌜ r ≡ isTested event ⌝ }
 {
@@ -95,7 +95,7 @@ pub fn is_tested(event: Event) -> bool
     }
 }
 
-// Whether the task leaves, and all its local expirations end.
+// E9: whether the task leaves, and all its local expirations end.
 pub fn is_leave(event: Event) -> bool
     ensures { λ r. ⌜ r ≡ isLeave event ⌝ }
 {
@@ -132,7 +132,7 @@ fn all_unticked(tasks: [TaskEntry; TASK_COUNT]) -> [TaskEntry; TASK_COUNT]
     out
 }
 
-// "all marks are cleared"
+// T18: no task is ticked any more.
 pub fn advanced_tasks(advanced: bool, tasks: [TaskEntry; TASK_COUNT]) -> [TaskEntry; TASK_COUNT]
     ensures { λ r. ⌜ r ≡ advancedTasks advanced tasks ⌝ }
 {
@@ -142,7 +142,7 @@ pub fn advanced_tasks(advanced: bool, tasks: [TaskEntry; TASK_COUNT]) -> [TaskEn
     tasks
 }
 
-// "common time goes up by 1"
+// T17: one more.
 pub fn advanced_time(advanced: bool, global: GlobalTime) -> GlobalTime
     ensures { λ r. ⌜ r ≡ advancedTime advanced global ⌝ }
 {

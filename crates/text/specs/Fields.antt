@@ -1,4 +1,4 @@
--- Document 01, "Call frames": "Fields, high byte first".
+-- F23: numbers in fields of several bytes, the highest first.
 use Prim.Native.Nat.{ℕ, zero, suc, _+_, _*_, _/_, _%_, _^_, _<_}
 use mathlib.Core.List.{List, [], _∷_, _++_}
 use lib.ListN.{getD}

@@ -1,4 +1,4 @@
--- Document 01, "Call frames": "a line of hexadecimal, digits 0-9 and A-F, two for a byte".
+-- F22: bytes as hexadecimal digits.
 use Prim.Native.Nat.{ℕ, _+_, _-_, _*_, _/_, _%_, _≤_}
 use mathlib.Core.Bool.{Bool, true, cond, _&&_}
 use mathlib.Core.List.{List, [], _∷_}
@@ -19,7 +19,7 @@ digitOf c = cond (isWithin 48 57 c) (c - 48) (cond (isWithin 65 70 c) (c - 65 + 
 abbrev pub isDigit : ℕ → Bool
 isDigit c = ltb (digitOf c) 16
 
--- 16 where this fails: "another character or an odd count of digits"
+-- R16 where this fails
 abbrev pub isHex : List ℕ → Bool
 isHex line = eqb (length line % 2) 0 && all isDigit line
 

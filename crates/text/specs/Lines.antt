@@ -1,4 +1,4 @@
--- Document 01, "Call frames": the lines of a script, each "ended by LF; the last line may lack it".
+-- F24: the lines of a script, each up to its LF or the script's end.
 use Prim.Native.Nat.{ℕ, _+_}
 use mathlib.Core.Bool.{Bool, cond}
 use mathlib.Core.List.{List, [], _∷_}

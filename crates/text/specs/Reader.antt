@@ -1,4 +1,4 @@
--- Document 01: "A reader holds the script and the offset of its next line"; what one step of it gives.
+-- P1: what one step of a reader gives.
 use denote.Ref.{now}
 use Rattle.text.specs.Lines.{lineAt}
 use Rattle.text.specs.declared.lines.Line.{Line}

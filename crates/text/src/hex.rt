@@ -1,4 +1,4 @@
-// Hexadecimal: digits 0-9 and A-F, two for a byte. What a line spells, and bytes as a line.
+// F22, hexadecimal: what a line spells, and bytes as a line.
 ghost use Prim.Native.Nat.{_+_, _-_, _*_, _/_, _≤_, _<_};
 ghost use mathlib.Core.List.{[], _∷_};
 ghost use mathlib.Core.Path.{_≡_};

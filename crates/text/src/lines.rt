@@ -1,4 +1,4 @@
-// The lines of a script, each ended by LF; the last one may lack it.
+// F24: the lines of a script.
 ghost use mathlib.Core.Path.{_≡_};
 ghost use Rattle.text.specs.Lines.{lineEnd, lineAt};
 

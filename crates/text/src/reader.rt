@@ -5,7 +5,7 @@ ghost use mathlib.Core.Path.{_≡_};
 ghost use Rattle.text.specs.Lines.{lineAt};
 ghost use Rattle.text.specs.Reader.{nextLine};
 
-// 01: a reader holds the script and the offset of its next line.
+// P1: a script, and where its next line starts.
 pub struct Reader<'a> {
     pub script: &'a [u8],
     pub next: usize,

@@ -16,9 +16,9 @@ use reference::random::Random;
 
 const NOT_WELL_FORMED: u8 = 15;
 
-// The rules' words.
+// The rules W of docs/RULES.md.
 
-/// "A record is fit if all of this holds". Nothing here is arranged for speed.
+/// All of them. Nothing here is arranged for speed.
 fn is_fit(pool: &Pool) -> bool {
     let dates = || (0..EXPIRATIONS).filter(|&date| pool.clocks[date] != FREE);
     let block_of = |date: usize| usize::from(pool.named[date]);
@@ -40,7 +40,7 @@ fn is_fit(pool: &Pool) -> bool {
     named && blocks && dates().all(|date| is_ahead(pool, date)) && known && marks && pending && absent
 }
 
-/// "own dates are 1 to 31 ticks ahead … and their task is not absent; common dates are 1 to 32 ahead".
+/// W6 to W8, and W12: a known clock, whose setter is there, and so much left as can be.
 fn is_ahead(pool: &Pool, date: usize) -> bool {
     let units = |now: u32| pool.dues[date].wrapping_sub(now);
     match pool.clocks[date] {

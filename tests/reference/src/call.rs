@@ -1,6 +1,6 @@
 //! Calls and answers: what goes into the pool and what comes back.
 
-/// Which time an expiration goes by: its setter's own clock (own) or the common time (common).
+/// Which time an expiration goes by: its setter's local time (the paper: own) or the global time (common).
 #[derive(Clone, Copy, Debug, PartialEq, Eq)]
 pub enum Kind {
     Local,

@@ -1,16 +1,16 @@
-//! Expirations, the scope paper's dates. Words in quotes are the paper's.
+//! Expirations, the scope paper's dates. A number such as E4 is a rule's in docs/RULES.md.
 
 use crate::call::Kind;
 use crate::tasks::Tasks;
 
-/// "It has a kind, own or common, and was set by a task". Only a local one goes by its setter.
+/// E2: local or global. Only a local one goes by its setter.
 #[derive(Clone, Copy, Debug, PartialEq, Eq)]
 pub enum Expiration {
     Local { setter: u8, due: u64 },
     Global { due: u64 },
 }
 
-/// An expiration as it is compared: "by its kind, the setter of an own one, and the units left".
+/// L6: an expiration as it is compared.
 #[derive(Clone, Copy, Debug, PartialEq, Eq, PartialOrd, Ord)]
 pub enum Remaining {
     Local { setter: u8, units: u64 },
@@ -18,8 +18,7 @@ pub enum Remaining {
 }
 
 impl Expiration {
-    /// "Own, set at own clock c: due when that clock is c + e + 1." "Common, set at common time g: due when
-    /// common time is g + e + 2."
+    /// E4, E5: one that is set now.
     pub fn set(tasks: &Tasks, setter: u8, kind: Kind, extension: u8) -> Expiration {
         let extension = u64::from(extension);
         match kind {

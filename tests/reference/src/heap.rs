@@ -9,7 +9,7 @@ use crate::ledger::Ledger;
 use crate::limits::{check_extension, Store, MOST_EXPIRATIONS};
 use crate::tasks::Tasks;
 
-/// Objects for ever: refusals 1 to 8, 11 and 13 in the pool's order, never 9, 10 or 12. `ends[h - 1]..ends[h]` is the part of `bytes` that handle h names.
+/// Objects for ever, and no refusal 9, 10 or 12 (H3, H5). `ends[h - 1]..ends[h]` is the part of `bytes` that handle h names.
 #[derive(Clone, Debug)]
 pub struct Heap {
     tasks: Tasks,
@@ -113,8 +113,8 @@ struct Entry {
 }
 
 impl Book {
-    /// Whether a call that the heap does not refuse, or refuses with 13, is a use out of time or out
-    /// of bounds. Asked before the book follows the call.
+    /// H9 to H13: whether a call that the heap does not refuse, or refuses with 13, is a use out of time or
+    /// bounds. Asked before the book follows the call.
     fn is_out(&self, call: &Call) -> bool {
         match *call {
             Call::Make { length, .. } => self.is_store_full(length) || self.is_full(),
@@ -177,7 +177,7 @@ impl Judge {
         Judge { heap: Heap::fresh(), book: Book::default() }
     }
 
-    /// Feeds one call; false if it is a use out of time or out of bounds, which settles the list.
+    /// Feeds one call; false if it is a use out of time or bounds, after which nothing more is to be told.
     pub fn is_in_time(&mut self, call: &Call) -> bool {
         let (refusal, handle) = match self.heap.call(call) {
             Err(refusal) => (Some(refusal), 0),
@@ -205,7 +205,7 @@ impl Judge {
     }
 }
 
-/// The index of the first use in the list that is out of time or out of bounds; none if all use is in.
+/// The index of the first use in the list that is out of time or bounds; none if all use is in.
 pub fn first_use_out(calls: &[Call]) -> Option<usize> {
     let mut judge = Judge::fresh();
     calls.iter().position(|call| !judge.is_in_time(call))

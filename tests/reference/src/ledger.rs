@@ -1,6 +1,5 @@
-//! The ledger, as the scope paper says it: "tasks, common time, count of numbers given, standing objects in
-//! order of number with length, bytes and dates". Words in quotes are the paper's. Nothing here is arranged for
-//! speed: what a rule asks of the objects is looked up among all of them.
+//! The ledger, as the scope paper says it. A number such as O3 is a rule's in docs/RULES.md. Nothing here is
+//! arranged for speed: what a rule asks of the objects is looked up among all of them.
 
 use crate::call::{Accepted, Answer, Figures, Kind, Model, Refusal};
 use crate::expiration::{remaining, Expiration, Remaining};
@@ -16,7 +15,7 @@ pub struct Ledger {
     objects: Vec<Object>,
 }
 
-/// "An object stands while it has a date." Its length is the count of its bytes.
+/// O1. Its length is the count of its bytes.
 #[derive(Clone, Debug)]
 struct Object {
     handle: u32,
@@ -34,7 +33,7 @@ pub struct Standing {
 
 /// Each call makes its tests in the paper's order and changes nothing before the last of them.
 impl Model for Ledger {
-    /// "A fresh pool has all tasks absent, clocks and common time 0, no object, no date, no number given."
+    /// T5, O9: nothing is there yet.
     fn fresh() -> Ledger {
         Ledger { tasks: Tasks::default(), given: 0, objects: Vec::new() }
     }
@@ -44,7 +43,7 @@ impl Model for Ledger {
         Ok(Accepted::Done)
     }
 
-    /// "Leave: … All own dates set by this task go."
+    /// T12, and E9: the task's local expirations end.
     fn leave(&mut self, task: u8) -> Answer<'static> {
         let advanced = self.tasks.leave(task)?;
         self.end(|expiration, _| expiration.is_local_of(task));
@@ -69,7 +68,7 @@ impl Model for Ledger {
         Ok(Accepted::Advanced(advanced))
     }
 
-    /// "Make: … 1, 3, 4, 6 …, 7 …, 8 all numbers given, 9 no free block in its store, 10 256 dates stand."
+    /// R40, then O12 to O14: a new object, all zeros, with one expiration.
     fn make(&mut self, task: u8, kind: Kind, extension: u8, length: u16) -> Answer<'static> {
         self.tasks.check_running(task)?;
         check_extension(extension)?;
@@ -77,7 +76,7 @@ impl Model for Ledger {
         self.check_handles()?;
         self.check_blocks(store)?;
         self.check_expirations()?;
-        // "1 for the first, then one higher each time", so that the new object is the last in order.
+        // One above the last, so that the new object is the last in order.
         self.given += 1;
         self.objects.push(Object {
             handle: self.given,
@@ -87,7 +86,7 @@ impl Model for Ledger {
         Ok(Accepted::Handle(self.given))
     }
 
-    /// "Refresh: 1, 3, 4, 6, 11 …, 12 …, 10." It "sets one more date".
+    /// R41, then O17: one expiration more.
     fn refresh(&mut self, task: u8, kind: Kind, extension: u8, handle: u32) -> Answer<'static> {
         self.tasks.check_running(task)?;
         check_extension(extension)?;
@@ -98,14 +97,14 @@ impl Model for Ledger {
         Ok(Accepted::Done)
     }
 
-    /// "Read: … 1, 3, 4, 11, 12." It "hands back the object's bytes … exactly its length long".
+    /// R42, then O18: all bytes of the object.
     fn read(&self, task: u8, handle: u32) -> Answer<'_> {
         self.tasks.check_running(task)?;
         let place = self.check_standing(handle)?;
         Ok(Accepted::Bytes(&self.objects[place].bytes))
     }
 
-    /// "Write: … 1, 3, 4, 11, 12, 13 offset plus count above the length." It "replaces those bytes and no other".
+    /// R43, then O20 and O21: these bytes, and no others.
     fn write(&mut self, task: u8, handle: u32, offset: u8, bytes: &[u8]) -> Answer<'static> {
         self.tasks.check_running(task)?;
         let place = self.check_standing(handle)?;
@@ -131,7 +130,7 @@ impl Ledger {
         &self.tasks
     }
 
-    /// "standing small objects (1), large (1), dates (2), numbers given (4)".
+    /// O24: what report counts.
     pub fn figures(&self) -> Figures {
         Figures {
             small: self.standing_in(Store::Small) as u8,
@@ -163,12 +162,12 @@ impl Ledger {
 
     // Expirations that go.
 
-    /// After a tick "own dates that are due go", after an advance "common dates that are due go".
+    /// E8, E11: what is due ends, after a tick and after an advance.
     fn expire(&mut self) {
         self.end(|expiration, tasks| expiration.is_due(tasks));
     }
 
-    /// Ends these expirations. An object "is gone for good when its last date goes".
+    /// Ends these expirations, and with its last one an object (O3).
     fn end(&mut self, ends: impl Fn(&Expiration, &Tasks) -> bool) {
         let tasks = &self.tasks;
         self.objects.retain_mut(|object| {
@@ -179,7 +178,7 @@ impl Ledger {
 
     // Tests.
 
-    /// 8: numbers are "at most 4,294,967,295".
+    /// 8, by O15.
     fn check_handles(&self) -> Result<(), Refusal> {
         if self.given == u32::MAX {
             return Err(Refusal::AllHandlesGiven);
@@ -195,7 +194,7 @@ impl Ledger {
         Ok(())
     }
 
-    /// 10: "At most 256 dates stand in all."
+    /// 10, by E14.
     fn check_expirations(&self) -> Result<(), Refusal> {
         if self.expirations() == MOST_EXPIRATIONS {
             return Err(Refusal::ExpirationsFull);
@@ -203,7 +202,7 @@ impl Ledger {
         Ok(())
     }
 
-    /// "11 object 0 or above the count given, 12 object gone", else its place in the list.
+    /// 11, 12, else its place in the list.
     fn check_standing(&self, handle: u32) -> Result<usize, Refusal> {
         if handle == 0 || handle > self.given {
             return Err(Refusal::HandleNotGiven);
@@ -220,7 +219,7 @@ impl Ledger {
         self.objects.iter().filter(|object| Store::holding(object.bytes.len() as u16) == Ok(store)).count()
     }
 
-    /// How many expirations stand in all. "Two dates alike on one object are two dates."
+    /// How many expirations stand in all, equal ones each for itself (E13).
     fn expirations(&self) -> usize {
         self.objects.iter().map(|object| object.expirations.len()).sum()
     }

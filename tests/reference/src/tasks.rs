@@ -1,9 +1,9 @@
-//! The sixteen tasks and the two times. Words in quotes are the scope paper's.
+//! The sixteen tasks and the two times. A number such as T9 is a rule's in docs/RULES.md.
 
 use crate::call::Refusal;
 use crate::limits::TASKS;
 
-/// "A state is absent, running or waiting."
+/// T2: the state of a task.
 #[derive(Clone, Copy, Debug, Default, PartialEq, Eq)]
 pub enum State {
     #[default]
@@ -12,7 +12,7 @@ pub enum State {
     Waiting,
 }
 
-/// A task's entry, "with its state, mark and clock". The mark is `ticked`.
+/// T3: a task's entry. The scope paper's mark is `ticked`.
 #[derive(Clone, Copy, Debug, Default, PartialEq, Eq)]
 pub struct Task {
     pub state: State,
@@ -20,7 +20,7 @@ pub struct Task {
     pub clock: u64,
 }
 
-/// "A task's own clock and the common time are separate counters". "In the ledger they are whole numbers."
+/// T4, T7: local times with the tasks, and the global time beside them.
 #[derive(Clone, Debug, Default, PartialEq, Eq)]
 pub struct Tasks {
     entries: [Task; TASKS],
@@ -49,22 +49,21 @@ impl Tasks {
         self.check_waiting(task).is_ok()
     }
 
-    /// "Join: absent to running, clock 0, mark clear."
+    /// T9: it runs, from local time 0 on.
     pub fn join(&mut self, task: u8) -> Result<(), Refusal> {
         let place = self.check_absent(task)?;
         self.entries[place] = Task { state: State::Running, ticked: false, clock: 0 };
         Ok(())
     }
 
-    /// "Leave: running or waiting to absent, clock 0, mark clear." Leave, block and tick tell whether global
-    /// time advanced.
+    /// T12: it is absent. Leave, block and tick tell whether global time advanced.
     pub fn leave(&mut self, task: u8) -> Result<bool, Refusal> {
         let place = self.check_present(task)?;
         self.entries[place] = Task { state: State::Absent, ticked: false, clock: 0 };
         Ok(self.advance())
     }
 
-    /// "Block: running to waiting, mark clear. The own clock stands."
+    /// T10: it waits; its local time stays.
     pub fn block(&mut self, task: u8) -> Result<bool, Refusal> {
         let place = self.check_running(task)?;
         self.entries[place].state = State::Waiting;
@@ -72,7 +71,7 @@ impl Tasks {
         Ok(self.advance())
     }
 
-    /// "Resume: waiting to running, mark clear."
+    /// T11: it runs again.
     pub fn resume(&mut self, task: u8) -> Result<(), Refusal> {
         let place = self.check_waiting(task)?;
         self.entries[place].state = State::Running;
@@ -80,7 +79,7 @@ impl Tasks {
         Ok(())
     }
 
-    /// "Tick: own clock plus 1, own dates that are due go, mark set." The dates are not kept here.
+    /// T13: one more. The expirations are not kept here.
     pub fn tick(&mut self, task: u8) -> Result<bool, Refusal> {
         let place = self.check_running(task)?;
         self.entries[place].clock += 1;
@@ -88,8 +87,7 @@ impl Tasks {
         Ok(self.advance())
     }
 
-    /// "After a tick, block or leave comes the advance test: if at least one task is running and every running
-    /// task has its mark, common time goes up by 1, all marks are cleared".
+    /// T16 to T18: the advance test, and the advance.
     fn advance(&mut self) -> bool {
         let running = || self.entries.iter().filter(|task| task.state == State::Running);
         let advances = running().count() > 0 && running().all(|task| task.ticked);
@@ -147,7 +145,7 @@ impl Tasks {
     }
 }
 
-/// 1: "task above 15".
+/// 1, by T1.
 fn check_number(task: u8) -> Result<usize, Refusal> {
     let place = usize::from(task);
     if place >= TASKS {

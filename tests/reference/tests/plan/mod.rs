@@ -186,7 +186,7 @@ impl Plan {
         self.list.push(call);
     }
 
-    /// One use out of time or out of bounds; the index it has in the list.
+    /// One use out of time or bounds; the index it has in the list.
     pub fn go_out(&mut self) -> usize {
         match self.random.below(4) {
             0 => self.use_gone(),
