@@ -17,14 +17,14 @@ use Rattle.record.specs.Reading.{isSmallBlock, isWholeSmall, isWholeLarge, bloc
 use Rattle.record.specs.declared.Pool.{Pool}
 use Rattle.calls.specs.Served.{Serves}
 use Rattle.calls.specs.declared.Called.{Called}
-use Rattle.frames.specs.Answers.{answerLine}
+use Rattle.frames.specs.Answers.{answerLine, longestAnswer}
 use Rattle.text.specs.Hex.{Puts}
 use Rattle.frames.proofs.AnswerLines.{line-within}
 use Rattle.execute.specs.Execution.{Showable}
 
--- a block of either store has at most 256 bytes
-most-bytes : (block : ℕ) → sizeOf block ≤ 256
-unfolding sizeOf smallSize largeSize limits
+-- no block is larger than a large one
+most-bytes : (block : ℕ) → sizeOf block ≤ largeSize
+unfolding sizeOf
 most-bytes block = by-test (isSmallBlock block) (λ e. rw e (omega arith)) (λ e. rw e (omega arith))
 
 at-most : (b : Bool) (n : ℕ) (xs : List ℕ) → length (cond b (take n xs) []) ≤ n
@@ -45,7 +45,7 @@ shown-most small large block count =
 pub shows-none : (small large : List ℕ) (block : ℕ) {count : ℕ} → count ≡ 0 → blockBytes small large block count ≡ []
 shows-none small large block {count} e = empty (blockBytes small large block count) (omega (arith, e, shown-most small large block count))
 
-pub few : {small large : List ℕ} {block : ℕ} (count : ℕ) → (0 < count → InBlock small large block count) → count ≤ 256
+pub few : {small large : List ℕ} {block : ℕ} (count : ℕ) → (0 < count → InBlock small large block count) → count ≤ largeSize
 few zero inside = omega arith
 few {block = block} (suc n) inside = omega (arith, inside (omega arith) .within, most-bytes block)
 
@@ -57,19 +57,22 @@ start-within new old = omega (arith, length-append new (drop (0 + length new) ol
 pub puts-within : {new old after : List ℕ} {n : ℕ} → Puts 0 new old after n → n ≤ length after
 puts-within {new} {old} p = rw (p .bytes) (omega (arith, p .next, start-within new old))
 
--- what the pool serves has room in 531 bytes
+-- what the pool serves has room
 pub serves-showable : {request : Request} {new : List ℕ} {p : Pool} {small large small′ large′ : List ℕ} {r : Called}
-    → Serves request new p small large r small′ large′ → (out : List ℕ) (at : ℕ) → at + 531 ≤ length out
+    → Serves request new p small large r small′ large′ → (out : List ℕ) (at : ℕ) → at + longestAnswer ≤ length out
     → Showable (r .answer) small′ large′ (r .block) (r .length) out at
 serves-showable {small′ = small′} {large′} {r = r} s out at room =
     record {
       inside = s .inside;
-      room = omega (arith, line-within (r .answer) (blockBytes small′ large′ (r .block) (r .length)), few (r .length) (s .inside), shown-most small′ large′ (r .block) (r .length));
+      room =
+          let shown = blockBytes small′ large′ (r .block) (r .length) in
+          let short : length shown ≤ largeSize = omega (arith, few (r .length) (s .inside), shown-most small′ large′ (r .block) (r .length)) in
+          omega (arith, line-within (r .answer) shown short);
     }
 
 -- an answer without bytes has room there too
-pub short-line : (answer : Answer) (none out : List ℕ) (at : ℕ) → none ≡ [] → at + 531 ≤ length out → at + length (answerLine answer none) ≤ length out
-short-line answer none out at e room = rw e (omega (arith, line-within answer []))
+pub short-line : (answer : Answer) (none out : List ℕ) (at : ℕ) → none ≡ [] → at + longestAnswer ≤ length out → at + length (answerLine answer none) ≤ length out
+short-line answer none out at e room = rw e (omega (arith, line-within answer [] (omega arith)))
 
 -- a line at the start of a buffer's part from a place on, and the buffer when the part comes back
 pub puts-from : (at : ℕ) {line out part : List ℕ} {n : ℕ} → Puts 0 line (take (length out - at) (drop at out)) part n

@@ -4,11 +4,13 @@ ghost use mathlib.Core.Path.{_≡_};
 ghost use lib.ListN.{length};
 ghost use Rattle.ledger.specs.declared.Refusal.{Refusal};
 ghost use Rattle.record.specs.Reading.{blockBytes};
-ghost use Rattle.frames.specs.Answers.{answerLine};
+ghost use Rattle.frames.specs.Answers.{answerLine, longestAnswer};
 ghost use Rattle.frames.specs.declared.Frame.{Frame};
 ghost use Rattle.text.specs.Hex.{Puts};
 ghost use Rattle.execute.specs.Execution.{Showable, Executes};
 use frames::Frame;
+use frames::MOST_BYTES;
+use frames::WIDEST_HEAD;
 use frames::decode;
 use frames::encode_answer;
 use ledger::Answer;
@@ -19,8 +21,8 @@ use requests::call;
 use stores::block_part;
 use stores::no_part;
 
-// The longest answer line that is made room for.
-pub const LONGEST_ANSWER: usize = 531;
+// Room for any answer's line: two digits a byte of the widest head and of the largest object, and the LF.
+pub const LONGEST_ANSWER: usize = 2 * (WIDEST_HEAD + MOST_BYTES) + 1;
 
 // The record that a line leaves, the number of its answer, and how long the line of it is.
 pub struct Executed {
@@ -75,10 +77,10 @@ pub fn show<'a>(
 
 // A line on any record with any stores; the line of its answer goes to the start of a buffer.
 pub fn execute(p: Pool, small: &mut [u8], large: &mut [u8], line: &[u8], out: &mut [u8]) -> Executed
-    requires { ⌜ 531 ≤ length (now out) ⌝ }
+    requires { ⌜ longestAnswer ≤ length (now out) ⌝ }
     ensures { λ r. ⌜ Executes (now (line .entry)) p (now (small .entry)) (now (large .entry)) (now (out .entry)) r (now (small .exit)) (now (large .exit)) (now (out .exit)) ⌝ }
 {
-    let mut bytes = [0u8; 256];
+    let mut bytes = [0u8; MOST_BYTES];
     let frame = decode(line, &mut bytes);
     let Frame::Request(request, count) = frame else {
         let refusal = Answer::Refused(refusal_of(frame));

@@ -4,13 +4,13 @@ use native.Mathlib.Omega.{arith}
 use mathlib.Core.Bool.{Bool, true, false, true≢false, _&&_, and-eq-true-iff}
 use mathlib.Core.List.{List, [], _++_, append-assoc}
 use mathlib.Core.Path.{_≡_, refl, sym, ap, _∙_}
-use borrow.Author.Tests.{lt-ltb, ltb-true, ltb-false, le-leb, leb-true}
+use borrow.Author.Tests.{eq-eqb, lt-ltb, ltb-true, ltb-false, le-leb, leb-true}
 use lib.Dec.{leb, ltb}
 use lib.ListN.{length, take, drop}
 use Rattle.lists.specs.Blocks.{overwritten}
 use Rattle.lists.proofs.Blocks.{length-overwritten}
 use Rattle.lists.proofs.Cases.{by-test}
-use Rattle.ledger.specs.Limits.{limits, smallSize, largeSize}
+use Rattle.ledger.specs.Limits.{largeSize}
 use Rattle.ledger.specs.Objects.{Reply}
 use Rattle.ledger.specs.Ledger.{Ledger}
 use Rattle.ledger.specs.declared.Answer.the-variants.{Refused}
@@ -24,7 +24,7 @@ use Rattle.record.specs.declared.Pool.{Pool}
 use Rattle.calls.specs.Contract.{areWhole, Ready}
 use Rattle.calls.specs.Served.{Serves}
 use Rattle.calls.specs.declared.Called.{Called}
-use Rattle.frames.specs.Answers.{answerLine}
+use Rattle.frames.specs.Answers.{answerLine, longestAnswer}
 use Rattle.frames.specs.Frames.{frameOf, payloadOf, Decodes}
 use Rattle.text.specs.Hex.{Puts}
 use Rattle.text.specs.Lines.{linesOf, lineAt}
@@ -36,15 +36,14 @@ use Rattle.script.specs.Output.{answerTo, afterLine, answersTo, lineIn, 
 
 -- the stores have 01's lengths
 stores-whole : {p : Pool} {small large script : List ℕ} {at : ℕ} → Runnable p small large script at → areWhole small large ≡ true
-unfolding limits smallSize largeSize
-stores-whole r = rw (r .smallWhole, r .largeWhole)
+stores-whole r = rw (eq-eqb _ _ (r .smallWhole), eq-eqb _ _ (r .largeWhole))
 
 pub ready : {p : Pool} {small large script : List ℕ} {at : ℕ} (request : Request) → Runnable p small large script at → Ready request p small large
 ready request r = record { fit = r .fit; whole = λ e. stores-whole r }
 
 -- what the loop tests: there is a line, and room for its answer
 abbrev pub goesOn : ℕ → List ℕ → ℕ → List ℕ → Bool
-goesOn at script written out = ltb at (length script) && leb 531 (length out - written)
+goesOn at script written out = ltb at (length script) && leb longestAnswer (length out - written)
 
 -- What a line makes of a record with its stores, and the line of its answer.
 pub record Turn (line : List ℕ) (p : Pool) (small large : List ℕ) (p′ : Pool) (small′ large′ answer : List ℕ) : Type 0 where
@@ -89,9 +88,9 @@ pub record Running (p₀ : Pool) (small₀ large₀ script : List ℕ) (start : 
       × (answersTo L (linesOf (drop start script)) ≡ done ++ answersTo L′ (linesOf (drop at script)))
   pub from : start ≤ at
   pub unmoved : at ≡ start → written ≡ 0
-  pub buffer : length bytes ≡ 256
+  pub buffer : length bytes ≡ largeSize
 
-pub run-starts : {p : Pool} {small large script : List ℕ} {start : ℕ} (out bytes : List ℕ) → Runnable p small large script start → length bytes ≡ 256
+pub run-starts : {p : Pool} {small large script : List ℕ} {start : ℕ} (out bytes : List ℕ) → Runnable p small large script start → length bytes ≡ largeSize
     → Running p small large script start out p small large out bytes start 0
 unfolding overwritten
 run-starts out bytes r b =
@@ -108,7 +107,7 @@ run-starts out bytes r b =
     }
 
 -- with the record's head and its columns taken out
-pub run-starts-lent : {p : Pool} {small large script : List ℕ} {start : ℕ} (out bytes : List ℕ) → Runnable p small large script start → length bytes ≡ 256
+pub run-starts-lent : {p : Pool} {small large script : List ℕ} {start : ℕ} (out bytes : List ℕ) → Runnable p small large script start → length bytes ≡ largeSize
     → {h : Head} → h ≡ headOf p
     → Running p small large script start out (pooled h (p .handles) (p .lengths) (p .clocks) (p .named) (p .dues)) small large out bytes start 0
 run-starts-lent out bytes r b e = rw e (run-starts out bytes r b)
@@ -117,21 +116,21 @@ module _ {p₀ : Pool} {small₀ large₀ script : List ℕ} {start : ℕ} {out�
     (run : Running p₀ small₀ large₀ script start out₀ p small large out bytes at written) where
   -- the test holds: there is a line
   module _ (goes : goesOn at script written out ≡ true) where
-    tested : (ltb at (length script) ≡ true) × (leb 531 (length out - written) ≡ true)
-    tested = and-eq-true-iff (ltb at (length script)) (leb 531 (length out - written)) .0 goes
+    tested : (ltb at (length script) ≡ true) × (leb longestAnswer (length out - written) ≡ true)
+    tested = and-eq-true-iff (ltb at (length script)) (leb longestAnswer (length out - written)) .0 goes
 
     pub run-line : at < length script
     run-line = ltb-true at (length script) (tested .0)
 
-    pub run-room : written + 531 ≤ length out
-    run-room = omega (arith, run .fits, leb-true 531 (length out - written) (tested .1))
+    pub run-room : written + longestAnswer ≤ length out
+    run-room = omega (arith, run .fits, leb-true longestAnswer (length out - written) (tested .1))
 
     pub run-nears : {next : ℕ} → next ≡ lineAt script at .next → length script - next < length script - at
     run-nears e = omega (arith, e, next-within script at run-line, run-line)
 
   pub run-turns : at < length script → {p′ : Pool} {small′ large′ answer : List ℕ} → Turn (lineIn script at) p small large p′ small′ large′ answer
       → written + length answer ≤ length out → {out′ : List ℕ} {written′ : ℕ} → Puts written answer out out′ written′
-      → {next : ℕ} → next ≡ lineAt script at .next → {bytes′ : List ℕ} → length bytes′ ≡ 256
+      → {next : ℕ} → next ≡ lineAt script at .next → {bytes′ : List ℕ} → length bytes′ ≡ largeSize
       → Running p₀ small₀ large₀ script start out₀ p′ small′ large′ out′ bytes′ next written′
   unfolding answersTo
   run-turns more {p′} {small′} {large′} {answer} turn room {out′} put {next} e b =
@@ -170,6 +169,6 @@ module _ {p₀ : Pool} {small₀ large₀ script : List ℕ} {start : ℕ} {out�
             by-test (ltb start at) (λ e. ltb-true start at e)
             (λ e. let same : at ≡ start = omega (arith, ltb-false start at e, run .from) in
             let line = lt-ltb at (length script) (omega (arith, same)) in
-            let fits = le-leb 531 (length out - written) (omega (arith, run .unmoved same, run .size)) in
+            let fits = le-leb longestAnswer (length out - written) (omega (arith, run .unmoved same, run .size)) in
             absurd (true≢false (sym (rw (line, fits)) ∙ stop)));
       }

@@ -7,12 +7,13 @@ use lib.ListN.{length, take, drop}
 use Rattle.ledger.specs.Objects.{Reply, plain}
 use Rattle.ledger.specs.Ledger.{Ledger, fresh, replyToRequest, afterRequest}
 use Rattle.ledger.specs.declared.Answer.the-variants.{Refused}
-use Rattle.frames.specs.Answers.{answerLine}
+use Rattle.ledger.specs.Limits.{largeSize}
+use Rattle.frames.specs.Answers.{answerLine, longestAnswer}
 use Rattle.frames.specs.Frames.{frameOf, payloadOf, Decodes}
 use Rattle.text.specs.Lines.{linesOf, lineEnd, lineAt}
 use Rattle.text.specs.Hex.{Puts}
 use Rattle.frames.specs.declared.Frame.{Frame}
-use Rattle.record.specs.Reading.{freshPool}
+use Rattle.record.specs.Reading.{freshPool, wholeSmall, wholeLarge}
 use Rattle.record.specs.Pools.{isWellFormed, Reads}
 use Rattle.record.specs.declared.Pool.{Pool}
 use Rattle.script.specs.declared.Ran.{Ran}
@@ -53,7 +54,7 @@ lineIn script at = take (lineEnd script at - at) (drop at script)
 -- A line starts at a place of a script, and a buffer has room for the bytes that come with it.
 pub record Readable (script : List ℕ) (at : ℕ) (bytes : List ℕ) : Type 0 where
   pub within : at < length script
-  pub room : 256 ≤ length bytes
+  pub room : largeSize ≤ length bytes
 
 -- The frame of the line at a place, and where the next line starts.
 pub record Steps (script : List ℕ) (at : ℕ) (old : List ℕ) (r : Step) (new : List ℕ) : Type 0 where
@@ -64,8 +65,8 @@ pub record Steps (script : List ℕ) (at : ℕ) (old : List ℕ) (r : Step) (new
 -- A run can go on: the record is well-formed, the stores have 01's lengths, and the next line starts in the script or at its end.
 pub record Runnable (p : Pool) (small large script : List ℕ) (at : ℕ) : Type 0 where
   pub fit : isWellFormed p ≡ true
-  pub smallWhole : length small ≡ 2048
-  pub largeWhole : length large ≡ 8192
+  pub smallWhole : length small ≡ wholeSmall
+  pub largeWhole : length large ≡ wholeLarge
   pub within : at ≤ length script
 
 -- A run goes on from a place: what was to be written is what is written now and what is to be written from the next place on.
@@ -75,8 +76,8 @@ pub record Continues (p : Pool) (small large script : List ℕ) (at : ℕ) (r : 
   pub put : Puts 0 written out out′ (r .written)
   pub answers : (L : Ledger) → Reads p small large L → (L′ : Ledger) × Reads (r .pool) small′ large′ L′
       × (answersTo L (linesOf (drop at script)) ≡ written ++ answersTo L′ (linesOf (drop (r .next) script)))
-  -- a buffer of 531 bytes has room for a line
-  pub moves : at < length script → 531 ≤ length out → at < r .next
+  -- a buffer with room for any answer has room for a line's
+  pub moves : at < length script → longestAnswer ≤ length out → at < r .next
 
 -- A script's answers in parts: each goes on where the last one ended, until the script ends.
 pub data Written (script : List ℕ) : Pool → List ℕ → List ℕ → ℕ → List ℕ → Type 0 where

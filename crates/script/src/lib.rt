@@ -7,6 +7,7 @@ use execute::put_answer;
 use execute::refusal_of;
 use execute::show;
 use frames::Frame;
+use frames::MOST_BYTES;
 use frames::decode;
 use ledger::Answer;
 use record::Pool;
@@ -53,7 +54,7 @@ pub fn run_on(
     requires { ⌜ Runnable p (now small) (now large) (now script) start ⌝ }
     ensures { λ r. ⌜ Continues p (now (small .entry)) (now (large .entry)) (now (script .entry)) start r (now (small .exit)) (now (large .exit)) (now (out .entry)) (now (out .exit)) ⌝ }
 {
-    let mut bytes = [0u8; 256];
+    let mut bytes = [0u8; MOST_BYTES];
     let mut at = start;
     let mut written = 0;
     let mut head = head_of(p);

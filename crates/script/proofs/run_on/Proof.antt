@@ -10,7 +10,7 @@ use Rattle.ledger.specs.declared.Answer.{Answer}
 use Rattle.record.specs.Tables.{Sized, pooled}
 use Rattle.record.specs.declared.Pool.{Pool}
 use Rattle.pool.proofs.Sizes.{columns-sized}
-use Rattle.frames.specs.Answers.{answerLine}
+use Rattle.frames.specs.Answers.{answerLine, longestAnswer}
 use Rattle.text.specs.Hex.{Puts}
 use Rattle.script.specs.Output.{lineIn}
 use Rattle.execute.proofs.Showing.{serves-showable, short-line}
@@ -41,7 +41,7 @@ module _ (r : tie.After-next-frame Inv-loop μ-loop) where
   abbrev start : tie.Start Inv-loop μ-loop
   start = loop .before .before .before .before .before .before .before .before .before .before .before
 
-  room : loop .loop .written + 531 ≤ length (loop .loop .out)
+  room : loop .loop .written + longestAnswer ≤ length (loop .loop .out)
   room = run-room (loop .loop .inv .0) (r .before .before .loop-test .taken)
 
   told : (answer : Answer) (none : List ℕ) → none ≡ [] → loop .loop .written + length (answerLine answer none) ≤ length (loop .loop .out)
