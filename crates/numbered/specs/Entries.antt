@@ -18,6 +18,7 @@ use Rattle.ledger.specs.declared.Request.the-variants.{Use, Report}
 use Rattle.ledger.specs.declared.Usage.{Usage}
 use Rattle.record.specs.declared.Pool.{Pool}
 use Rattle.calls.specs.Contract as Contract
+use Rattle.frames.specs.Answers.{longestAnswer}
 use Rattle.frames.specs.Frames.{kindOf}
 use Rattle.frames.specs.declared.requests.KindByte.{KindByte}
 use Rattle.frames.specs.declared.requests.KindByte.the-variants.{Known, Unknown}
@@ -117,5 +118,5 @@ RefreshesBy Unknown task extension handle p number p′ = (number ≡ numberOf U
 
 -- A line carried out, with its answer's line in the host's buffer; a buffer too short is told before the line is looked at.
 pub record Carries (line : List ℕ) (p : Pool) (small large out : List ℕ) (old : ℕ) (number : ℕ) (p′ : Pool) (small′ large′ out′ : List ℕ) (new : ℕ) : Type 0 where
-  pub short : length out < 531 → (number ≡ tooShort) × (p′ ≡ p) × (small′ ≡ small) × (large′ ≡ large) × (out′ ≡ out) × (new ≡ old)
-  pub roomy : 531 ≤ length out → Executes line p small large out (record { pool = p′; number = number; length = new }) small′ large′ out′
+  pub short : length out < longestAnswer → (number ≡ tooShort) × (p′ ≡ p) × (small′ ≡ small) × (large′ ≡ large) × (out′ ≡ out) × (new ≡ old)
+  pub roomy : longestAnswer ≤ length out → Executes line p small large out (record { pool = p′; number = number; length = new }) small′ large′ out′

@@ -1,15 +1,25 @@
 -- A run from fresh goes on until the script ends.
-use Prim.Native.Nat.{_-_}
+use Prim.Native.Nat.{_-_, _*_}
 use native.Mathlib.Omega.{arith}
 use mathlib.Core.Path.{_≡_, refl, sym, _∙_}
 use borrow.Author.Needs.{needs}
 use lib.ListN.{length}
 use lib.Seq.{length-take-le}
+use Rattle.ledger.specs.Limits.{capacity, smallSize, largeSize}
+use Rattle.ledger.proofs.Figures.{at-capacity}
+use Rattle.record.specs.Reading.{wholeSmall, wholeLarge}
 use Rattle.record.proofs.FreshReads.{fresh-well-formed}
 use Rattle.script.specs.Output.{Runnable}
 use Rattle.execute.proofs.Showing.{puts-within}
 use Rattle.poolrun.proofs.answer.Statement.{statement}
 use Rattle.poolrun.proofs.answer.Tie as tie
+
+-- 01's lengths are those of the program's two arrays
+small-bytes : wholeSmall ≡ capacity .smallBlocks * smallSize
+small-bytes = rw at-capacity
+
+large-bytes : wholeLarge ≡ capacity .largeBlocks * largeSize
+large-bytes = rw at-capacity
 
 abbrev Inv-loop : tie.InvT-loop
 Inv-loop script small₀ large₀ out₀ p₀ at₀ small large out p at = Runnable p small large script at × (length out ≡ 65536)
@@ -19,7 +29,7 @@ abbrev μ-loop : tie.MeasureT-loop
 
 loop-holds : tie.Need-loop-holds Inv-loop μ-loop
 loop-holds c = (
-  record { fit = rw (c .fresh .ensures) fresh-well-formed; smallWhole = refl; largeWhole = refl; within = omega arith },
+  record { fit = rw (c .fresh .ensures) fresh-well-formed; smallWhole = sym small-bytes; largeWhole = sym large-bytes; within = omega arith },
   sym (c .before .large-buffer .ensures),
 )
 
@@ -48,8 +58,8 @@ answer-spec =
     (λ c κs. search needs)
     (λ c κs. search needs)
     loop-holds
-    (λ c. search needs)
-    (λ c. search needs)
+    (λ c. let h = c .before .before .loop .inv .0 .smallWhole ∙ small-bytes in search needs)
+    (λ c. let h = c .before .before .before .loop .inv .0 .largeWhole ∙ large-bytes in search needs)
     (λ c. search needs)
     (λ c κs. c .before .before .before .before .loop .inv .0)
     array-share-prefix-out
