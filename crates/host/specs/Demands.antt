@@ -13,10 +13,11 @@ use Rattle.ledger.specs.declared.Kind.{Kind}
 use Rattle.ledger.specs.declared.Request.{Request}
 use Rattle.ledger.specs.declared.Request.the-variants.{Use, Report}
 use Rattle.ledger.specs.declared.Usage.{Usage}
-use Rattle.record.specs.Reading.{freshPool}
+use Rattle.record.specs.Reading.{freshPool, wholeSmall, wholeLarge}
 use Rattle.record.specs.Pools.{Reads}
 use Rattle.record.specs.declared.Pool.{Pool}
 use Rattle.calls.specs.Contract.{Obeys}
+use Rattle.frames.specs.Answers.{longestAnswer}
 use Rattle.frames.specs.Frames.{frameOf, payloadOf}
 use Rattle.frames.specs.declared.Frame.{Frame}
 use Rattle.numbered.specs.Entries.{Does, Moves, Reports, MakesOne, WritesTo, CopiesOut, Carries}
@@ -46,7 +47,7 @@ pub record EachGives : Type 0 where
       → (r : CopiesOut task handle p small large out old number out′ new) → length (r .bytes) ≤ length out
       → Gives (Use (Read task handle)) [] p small large number p small large
   pub carries : (line : List ℕ) (p : Pool) (small large out : List ℕ) (old number : ℕ) (p′ : Pool) (small′ large′ out′ : List ℕ) (new : ℕ) (request : Request) (count : ℕ)
-      → Carries line p small large out old number p′ small′ large′ out′ new → 531 ≤ length out → frameOf line ≡ Frame.Request request count
+      → Carries line p small large out old number p′ small′ large′ out′ new → longestAnswer ≤ length out → frameOf line ≡ Frame.Request request count
       → Gives request (payloadOf line) p small large number p′ small′ large′
 
 -- A list of calls through the entries: each gets record and stores as the last one left them.
@@ -59,6 +60,6 @@ pub data HostRuns : Pool → List ℕ → List ℕ → List Sent → List ℕ �
 -- D4, demand 2 for a host: from a fresh record on, over every list of calls, the numbers are those of the ledger's answers, and record and stores then read as the ledger.
 abbrev pub HostDemand2 : Type 0
 HostDemand2 =
-    (small large : List ℕ) → length small ≡ 2048 → length large ≡ 8192
+    (small large : List ℕ) → length small ≡ wholeSmall → length large ≡ wholeLarge
     → (ss : List Sent) (numbers : List ℕ) (p′ : Pool) (small′ large′ : List ℕ) → HostRuns freshPool small large ss numbers p′ small′ large′
     → (numbers ≡ map (λ y. answerNumber (y .answer)) (replies fresh ss)) × Reads p′ small′ large′ (afterAll fresh ss)
