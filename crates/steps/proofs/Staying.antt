@@ -3,8 +3,9 @@ use Prim.Native.Nat.{ℕ, _<_}
 use native.Mathlib.Omega.{arith}
 use mathlib.Core.Bool.{true, false}
 use mathlib.Core.List.{List, map}
-use mathlib.Core.Path.{_≡_, refl}
-use borrow.Author.Tests.{eqb-true, eqb-false}
+use mathlib.Core.Logic.{_≢_}
+use mathlib.Core.Path.{_≡_, refl, sym, ap, _∙_}
+use borrow.Author.Tests.{eqb-true, eqb-false, eq-eqb, ne-eqb}
 use lib.Dec.{eqb}
 use lib.ListN.{length, getD}
 use lib.Seq.{getD-set-same, getD-set-other}
@@ -16,13 +17,15 @@ use Rattle.ledger.specs.declared.Kind.{Kind}
 use Rattle.ledger.specs.declared.Verdict.{Verdict}
 use Rattle.ledger.specs.declared.Verdict.the-variants.{Accepted, Refused}
 use Rattle.record.specs.Codes.{freeBlock}
-use Rattle.record.specs.WellFormed.{isNaming}
+use Rattle.record.specs.WellFormed.{isNaming, handleOf}
 use Rattle.record.specs.declared.TaskEntry.{TaskEntry}
 use Rattle.record.specs.declared.GlobalTime.{GlobalTime}
 use Rattle.record.specs.Tables.{Tables}
+use Rattle.record.proofs.Facts.{fit-parts, fit-used}
+use Rattle.record.proofs.Distinct.{handleAt, same-handle}
 use Rattle.steps.specs.Events.{verdictAt, keptEntry, swept, poolAfter, outcomeBy, scheduled}
 use Rattle.steps.specs.Objects.{freePlace, madePool, refreshedPool}
-use Rattle.steps.specs.Staying.{Stays}
+use Rattle.steps.specs.Staying.{Stays, OneBlock}
 use Rattle.steps.proofs.KeptBlocks.{block-left}
 
 -- blocks that are the same
@@ -65,3 +68,14 @@ make-stays task kind extension size p listed =
 pub refresh-stays : (task : ℕ) (kind : Kind) (extension handle : ℕ) (p : Tables) → Stays p (refreshedPool task kind extension handle p)
 unfolding refreshedPool
 refresh-stays task kind extension handle p = same-stays refl
+
+-- an object that stands on has one block
+pub one-block : OneBlock
+one-block p p′ w stays before after used its =
+    let fit = fit-parts p w in
+    let held : handleAt (p .blocks) before ≢ 0 = λ z. omega (arith, used, z) in
+    let numbered = fit-used fit before (ne-eqb (handleAt (p .blocks) before) 0 held) .numbered in
+    let same = stays .same after (omega (arith, its, used)) (omega (arith, its, numbered)) in
+    let there : handleAt (p .blocks) after ≡ handleAt (p .blocks) before = sym (ap handleOf same) ∙ its in
+    let here = eqb-true after before (sym (same-handle (p .blocks) (fit .distinct) before after held) ∙ eq-eqb _ _ there) in
+    (here, same ∙ ap (λ (i : ℕ). getD (p .blocks) i freeBlock) here)
