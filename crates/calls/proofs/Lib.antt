@@ -11,4 +11,4 @@ pub mod MadeLent
 pub mod RefreshLent
 pub mod WriteLent
 pub mod MakeLent
-pub mod Settled
+pub mod OneReply

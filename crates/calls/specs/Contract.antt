@@ -77,8 +77,8 @@ pub record Obeys (request : Request) (new : List ℕ) (p : Pool) (small large : 
 
 -- The contract settles the reply: any two that it allows for one request on one record with its stores are the same. `Typed` is what the record's type gives of every
 -- value; of numbers out of its range there may be no ledger to answer by.
-abbrev pub Settled : Type 0
-Settled =
+abbrev pub OneReply : Type 0
+OneReply =
     (request : Request) (new : List ℕ) (p : Pool) (small large : List ℕ) → Typed (tablesOf p)
     → (y y₂ : Reply) (p′ p″ : Pool) (small′ small″ large′ large″ : List ℕ)
     → Obeys request new p small large y p′ small′ large′ → Obeys request new p small large y₂ p″ small″ large″ → y ≡ y₂

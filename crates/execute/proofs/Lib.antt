@@ -1,4 +1,4 @@
 pub mod Showing
 pub mod Carrying
 pub mod Demand1
-pub mod Settled
+pub mod OneAnswer

@@ -42,8 +42,8 @@ pub record Executes (line : List ℕ) (p : Pool) (small large out : List ℕ) (r
 
 -- The contract settles the answer: any two results that it allows for one line on one record with its stores and buffer have the same number, length and buffer.
 -- `Typed` is what the record's type gives of every value.
-abbrev pub SettledLine : Type 0
-SettledLine =
+abbrev pub OneAnswer : Type 0
+OneAnswer =
     (line : List ℕ) (p : Pool) (small large out : List ℕ) → Typed (tablesOf p)
     → (r r₂ : Executed) (small′ small″ large′ large″ out′ out″ : List ℕ)
     → Executes line p small large out r small′ large′ out′ → Executes line p small large out r₂ small″ large″ out″

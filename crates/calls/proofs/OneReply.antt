@@ -1,4 +1,4 @@
--- The contract settles the reply: by 15, by 14, or by the ledger that a fit record reads as.
+-- A call has one reply: by 15, by 14, or by the ledger that a fit record reads as.
 use Prim.Native.Nat.{ℕ}
 use mathlib.Core.Bool.{true, false, false≢true}
 use mathlib.Core.List.{List}
@@ -6,10 +6,10 @@ use mathlib.Core.Path.{_≡_, sym, _∙_}
 use Rattle.lists.proofs.Cases.{by-test}
 use Rattle.record.specs.Pools.{isWellFormed}
 use Rattle.record.proofs.Exists.{every-fit-record-reads}
-use Rattle.calls.specs.Contract.{isStored, areWhole, Settled}
+use Rattle.calls.specs.Contract.{isStored, areWhole, OneReply}
 
-pub settled : Settled
-settled request new p small large types y y₂ p′ p″ small′ small″ large′ large″ o o₂ =
+pub one-reply : OneReply
+one-reply request new p small large types y y₂ p′ p″ small′ small″ large′ large″ o o₂ =
     by-test (isWellFormed p)
     (λ fit. by-test (isStored request) (by-stores fit) (λ unstored. by-ledger fit (λ stored. absurd (false≢true (sym unstored ∙ stored)))))
     (λ unfit. o .unfit unfit .refused ∙ sym (o₂ .unfit unfit .refused))
