@@ -1,4 +1,4 @@
--- Rules of document 01 that none of the thirteen edges tries, in rows of the same kind: writing, waiting, leaving, the last handle, refusals 1 to 6.
+-- Rules of document 01 that none of the thirteen edges tries, in rows of the same kind: writing, leaving, waiting, the last handle, and refusals 1 to 6, 8 and 11.
 use mathlib.Core.List.{List, [], _∷_}
 use Rattle.lists.specs.Tests.{All}
 use Rattle.ledger.specs.Ledger.{fresh}
