@@ -102,7 +102,7 @@ module _ (p : Pool) (types : Typed (tablesOf p)) (w : isWellFormed p ≡ true) (
           carried-obeys _ [] p small large w (λ s. whole) _ p small large refl
           (λ L reads. read-verdict types (fit-parts (tablesOf p) w) reads task handle [] ∙ ap asRefusal v)
           (λ L reads. rw (read-bytes w types reads small-whole large-whole task handle v))
-          (λ L reads. rw (every-object-stands (fit-parts (tablesOf p) w) reads) reads) w (same-stays refl) (refl, refl)
+          (λ L reads. rw (every-object-stands (fit-parts (tablesOf p) w) reads) reads) w (same-stays refl refl) (refl, refl)
 
       module _ (offset : ℕ) (new : List ℕ) where
         pub write-refused : (r : Refusal) → writeVerdict task handle offset (length new) (tablesOf p) ≡ Refused r
@@ -119,4 +119,4 @@ module _ (p : Pool) (types : Typed (tablesOf p)) (w : isWellFormed p ≡ true) (
             carried-obeys _ new p small large w (λ s. whole) (plain Done) p _ _ refl
             (λ L reads. write-verdict types (fit-parts (tablesOf p) w) reads task handle offset new ∙ ap asRefusal v)
             (λ L reads. refl) (λ L reads. write-reads w types reads small-whole large-whole task handle offset new v)
-            w (same-stays refl) (write-sizes w types (some .1) small-whole large-whole task handle offset new v)
+            w (same-stays refl refl) (write-sizes w types (some .1) small-whole large-whole task handle offset new v)

@@ -45,7 +45,7 @@ module _ (request : Request) (new : List ℕ) (p : Pool) (small large : List ℕ
         leaves = λ w s L reads. absurd (true≢false (sym w ∙ u));
         fits = λ w. w;
         keeps = kept p small large NotWellFormed;
-        stays = same-stays refl;
+        stays = same-stays refl refl;
         sizes = (refl, refl);
       }
 
@@ -64,7 +64,7 @@ module _ {request : Request} {p : Pool} {small large : List ℕ} {fit stored who
         leaves = λ v known L reads. absurd (true≢false (sym (known (sym s ∙ touched)) ∙ n));
         fits = λ v. v;
         keeps = kept p small large WrongStoreLength;
-        stays = same-stays refl;
+        stays = same-stays refl refl;
         sizes = (refl, refl);
       }
 
@@ -88,7 +88,7 @@ module _ (call : Call) (new : List ℕ) (p : Pool) (small large : List ℕ) (w :
         leaves = λ x s L reads. rw (v L reads) reads;
         fits = λ x. w;
         keeps = kept p small large r;
-        stays = same-stays refl;
+        stays = same-stays refl refl;
         sizes = (refl, refl);
       }
 

@@ -26,6 +26,6 @@ report-obeys p w small large =
       leaves = λ x s L reads. reads;
       fits = λ x. w;
       keeps = λ why e. absurd (false≢true (ap isRefusal e));
-      stays = same-stays refl;
+      stays = same-stays refl refl;
       sizes = (refl, refl);
     }

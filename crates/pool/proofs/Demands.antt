@@ -11,8 +11,9 @@ use Rattle.ledger.proofs.Demand3.{demand3}
 use Rattle.record.specs.Pools.{isWellFormed, Reads}
 use Rattle.record.specs.declared.Pool.{Pool}
 use Rattle.record.proofs.FreshReads.{fresh-reads, fresh-well-formed}
+use Rattle.steps.proofs.Staying.{same-stays, stays-on}
 use Rattle.calls.specs.Contract.{areWhole}
-use Rattle.pool.specs.Demands.{Runs, done, call, Demand2, PoolDemand3}
+use Rattle.pool.specs.Demands.{Runs, done, call, Demand2, PoolDemand3, ObjectsStay}
 
 -- from any well-formed record that reads as a ledger, with whole stores
 runs-follow : {p p′ : Pool} {small small′ large large′ : List ℕ} {ss : List Sent} {ys : List Reply} → Runs p small large ss ys p′ small′ large′
@@ -31,3 +32,7 @@ demand2 small large a b ss ys p′ small′ large′ runs =
 pub pool-demand3 : PoolDemand3
 pool-demand3 small large a b us ys p′ small′ large′ runs =
     rw (demand2 small large a b (map sent us) ys p′ small′ large′ runs .0) (demand3 us)
+
+pub objects-stay : ObjectsStay
+objects-stay p p′ small large small′ large′ ss ys done = same-stays refl refl
+objects-stay p p′ small large small′ large′ ss ys (call o rest) = stays-on (o .stays) (objects-stay _ p′ _ _ small′ large′ _ _ rest)

@@ -10,7 +10,9 @@ use Rattle.ledger.specs.Ledger.{Sent, fresh, replies, afterAll}
 use Rattle.ledger.specs.Heap.{Used, sent, heapReplies, allInTimeAndBounds}
 use Rattle.record.specs.Reading.{freshPool, wholeSmall, wholeLarge}
 use Rattle.record.specs.Pools.{isWellFormed, Reads}
+use Rattle.record.specs.Tables.{tablesOf}
 use Rattle.record.specs.declared.Pool.{Pool}
+use Rattle.steps.specs.Staying.{Stays}
 use Rattle.calls.specs.Contract.{Obeys}
 
 -- A list of calls is run: each gets record and stores as the last one left them.
@@ -34,3 +36,9 @@ PoolDemand3 =
     (small large : List ℕ) → length small ≡ wholeSmall → length large ≡ wholeLarge
     → (us : List Used) (ys : List Reply) (p′ : Pool) (small′ large′ : List ℕ) → Runs freshPool small large (map sent us) ys p′ small′ large′
     → (ys ≡ heapReplies freshMemory us) ↔ (allInTimeAndBounds freshMemory [] us ≡ true)
+
+-- O29: over every list of calls, from any record, objects that stand on stay in their blocks.
+abbrev pub ObjectsStay : Type 0
+ObjectsStay =
+    (p p′ : Pool) (small large small′ large′ : List ℕ) (ss : List Sent) (ys : List Reply) → Runs p small large ss ys p′ small′ large′
+    → Stays (tablesOf p) (tablesOf p′)

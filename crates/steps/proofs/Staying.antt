@@ -28,9 +28,19 @@ use Rattle.steps.specs.Objects.{freePlace, madePool, refreshedPool}
 use Rattle.steps.specs.Staying.{Stays, OneBlock}
 use Rattle.steps.proofs.KeptBlocks.{block-left}
 
--- blocks that are the same
-pub same-stays : {p p′ : Tables} → p′ .blocks ≡ p .blocks → Stays p p′
-same-stays e = record { same = λ block used given. rw e }
+-- blocks that are the same, and no handle more
+pub same-stays : {p p′ : Tables} → p′ .blocks ≡ p .blocks → p′ .given ≡ p .given → Stays p p′
+same-stays e g = record { given = omega (arith, g); same = λ block used given. rw e }
+
+-- one call after another
+pub stays-on : {p p′ p″ : Tables} → Stays p p′ → Stays p′ p″ → Stays p p″
+stays-on {p} {p′} a b =
+    record {
+      given = omega (arith, a .given, b .given);
+      same = λ block used given.
+          let later = b .same block used (omega (arith, given, a .given)) in
+          later ∙ a .same block (rw later at used) (rw later at given);
+    }
 
 -- an event: a block that nothing names is freed
 swept-stays : (leaver : ℕ) (tasks : List TaskEntry) (global : GlobalTime) (p : Tables) → Stays p (swept leaver tasks global p)
@@ -38,6 +48,7 @@ unfolding swept
 swept-stays leaver tasks global p =
     let xs = map (keptEntry leaver tasks global) (p .expirations) in
     record {
+      given = omega arith;
       same = λ block.
           rw (block-left xs (p .blocks) block)
           (by-test (any (isNaming block) xs) (λ named. rw named (λ used given. refl)) (λ none. rw none (λ used given. absurd (omega arith))));
@@ -45,8 +56,8 @@ swept-stays leaver tasks global p =
 
 stays-by : (v : Verdict) (event : Event) (task : ℕ) (p : Tables) → Stays p (outcomeBy v event task p .pool)
 unfolding poolAfter
-stays-by Accepted event task p = by-test (isTested event) (λ t. rw t (swept-stays _ _ _ p)) (λ t. rw t (same-stays refl))
-stays-by (Refused r) event task p = same-stays refl
+stays-by Accepted event task p = by-test (isTested event) (λ t. rw t (swept-stays _ _ _ p)) (λ t. rw t (same-stays refl refl))
+stays-by (Refused r) event task p = same-stays refl refl
 
 pub event-stays : (event : Event) (task : ℕ) (p : Tables) → Stays p (scheduled event task p .pool)
 unfolding scheduled
@@ -59,6 +70,7 @@ unfolding madePool
 make-stays task kind extension size p listed =
     let place = freePlace size (p .blocks) in
     record {
+      given = omega arith;
       same = λ block.
           by-test (eqb block place)
           (λ here. rw (eqb-true block place here, getD-set-same (p .blocks) place _ freeBlock listed) (λ used given. absurd (omega arith)))
@@ -67,7 +79,7 @@ make-stays task kind extension size p listed =
 
 pub refresh-stays : (task : ℕ) (kind : Kind) (extension handle : ℕ) (p : Tables) → Stays p (refreshedPool task kind extension handle p)
 unfolding refreshedPool
-refresh-stays task kind extension handle p = same-stays refl
+refresh-stays task kind extension handle p = same-stays refl refl
 
 -- an object that stands on has one block
 pub one-block : OneBlock

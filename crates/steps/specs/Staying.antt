@@ -7,8 +7,9 @@ use Rattle.record.specs.Codes.{freeBlock}
 use Rattle.record.specs.Tables.{Tables}
 use Rattle.record.specs.WellFormed.{isWellFormed}
 
--- A block that has afterwards a handle which was already given is as it was. The block of a new handle is left open.
+-- O29: a block that has afterwards a handle which was already given is as it was. The block of a new handle is left open.
 pub record Stays (p p′ : Tables) : Type 0 where
+  pub given : p .given ≤ p′ .given
   pub same : (block : ℕ) → 0 < getD (p′ .blocks) block freeBlock .handle → getD (p′ .blocks) block freeBlock .handle ≤ p .given
       → getD (p′ .blocks) block freeBlock ≡ getD (p .blocks) block freeBlock
 
