@@ -1,17 +1,16 @@
 -- Entries in use counted, and a free one found and set.
-use Prim.Native.Nat.{ℕ, suc, _+_, _-_, _≤_, _<_}
+use Prim.Native.Nat.{ℕ, _+_, _-_, _≤_, _<_}
 use native.Mathlib.Omega.{arith}
 use mathlib.Core.Bool.{Bool}
-use mathlib.Core.List.{List, [], _∷_, map}
-use mathlib.Core.Path.{_≡_, refl, sym, _∙_, ap}
+use mathlib.Core.List.{List}
+use mathlib.Core.Path.{_≡_, sym, _∙_, ap}
 use borrow.Author.Tests.{lt-leb, leb-false}
 use lib.Dec.{eqb}
 use lib.ListN.{length, set, take, drop, length-set, length-take, length-drop, take-append-drop}
 use lib.Seq.{take-all}
-use Rattle.lists.specs.Tables.{firstFrom}
 use Rattle.lists.proofs.Counts.{count-append, length-filter}
 use Rattle.lists.proofs.Filters.{count-length}
-use Rattle.lists.proofs.First.{first-full}
+use Rattle.lists.proofs.First.{first-full, first-map}
 use Rattle.lists.proofs.Loops.{Scanned}
 use Rattle.record.specs.Tables.{ExpirationEntry, entriesOf, SizedEntries, expirationEntries}
 use Rattle.record.proofs.Columns.{clocks-of, entries-set}
@@ -42,11 +41,6 @@ pub free-within : {clocks named dues : List ℕ} {at : ℕ} → SizedEntries clo
 free-within {clocks} s k e =
     let full = sym (first-full isFree 0 clocks) ∙ lt-leb (length clocks) (standingOf clocks) (omega (arith, s .of-clocks)) in
     omega (arith, s .of-clocks, leb-false (0 + length clocks) (freeIn clocks) full)
-
-first-map {ℓ κ} : {A : Type ℓ} {B : Type κ} (p : B → Bool) (f : A → B) (i : ℕ) (xs : List A)
-    → firstFrom i p (map f xs) ≡ firstFrom i (λ (x : A). p (f x)) xs
-first-map p f i [] = refl
-first-map p f i (x ∷ xs) = rw (first-map p f (suc i) xs)
 
 -- an entry put into all columns
 pub put-entry : (e : Entry) {clocks named dues : List ℕ} {at : ℕ} → SizedEntries clocks named dues → at ≡ freeIn clocks

@@ -1,6 +1,5 @@
-pub mod Fours
-pub mod Checking
 pub mod Named
+pub mod Columns
+pub mod Within
 pub mod Alone
-pub mod Present
 pub mod Whole

@@ -7,13 +7,12 @@ use mathlib.Core.List.{List}
 use mathlib.Core.Path.{_≡_, refl, sym, _∙_}
 use borrow.Author.Tests.{eq-eqb, eqb-true, lt-ltb, ltb-true, ltb-false}
 use lib.Dec.{eqb, leb, ltb}
-use lib.ListN.{length, getD, take, drop, take-append-drop, List·getD-eq-default}
-use lib.Seq.{length-take-le}
+use lib.ListN.{length, getD, List·getD-eq-default}
 use Rattle.lists.specs.Tests.{any, all}
 use Rattle.lists.specs.Tables.{allFrom}
 use Rattle.lists.proofs.All.{all-true, found}
 use Rattle.lists.proofs.Cases.{by-test, refuted, same-test}
-use Rattle.lists.proofs.Tables.{allFrom-each, allFrom-within, allFrom-append}
+use Rattle.lists.proofs.Tables.{allFrom-each, allFrom-within}
 use Rattle.lists.proofs.Tests.{passes-imp, passes-found}
 use Rattle.record.specs.Codes.{dueOf, isDated, setterOf, absentEntry, freeBlock}
 use Rattle.record.specs.WellFormed.{isUsed, isFitDue, isFitEntry, isNaming, isSizedFor, isFitBlock}
@@ -24,19 +23,9 @@ use Rattle.record.specs.declared.GlobalTime.{GlobalTime}
 use Rattle.record.specs.declared.Due.{Due}
 use Rattle.record.specs.declared.Due.the-variants.{Free, Local, Global, Unknown}
 
--- the blocks of the two stores, one after the other
-pub two-stores : (p : ℕ → BlockEntry → Bool) (blocks : List BlockEntry) → length blocks ≡ 96
-    → allFrom 0 p blocks ≡ (allFrom 0 p (take 64 blocks) && allFrom 64 p (drop 64 blocks))
-two-stores p blocks e =
-    rw (length-take-le 64 blocks (omega arith), take-append-drop 64 blocks) at (allFrom-append p 0 (take 64 blocks) (drop 64 blocks))
-
--- an expiration in use names a block that there is
-abbrev pub isWithin : ExpirationEntry → Bool
-isWithin e = not (isDated (dueOf e)) || ltb (e .block) 96
-
--- an entry by itself: it is fit if the block that it names is in use, and there is that block
+-- an entry by itself: it names a block that there is
 abbrev pub isFitAlone : List TaskEntry → GlobalTime → ExpirationEntry → Bool
-isFitAlone tasks global e = isWithin e && isFitDue (getD tasks (setterOf (dueOf e)) absentEntry) global true (dueOf e)
+isFitAlone tasks global e = isFitDue (getD tasks (setterOf (dueOf e)) absentEntry) global (ltb (e .block) 96) (dueOf e)
 
 -- only an expiration in use looks at its block
 fit-by : (setter : TaskEntry) (global : GlobalTime) (before after : Bool) (due : Due) → (isDated due ≡ true → before ≡ true → after ≡ true)
@@ -97,18 +86,17 @@ module _ (tasks : List TaskEntry) (global : GlobalTime) (given : ℕ) (blocks : 
         (ltb-true k 96)
         (λ t. absurd (false≢true (rw (List·getD-eq-default blocks freeBlock {n = k} (omega (arith, ltb-false k 96 t))) at e)))
 
-    -- a fit entry is fit by itself
-    fit-alone : (x : ExpirationEntry) → isFitEntry tasks global blocks x ≡ true → isFitAlone tasks global x ≡ true
-    fit-alone x f =
-        and-eq-true-iff (isWithin x) _ .1 (
-          by-test (isDated (dueOf x))
-              (λ dated. rw (dated, lt-ltb (x .block) 96 (used-within (x .block) (fit-says _ global _ (dueOf x) f dated))))
-              (λ free. rw free),
-          fit-by _ global _ true (dueOf x) (λ dated used. refl) f,
-        )
-
+    -- an entry that is not fit by itself is not fit
     pub not-alone : all (isFitAlone tasks global) xs ≡ false → all (isFitEntry tasks global blocks) xs ≡ false
-    not-alone e = refuted _ (λ t. true≢false (sym (passes-imp fit-alone xs t) ∙ e))
+    not-alone e =
+        refuted _
+        (λ t.
+        true≢false
+        (sym
+        (passes-imp
+        (λ x. fit-by _ global _ _ (dueOf x) (λ dated used. lt-ltb (x .block) 96 (used-within (x .block) used)))
+        xs t)
+        ∙ e))
 
     -- where the entries are fit, the blocks that they name are in use
     naming-used : all (isFitEntry tasks global blocks) xs ≡ true → (k : ℕ) → any (isNaming k) xs ≡ true → isUsed (getD blocks k freeBlock) ≡ true
@@ -144,11 +132,9 @@ module _ (tasks : List TaskEntry) (global : GlobalTime) (given : ℕ) (blocks : 
       from alone b =
           and-eq-true-iff _ _ .1 (
             passes-found (λ (x y : ExpirationEntry). isNaming (x .block) y) xs
-                (λ x member f.
-                let (within, timely) = and-eq-true-iff (isWithin x) _ .0 f in
-                fit-by _ global true _ (dueOf x)
-                (λ dated used. flag-means b (x .block) (ltb-true _ _ (rw dated at within)) (member (rw (dated, eq-eqb (x .block) (x .block) refl))))
-                timely)
+                (λ x member.
+                fit-by _ global _ _ (dueOf x)
+                (λ dated within. flag-means b (x .block) (ltb-true _ _ within) (member (rw (dated, eq-eqb (x .block) (x .block) refl)))))
                 alone,
             allFrom-each (isFitBlock given xs) freeBlock 0 blocks (λ k l.
                 let fits = allFrom-within (isFitBlockIn given named) freeBlock 0 blocks b k l in

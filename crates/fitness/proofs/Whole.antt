@@ -12,10 +12,9 @@ use Rattle.record.specs.Tables.{BlockEntry, ExpirationEntry, blocksOf, entriesO
 use Rattle.record.specs.WellFormed.{isFitTask, isFitEntry, isFitBlock, isDistinct, isWellFormed}
 use Rattle.record.specs.declared.Head.{Head}
 use Rattle.record.proofs.Columns.{length-blocks, handles-of}
-use Rattle.fitness.specs.Checks.{isCoded, isPresent, isPresentIn, isFitBlockIn, EntriesChecked}
-use Rattle.fitness.specs.declared.entries.Checked.{Checked}
+use Rattle.fitness.specs.Checks.{isCoded, isTimely, Names, isFitBlockIn}
 use Rattle.fitness.proofs.Named.{isFitAlone, not-alone, named-right}
-use Rattle.fitness.proofs.Present.{present-all, uncoded, by-parts}
+use Rattle.fitness.proofs.Alone.{by-parts}
 
 module _ (h : Head) {handles lengths clocks named dues : List ℕ} (sized : Sized handles lengths clocks named dues) where
   abbrev isFit : Bool
@@ -48,26 +47,17 @@ module _ (h : Head) {handles lengths clocks named dues : List ℕ} (sized : Size
       not-by-itself e = sym (rest ∙ rw (not-alone (h .tasks) (h .global) (h .given) blocks xs size e))
 
       pub not-coded : all isCoded xs ≡ false → false ≡ isFit
-      not-coded e = not-by-itself (uncoded (h .tasks) (h .global) xs e)
+      not-coded e = not-by-itself (by-parts (h .tasks) (h .global) xs ∙ rw e)
 
-      module _ (coded : all isCoded xs ≡ true) {checked : Checked} (m : EntriesChecked (h .tasks) (h .global) xs checked) where
-        parts : all (isFitAlone (h .tasks) (h .global)) xs ≡ (checked .fit && all (isPresent (h .tasks)) xs)
-        parts = by-parts (h .tasks) (h .global) xs tasks (m .clocks) ∙ rw (coded, ← m .fit)
+      module _ (coded : all isCoded xs ≡ true) where
+        alone : all (isFitAlone (h .tasks) (h .global)) xs ≡ all (isTimely (h .tasks) (h .global)) xs
+        alone = by-parts (h .tasks) (h .global) xs ∙ rw coded
 
-        pub not-timely : checked .fit ≡ false → false ≡ isFit
-        not-timely e = not-by-itself (parts ∙ rw e)
+        pub not-timely : all (isTimely (h .tasks) (h .global)) xs ≡ false → false ≡ isFit
+        not-timely e = not-by-itself (alone ∙ e)
 
-        module _ (timely : checked .fit ≡ true) (count : length (h .tasks) ≡ 16) where
-          alone : all (isFitAlone (h .tasks) (h .global)) xs ≡ allFrom 0 (isPresentIn (checked .seen)) (h .tasks)
-          alone = parts ∙ rw timely (sym (present-all (h .tasks) xs count coded (m .seen timely)))
-
-          pub not-present : allFrom 0 (isPresentIn (checked .seen)) (h .tasks) ≡ false → false ≡ isFit
-          not-present e = not-by-itself (alone ∙ e)
-
-          -- past all tests of expirations
-          pub by-blocks : allFrom 0 (isPresentIn (checked .seen)) (h .tasks) ≡ true
-              → isFit ≡ (allFrom 0 (isFitBlockIn (h .given) (checked .named)) blocks && isDistinct handles)
-          by-blocks e =
-              rest
-              ∙ ap (λ (b : Bool). b && isDistinct handles)
-              (named-right (h .tasks) (h .global) (h .given) blocks xs size (m .names timely) (alone ∙ e))
+        -- past all tests of expirations
+        pub by-blocks : {flags : List Bool} → all (isTimely (h .tasks) (h .global)) xs ≡ true → Names flags xs
+            → isFit ≡ (allFrom 0 (isFitBlockIn (h .given) flags) blocks && isDistinct handles)
+        by-blocks e names =
+            rest ∙ ap (λ (b : Bool). b && isDistinct handles) (named-right (h .tasks) (h .global) (h .given) blocks xs size names (alone ∙ e))

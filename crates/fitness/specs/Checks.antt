@@ -1,20 +1,23 @@
 -- What the parts of the test of well-formedness test of tasks, expirations and blocks, and hand to one another.
-use Prim.Native.Nat.{ℕ, _+_, _-_, _%_, _<_}
+use Prim.Native.Nat.{ℕ, _+_, _%_, _<_}
 use mathlib.Core.Bool.{Bool, Bool·beq, true, false, cond, not, _&&_, _||_}
 use mathlib.Core.List.{List}
 use mathlib.Core.Path.{_≡_}
 use lib.Dec.{eqb, leb, ltb}
-use lib.ListN.{length, getD, take}
+use lib.ListN.{length, getD}
 use Rattle.lists.specs.Tests.{any, all}
-use Rattle.ledger.specs.Limits.{limits, taskCount}
-use Rattle.record.specs.Codes.{leftAt, absentEntry, localCode, globalCode}
-use Rattle.record.specs.WellFormed.{isAhead, isNaming, isSizedFor}
-use Rattle.record.specs.declared.TaskEntry.{TaskEntry}
+use Rattle.lists.specs.Filled.{Filled}
+use Rattle.ledger.specs.Limits.{counterRange, limits, taskCount}
+use Rattle.ledger.specs.Tasks.{isAbsent}
+use Rattle.record.specs.Codes.{stateOf, dueOf, setterOf, leftAt, absentEntry, localCode, globalCode}
+use Rattle.record.specs.WellFormed.{isFitDue, isNaming, isSizedFor}
 use Rattle.record.specs.Tables.{BlockEntry, ExpirationEntry, entriesOf, blockEntries, expirationEntries, byteValues}
 use Rattle.record.specs.declared.GlobalTime.{GlobalTime}
+use Rattle.record.specs.declared.Head.{Head}
 use Rattle.record.specs.declared.LocalTime.{LocalTime}
-use Rattle.lists.specs.Filled.{Filled}
-use Rattle.fitness.specs.declared.entries.Checked.{Checked}
+use Rattle.record.specs.declared.TaskEntry.{TaskEntry}
+use Rattle.fitness.specs.declared.times.Time.{Time}
+use Rattle.fitness.specs.declared.times.Time.the-variants.{Local, Global}
 
 -- a free entry, or one that goes by a clock that there is and names a block that there is
 abbrev pub isCodedBy : ℕ → ℕ → Bool
@@ -44,14 +47,16 @@ pub record IndexOf (byte r : ℕ) : Type 0 where
   pub so : r ≡ byte
   pub below : r < byteValues
 
--- which bytes there are among the first i
+-- which bytes there are
 abbrev pub isByte : ℕ → ℕ → Bool
 isByte k byte = eqb byte k
 
-pub record MarkedTo (bytes : List ℕ) (i : ℕ) (flags : List Bool) : Type 0 where
-  pub size : length bytes ≡ expirationEntries
-  pub within : length flags ≡ byteValues
-  pub so : (k : ℕ) → k < byteValues → getD flags k false ≡ any (isByte k) (take i bytes)
+pub record Marks (bytes : List ℕ) (flags : List Bool) : Type 0 where
+  pub so : (k : ℕ) → k < byteValues → getD flags k false ≡ any (isByte k) bytes
+
+-- the flags say which blocks there are among the entries
+pub record Names (named : List Bool) (xs : List ExpirationEntry) : Type 0 where
+  pub so : (k : ℕ) → k < blockEntries → getD named k false ≡ any (isNaming k) xs
 
 -- the codes of clocks as indices: the global time's is the last that there is
 abbrev pub codeCount : ℕ
@@ -66,56 +71,70 @@ pub record CodeAt (clocks : List ℕ) (i r : ℕ) : Type 0 where
   pub so : r ≡ getD clocks i 0
   pub below : r < codeCount
 
--- columns of as many entries as the record's, with codes that there are
-pub record Coded (clocks named dues : List ℕ) : Type 0 where
+-- with as many due numbers
+pub record CodedTimes (clocks dues : List ℕ) : Type 0 where
   pub codes : Codes clocks
-  pub of-named : length named ≡ expirationEntries
   pub of-dues : length dues ≡ expirationEntries
-  pub coded : all isCoded (entriesOf clocks named dues) ≡ true
 
--- units left by the clock of a code that there is; now is what that clock shows, where it is a task's
-unfoldable pub isTimelyBy : GlobalTime → ℕ → LocalTime → ℕ → Bool
-isTimelyBy global clock now due =
-    cond (leb localCode (clock % globalCode)) (isAhead (limits .extension + 1) (leftAt due (now .0)))
-    (cond (eqb clock globalCode) (isAhead (limits .extension + 2) (leftAt due (global .0))) true)
+-- units from a first time on, by the clock of that time
+abbrev pub leftFrom : ℕ → Time → ℕ
+leftFrom due (Local at) = leftAt due (at .0)
+leftFrom due (Global at) = leftAt due (at .0)
 
-abbrev pub noTime : LocalTime
-noTime = record { 0 = 0 }
+abbrev pub isWithinBy : ℕ → Time → ℕ → Bool
+isWithinBy units first due = ltb (leftFrom due first) units
 
-abbrev pub isTimely : List LocalTime → GlobalTime → ExpirationEntry → Bool
-isTimely nows global e = isTimelyBy global (e .clock) (getD nows (e .clock) noTime) (e .due)
+-- the first times that lie ahead
+abbrev pub nextLocal : LocalTime → Time
+nextLocal now = Local (record { 0 = (now .0 + 1) % counterRange })
 
--- what the clocks of tasks show, by their codes
-pub record Clocks (tasks : List TaskEntry) (r : List LocalTime) : Type 0 where
+abbrev pub nextGlobal : GlobalTime → Time
+nextGlobal now = Global (record { 0 = (now .0 + 1) % counterRange })
+
+abbrev pub noTime : Time
+noTime = Local (record { 0 = 0 })
+
+-- By each clock the first time that lies ahead,
+pub record Firsts (tasks : List TaskEntry) (global : GlobalTime) (r : List Time) : Type 0 where
+  pub by-task : (t : ℕ) → t < taskCount → getD r (t + localCode) noTime ≡ nextLocal (getD tasks t absentEntry .clock)
+  pub by-global : getD r globalCode noTime ≡ nextGlobal global
+
+-- and the units in which its expirations may be due: all of a free entry, none by the clock of an absent task nor by a code that is no clock's.
+abbrev pub unitsOf : ℕ → ℕ
+unitsOf state = cond (isAbsent (stateOf state)) 0 (limits .extension + 1)
+
+pub record Units (tasks : List TaskEntry) (r : List ℕ) : Type 0 where
   pub size : length r ≡ codeCount
-  pub so : (t : ℕ) → t < taskCount → getD r (t + localCode) noTime ≡ getD tasks t absentEntry .clock
+  pub free : getD r 0 0 ≡ counterRange
+  pub unknown : (k : ℕ) → 0 < k → k < localCode → getD r k 0 ≡ 0
+  pub by-task : (t : ℕ) → t < taskCount → getD r (t + localCode) 0 ≡ unitsOf (getD tasks t absentEntry .state)
+  pub by-global : getD r globalCode 0 ≡ limits .extension + 2
 
--- the setter of an entry by its clock is not absent; its state is a known code
-abbrev pub isPresent : List TaskEntry → ExpirationEntry → Bool
-isPresent tasks e = not (leb localCode (e .clock % globalCode)) || not (eqb (getD tasks (e .clock - localCode) absentEntry .state) 0)
+-- an entry by such tables
+abbrev pub isWithin : List Time → List ℕ → ExpirationEntry → Bool
+isWithin firsts units e = isWithinBy (getD units (e .clock) 0) (getD firsts (e .clock) noTime) (e .due)
 
--- the entry goes by the clock of this code
-abbrev pub isBy : ℕ → ExpirationEntry → Bool
-isBy code e = eqb (e .clock) code
+-- whatever blocks the entries name
+pub record AllWithin (firsts : List Time) (units clocks dues : List ℕ) (r : Bool) : Type 0 where
+  pub so : (named : List ℕ) → length named ≡ expirationEntries → r ≡ all (isWithin firsts units) (entriesOf clocks named dues)
 
--- the same of all tasks, by flags of the codes that entries go by
-abbrev pub isPresentIn : List Bool → ℕ → TaskEntry → Bool
-isPresentIn seen task e = not (getD seen (task + localCode) false) || not (eqb (e .state) 0)
+-- an entry by W6 to W8, which say when it is due and who set it, apart from the block that it names
+abbrev pub isTimely : List TaskEntry → GlobalTime → ExpirationEntry → Bool
+isTimely tasks global e = isFitDue (getD tasks (setterOf (dueOf e)) absentEntry) global true (dueOf e)
 
--- the flags say which codes and which blocks there are among the entries
-pub record Seen (seen : List Bool) (xs : List ExpirationEntry) : Type 0 where
-  pub so : (k : ℕ) → k < codeCount → getD seen k false ≡ any (isBy k) xs
+pub record AllTimely (h : Head) (clocks dues : List ℕ) (r : Bool) : Type 0 where
+  pub so : (named : List ℕ) → length named ≡ expirationEntries → r ≡ all (isTimely (h .tasks) (h .global)) (entriesOf clocks named dues)
 
-pub record Names (named : List Bool) (xs : List ExpirationEntry) : Type 0 where
-  pub so : (k : ℕ) → k < blockEntries → getD named k false ≡ any (isNaming k) xs
+-- of the first i blocks, whether they have a length of their store's range
+abbrev pub SizedTo : List ℕ → ℕ → List Bool → Type 0
+SizedTo lengths i r = Filled false (λ k x. x ≡ isSizedFor k (getD lengths k 0)) blockEntries i r
 
--- what the test of the expirations finds: whether each is due in time by any clocks that show what the tasks' do, and which codes and blocks there are
-pub record EntriesChecked (tasks : List TaskEntry) (global : GlobalTime) (xs : List ExpirationEntry) (r : Checked) : Type 0 where
-  pub nows : List LocalTime
-  pub clocks : Clocks tasks nows
-  pub fit : r .fit ≡ all (isTimely nows global) xs
-  pub seen : r .fit ≡ true → Seen (r .seen) xs
-  pub names : r .fit ≡ true → Names (r .named) xs
+abbrev pub isGivenAt : ℕ → ℕ → ℕ → Bool
+isGivenAt given block handle = leb handle given
+
+-- a block, by whether it is in use: if so it is named and its length fits, and if not it is not named
+abbrev pub isNamedIn : List Bool → List Bool → ℕ → Bool → Bool
+isNamedIn named sized block used = Bool·beq used (getD named block false) && (not used || getD sized block false)
 
 -- a block, by whether it is named: if so it is in use, and if not it is free
 abbrev pub isFitBlockBy : ℕ → ℕ → Bool → ℕ → ℕ → Bool

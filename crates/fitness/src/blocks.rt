@@ -1,11 +1,12 @@
-// Tests of blocks, by the flags that say which of them expirations name.
+// Tests of blocks, by the flags that say which of them expirations name. Each goes by itself over few columns and has no way out before the end, so that many blocks are tested at once.
 ghost use mathlib.Core.Path.{_≡_};
-ghost use lib.ListN.{take, drop};
+ghost use lib.ListN.{length};
 ghost use Rattle.lists.specs.Tables.{allFrom};
 ghost use Rattle.ledger.specs.Limits.{capacity};
-ghost use Rattle.record.specs.Tables.{blocksOf, SizedBlocks};
+ghost use Rattle.record.specs.Tables.{blocksOf, blockEntries, SizedBlocks};
 ghost use Rattle.record.specs.WellFormed.{isSizedFor};
-ghost use Rattle.fitness.specs.Checks.{isFitBlockBy, isFitBlockIn};
+ghost use Rattle.handles.specs.Handles.{Used};
+ghost use Rattle.fitness.specs.Checks.{isGivenAt, SizedTo, isNamedIn, isFitBlockIn};
 use ledger::LARGE_SIZE;
 use ledger::LIMITS;
 use ledger::SMALL_SIZE;
@@ -15,54 +16,64 @@ use record::BYTE_VALUES;
 // The small store's blocks; the large one's follow.
 const SMALL_COUNT: usize = LIMITS.small_blocks;
 
-fn is_sized_for(block: usize, length: u32) -> bool
+fn is_sized_for(block: usize, length: u16) -> bool
     ensures { λ r. ⌜ r ≡ isSizedFor block length ⌝ }
 {
+    let size = length as u32;
     if block < SMALL_COUNT {
-        (1 <= length) & (length <= SMALL_SIZE)
+        (1 <= size) & (size <= SMALL_SIZE)
     } else {
-        (SMALL_SIZE < length) & (length <= LARGE_SIZE)
+        (SMALL_SIZE < size) & (size <= LARGE_SIZE)
     }
 }
 
-// One block, by whether an expiration names it: if so it is in use, and if not it is free.
-fn fits_block(given: u32, block: usize, named: bool, handle: u32, length: u16) -> bool
-    ensures { λ r. ⌜ r ≡ isFitBlockBy given block named handle length ⌝ }
+// Which blocks have a length of their store's range: those of the small store,
+fn small_sized(lengths: &[u16; BLOCK_COUNT]) -> [bool; BLOCK_COUNT]
+    requires { ⌜ length (now lengths) ≡ blockEntries ⌝ }
+    ensures { λ r. ⌜ SizedTo (now (lengths .entry)) (capacity .smallBlocks) r ⌝ }
 {
-    let used = handle != 0;
-    (used == named) & (!used | (is_sized_for(block, length as u32) & (handle <= given)))
+    let mut out = [false; BLOCK_COUNT];
+    for i in 0..SMALL_COUNT {
+        out[i] = is_sized_for(i, lengths[i]);
+    }
+    out
 }
 
-// The blocks of the small store. There is no way out before the end, so that several blocks are tested at once.
-fn check_small<'a>(
-    given: u32,
-    flags: [bool; BYTE_VALUES],
-    handles: &'a [u32; BLOCK_COUNT],
-    lengths: &'a [u16; BLOCK_COUNT],
-) -> bool
-    requires { ⌜ SizedBlocks (now handles) (now lengths) ⌝ }
-    ensures { λ r. ⌜ r ≡ allFrom 0 (isFitBlockIn given flags) (take (capacity .smallBlocks) (blocksOf (now (handles .entry)) (now (lengths .entry)))) ⌝ }
+// and then those of the large one.
+fn sized(lengths: &[u16; BLOCK_COUNT]) -> [bool; BLOCK_COUNT]
+    requires { ⌜ length (now lengths) ≡ blockEntries ⌝ }
+    ensures { λ r. ⌜ SizedTo (now (lengths .entry)) blockEntries r ⌝ }
+{
+    let mut out = small_sized(lengths);
+    for i in SMALL_COUNT..BLOCK_COUNT {
+        out[i] = is_sized_for(i, lengths[i]);
+    }
+    out
+}
+
+// A free block's handle, 0, is no higher either.
+fn all_given(given: u32, handles: &[u32; BLOCK_COUNT]) -> bool
+    requires { ⌜ length (now handles) ≡ blockEntries ⌝ }
+    ensures { λ r. ⌜ r ≡ allFrom 0 (isGivenAt given) (now (handles .entry)) ⌝ }
 {
     let mut fit = true;
-    for i in 0..SMALL_COUNT {
-        fit = fit & fits_block(given, i, flags[i], handles[i], lengths[i]);
+    for i in 0..BLOCK_COUNT {
+        fit = fit & (handles[i] <= given);
     }
     fit
 }
 
-// Those of the large one.
-fn check_large<'a>(
-    given: u32,
+// The blocks in use are those that are named, and have lengths that fit.
+fn all_named(
     flags: [bool; BYTE_VALUES],
-    handles: &'a [u32; BLOCK_COUNT],
-    lengths: &'a [u16; BLOCK_COUNT],
+    sized: [bool; BLOCK_COUNT],
+    used: [bool; BLOCK_COUNT],
 ) -> bool
-    requires { ⌜ SizedBlocks (now handles) (now lengths) ⌝ }
-    ensures { λ r. ⌜ r ≡ allFrom (capacity .smallBlocks) (isFitBlockIn given flags) (drop (capacity .smallBlocks) (blocksOf (now (handles .entry)) (now (lengths .entry)))) ⌝ }
+    ensures { λ r. ⌜ r ≡ allFrom 0 (isNamedIn flags sized) used ⌝ }
 {
     let mut fit = true;
-    for i in SMALL_COUNT..BLOCK_COUNT {
-        fit = fit & fits_block(given, i, flags[i], handles[i], lengths[i]);
+    for i in 0..BLOCK_COUNT {
+        fit = fit & ((used[i] == flags[i]) & (!used[i] | sized[i]));
     }
     fit
 }
@@ -70,11 +81,13 @@ fn check_large<'a>(
 pub fn check_blocks<'a>(
     given: u32,
     flags: [bool; BYTE_VALUES],
+    used: [bool; BLOCK_COUNT],
     handles: &'a [u32; BLOCK_COUNT],
     lengths: &'a [u16; BLOCK_COUNT],
 ) -> bool
-    requires { ⌜ SizedBlocks (now handles) (now lengths) ⌝ }
+    requires { ⌜ SizedBlocks (now handles) (now lengths) × Used (now handles) used ⌝ }
     ensures { λ r. ⌜ r ≡ allFrom 0 (isFitBlockIn given flags) (blocksOf (now (handles .entry)) (now (lengths .entry))) ⌝ }
 {
-    check_small(given, flags, handles, lengths) & check_large(given, flags, handles, lengths)
+    let sized = sized(lengths);
+    all_given(given, handles) & all_named(flags, sized, used)
 }

@@ -1,7 +1,10 @@
-// The codes of expirations: those that there are, and the flag of the block that each names. Nothing is left before the end, so that many are tested at once.
+// The codes of expirations: those that there are, and the flags of the blocks that they name. Nothing is left before the end, so that many are tested at once.
+ghost use Prim.Native.Nat.{_<_};
 ghost use mathlib.Core.Path.{_≡_};
-ghost use Rattle.fitness.specs.Checks.{isCodedBy, SizedCodes, AllCoded, slotBy, Slots};
+ghost use Rattle.record.specs.Tables.{expirationEntries};
+ghost use Rattle.fitness.specs.Checks.{isCodedBy, SizedCodes, AllCoded, IndexOf, Codes, CodeAt, slotBy, Slots, Marks};
 use record::BLOCK_COUNT;
+use record::BYTE_VALUES;
 use record::EXPIRATION_COUNT;
 use record::codes::FREE;
 use record::codes::GLOBAL;
@@ -28,6 +31,20 @@ pub fn all_coded<'a>(clocks: &'a [u8; EXPIRATION_COUNT], named: &'a [u8; EXPIRAT
     fit
 }
 
+fn index_of(byte: u8) -> usize
+    ensures { λ r. ⌜ IndexOf byte r ⌝ }
+{
+    byte as usize
+}
+
+// The code of an expiration's clock, which there is.
+pub fn code_at(clocks: &[u8; EXPIRATION_COUNT], i: usize) -> usize
+    requires { ⌜ Codes (now clocks) × (i < expirationEntries) ⌝ }
+    ensures { λ r. ⌜ CodeAt (now (clocks .entry)) i r ⌝ }
+{
+    index_of(clocks[i])
+}
+
 fn slot_for(clock: u8, block: u8) -> u8
     ensures { λ r. ⌜ r ≡ slotBy clock block ⌝ }
 {
@@ -44,6 +61,18 @@ pub fn slots<'a>(
     let mut out = [0; EXPIRATION_COUNT];
     for i in 0..EXPIRATION_COUNT {
         out[i] = slot_for(clocks[i], named[i]);
+    }
+    out
+}
+
+// Which bytes there are.
+pub fn marks(bytes: [u8; EXPIRATION_COUNT]) -> [bool; BYTE_VALUES]
+    ensures { λ r. ⌜ Marks bytes r ⌝ }
+{
+    let mut out = [false; BYTE_VALUES];
+    for i in 0..EXPIRATION_COUNT {
+        let at = index_of(bytes[i]);
+        out[at] = true;
     }
     out
 }

@@ -5,19 +5,20 @@ ghost use Rattle.record.specs.WellFormed.{isWellFormed};
 
 mod blocks;
 mod codes;
-mod entries;
 mod times;
 
 use blocks::check_blocks;
 use codes::all_coded;
-use entries::all_present;
-use entries::check_entries;
+use codes::marks;
+use codes::slots;
 use handles::distinct;
+use handles::used_of;
 use record::BLOCK_COUNT;
 use record::EXPIRATION_COUNT;
 use record::Head;
 use record::running::all_fit_tasks;
 use record::running::all_ticked;
+use times::all_timely;
 
 // The rules W, of the whole record.
 pub fn is_well_formed<'a>(
@@ -41,17 +42,13 @@ pub fn is_well_formed<'a>(
     if !all_coded(clocks, named) {
         return false;
     }
-    let checked = check_entries(tasks, h.global, clocks, named, dues);
-    if !checked.fit {
+    if !all_timely(h, clocks, dues) {
         return false;
     }
-    let seen = checked.seen;
-    if !all_present(tasks, seen) {
+    let flags = marks(slots(clocks, named));
+    let used = used_of(handles);
+    if !check_blocks(h.given, flags, used, handles, lengths) {
         return false;
     }
-    let flags = checked.named;
-    if !check_blocks(h.given, flags, handles, lengths) {
-        return false;
-    }
-    distinct(handles)
+    distinct(handles, &used)
 }

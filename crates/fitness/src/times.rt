@@ -1,110 +1,135 @@
-// When expirations are due. A number of the table becomes a LocalTime only where its clock is a task's, and a GlobalTime only where it is the global one.
-ghost use mathlib.Core.Bool.{_&&_};
+// When expirations may be due: by each clock, so many units from a first time on. A due number becomes a LocalTime where that is a task's, and a GlobalTime where it is the global one.
 ghost use mathlib.Core.Path.{_≡_};
-ghost use Prim.Native.Nat.{_+_};
-ghost use Rattle.ledger.specs.Limits.{limits};
-ghost use Rattle.record.specs.Codes.{leftAt};
-ghost use Rattle.record.specs.WellFormed.{isAhead};
-ghost use Rattle.fitness.specs.Checks.{isTimelyBy, Clocks};
+ghost use Rattle.fitness.specs.Checks.{leftFrom, isWithinBy, nextLocal, nextGlobal, Firsts, unitsOf, Units, CodedTimes, AllWithin, AllTimely};
+use super::codes::code_at;
 use ledger::LIMITS;
 use ledger::TASK_COUNT;
+use record::EXPIRATION_COUNT;
 use record::GlobalTime;
+use record::Head;
 use record::LocalTime;
 use record::TaskEntry;
+use record::codes::FREE;
 use record::codes::GLOBAL;
 use record::codes::LOCAL;
 use record::codes::global_left;
 use record::codes::local_left;
+use record::running::is_absent;
 
 // The codes of clocks, as indices: those of tasks are from LOCAL on, and GLOBAL is the last that there is.
-pub const FIRST_LOCAL: usize = LOCAL as usize;
+const NO_CLOCK: usize = FREE as usize;
+
+const FIRST_LOCAL: usize = LOCAL as usize;
 
 const ONLY_GLOBAL: usize = GLOBAL as usize;
 
 pub const CODES: usize = ONLY_GLOBAL + 1;
 
-fn is_ahead(most: u32, left: u32) -> bool
-    ensures { λ r. ⌜ r ≡ isAhead most left ⌝ }
-{
-    (1 <= left) & (left <= most)
+// All units that a counter has: a free entry is due whenever it likes.
+const ALL_UNITS: u64 = 4294967296;
+
+// A time by one of the clocks.
+pub enum Time {
+    Local(LocalTime),
+    Global(GlobalTime),
 }
 
-fn fits_local(at: LocalTime, now: LocalTime) -> bool
-    ensures { λ r. ⌜ r ≡ isAhead (limits .extension + 1) (leftAt (at .0) (now .0)) ⌝ }
+// The units from a time on.
+fn left_from(due: u32, first: Time) -> u32
+    ensures { λ r. ⌜ r ≡ leftFrom due first ⌝ }
 {
-    is_ahead(LIMITS.extension + 1, local_left(at, now))
-}
-
-fn fits_global(at: GlobalTime, now: GlobalTime) -> bool
-    ensures { λ r. ⌜ r ≡ isAhead (limits .extension + 2) (leftAt (at .0) (now .0)) ⌝ }
-{
-    is_ahead(LIMITS.extension + 2, global_left(at, now))
-}
-
-// One expiration, by the code of its clock, which is known, and what its setter's clock shows, where it has one.
-pub fn fits_time(global: GlobalTime, clock: usize, now: LocalTime, due: u32) -> bool
-    ensures { λ r. ⌜ r ≡ isTimelyBy global clock now due ⌝ }
-{
-    if FIRST_LOCAL <= clock % ONLY_GLOBAL {
-        return fits_local(LocalTime(due), now);
+    match first {
+        Time::Local(at) => local_left(LocalTime(due), at),
+        Time::Global(at) => global_left(GlobalTime(due), at),
     }
-    if clock == ONLY_GLOBAL {
-        return fits_global(GlobalTime(due), global);
-    }
-    true
 }
 
-// Two, and four: a turn of the loop over all.
-fn fits_two(
-    global: GlobalTime,
-    clock0: usize,
-    now0: LocalTime,
-    due0: u32,
-    clock1: usize,
-    now1: LocalTime,
-    due1: u32,
-) -> bool
-    ensures { λ r. ⌜ r ≡ (isTimelyBy global clock0 now0 due0 && isTimelyBy global clock1 now1 due1) ⌝ }
+fn is_within(due: u32, first: Time, units: u64) -> bool
+    ensures { λ r. ⌜ r ≡ isWithinBy units first due ⌝ }
 {
-    if !fits_time(global, clock0, now0, due0) {
-        return false;
-    }
-    fits_time(global, clock1, now1, due1)
+    (left_from(due, first) as u64) < units
 }
 
-pub fn fits_four(
-    global: GlobalTime,
-    clock0: usize,
-    now0: LocalTime,
-    due0: u32,
-    clock1: usize,
-    now1: LocalTime,
-    due1: u32,
-    clock2: usize,
-    now2: LocalTime,
-    due2: u32,
-    clock3: usize,
-    now3: LocalTime,
-    due3: u32,
-) -> bool
-    ensures { λ r. ⌜ r ≡ (isTimelyBy global clock0 now0 due0 && isTimelyBy global clock1 now1 due1
-        && isTimelyBy global clock2 now2 due2 && isTimelyBy global clock3 now3 due3) ⌝ }
+// The first times that lie ahead.
+fn next_local(now: LocalTime) -> Time
+    ensures { λ r. ⌜ r ≡ nextLocal now ⌝ }
 {
-    if !fits_two(global, clock0, now0, due0, clock1, now1, due1) {
-        return false;
-    }
-    fits_two(global, clock2, now2, due2, clock3, now3, due3)
+    Time::Local(LocalTime(std::num::wrapping_add_u32(now.0, 1)))
 }
 
-// What the clocks of tasks show, by their codes.
-pub fn clocks_of(tasks: [TaskEntry; TASK_COUNT]) -> [LocalTime; CODES]
-    ensures { λ r. ⌜ Clocks tasks r ⌝ }
+fn next_global(now: GlobalTime) -> Time
+    ensures { λ r. ⌜ r ≡ nextGlobal now ⌝ }
 {
-    let mut out = [LocalTime(0); CODES];
+    Time::Global(GlobalTime(std::num::wrapping_add_u32(now.0, 1)))
+}
+
+// By each clock the first time that lies ahead; of codes that are no clock's nothing is told.
+fn firsts(tasks: [TaskEntry; TASK_COUNT], global: GlobalTime) -> [Time; CODES]
+    ensures { λ r. ⌜ Firsts tasks global r ⌝ }
+{
+    let last = next_global(global);
+    let mut out = [last; CODES];
     for i in 0..TASK_COUNT {
         let e = tasks[i];
-        let now = e.clock;
-        out[i + FIRST_LOCAL] = now;
+        let first = next_local(e.clock);
+        out[i + FIRST_LOCAL] = first;
     }
     out
+}
+
+fn units_of(state: u16) -> u64
+    ensures { λ r. ⌜ r ≡ unitsOf state ⌝ }
+{
+    if is_absent(state) {
+        0
+    } else {
+        (LIMITS.extension + 1) as u64
+    }
+}
+
+// By each clock the units in which its expirations may be due: none by an absent task's, nor by a code that is no clock's.
+fn units(tasks: [TaskEntry; TASK_COUNT]) -> [u64; CODES]
+    ensures { λ r. ⌜ Units tasks r ⌝ }
+{
+    let mut out = [0; CODES];
+    out[NO_CLOCK] = ALL_UNITS;
+    out[ONLY_GLOBAL] = (LIMITS.extension + 2) as u64;
+    for i in 0..TASK_COUNT {
+        let e = tasks[i];
+        out[i + FIRST_LOCAL] = units_of(e.state);
+    }
+    out
+}
+
+// Those that are not within are counted, which takes no branch.
+fn all_within<'a>(
+    firsts: [Time; CODES],
+    units: [u64; CODES],
+    clocks: &'a [u8; EXPIRATION_COUNT],
+    dues: &'a [u32; EXPIRATION_COUNT],
+) -> bool
+    requires { ⌜ CodedTimes (now clocks) (now dues) ⌝ }
+    ensures { λ r. ⌜ AllWithin firsts units (now (clocks .entry)) (now (dues .entry)) r ⌝ }
+{
+    let mut out = 0u32;
+    for i in 0..EXPIRATION_COUNT {
+        let code = code_at(clocks, i);
+        let first = firsts[code];
+        out = out + ((!is_within(dues[i], first, units[code])) as u32);
+    }
+    out == 0
+}
+
+pub fn all_timely<'a>(
+    h: Head,
+    clocks: &'a [u8; EXPIRATION_COUNT],
+    dues: &'a [u32; EXPIRATION_COUNT],
+) -> bool
+    requires { ⌜ CodedTimes (now clocks) (now dues) ⌝ }
+    ensures { λ r. ⌜ AllTimely h (now (clocks .entry)) (now (dues .entry)) r ⌝ }
+{
+    let tasks = h.tasks;
+    let firsts = firsts(tasks, h.global);
+    let units = units(tasks);
+    all_within(firsts, units, clocks, dues)
 }

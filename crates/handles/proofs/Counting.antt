@@ -9,6 +9,7 @@ use borrow.Author.Tests.{eqb-true, eqb-false, eq-eqb}
 use lib.Dec.{eqb}
 use lib.ListN.{length, getD, set, take, replicate, length-set, length-replicate, getD-replicate}
 use lib.Seq.{take-suc, length-take-le, take-all, getD-set-same, getD-set-other}
+use mir.Val.{boolByte}
 use Rattle.lists.specs.Tests.{any, count}
 use Rattle.lists.proofs.Cases.{by-test}
 use Rattle.lists.proofs.Counts.{count-append}
@@ -32,6 +33,10 @@ pub record CountedTo (hs : List ℕ) (i : ℕ) (out : List ℕ) : Type 0 where
 
 pub counted-start : (hs : List ℕ) → CountedTo hs 0 (replicate 256 0)
 counted-start hs = record { size = length-replicate {A = ℕ} 256 0; so = λ k l. getD-replicate 256 k 0 0 (omega arith) }
+
+-- a block in use counts 1
+pub used-one : (h : ℕ) {used : Bool} → used ≡ not (eqb h 0) → boolByte used ≡ oneOf h
+used-one h e = rw e (by-test (eqb h 0) (λ z. rw z) (λ z. rw z))
 
 -- one handle, counted at its remainder and at no other
 one-here : (h : ℕ) → count (hasRest (h % 256)) (h ∷ []) ≡ oneOf h

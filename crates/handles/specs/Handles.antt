@@ -30,6 +30,11 @@ isAloneIn used i part = not (getD used i false) || eqb part i
 abbrev pub Used : List ℕ → List Bool → Type 0
 Used handles r = Filled false (λ k x. x ≡ not (eqb (getD handles k 0) 0)) blockEntries blockEntries r
 
+-- the handles of all blocks, and which are in use
+pub record UsedIn (handles : List ℕ) (used : List Bool) : Type 0 where
+  pub size : length handles ≡ blockEntries
+  pub so : Used handles used
+
 abbrev pub FirstParts : List ℕ → List ℕ → Type 0
 FirstParts handles r = Filled 0 (λ k x. x ≡ getD handles k 0 % 64) blockEntries blockEntries r
 

@@ -4,7 +4,7 @@ ghost use lib.ListN.{length};
 ghost use Rattle.lists.specs.Tests.{all};
 ghost use Rattle.record.specs.WellFormed.{isDistinct};
 ghost use Rattle.record.specs.Tables.{blockEntries};
-ghost use Rattle.handles.specs.Handles.{oneOf, Counted, isFew};
+ghost use Rattle.handles.specs.Handles.{Used, UsedIn, Counted, isFew};
 
 mod parting;
 
@@ -14,23 +14,27 @@ use record::BLOCK_COUNT;
 // The remainders by which handles are told apart first.
 const REMAINDERS: usize = 256;
 
-// 1 of a block in use.
-fn one_of(handle: u32) -> u8
-    ensures { λ r. ⌜ r ≡ oneOf handle ⌝ }
+// Which blocks are in use.
+pub fn used_of(handles: &[u32; BLOCK_COUNT]) -> [bool; BLOCK_COUNT]
+    requires { ⌜ length (now handles) ≡ blockEntries ⌝ }
+    ensures { λ r. ⌜ Used (now (handles .entry)) r ⌝ }
 {
-    (handle != 0) as u8
+    let mut out = [false; BLOCK_COUNT];
+    for i in 0..BLOCK_COUNT {
+        out[i] = handles[i] != 0;
+    }
+    out
 }
 
 // How many blocks in use have a handle of each remainder.
-fn counts(handles: &[u32; BLOCK_COUNT]) -> [u8; REMAINDERS]
-    requires { ⌜ length (now handles) ≡ blockEntries ⌝ }
+fn counts<'a>(handles: &'a [u32; BLOCK_COUNT], used: &'a [bool; BLOCK_COUNT]) -> [u8; REMAINDERS]
+    requires { ⌜ UsedIn (now handles) (now used) ⌝ }
     ensures { λ r. ⌜ Counted (now (handles .entry)) r ⌝ }
 {
     let mut out = [0; REMAINDERS];
     for i in 0..BLOCK_COUNT {
-        let handle = handles[i];
-        let at = (handle % 256) as usize;
-        out[at] = out[at] + one_of(handle);
+        let at = (handles[i] % 256) as usize;
+        out[at] = out[at] + (used[i] as u8);
     }
     out
 }
@@ -46,12 +50,12 @@ fn all_few(counts: [u8; REMAINDERS]) -> bool
 }
 
 // Handles given one after another have remainders of their own; others are told apart in full.
-pub fn distinct(handles: &[u32; BLOCK_COUNT]) -> bool
-    requires { ⌜ length (now handles) ≡ blockEntries ⌝ }
+pub fn distinct<'a>(handles: &'a [u32; BLOCK_COUNT], used: &'a [bool; BLOCK_COUNT]) -> bool
+    requires { ⌜ UsedIn (now handles) (now used) ⌝ }
     ensures { λ r. ⌜ r ≡ isDistinct (now (handles .entry)) ⌝ }
 {
-    if all_few(counts(handles)) {
+    if all_few(counts(handles, used)) {
         return true;
     }
-    parted(handles)
+    parted(handles, used)
 }

@@ -7,7 +7,7 @@ ghost use lib.ListN.{length};
 ghost use Rattle.lists.specs.Tables.{allFrom};
 ghost use Rattle.record.specs.WellFormed.{isDistinct};
 ghost use Rattle.record.specs.Tables.{blockEntries};
-ghost use Rattle.handles.specs.Handles.{isAloneIn, Used, FirstParts, FirstRest, RestOf, keyCount, Below, Keys, Lasts, Places, Partable, Refined, Shifted};
+ghost use Rattle.handles.specs.Handles.{isAloneIn, UsedIn, FirstParts, FirstRest, RestOf, keyCount, Below, Keys, Lasts, Places, Partable, Refined, Shifted};
 use record::BLOCK_COUNT;
 
 // Parts and digits that are possible.
@@ -15,17 +15,6 @@ const KEYS: usize = BLOCK_COUNT * 16;
 
 // The digits of a handle after those of the first parts.
 const DIGITS: usize = 7;
-
-fn used_of(handles: &[u32; BLOCK_COUNT]) -> [bool; BLOCK_COUNT]
-    requires { ⌜ length (now handles) ≡ blockEntries ⌝ }
-    ensures { λ r. ⌜ Used (now (handles .entry)) r ⌝ }
-{
-    let mut out = [false; BLOCK_COUNT];
-    for i in 0..BLOCK_COUNT {
-        out[i] = handles[i] != 0;
-    }
-    out
-}
 
 fn first_parts(handles: &[u32; BLOCK_COUNT]) -> [u8; BLOCK_COUNT]
     requires { ⌜ length (now handles) ≡ blockEntries ⌝ }
@@ -142,21 +131,20 @@ fn all_alone<'a>(used: &'a [bool; BLOCK_COUNT], parts: &'a [u8; BLOCK_COUNT]) ->
     alone
 }
 
-pub fn parted(handles: &[u32; BLOCK_COUNT]) -> bool
-    requires { ⌜ length (now handles) ≡ blockEntries ⌝ }
+pub fn parted<'a>(handles: &'a [u32; BLOCK_COUNT], used: &'a [bool; BLOCK_COUNT]) -> bool
+    requires { ⌜ UsedIn (now handles) (now used) ⌝ }
     ensures { λ r. ⌜ r ≡ isDistinct (now (handles .entry)) ⌝ }
 {
-    let used = used_of(handles);
     let mut parts = first_parts(handles);
     let mut rest = first_rest(handles);
     for digit in 0..DIGITS {
         let finer = refined(&parts, &rest);
         let next = shifted(&rest);
-        if all_alone(&used, &finer) {
+        if all_alone(used, &finer) {
             return true;
         }
         parts = finer;
         rest = next;
     }
-    all_alone(&used, &parts)
+    all_alone(used, &parts)
 }

@@ -2,12 +2,18 @@
 use Prim.Native.Nat.{ℕ, zero, suc, _+_, _≤_, _<_}
 use native.Mathlib.Nat.{le-refl, not-suc-le-zero, le-of-suc-le-suc}
 use native.Mathlib.Omega.{arith}
-use mathlib.Core.Bool.{Bool, true, false, true≢false, _||_, and-false, or-assoc}
+use mathlib.Core.Bool.{Bool, true, false, true≢false, not, _&&_, _||_, and-false, or-assoc}
 use mathlib.Core.List.{List, [], _∷_, _++_, map}
 use mathlib.Core.Path.{_≡_, refl, sym, _∙_}
+use lib.Dec.{eqb, eqb·suc-zero}
 use lib.ListN.{length, getD, set}
 use Rattle.lists.specs.Tests.{any, all, filter, count, All}
 use Rattle.lists.proofs.Cases.{by-test, refuted, or-right, or-map}
+
+and-pairs : (a b x y : Bool) → ((a && b) && (x && y)) ≡ ((a && x) && (b && y))
+and-pairs true true x y = refl
+and-pairs true false x y = sym (and-false x)
+and-pairs false b x y = refl
 
 module _ {ℓ} {A : Type ℓ} (p : A → Bool) where
   pub any-append : (xs ys : List A) → any p (xs ++ ys) ≡ (any p xs || any p ys)
@@ -65,6 +71,11 @@ module _ {ℓ} {A : Type ℓ} (p : A → Bool) where
   count-none [] h = refl
   count-none (x ∷ xs) (h, hs) = rw h (count-none xs hs)
 
+  -- none fails exactly where all pass
+  pub none-fails : (xs : List A) → eqb (count (λ (x : A). not (p x)) xs) 0 ≡ all p xs
+  none-fails [] = refl
+  none-fails (x ∷ xs) = by-test (p x) (λ e. rw e (none-fails xs)) (λ e. rw e (eqb·suc-zero (count (λ (y : A). not (p y)) xs)))
+
   pub count-same : (q : A → Bool) (xs : List A) → All (λ (x : A). p x ≡ q x) xs → count p xs ≡ count q xs
   count-same q [] h = refl
   count-same q (x ∷ xs) (h, hs) = rw (h, count-same q xs hs)
@@ -84,3 +95,17 @@ module _ {ℓ} {A : Type ℓ} (p : A → Bool) where
   pub length-filter : (xs : List A) → length (filter p xs) ≤ length xs
   length-filter [] = le-refl zero
   length-filter (x ∷ xs) = let h = length-filter xs in by-test (p x) (λ e. rw e (omega arith)) (λ e. rw e (omega arith))
+
+-- two lists whose elements pass two tests alike, place by place
+pub any-pairs {ℓ κ} : {A : Type ℓ} {B : Type κ} (p : A → Bool) (q : B → Bool) (d : A) (e : B) (xs : List A) (ys : List B) → length xs ≡ length ys
+    → ((i : ℕ) → i < length xs → p (getD xs i d) ≡ q (getD ys i e)) → any p xs ≡ any q ys
+any-pairs p q d e [] [] n h = refl
+any-pairs p q d e [] (y ∷ ys) n h = absurd (omega arith)
+any-pairs p q d e (x ∷ xs) [] n h = absurd (omega arith)
+any-pairs p q d e (x ∷ xs) (y ∷ ys) n h =
+    let head : p x ≡ q y = h 0 (omega arith) in rw (head, any-pairs p q d e xs ys (omega arith) (λ i l. h (suc i) (omega arith)))
+
+-- two tests of all, made at once
+pub all-two {ℓ} : {A : Type ℓ} (p q s : A → Bool) → ((x : A) → s x ≡ (p x && q x)) → (xs : List A) → all s xs ≡ (all p xs && all q xs)
+all-two p q s h [] = refl
+all-two p q s h (x ∷ xs) = rw (h x, all-two p q s h xs) (and-pairs (p x) (q x) (all p xs) (all q xs))

@@ -2,7 +2,7 @@
 use Prim.Native.Nat.{ℕ, zero, suc, _+_, _≤_, _<_}
 use native.Mathlib.Omega.{arith}
 use mathlib.Core.Bool.{Bool, true, false, false≢true, not}
-use mathlib.Core.List.{List, [], _∷_}
+use mathlib.Core.List.{List, [], _∷_, map}
 use mathlib.Core.Path.{_≡_, refl, sym, _∙_}
 use borrow.Author.Tests.{not-false, leb-false, le-leb, lt-leb}
 use lib.Dec.{leb, leb·suc-suc}
@@ -12,6 +12,12 @@ use Rattle.lists.specs.Tables.{firstFrom}
 use Rattle.lists.proofs.Cases.{by-test, refuted}
 use Rattle.lists.proofs.Counts.{length-filter}
 use Rattle.lists.proofs.Filters.{count-length}
+
+-- in a column of the entries
+pub first-map {ℓ κ} : {A : Type ℓ} {B : Type κ} (p : B → Bool) (f : A → B) (i : ℕ) (xs : List A)
+    → firstFrom i p (map f xs) ≡ firstFrom i (λ (x : A). p (f x)) xs
+first-map p f i [] = refl
+first-map p f i (x ∷ xs) = rw (first-map p f (suc i) xs)
 
 module _ {ℓ} {A : Type ℓ} (p : A → Bool) where
   -- counted from one place later

@@ -1,11 +1,10 @@
 -- What was decided on columns, as the definitions on entries have it.
 use Prim.Native.Nat.{ℕ, zero, suc}
-use mathlib.Core.Bool.{Bool}
 use mathlib.Core.List.{List, [], _∷_, map}
 use mathlib.Core.Path.{_≡_, refl, sym, ap, _∙_}
 use lib.ListN.{length, take, drop}
-use Rattle.lists.specs.Tables.{firstFrom}
 use Rattle.lists.proofs.Counts.{count-map}
+use Rattle.lists.proofs.First.{first-map}
 use Rattle.record.specs.Tables.{BlockEntry, ExpirationEntry, blocksOf, tablesBy, blockEntries}
 use Rattle.record.specs.declared.Head.{Head}
 use Rattle.record.proofs.Columns.{handles-of}
@@ -15,10 +14,6 @@ use Rattle.objects.specs.Outcomes.{makePlan, refreshPlan, foundBy, found
 use Rattle.objects.specs.Usage.{usageIn}
 
 module _ {ℓ κ} {A : Type ℓ} {B : Type κ} (f : A → B) where
-  first-map : (p : B → Bool) (i : ℕ) (xs : List A) → firstFrom i p (map f xs) ≡ firstFrom i (λ (x : A). p (f x)) xs
-  first-map p i [] = refl
-  first-map p i (x ∷ xs) = rw (first-map p (suc i) xs)
-
   take-map : (n : ℕ) (xs : List A) → take n (map f xs) ≡ map f (take n xs)
   take-map zero xs = refl
   take-map (suc n) [] = refl

@@ -1,19 +1,16 @@
 -- The state that a code means, by tests of the code, and the advance test of a table of tasks.
 use Prim.Native.Nat.{ℕ}
-use mathlib.Core.Bool.{Bool, true, false, cond, not, _&&_, _||_, and-true, and-false, or-assoc, or-false, and-eq-true-iff}
+use mathlib.Core.Bool.{Bool, true, false, cond, not, _&&_, _||_, and-true, and-false, or-assoc, or-false}
 use mathlib.Core.List.{List, [], _∷_, map}
 use mathlib.Core.Path.{_≡_, refl, sym, ap}
-use native.Mathlib.Omega.{arith}
-use borrow.Author.Tests.{eqb-true, eqb-false, eq-eqb, ltb-true}
-use lib.Dec.{eqb, ltb}
+use lib.Dec.{eqb}
 use Rattle.lists.specs.Tests.{any}
-use Rattle.lists.proofs.Cases.{by-test, not-and-not}
+use Rattle.lists.proofs.Cases.{not-and-not}
 use Rattle.lists.proofs.Counts.{any-map, all-mapped}
 use Rattle.lists.proofs.Implied.{all-not-any}
 use Rattle.ledger.specs.Tasks.{Task, isAbsent, isRunning, allTicked}
 use Rattle.ledger.specs.declared.State.the-variants.{Absent, Running, Waiting}
 use Rattle.record.specs.Codes.{stateOf, taskOf, isRunningEntry, isPendingEntry}
-use Rattle.record.specs.WellFormed.{isFitTask}
 use Rattle.record.specs.declared.TaskEntry.{TaskEntry}
 
 running-by : (one two : Bool) → one ≡ isRunning (cond one Running (cond two Waiting Absent))
@@ -31,21 +28,6 @@ running-code code = running-by (eqb code 1) (eqb code 2)
 
 pub absent-code : (code : ℕ) → (not (eqb code 1) && not (eqb code 2)) ≡ isAbsent (stateOf code)
 absent-code code = absent-by (eqb code 1) (eqb code 2)
-
--- of the codes that are known, only 0 is an absent task's
-pub absent-is-0 : (e : TaskEntry) → isFitTask e ≡ true → isAbsent (stateOf (e .state)) ≡ eqb (e .state) 0
-unfolding isFitTask
-absent-is-0 e f =
-    let (abc, _) = and-eq-true-iff _ _ .0 f in
-    let (ab, _) = and-eq-true-iff _ _ .0 abc in
-    let (known, _) = and-eq-true-iff (ltb (e .state) 3) (ltb (e .ticked) 2) .0 ab in
-    by-test (eqb (e .state) 1)
-    (λ t. rw (t, eqb-true (e .state) 1 t))
-    (λ t.
-    by-test (eqb (e .state) 2)
-    (λ u. rw (t, u, eqb-true (e .state) 2 u))
-    (λ u.
-    rw (t, u, eq-eqb (e .state) 0 (omega (arith, ltb-true (e .state) 3 known, eqb-false (e .state) 1 t, eqb-false (e .state) 2 u)))))
 
 -- the advance test of the entries that are left: none of the earlier is pending, and some tells whether one of them runs
 unfoldable pub tickedFrom : Bool → List TaskEntry → Bool

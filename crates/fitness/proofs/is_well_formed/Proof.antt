@@ -1,5 +1,5 @@
 -- The parts in their order: each is refused at its own return.
-use mathlib.Core.Bool.{true, false, _&&_}
+use mathlib.Core.Bool.{Bool, true, false, _&&_}
 use mathlib.Core.List.{map}
 use mathlib.Core.Path.{_≡_, sym, _∙_}
 use borrow.Author.Needs.{needs}
@@ -10,10 +10,9 @@ use Rattle.ledger.specs.Tasks.{allTicked}
 use Rattle.record.specs.Codes.{taskOf}
 use Rattle.record.specs.Tables.{blocksOf, entriesOf, lent}
 use Rattle.record.specs.WellFormed.{isFitTask, isDistinct, isWellFormed}
-use Rattle.record.proofs.Types.{head-typed}
-use Rattle.fitness.specs.Checks.{isCoded, isFitBlockIn}
-use Rattle.fitness.proofs.Present.{coded-from}
-use Rattle.fitness.proofs.Whole.{unfit-tasks, all-have-ticked, not-coded, not-timely, not-present, by-blocks}
+use Rattle.fitness.specs.Checks.{isCoded, isTimely, isFitBlockIn}
+use Rattle.fitness.proofs.Alone.{coded-times, names-by}
+use Rattle.fitness.proofs.Whole.{unfit-tasks, all-have-ticked, not-coded, not-timely, by-blocks}
 use Rattle.fitness.proofs.is_well_formed.Statement.{statement}
 use Rattle.fitness.proofs.is_well_formed.Tie as tie
 
@@ -48,52 +47,45 @@ coded c =
     let s = c .before .before .before .before .before .before .before in
     sym (c .before .all-coded .ensures .so (s .args .dues .now) (s .pre .entries .of-dues)) ∙ not-false (c .before .all-coded .result) (c .if3 .left)
 
+timely : (c : tie.After-all-timely) {b : Bool} → c .all-timely .result ≡ b
+    → let s = c .before .before .before .before .before .before .before .before in
+    all (isTimely (s .args .h .tasks) (s .args .h .global)) (entriesOf (s .args .clocks .now) (s .args .named .now) (s .args .dues .now)) ≡ b
+timely c e =
+    let s = c .before .before .before .before .before .before .before .before in
+    sym (c .all-timely .ensures .so (s .args .named .now) (s .pre .entries .of-named)) ∙ e
+
 returns-4 : tie.Need-returns-4
 returns-4 c =
-    let three = c .before .before .before in
+    let three = c .before .before in
     let two = three .before .before in
     let s = two .before .before .before .before .before in
-    let checked = c .before .before .check-entries in
-    not-timely (s .args .h) (s .pre) (fit (two .before .before)) (unticked two) (coded three) (checked .ensures)
-    (not-true (checked .result .fit) (c .if4 .taken))
+    not-timely (s .args .h) (s .pre) (fit (two .before .before)) (unticked two) (coded three)
+    (timely (c .before) (not-true (c .before .all-timely .result) (c .if4 .taken)))
+
+-- past all tests of expirations, by the flags of the blocks that they name
+by-flags : (c : tie.After-marks)
+    → let s = c .before .before .before .before .before .before .before .before .before .before .before in
+    isWellFormed (lent (s .args .h) (s .args .handles .now) (s .args .lengths .now) (s .args .clocks .now) (s .args .named .now) (s .args .dues .now))
+    ≡ (allFrom 0 (isFitBlockIn (s .args .h .given) (c .marks .result)) (blocksOf (s .args .handles .now) (s .args .lengths .now)) && isDistinct (s .args .handles .now))
+by-flags c =
+    let four = c .before .before in
+    let three = four .before .before in
+    let two = three .before .before in
+    let s = two .before .before .before .before .before in
+    by-blocks (s .args .h) (s .pre) (fit (two .before .before)) (unticked two) (coded three)
+    (timely (four .before) (not-false (four .before .all-timely .result) (four .if4 .left)))
+    (names-by (s .pre .entries) (coded three) (c .before .slots .ensures) (c .marks .ensures))
 
 returns-5 : tie.Need-returns-5
 returns-5 c =
-    let four = c .before .before .before in
-    let three = four .before .before .before in
-    let two = three .before .before in
-    let s = two .before .before .before .before .before in
-    let checked = four .before .before .check-entries in
-    not-present (s .args .h) (s .pre) (fit (two .before .before)) (unticked two) (coded three) (checked .ensures)
-    (not-false (checked .result .fit) (four .if4 .left)) (head-typed (s .args .h) _ (s .good .0) .tasks)
-    (sym (c .before .all-present .ensures) ∙ not-true (c .before .all-present .result) (c .if5 .taken))
-
--- past all tests of expirations, by the blocks
-past : (c : tie.Else5)
-    → let s = c .before .before .before .before .before .before .before .before .before .before .before .before .before in
-    isWellFormed (lent (s .args .h) (s .args .handles .now) (s .args .lengths .now) (s .args .clocks .now) (s .args .named .now) (s .args .dues .now))
-    ≡ (allFrom 0 (isFitBlockIn (s .args .h .given) (c .before .before .before .before .before .check-entries .result .named)) (blocksOf (s .args .handles .now) (s .args .lengths .now))
-    && isDistinct (s .args .handles .now))
-past c =
-    let four = c .before .before .before in
-    let three = four .before .before .before in
-    let two = three .before .before in
-    let s = two .before .before .before .before .before in
-    let checked = four .before .before .check-entries in
-    by-blocks (s .args .h) (s .pre) (fit (two .before .before)) (unticked two) (coded three) (checked .ensures)
-    (not-false (checked .result .fit) (four .if4 .left)) (head-typed (s .args .h) _ (s .good .0) .tasks)
-    (sym (c .before .all-present .ensures) ∙ not-false (c .before .all-present .result) (c .if5 .left))
+    let blocks = c .before .check-blocks in
+    sym (by-flags (c .before .before .before) ∙ rw (sym (blocks .ensures) ∙ not-true (blocks .result) (c .if5 .taken)))
 
 returns-6 : tie.Need-returns-6
 returns-6 c =
-    let blocks = c .before .check-blocks in
-    sym (past (c .before .before .before) ∙ rw (sym (blocks .ensures) ∙ not-true (blocks .result) (c .if6 .taken)))
-
-returns-7 : tie.Need-returns-7
-returns-7 c =
-    let blocks = c .before .before .check-blocks in
-    c .distinct .ensures
-    ∙ sym (past (c .before .before .before .before) ∙ rw (sym (blocks .ensures) ∙ not-false (blocks .result) (c .before .if6 .left)))
+    let five = c .before .before in
+    let blocks = five .before .check-blocks in
+    c .distinct .ensures ∙ sym (by-flags (five .before .before .before) ∙ rw (sym (blocks .ensures) ∙ not-false (blocks .result) (five .if5 .left)))
 
 pub is-well-formed-spec : {M : Type 1} → statement M
 is-well-formed-spec =
@@ -105,11 +97,12 @@ is-well-formed-spec =
     returns-2
     (λ c κs. search needs)
     returns-3
-    (λ c κs. coded-from (c .before .before .before .before .before .before .before .pre .entries) (coded c))
+    (λ c κs. coded-times (c .before .before .before .before .before .before .before .pre .entries) (coded c))
     returns-4
+    (λ c κs. search needs)
+    (λ c κs. search needs)
+    (λ c κs. search needs)
     (λ c κs. search needs)
     returns-5
     (λ c κs. search needs)
-    returns-6
-    (λ c κs. search needs)
-    returns-7)
+    returns-6)

@@ -18,29 +18,29 @@ loop-holds c = (parted-start (c .before .first-parts .ensures) (c .first-rest .e
 
 returns : tie.Need-returns Inv-loop μ-loop
 returns c =
-    let l = c .before .before .before .before .before .before .before .before .before .before in
-    let s = l .before .before .before .before in
-    let refined = c .before .before .before .before .before .before .refined in
-    let m = parted-turn (l .loop .inv .0) (refined .ensures) (c .before .before .before .before .shifted .ensures) in
+    let l = c .before .before .before .before .before .before .before .before .before in
+    let s = l .before .before .before in
+    let refined = c .before .before .before .before .before .refined in
+    let m = parted-turn (l .loop .inv .0) (refined .ensures) (c .before .before .before .shifted .ensures) in
     sym
-    (alone-distinct (s .args .handles .now) (refined .result) (s .pre) (refined .ensures .size) (l .before .before .before .used-of .ensures) (λ i j a b e. m .same i j a b e .0)
+    (alone-distinct (s .args .handles .now) (refined .result) (s .pre .size) (refined .ensures .size) (s .pre .so) (λ i j a b e. m .same i j a b e .0)
     (sym (c .before .all-alone .ensures) ∙ c .if1 .taken))
 
 loop-again : tie.Need-loop-again Inv-loop μ-loop
 loop-again c = (
-  parted-turn (c .before .before .before .before .before .before .before .before .before .before .loop .inv .0)
-      (c .before .before .before .before .before .before .refined .ensures) (c .before .before .before .before .shifted .ensures),
+  parted-turn (c .before .before .before .before .before .before .before .before .before .loop .inv .0)
+      (c .before .before .before .before .before .refined .ensures) (c .before .before .before .shifted .ensures),
   search needs,
 )
 
 returns-2 : tie.Need-returns-2 Inv-loop μ-loop
 returns-2 c =
-    let l = c .before .before .before .before in
-    let s = l .before .before .before .before in
+    let l = c .before .before .before in
+    let s = l .before .before .before in
     let m = l .loop .inv .0 in
     let seven : l .loop .digit ≡ 7 = omega arith in
     c .all-alone2 .ensures
-    ∙ parted-end (s .args .handles .now) (l .loop .parts) (s .pre) (m .partable .size) (l .before .before .before .used-of .ensures) (rw seven at m)
+    ∙ parted-end (s .args .handles .now) (l .loop .parts) (s .pre .size) (m .partable .size) (s .pre .so) (rw seven at m)
 
 pub parted-spec : {M : Type 1} → statement M
 parted-spec =
@@ -50,16 +50,15 @@ parted-spec =
     μ-loop
     (λ c κs. search needs)
     (λ c κs. search needs)
-    (λ c κs. search needs)
     loop-holds
     (λ c κs. c .before .before .before .loop .inv .0 .partable)
     (λ c κs. c .before .before .before .before .before .loop .inv .0 .partable .size-rest)
     (λ c κs.
-    (c .before .before .before .before .before .before .before .before .before .before .before .used-of .ensures .size, c .before .before .before .before .refined .ensures .size))
+    (c .before .before .before .before .before .before .before .before .before .before .pre .so .size, c .before .before .before .refined .ensures .size))
     returns
     (λ c. search needs)
     (λ c. search needs)
     loop-again
     (λ c κs.
-    (c .before .before .before .before .before .before .used-of .ensures .size, c .before .before .before .loop .inv .0 .partable .size))
+    (c .before .before .before .before .before .pre .so .size, c .before .before .loop .inv .0 .partable .size))
     returns-2)
