@@ -13,12 +13,11 @@ use Rattle.record.specs.declared.Pool.{Pool}
 use Rattle.calls.specs.Served.{withoutBytes, Serves}
 use Rattle.calls.specs.declared.Called.{Called}
 use Rattle.frames.specs.Answers.{answerLine}
-use Rattle.frames.specs.Frames.{frameOf, payloadOf, Decodes}
+use Rattle.frames.specs.Frames.{payloadOf, Decodes}
 use Rattle.text.specs.Hex.{Puts}
 use Rattle.frames.specs.declared.Frame.{Frame}
 use Rattle.frames.proofs.Payloads.{requested, payload-front}
-use Rattle.execute.specs.Execution.{Performs, Executes}
-use Rattle.execute.specs.declared.Executed.{Executed}
+use Rattle.execute.specs.Execution.{Executes}
 use Rattle.execute.proofs.Showing.{start-within, shows-none}
 
 module _ {line : List ℕ} {old new : List ℕ} {frame : Frame} (d : Decodes line old frame new) where

@@ -1,59 +1,109 @@
--- What a host may rely on over a list of calls, by the pool's demand 2.
+-- Demands 2 and 3 for a host: each step follows the ledger, and what is told shows the refusals that only the pool gives.
 use Prim.Native.Nat.{ℕ}
+use native.Mathlib.Omega.{arith}
+use mathlib.Core.Bool.{Bool, true, false, _||_}
 use mathlib.Core.List.{List, [], _∷_, map}
-use mathlib.Core.Path.{_≡_, refl, ap, ap₂, subst, _∙_}
+use mathlib.Core.Option.{Option, none, some}
+use mathlib.Core.Path.{_≡_, refl, ap, ap₂, _∙_}
+use borrow.Author.Tests.{le-ltb}
+use lib.Dec.{eqb, ltb}
+use lib.ListN.{length}
+use Rattle.lists.specs.Columns.{_⊛_}
+use Rattle.lists.proofs.Cases.{by-test}
+use Rattle.ledger.specs.Limits.{limits, smallSize, largeSize}
 use Rattle.ledger.specs.Numbers.{answerNumber}
-use Rattle.ledger.specs.Objects.{Reply, plain}
-use Rattle.ledger.specs.Ledger.{Sent}
-use Rattle.ledger.specs.declared.Request.{Request}
+use Rattle.ledger.specs.Tasks.{isTested}
+use Rattle.ledger.specs.Objects.{Memory, Reply, replyTo}
+use Rattle.ledger.specs.Ledger.{Ledger, fresh, replyBy, next, replies}
+use Rattle.ledger.specs.Heap.{sent}
+use Rattle.ledger.specs.declared.Call.{Call}
+use Rattle.ledger.specs.declared.Call.the-variants.{Schedule, Make, Refresh, Read, Write}
+use Rattle.ledger.specs.declared.Refusal.{Refusal}
+use Rattle.ledger.proofs.Verdicts.{isOwnVerdict}
+use Rattle.ledger.proofs.Demand3.{demand3-told}
+use Rattle.record.specs.Pools.{isWellFormed, Reads}
 use Rattle.record.specs.declared.Pool.{Pool}
-use Rattle.pool.specs.Demands.{Runs}
-use Rattle.pool.proofs.Demands.{demand2}
-use Rattle.calls.specs.Served.{Serves, replyOf}
-use Rattle.calls.specs.declared.Called.{Called}
+use Rattle.record.proofs.FreshReads.{fresh-reads, fresh-well-formed}
+use Rattle.calls.specs.Contract.{areWhole}
 use Rattle.frames.specs.declared.Frame.{Frame}
-use Rattle.execute.specs.Execution.{Performs}
-use Rattle.host.specs.Demands.{Gives, EachGives, HostRuns, HostDemand2}
+use Rattle.execute.specs.Execution.{IsReplyTo, replyToFrame, afterFrame}
+use Rattle.numbered.specs.Told.{Loans, Told, toldBy}
+use Rattle.numbered.specs.Steps.{frameAsked, bytesAsked, isHeard, tells, Gives}
+use Rattle.host.specs.Demands.{Deed, HostRuns, toldOf, afterDeed, toldOfAll, afterDeeds, HostDemand2, Using, deedOf, usedIn, toldIn, HostDemand3}
 
--- the list's replies, whose numbers are the host's
-record Replies (p : Pool) (small large : List ℕ) (ss : List Sent) (numbers : List ℕ) (p′ : Pool) (small′ large′ : List ℕ) : Type 0 where
-  ys : List Reply
-  runs : Runs p small large ss ys p′ small′ large′
-  numbered : numbers ≡ map (λ y. answerNumber (y .answer)) ys
+-- A well-formed record with whole stores that reads as a ledger.
+record Beside (p : Pool) (small large : List ℕ) (L : Ledger) : Type 0 where
+  fit : isWellFormed p ≡ true
+  whole : areWhole small large ≡ true
+  reads : Reads p small large L
 
-replies-of : {p p′ : Pool} {small large small′ large′ : List ℕ} {ss : List Sent} {numbers : List ℕ}
-    → HostRuns p small large ss numbers p′ small′ large′ → Replies p small large ss numbers p′ small′ large′
-replies-of HostRuns.done = record { ys = []; runs = Runs.done; numbered = refl }
-replies-of (HostRuns.call g rest) =
-    let others = replies-of rest in
-    record { ys = g .reply ∷ others .ys; runs = Runs.call (g .obeys) (others .runs); numbered = ap₂ _∷_ (g .numbered) (others .numbered) }
+-- what a frame makes of it
+framed : (frame : Frame) (bytes : List ℕ) {p p′ : Pool} {small large small′ large′ : List ℕ} {L : Ledger} {y : Reply} → Beside p small large L
+    → IsReplyTo frame bytes p small large y p′ small′ large′ → (y ≡ replyToFrame L frame bytes) × Beside p′ small′ large′ (afterFrame L frame bytes)
+framed (Frame.Request request count) bytes {L = L} b o = (
+  o .answers (b .fit) (λ s. b .whole) L (b .reads),
+  record {
+    fit = o .fits (b .fit);
+    whole = rw (o .sizes .0, o .sizes .1) (b .whole);
+    reads = o .leaves (b .fit) (λ s. b .whole) L (b .reads);
+  },
+)
+framed (Frame.Refused why) bytes b r = (r .refused, rw (r .samePool, r .sameSmall, r .sameLarge) b)
+
+steps : (d : Deed) {t : Told} {p p′ : Pool} {small large small′ large′ : List ℕ} {L : Ledger} → Beside p small large L
+    → Gives (d .asked) (d .loans) p small large t p′ small′ large′ → (t ≡ toldOf L d) × Beside p′ small′ large′ (afterDeed L d)
+steps d b g =
+    by-test (isHeard (d .asked) (d .loans))
+    (λ h.
+    let (y, r, told) = g .heard h in
+    let (same, after) = framed (frameAsked (d .asked)) (bytesAsked (d .asked)) b r in
+    rw h (told ∙ ap (λ (z : Reply). tells (d .asked) z (d .loans)) same, after))
+    (λ h.
+    let told = g .unheard h in
+    let (p, s, l) = g .kept (λ z. absurd (omega (arith, z, ap (λ (u : Told). u .number) told))) in
+    rw h (told, rw (p, s, l) b))
+
+runs-follow : {p p′ : Pool} {small small′ large large′ : List ℕ} {ds : List Deed} {ts : List Told} → HostRuns p small large ds ts p′ small′ large′
+    → {L : Ledger} → Beside p small large L → (ts ≡ toldOfAll L ds) × Reads p′ small′ large′ (afterDeeds L ds)
+unfolding toldOfAll afterDeeds
+runs-follow HostRuns.done b = (refl, b .reads)
+runs-follow (HostRuns.step {d = d} g rest) b =
+    let (told, after) = steps d b g in
+    let (others, left) = runs-follow rest after in (ap₂ _∷_ told others, left)
 
 pub host-demand2 : HostDemand2
-host-demand2 small large s l ss numbers p′ small′ large′ runs =
-    let r = replies-of runs in
-    let pool = demand2 small large s l ss (r .ys) p′ small′ large′ (r .runs) in
-    (r .numbered ∙ ap (map (λ (y : Reply). answerNumber (y .answer))) (pool .0), pool .1)
+unfolding limits smallSize largeSize
+host-demand2 small large s l ds ts p′ small′ large′ runs =
+    runs-follow runs (record { fit = fresh-well-formed; whole = rw (s, l); reads = fresh-reads small large })
 
-performed : {frame : Frame} {request : Request} {count : ℕ} {bytes small large small′ large′ : List ℕ} {p : Pool} {called : Called}
-    → Performs frame bytes p small large called small′ large′ → frame ≡ Frame.Request request count
-    → Serves request bytes p small large called small′ large′
-performed {bytes = bytes} {small} {large} {small′} {large′} {p} {called} performs e =
-    subst (λ (f : Frame). Performs f bytes p small large called small′ large′) e performs
+-- what the ledger tells of the nine calls is its replies told
+told-replies : (us : List Using) (L : Ledger) → toldOfAll L (map deedOf us) ≡ (map toldIn us ⊛ replies L (map sent (map usedIn us)))
+unfolding toldOfAll replies
+told-replies [] L = refl
+told-replies (u ∷ us) L = ap (λ ts. toldOf L (deedOf u) ∷ ts) (told-replies us (next L (u .used .call) (u .used .bytes)))
 
-pub each-gives : EachGives
-each-gives =
-    record {
-      does = λ request p number p′ small large d. record { reply = plain (d .answer); obeys = d .follows small large; numbered = d .numbered };
-      moves = λ event task p old number p′ new small large m. record { reply = plain (m .answer); obeys = m .follows small large; numbered = m .numbered };
-      reports = λ p old number new small large r. record { reply = plain (r .answer); obeys = r .follows small large; numbered = r .numbered };
-      makes =
-          λ task kind extension size p small large old number p′ small′ large′ new m. record { reply = plain (m .answer); obeys = m .makes .obeys; numbered = m .numbered };
-      writes = λ task handle offset bytes p small large number small′ large′ w. record { reply = plain (w .answer); obeys = w .writes .obeys; numbered = w .numbered };
-      copies =
-          λ task handle p small large out old number out′ new r room.
-          record { reply = record { answer = r .answer; bytes = r .bytes }; obeys = r .reads; numbered = r .roomy room .0 };
-      carries =
-          λ line p small large out old number p′ small′ large′ out′ new request count c room e.
-          let x = c .roomy room in
-          record { reply = replyOf (x .called) small′ large′; obeys = rw (x .left) (performed (x .performs) e .obeys); numbered = x .numbered };
-    }
+-- a refusal of the pool's own is told by its number, and nothing else is told by that number
+isOwnTold : Told → Bool
+isOwnTold t = eqb (t .number) 9 || eqb (t .number) 10 || eqb (t .number) 12
+
+accepted : (call : Call) (m : Memory) → answerNumber (replyTo call m .answer) ≡ 0
+unfolding replyTo
+accepted (Schedule event task) m = by-test (isTested event) (λ e. rw e) (λ e. rw e)
+accepted (Make task kind extension size) m = refl
+accepted (Refresh task kind extension handle) m = refl
+accepted (Read task handle) m = refl
+accepted (Write task handle offset) m = refl
+
+not-own : (y : Reply) (loans : Loans) → answerNumber (y .answer) ≡ 0 → isOwnTold (toldBy y loans) ≡ false
+unfolding isOwnTold
+not-own y loans z = by-test (ltb (length (loans .buffer)) (length (y .bytes))) (λ e. rw e) (λ e. rw (e, z))
+
+shows : (u : Using) (v : Option Refusal) (call : Call) (m : Memory) → isOwnTold (toldIn u (replyBy v (replyTo call m))) ≡ isOwnVerdict v
+unfolding isOwnTold
+shows u none call m = not-own (replyTo call m) (u .loans) (accepted call m)
+shows u (some r) call m = rw (le-ltb (length (u .loans .buffer)) 0 (omega arith))
+
+pub host-demand3 : HostDemand3
+host-demand3 small large s l us ts p′ small′ large′ runs =
+    let (told, left) = host-demand2 small large s l (map deedOf us) ts p′ small′ large′ runs in
+    rw (told, told-replies us fresh) (demand3-told usedIn toldIn isOwnTold shows us)

@@ -1,12 +1,14 @@
 // The pool for a host, by a loan of the record and the stores: what a logger in C or Rust links. An entry calls the by-value call, stores the record back and gives
 // the answer's number: 0, a refusal of 01, or 255 for a buffer too short. There is none with a condition: whatever a host passes is carried out or refused.
+ghost use mathlib.Core.List.{[], _∷_};
 ghost use mathlib.Core.Path.{_≡_};
 ghost use Rattle.ledger.specs.declared.Call.the-variants.{Schedule};
 ghost use Rattle.ledger.specs.declared.Event.the-variants.{Join, Leave, Block, Resume, Tick};
-ghost use Rattle.ledger.specs.declared.Request.the-variants.{Use};
+ghost use Rattle.ledger.specs.declared.Request.the-variants.{Use, Report};
 ghost use Rattle.record.specs.Reading.{freshPool};
 ghost use Rattle.frames.specs.Frames.{kindOf};
-ghost use Rattle.numbered.specs.Entries.{Does, Moves, Reports, MakesBy, RefreshesBy, WritesTo, CopiesOut, Carries};
+ghost use Rattle.numbered.specs.Told.{buffered};
+ghost use Rattle.numbered.specs.Entries.{Does, MakesBy, RefreshesBy, WritesTo, CopiesOut, Carries};
 use record::Pool;
 
 #[no_mangle]
@@ -20,7 +22,7 @@ pub extern "C" fn ramsummer_fresh(p: &mut Pool) -> u8
 
 #[no_mangle]
 pub extern "C" fn ramsummer_join(p: &mut Pool, task: u8) -> u8
-    ensures { λ r. ⌜ Does (Use (Schedule Join task)) (now (p .entry)) r (now (p .exit)) ⌝ }
+    ensures { λ r. ⌜ Does (Use (Schedule Join task)) (now (p .entry)) [] r (now (p .exit)) [] ⌝ }
 {
     let r = numbered::join(*p, task);
     *p = r.pool;
@@ -29,7 +31,7 @@ pub extern "C" fn ramsummer_join(p: &mut Pool, task: u8) -> u8
 
 #[no_mangle]
 pub extern "C" fn ramsummer_leave(p: &mut Pool, task: u8, advanced: &mut u8) -> u8
-    ensures { λ r. ⌜ Moves Leave task (now (p .entry)) (now (advanced .entry)) r (now (p .exit)) (now (advanced .exit)) ⌝ }
+    ensures { λ r. ⌜ Does (Use (Schedule Leave task)) (now (p .entry)) (now (advanced .entry) ∷ []) r (now (p .exit)) (now (advanced .exit) ∷ []) ⌝ }
 {
     let r = numbered::leave(*p, task, advanced);
     *p = r.pool;
@@ -38,7 +40,7 @@ pub extern "C" fn ramsummer_leave(p: &mut Pool, task: u8, advanced: &mut u8) -> 
 
 #[no_mangle]
 pub extern "C" fn ramsummer_block(p: &mut Pool, task: u8, advanced: &mut u8) -> u8
-    ensures { λ r. ⌜ Moves Block task (now (p .entry)) (now (advanced .entry)) r (now (p .exit)) (now (advanced .exit)) ⌝ }
+    ensures { λ r. ⌜ Does (Use (Schedule Block task)) (now (p .entry)) (now (advanced .entry) ∷ []) r (now (p .exit)) (now (advanced .exit) ∷ []) ⌝ }
 {
     let r = numbered::block(*p, task, advanced);
     *p = r.pool;
@@ -47,7 +49,7 @@ pub extern "C" fn ramsummer_block(p: &mut Pool, task: u8, advanced: &mut u8) -> 
 
 #[no_mangle]
 pub extern "C" fn ramsummer_resume(p: &mut Pool, task: u8) -> u8
-    ensures { λ r. ⌜ Does (Use (Schedule Resume task)) (now (p .entry)) r (now (p .exit)) ⌝ }
+    ensures { λ r. ⌜ Does (Use (Schedule Resume task)) (now (p .entry)) [] r (now (p .exit)) [] ⌝ }
 {
     let r = numbered::resume(*p, task);
     *p = r.pool;
@@ -56,7 +58,7 @@ pub extern "C" fn ramsummer_resume(p: &mut Pool, task: u8) -> u8
 
 #[no_mangle]
 pub extern "C" fn ramsummer_tick(p: &mut Pool, task: u8, advanced: &mut u8) -> u8
-    ensures { λ r. ⌜ Moves Tick task (now (p .entry)) (now (advanced .entry)) r (now (p .exit)) (now (advanced .exit)) ⌝ }
+    ensures { λ r. ⌜ Does (Use (Schedule Tick task)) (now (p .entry)) (now (advanced .entry) ∷ []) r (now (p .exit)) (now (advanced .exit) ∷ []) ⌝ }
 {
     let r = numbered::tick(*p, task, advanced);
     *p = r.pool;
@@ -74,7 +76,7 @@ pub extern "C" fn ramsummer_make(
     size: u16,
     handle: &mut u32,
 ) -> u8
-    ensures { λ r. ⌜ MakesBy (kindOf kind) task extension size (now (p .entry)) (now (small .entry)) (now (large .entry)) (now (handle .entry)) r (now (p .exit)) (now (small .exit)) (now (large .exit)) (now (handle .exit)) ⌝ }
+    ensures { λ r. ⌜ MakesBy (kindOf kind) task extension size (now (p .entry)) (now (small .entry)) (now (large .entry)) (now (handle .entry) ∷ []) r (now (p .exit)) (now (small .exit)) (now (large .exit)) (now (handle .exit) ∷ []) ⌝ }
 {
     let r = numbered::make(*p, small, large, task, kind, extension, size, handle);
     *p = r.pool;
@@ -107,7 +109,7 @@ pub extern "C" fn ramsummer_read<'a>(
     out: &mut [u8],
     count: &mut usize,
 ) -> u8
-    ensures { λ r. ⌜ CopiesOut task handle (now (p .entry)) (now (small .entry)) (now (large .entry)) (now (out .entry)) (now (count .entry)) r (now (out .exit)) (now (count .exit)) × (now (p .exit) ≡ now (p .entry)) ⌝ }
+    ensures { λ r. ⌜ CopiesOut task handle (now (p .entry)) (now (small .entry)) (now (large .entry)) (buffered (now (count .entry)) (now (out .entry))) r (buffered (now (count .exit)) (now (out .exit))) × (now (p .exit) ≡ now (p .entry)) ⌝ }
 {
     numbered::read(*p, small, large, task, handle, out, count)
 }
@@ -137,7 +139,7 @@ pub extern "C" fn ramsummer_report(
     expirations: &mut u16,
     given: &mut u32,
 ) -> u8
-    ensures { λ r. ⌜ Reports (now (p .entry)) (record { small = now (small .entry); large = now (large .entry); expirations = now (expirations .entry); given = now (given .entry) }) r (record { small = now (small .exit); large = now (large .exit); expirations = now (expirations .exit); given = now (given .exit) }) × (now (p .exit) ≡ now (p .entry)) ⌝ }
+    ensures { λ r. ⌜ Does Report (now (p .entry)) (now (small .entry) ∷ now (large .entry) ∷ now (expirations .entry) ∷ now (given .entry) ∷ []) r (now (p .entry)) (now (small .exit) ∷ now (large .exit) ∷ now (expirations .exit) ∷ now (given .exit) ∷ []) × (now (p .exit) ≡ now (p .entry)) ⌝ }
 {
     numbered::report(*p, small, large, expirations, given)
 }

@@ -2,12 +2,13 @@
 use Prim.Native.Nat.{ℕ, _+_, _≤_}
 use native.Mathlib.Omega.{arith}
 use mathlib.Core.Bool.{Bool, true, false, true≢false, false≢true, not, _||_, and-eq-true-iff, and-true, Bool·not-not}
-use mathlib.Core.List.{List, [], _∷_, map, tail}
+use mathlib.Core.List.{List, [], _∷_, map, map-id, tail}
 use mathlib.Core.Logic.{_↔_}
 use mathlib.Core.Option.{Option, none, some}
 use mathlib.Core.Path.{_≡_, refl, sym, ap, _∙_}
 use borrow.Author.Tests.{not-false, eqb-true}
 use lib.Dec.{eqb}
+use Rattle.lists.specs.Columns.{_⊛_}
 use Rattle.lists.specs.Tests.{filter, All}
 use Rattle.lists.proofs.Cases.{by-test, not-leb, or-second}
 use Rattle.lists.proofs.All.{all-every, all-imp, all-append, all-map}
@@ -171,18 +172,18 @@ own-reply none (Refresh task kind extension handle) m = refl
 own-reply none (Read task handle) m = refl
 own-reply none (Write task handle offset) m = refl
 
--- a refusal of the pool's own is no answer of the heap's
-differ : (m : Memory) (xs : List Expiration) (call : Call) (new : List ℕ) → isOwnVerdict (verdictOn (settled m xs) call new) ≡ true
-    → reply (settled m xs) call new ≡ heapReply m call new → ⊥
-unfolding reply heapReply
-differ m xs call new o q =
-    let v = verdictOn (settled m xs) call new in
-    let h = heapVerdictOn m call new in
-    true≢false
-    (sym o ∙ sym (own-reply v call (swept xs m)) ∙ ap (λ (r : Reply). isOwnAnswer (r .answer)) q ∙ own-reply h call m
-    ∙ heap-not-own m (testsOf call new) (ordered call new))
+-- A refusal of the pool's own is no answer of the heap's, and is not told alike where what is told shows it.
+module _ {X : Type 0} (tell : Reply → X) (isOwnTold : X → Bool)
+    (shows : (v : Option Refusal) (call : Call) (m : Memory) → isOwnTold (tell (replyBy v (replyTo call m))) ≡ isOwnVerdict v) where
+  told-apart : (m : Memory) (xs : List Expiration) (call : Call) (new : List ℕ) → isOwnVerdict (verdictOn (settled m xs) call new) ≡ true
+      → tell (reply (settled m xs) call new) ≡ tell (heapReply m call new) → ⊥
+  unfolding reply heapReply
+  told-apart m xs call new o q =
+      true≢false
+      (sym o ∙ sym (shows (verdictOn (settled m xs) call new) call (swept xs m)) ∙ ap isOwnTold q ∙ shows (heapVerdictOn m call new) call m
+      ∙ heap-not-own m (testsOf call new) (ordered call new))
 
--- One call: ledger and heap answer alike and stay together, or the use was out of time or bounds and the answers differ.
+-- One call: ledger and heap answer alike and stay together, or the use was out of time or bounds and the ledger gives a refusal of its own.
 module _ (m : Memory) (xs : List Expiration) (call : Call) (new : List ℕ) where
   isFine : Bool
   isFine = isLeftAside (heapVerdictOn m call new) || isInTimeAndBounds m xs call
@@ -190,7 +191,7 @@ module _ (m : Memory) (xs : List Expiration) (call : Call) (new : List ℕ) wher
   data Step : Type 0 where
     together : isFine ≡ true → reply (settled m xs) call new ≡ heapReply m call new
         → next (settled m xs) call new ≡ settled (heapNext m call new) (bookNext m xs call new) → Step
-    parted : isFine ≡ false → (reply (settled m xs) call new ≡ heapReply m call new → ⊥) → Step
+    parted : isFine ≡ false → isOwnVerdict (verdictOn (settled m xs) call new) ≡ true → Step
 
   step : Numbered m → Step
   unfolding isFine reply next heapReply heapNext bookNext
@@ -212,25 +213,56 @@ module _ (m : Memory) (xs : List Expiration) (call : Call) (new : List ℕ) wher
       by (alike f e) =
           let g : isFine ≡ true = rw (clear m xs call new) at f in
           together g (rw e (by-reply (heapVerdictOn m call new) g)) (rw e (by-next (heapVerdictOn m call new) g))
-      by (apart f o) = parted (rw (clear m xs call new) at f) (differ m xs call new o)
+      by (apart f o) = parted (rw (clear m xs call new) at f) o
 
--- the whole list, by what its first call comes to
-demand3-from : (us : List Used) (m : Memory) (xs : List Expiration) → Numbered m
-    → (replies (settled m xs) (map sent us) ≡ heapReplies m us) ↔ (allInTimeAndBounds m xs us ≡ true)
+-- the whole list, by what its first call comes to: in time and in bounds, ledger and heap answer alike
+alike-from : (us : List Used) (m : Memory) (xs : List Expiration) → Numbered m → allInTimeAndBounds m xs us ≡ true
+    → replies (settled m xs) (map sent us) ≡ heapReplies m us
 unfolding replies heapReplies allInTimeAndBounds isFine
-demand3-from [] m xs k = (λ e. refl, λ e. refl)
-demand3-from (u ∷ us) m xs k =
+alike-from [] m xs k a = refl
+alike-from (u ∷ us) m xs k a =
     by (step m xs (u .call) (u .bytes) k)
-    (demand3-from us (heapNext m (u .call) (u .bytes)) (bookNext m xs (u .call) (u .bytes)) (numbered m (u .call) (u .bytes) k))
+    (alike-from us (heapNext m (u .call) (u .bytes)) (bookNext m xs (u .call) (u .bytes)) (numbered m (u .call) (u .bytes) k))
   where
     by : Step m xs (u .call) (u .bytes)
-        → (replies (settled (heapNext m (u .call) (u .bytes)) (bookNext m xs (u .call) (u .bytes))) (map sent us)
+        → (allInTimeAndBounds (heapNext m (u .call) (u .bytes)) (bookNext m xs (u .call) (u .bytes)) us ≡ true
+        → replies (settled (heapNext m (u .call) (u .bytes)) (bookNext m xs (u .call) (u .bytes))) (map sent us)
         ≡ heapReplies (heapNext m (u .call) (u .bytes)) us)
-        ↔ (allInTimeAndBounds (heapNext m (u .call) (u .bytes)) (bookNext m xs (u .call) (u .bytes)) us ≡ true)
-        → (replies (settled m xs) (map sent (u ∷ us)) ≡ heapReplies m (u ∷ us)) ↔ (allInTimeAndBounds m xs (u ∷ us) ≡ true)
-    by (together f r n) rest = rw (f, r, n) (λ e. rest .0 (ap tail e), λ a. ap (λ l. heapReply m (u .call) (u .bytes) ∷ l) (rest .1 a))
-    by (parted f d) rest = rw f (λ e. absurd (d (cc)), λ a. absurd (false≢true a))
+        → replies (settled m xs) (map sent (u ∷ us)) ≡ heapReplies m (u ∷ us)
+    by (together f r n) rest = rw (r, n) (ap (λ l. heapReply m (u .call) (u .bytes) ∷ l) (rest (rw f at a)))
+    by (parted f o) rest = absurd (false≢true (rw f at a))
 
+-- and if what is told of ledger and heap is alike, where it shows the refusals of the pool's own, all use was in time and in bounds
+module _ {A X : Type 0} (used : A → Used) (tell : A → Reply → X) (isOwnTold : X → Bool)
+    (shows : (a : A) (v : Option Refusal) (call : Call) (m : Memory) → isOwnTold (tell a (replyBy v (replyTo call m))) ≡ isOwnVerdict v) where
+  told-from : (bs : List A) (m : Memory) (xs : List Expiration) → Numbered m
+      → (map tell bs ⊛ replies (settled m xs) (map sent (map used bs))) ≡ (map tell bs ⊛ heapReplies m (map used bs))
+      → allInTimeAndBounds m xs (map used bs) ≡ true
+  unfolding replies heapReplies allInTimeAndBounds isFine
+  told-from [] m xs k e = refl
+  told-from (a ∷ bs) m xs k e =
+      let call = used a .call in
+      let new = used a .bytes in
+      by (step m xs call new k) (told-from bs (heapNext m call new) (bookNext m xs call new) (numbered m call new k))
+    where
+      by : Step m xs (used a .call) (used a .bytes)
+          → ((map tell bs ⊛ replies (settled (heapNext m (used a .call) (used a .bytes)) (bookNext m xs (used a .call) (used a .bytes))) (map sent (map used bs)))
+          ≡ (map tell bs ⊛ heapReplies (heapNext m (used a .call) (used a .bytes)) (map used bs))
+          → allInTimeAndBounds (heapNext m (used a .call) (used a .bytes)) (bookNext m xs (used a .call) (used a .bytes)) (map used bs) ≡ true)
+          → allInTimeAndBounds m xs (map used (a ∷ bs)) ≡ true
+      by (together f r n) rest = rw f (rest (rw n at (ap tail e)))
+      by (parted f o) rest = absurd (told-apart (tell a) isOwnTold (shows a) m xs (used a .call) (used a .bytes) o (cc))
+
+  pub demand3-told : (bs : List A)
+      → ((map tell bs ⊛ replies fresh (map sent (map used bs))) ≡ (map tell bs ⊛ heapReplies freshMemory (map used bs)))
+      ↔ (allInTimeAndBounds freshMemory [] (map used bs) ≡ true)
+  unfolding fresh freshMemory Numbered
+  demand3-told bs = (told-from bs freshMemory [] tt, λ a. ap (λ ys. map tell bs ⊛ ys) (alike-from (map used bs) freshMemory [] tt a))
+
+-- of the replies themselves
 pub demand3 : Demand3
 unfolding fresh freshMemory Numbered
-demand3 us = demand3-from us freshMemory [] tt
+demand3 us =
+    let tell : Used → Reply → Reply = λ u y. y in
+    let told = rw map-id at (demand3-told (λ (u : Used). u) tell (λ (y : Reply). isOwnAnswer (y .answer)) (λ u. own-reply) us) in
+    (λ e. told .0 (ap (λ ys. map tell us ⊛ ys) e), alike-from us freshMemory [] tt)

@@ -1,1 +1,3 @@
+pub mod Replies
 pub mod Promises
+pub mod Steps

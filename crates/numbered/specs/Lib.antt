@@ -1,1 +1,3 @@
+pub mod Told
 pub mod Entries
+pub mod Steps

@@ -1,21 +1,21 @@
 // The calls by value, each with its answer by the number: what the entries call. What an answer tells goes to numbers that the host lends.
+ghost use mathlib.Core.List.{[], _∷_};
 ghost use mathlib.Core.Path.{_≡_};
 ghost use Rattle.ledger.specs.Numbers.{answerNumber};
 ghost use Rattle.ledger.specs.declared.Call.the-variants.{Schedule};
 ghost use Rattle.ledger.specs.declared.Event.the-variants.{Join, Leave, Block, Resume, Tick};
-ghost use Rattle.ledger.specs.declared.Request.the-variants.{Use};
+ghost use Rattle.ledger.specs.declared.Request.the-variants.{Use, Report};
 ghost use Rattle.record.specs.Reading.{freshPool};
 ghost use Rattle.frames.specs.Frames.{kindOf};
-ghost use Rattle.numbered.specs.Entries.{advancedAfter, handleAfter, usageAfter, Does, Moves, Reports, MakesBy, RefreshesBy, WritesTo, CopiesOut, Carries};
+ghost use Rattle.numbered.specs.Told.{buffered};
+ghost use Rattle.numbered.specs.Entries.{Does, MakesBy, RefreshesBy, WritesTo, CopiesOut, Carries};
 use calls::Outcome;
 use execute::LONGEST_ANSWER;
 use execute::execute;
 use frames::KindByte;
 use frames::kind_of;
 use ledger::Answer;
-use ledger::Event;
 use ledger::Refusal;
-use ledger::Usage;
 use ledger::answer_number;
 use ledger::number_of;
 use objects::Found;
@@ -57,82 +57,51 @@ fn by_number(done: Outcome) -> Numbered
     }
 }
 
-// What a lent number holds after an answer.
-fn advanced_after(answer: Answer, old: u8) -> u8
-    ensures { λ r. ⌜ r ≡ advancedAfter answer old ⌝ }
-{
-    match answer {
-        Answer::Refused(_) => old,
-        Answer::Done => old,
-        Answer::Advanced(yes) => yes as u8,
-        Answer::Handle(_) => old,
-        Answer::Bytes => old,
-        Answer::Counted(_) => old,
-    }
-}
-
-fn handle_after(answer: Answer, old: u32) -> u32
-    ensures { λ r. ⌜ r ≡ handleAfter answer old ⌝ }
-{
-    match answer {
-        Answer::Refused(_) => old,
-        Answer::Done => old,
-        Answer::Advanced(_) => old,
-        Answer::Handle(handle) => handle,
-        Answer::Bytes => old,
-        Answer::Counted(_) => old,
-    }
-}
-
-fn usage_after(answer: Answer, old: Usage) -> Usage
-    ensures { λ r. ⌜ r ≡ usageAfter answer old ⌝ }
-{
-    match answer {
-        Answer::Refused(_) => old,
-        Answer::Done => old,
-        Answer::Advanced(_) => old,
-        Answer::Handle(_) => old,
-        Answer::Bytes => old,
-        Answer::Counted(usage) => usage,
-    }
-}
-
 pub fn join(p: Pool, task: u8) -> Numbered
-    ensures { λ r. ⌜ Does (Use (Schedule Join task)) p (r .number) (r .pool) ⌝ }
+    ensures { λ r. ⌜ Does (Use (Schedule Join task)) p [] (r .number) (r .pool) [] ⌝ }
 {
     by_number(values::join(p, task))
 }
 
 pub fn leave(p: Pool, task: u8, advanced: &mut u8) -> Numbered
-    ensures { λ r. ⌜ Moves Leave task p (now (advanced .entry)) (r .number) (r .pool) (now (advanced .exit)) ⌝ }
+    ensures { λ r. ⌜ Does (Use (Schedule Leave task)) p (now (advanced .entry) ∷ []) (r .number) (r .pool) (now (advanced .exit) ∷ []) ⌝ }
 {
     let done = values::leave(p, task);
     let answer = done.answer;
-    *advanced = advanced_after(answer, *advanced);
+    let Answer::Advanced(yes) = answer else {
+        return by_number(done);
+    };
+    *advanced = yes as u8;
     by_number(done)
 }
 
 pub fn block(p: Pool, task: u8, advanced: &mut u8) -> Numbered
-    ensures { λ r. ⌜ Moves Block task p (now (advanced .entry)) (r .number) (r .pool) (now (advanced .exit)) ⌝ }
+    ensures { λ r. ⌜ Does (Use (Schedule Block task)) p (now (advanced .entry) ∷ []) (r .number) (r .pool) (now (advanced .exit) ∷ []) ⌝ }
 {
     let done = values::block(p, task);
     let answer = done.answer;
-    *advanced = advanced_after(answer, *advanced);
+    let Answer::Advanced(yes) = answer else {
+        return by_number(done);
+    };
+    *advanced = yes as u8;
     by_number(done)
 }
 
 pub fn resume(p: Pool, task: u8) -> Numbered
-    ensures { λ r. ⌜ Does (Use (Schedule Resume task)) p (r .number) (r .pool) ⌝ }
+    ensures { λ r. ⌜ Does (Use (Schedule Resume task)) p [] (r .number) (r .pool) [] ⌝ }
 {
     by_number(values::resume(p, task))
 }
 
 pub fn tick(p: Pool, task: u8, advanced: &mut u8) -> Numbered
-    ensures { λ r. ⌜ Moves Tick task p (now (advanced .entry)) (r .number) (r .pool) (now (advanced .exit)) ⌝ }
+    ensures { λ r. ⌜ Does (Use (Schedule Tick task)) p (now (advanced .entry) ∷ []) (r .number) (r .pool) (now (advanced .exit) ∷ []) ⌝ }
 {
     let done = values::tick(p, task);
     let answer = done.answer;
-    *advanced = advanced_after(answer, *advanced);
+    let Answer::Advanced(yes) = answer else {
+        return by_number(done);
+    };
+    *advanced = yes as u8;
     by_number(done)
 }
 
@@ -146,7 +115,7 @@ pub fn make(
     size: u16,
     handle: &mut u32,
 ) -> Numbered
-    ensures { λ r. ⌜ MakesBy (kindOf kind) task extension size p (now (small .entry)) (now (large .entry)) (now (handle .entry)) (r .number) (r .pool) (now (small .exit)) (now (large .exit)) (now (handle .exit)) ⌝ }
+    ensures { λ r. ⌜ MakesBy (kindOf kind) task extension size p (now (small .entry)) (now (large .entry)) (now (handle .entry) ∷ []) (r .number) (r .pool) (now (small .exit)) (now (large .exit)) (now (handle .exit) ∷ []) ⌝ }
 {
     let KindByte::Known(known) = kind_of(kind) else {
         return Numbered {
@@ -156,7 +125,10 @@ pub fn make(
     };
     let made = values::make(p, small, large, task, known, extension, size);
     let answer = made.answer;
-    *handle = handle_after(answer, *handle);
+    let Answer::Handle(given) = answer else {
+        return by_number(made);
+    };
+    *handle = given;
     by_number(made)
 }
 
@@ -181,7 +153,7 @@ pub fn read<'a>(
     out: &mut [u8],
     count: &mut usize,
 ) -> u8
-    ensures { λ r. ⌜ CopiesOut task handle p (now (small .entry)) (now (large .entry)) (now (out .entry)) (now (count .entry)) r (now (out .exit)) (now (count .exit)) ⌝ }
+    ensures { λ r. ⌜ CopiesOut task handle p (now (small .entry)) (now (large .entry)) (buffered (now (count .entry)) (now (out .entry))) r (buffered (now (count .exit)) (now (out .exit))) ⌝ }
 {
     match locate(p, small.len(), large.len(), task, handle) {
         Found::Refused(why) => number_of(why),
@@ -212,21 +184,17 @@ pub fn write(
 }
 
 pub fn report(p: Pool, small: &mut u8, large: &mut u8, expirations: &mut u16, given: &mut u32) -> u8
-    ensures { λ r. ⌜ Reports p (record { small = now (small .entry); large = now (large .entry); expirations = now (expirations .entry); given = now (given .entry) }) r (record { small = now (small .exit); large = now (large .exit); expirations = now (expirations .exit); given = now (given .exit) }) ⌝ }
+    ensures { λ r. ⌜ Does Report p (now (small .entry) ∷ now (large .entry) ∷ now (expirations .entry) ∷ now (given .entry) ∷ []) r p (now (small .exit) ∷ now (large .exit) ∷ now (expirations .exit) ∷ now (given .exit) ∷ []) ⌝ }
 {
     let answer = values::report(p);
-    let old = Usage {
-        small: *small,
-        large: *large,
-        expirations: *expirations,
-        given: *given,
+    let Answer::Counted(usage) = answer else {
+        return answer_number(answer);
     };
-    let usage = usage_after(answer, old);
     *small = usage.small;
     *large = usage.large;
     *expirations = usage.expirations;
     *given = usage.given;
-    answer_number(answer)
+    0
 }
 
 pub fn frame(

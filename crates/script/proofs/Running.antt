@@ -25,7 +25,7 @@ use Rattle.calls.specs.Contract.{areWhole, Ready}
 use Rattle.calls.specs.Served.{Serves}
 use Rattle.calls.specs.declared.Called.{Called}
 use Rattle.frames.specs.Answers.{answerLine, longestAnswer}
-use Rattle.frames.specs.Frames.{frameOf, payloadOf, Decodes}
+use Rattle.frames.specs.Frames.{Decodes}
 use Rattle.text.specs.Hex.{Puts}
 use Rattle.text.specs.Lines.{linesOf, lineAt}
 use Rattle.frames.specs.declared.Frame.{Frame}

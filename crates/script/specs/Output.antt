@@ -4,29 +4,19 @@ use mathlib.Core.Bool.{true}
 use mathlib.Core.List.{List, [], _∷_, _++_}
 use mathlib.Core.Path.{_≡_}
 use lib.ListN.{length, take, drop}
-use Rattle.ledger.specs.Objects.{Reply, plain}
-use Rattle.ledger.specs.Ledger.{Ledger, fresh, replyToRequest, afterRequest}
-use Rattle.ledger.specs.declared.Answer.the-variants.{Refused}
+use Rattle.ledger.specs.Objects.{Reply}
+use Rattle.ledger.specs.Ledger.{Ledger, fresh}
 use Rattle.ledger.specs.Limits.{largeSize}
 use Rattle.frames.specs.Answers.{answerLine, longestAnswer}
 use Rattle.frames.specs.Frames.{frameOf, payloadOf, Decodes}
 use Rattle.text.specs.Lines.{linesOf, lineEnd, lineAt}
 use Rattle.text.specs.Hex.{Puts}
-use Rattle.frames.specs.declared.Frame.{Frame}
+use Rattle.execute.specs.Execution.{replyToFrame, afterFrame}
 use Rattle.record.specs.Reading.{freshPool, wholeSmall, wholeLarge}
 use Rattle.record.specs.Pools.{isWellFormed, Reads}
 use Rattle.record.specs.declared.Pool.{Pool}
 use Rattle.script.specs.declared.Ran.{Ran}
 use Rattle.script.specs.declared.Step.{Step}
-
--- the reply to a frame with the bytes that come with it; F26: a frame that is refused is no call
-abbrev pub replyToFrame : Ledger → Frame → List ℕ → Reply
-replyToFrame L (Frame.Request request count) bytes = replyToRequest L request bytes
-replyToFrame L (Frame.Refused why) bytes = plain (Refused why)
-
-abbrev pub afterFrame : Ledger → Frame → List ℕ → Ledger
-afterFrame L (Frame.Request request count) bytes = afterRequest L request bytes
-afterFrame L (Frame.Refused why) bytes = L
 
 -- the answer line to a line, and the ledger after it
 abbrev pub replyToLine : Ledger → List ℕ → Reply

@@ -45,12 +45,14 @@ use Rattle.record.specs.declared.Pool.{Pool}
 use Rattle.record.proofs.Pool as P
 use Rattle.record.proofs.Pool.Laws as P′
 use Rattle.numbered.specs.declared.Numbered.{Numbered}
+use mathlib.Core.List.{[], _∷_}
 use Rattle.ledger.specs.declared.Call.the-variants.{Schedule}
 use Rattle.ledger.specs.declared.Event.the-variants.{Join, Leave, Block, Resume, Tick}
-use Rattle.ledger.specs.declared.Request.the-variants.{Use}
+use Rattle.ledger.specs.declared.Request.the-variants.{Use, Report}
 use Rattle.record.specs.Reading.{freshPool}
 use Rattle.frames.specs.Frames.{kindOf}
-use Rattle.numbered.specs.Entries.{Does, Moves, Reports, MakesBy, RefreshesBy, WritesTo, CopiesOut, Carries}
+use Rattle.numbered.specs.Told.{buffered}
+use Rattle.numbered.specs.Entries.{Does, MakesBy, RefreshesBy, WritesTo, CopiesOut, Carries}
 use Rattle.numbered.proofs.Numbered as J
 use Rattle.numbered.proofs.Numbered.Laws as J′
 use Rattle.numbered.proofs.make as call
@@ -112,7 +114,7 @@ module _ {M : Type 1} (𝓤 : URA M) (H : Heap 𝓤) (A : Atoms 𝓤) (W : Given
 
   -- what the call says of what it gives back and leaves
   abbrev Did : Numbered → List ℕ → List ℕ → ℕ → Type 0
-  Did r y0 y1 y6 = MakesBy (kindOf n3) n2 n4 n5 (h) ((s0 .now)) ((s1 .now)) ((s6 .now)) (r .number) (r .pool) (y0) (y1) (y6)
+  Did r y0 y1 y6 = MakesBy (kindOf n3) n2 n4 n5 (h) ((s0 .now)) ((s1 .now)) ((s6 .now) ∷ []) (r .number) (r .pool) (y0) (y1) (y6 ∷ [])
 
   abbrev Left : Numbered → List ℕ → List ℕ → ℕ → List (Item 𝓤)
   Left r y0 y1 y6 = ‵ (fobs γ (P.the-row .coded .code (r .pool))) ∷ ‵ (fbor κ (Body (mem P.the-row) b o γ)) ∷ ‵ (flft κ q) ∷ (‵ (flft κ1 q1) ⊛ ‵ (flft κ2 q2) ⊛ ‵ (flft κ3 q3) ⊛ ‵ ftrue) ∷ ‵ (finally u8 (s0 .name) y0) ∷ ‵ (finally u8 (s1 .name) y1) ∷ ‵ (fres (s6 .name) (u32 .coded .code y6)) ∷ ‵ (u8 .own (r .number) ((vint w8 (r .number)) ∷ [])) ∷ []

@@ -43,12 +43,14 @@ use denote.Exit.{yes}
 use Rattle.record.specs.declared.Pool.{Pool}
 use Rattle.record.proofs.Pool as P
 use Rattle.record.proofs.Pool.Laws as P′
+use mathlib.Core.List.{[], _∷_}
 use Rattle.ledger.specs.declared.Call.the-variants.{Schedule}
 use Rattle.ledger.specs.declared.Event.the-variants.{Join, Leave, Block, Resume, Tick}
-use Rattle.ledger.specs.declared.Request.the-variants.{Use}
+use Rattle.ledger.specs.declared.Request.the-variants.{Use, Report}
 use Rattle.record.specs.Reading.{freshPool}
 use Rattle.frames.specs.Frames.{kindOf}
-use Rattle.numbered.specs.Entries.{Does, Moves, Reports, MakesBy, RefreshesBy, WritesTo, CopiesOut, Carries}
+use Rattle.numbered.specs.Told.{buffered}
+use Rattle.numbered.specs.Entries.{Does, MakesBy, RefreshesBy, WritesTo, CopiesOut, Carries}
 use Rattle.numbered.proofs.read as call
 use Rattle.numbered.proofs.read.Symbol as call-def
 use Rattle.numbered.proofs.read.Symbol.{name as #call}
@@ -99,7 +101,7 @@ module _ {M : Type 1} (𝓤 : URA M) (H : Heap 𝓤) (A : Atoms 𝓤) (W : Given
 
   -- what the call says of what it gives back and leaves
   abbrev Did : ℕ → List ℕ → ℕ → Type 0
-  Did r y4 y5 = CopiesOut n2 n3 (h) ((s0 .now)) ((s1 .now)) ((s4 .now)) ((s5 .now)) r (y4) (y5)
+  Did r y4 y5 = CopiesOut n2 n3 (h) ((s0 .now)) ((s1 .now)) (buffered ((s5 .now)) ((s4 .now))) r (buffered (y5) (y4))
 
   abbrev Left : ℕ → List ℕ → ℕ → Val → List (Item 𝓤)
   Left r y4 y5 v = ‵ (fobs γ (P.the-row .coded .code h)) ∷ ‵ (fbor κ (Body (mem P.the-row) b o γ)) ∷ ‵ (flft κ q) ∷ (‵ (flft κ1 q1) ⊛ ‵ (flft κ2 q2) ⊛ ‵ (flft κ3 q3) ⊛ ‵ ftrue) ∷ ‵ (ShrSlice (named 1) κ1 u8 .own s0 (v0 ∷ [])) ∷ ‵ (ShrSlice (named 1) κ1 u8 .own s1 (v1 ∷ [])) ∷ ‵ (finally u8 (s4 .name) y4) ∷ ‵ (fres (s5 .name) (usize .coded .code y5)) ∷ ‵ (u8 .own r (v ∷ [])) ∷ []

@@ -43,12 +43,14 @@ use denote.Exit.{yes}
 use Rattle.record.specs.declared.Pool.{Pool}
 use Rattle.record.proofs.Pool as P
 use Rattle.record.proofs.Pool.Laws as P′
+use mathlib.Core.List.{[], _∷_}
 use Rattle.ledger.specs.declared.Call.the-variants.{Schedule}
 use Rattle.ledger.specs.declared.Event.the-variants.{Join, Leave, Block, Resume, Tick}
-use Rattle.ledger.specs.declared.Request.the-variants.{Use}
+use Rattle.ledger.specs.declared.Request.the-variants.{Use, Report}
 use Rattle.record.specs.Reading.{freshPool}
 use Rattle.frames.specs.Frames.{kindOf}
-use Rattle.numbered.specs.Entries.{Does, Moves, Reports, MakesBy, RefreshesBy, WritesTo, CopiesOut, Carries}
+use Rattle.numbered.specs.Told.{buffered}
+use Rattle.numbered.specs.Entries.{Does, MakesBy, RefreshesBy, WritesTo, CopiesOut, Carries}
 use Rattle.numbered.proofs.report as call
 use Rattle.numbered.proofs.report.Symbol as call-def
 use Rattle.numbered.proofs.report.Symbol.{name as #call}
@@ -99,7 +101,7 @@ module _ {M : Type 1} (𝓤 : URA M) (H : Heap 𝓤) (A : Atoms 𝓤) (W : Given
 
   -- what the call says of what it gives back and leaves
   abbrev Did : ℕ → ℕ → ℕ → ℕ → ℕ → Type 0
-  Did r y0 y1 y2 y3 = Reports (h) (record { small = (s0 .now); large = (s1 .now); expirations = (s2 .now); given = (s3 .now) }) r (record { small = y0; large = y1; expirations = y2; given = y3 })
+  Did r y0 y1 y2 y3 = Does Report (h) ((s0 .now) ∷ (s1 .now) ∷ (s2 .now) ∷ (s3 .now) ∷ []) r (h) (y0 ∷ y1 ∷ y2 ∷ y3 ∷ [])
 
   abbrev Left : ℕ → ℕ → ℕ → ℕ → ℕ → Val → List (Item 𝓤)
   Left r y0 y1 y2 y3 v = ‵ (fobs γ (P.the-row .coded .code h)) ∷ ‵ (fbor κ (Body (mem P.the-row) b o γ)) ∷ ‵ (flft κ q) ∷ (‵ (flft κ1 q1) ⊛ ‵ (flft κ2 q2) ⊛ ‵ (flft κ3 q3) ⊛ ‵ (flft κ4 q4) ⊛ ‵ ftrue) ∷ ‵ (fres (s0 .name) (u8 .coded .code y0)) ∷ ‵ (fres (s1 .name) (u8 .coded .code y1)) ∷ ‵ (fres (s2 .name) (u16 .coded .code y2)) ∷ ‵ (fres (s3 .name) (u32 .coded .code y3)) ∷ ‵ (u8 .own r (v ∷ [])) ∷ []

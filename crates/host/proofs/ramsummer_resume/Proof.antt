@@ -45,12 +45,14 @@ use Rattle.record.specs.declared.Pool.{Pool}
 use Rattle.record.proofs.Pool as P
 use Rattle.record.proofs.Pool.Laws as P′
 use Rattle.numbered.specs.declared.Numbered.{Numbered}
+use mathlib.Core.List.{[], _∷_}
 use Rattle.ledger.specs.declared.Call.the-variants.{Schedule}
 use Rattle.ledger.specs.declared.Event.the-variants.{Join, Leave, Block, Resume, Tick}
-use Rattle.ledger.specs.declared.Request.the-variants.{Use}
+use Rattle.ledger.specs.declared.Request.the-variants.{Use, Report}
 use Rattle.record.specs.Reading.{freshPool}
 use Rattle.frames.specs.Frames.{kindOf}
-use Rattle.numbered.specs.Entries.{Does, Moves, Reports, MakesBy, RefreshesBy, WritesTo, CopiesOut, Carries}
+use Rattle.numbered.specs.Told.{buffered}
+use Rattle.numbered.specs.Entries.{Does, MakesBy, RefreshesBy, WritesTo, CopiesOut, Carries}
 use Rattle.numbered.proofs.Numbered as J
 use Rattle.numbered.proofs.Numbered.Laws as J′
 use Rattle.numbered.proofs.resume as call
@@ -103,7 +105,7 @@ module _ {M : Type 1} (𝓤 : URA M) (H : Heap 𝓤) (A : Atoms 𝓤) (W : Given
 
   -- what the call says of what it gives back and leaves
   abbrev Did : Numbered → Type 0
-  Did r = Does (Use (Schedule Resume n0)) (h) (r .number) (r .pool)
+  Did r = Does (Use (Schedule Resume n0)) (h) [] (r .number) (r .pool) []
 
   abbrev Left : Numbered → List (Item 𝓤)
   Left r = ‵ (fobs γ (P.the-row .coded .code (r .pool))) ∷ ‵ (fbor κ (Body (mem P.the-row) b o γ)) ∷ ‵ (flft κ q) ∷ ‵ ftrue ∷ ‵ (u8 .own (r .number) ((vint w8 (r .number)) ∷ [])) ∷ []

@@ -1,7 +1,8 @@
 -- By the kind: refused with 19, or the outcome of the pool by its number.
 use mathlib.Core.Path.{refl}
 use borrow.Author.Needs.{needs}
-use Rattle.numbered.proofs.Promises.{does}
+use Rattle.numbered.proofs.Replies.{typed}
+use Rattle.numbered.proofs.Promises.{does, silent-refresh}
 use Rattle.numbered.proofs.refresh.Statement.{statement}
 use Rattle.numbered.proofs.refresh.Tie as tie
 
@@ -11,7 +12,7 @@ returns c = rw (← (c .before .before .before .kind-of .ensures), c .before .en
 returns-2 : tie.Need-returns-2
 returns-2 c =
     rw (← (c .before .before .before .before .before .kind-of .ensures), c .before .before .before .known .given .1)
-    (does _ (c .before .refresh .ensures) (c .by-number .ensures))
+    (does _ (c .before .refresh .ensures) (silent-refresh (typed _ _ (c .before .before .before .before .before .before .good .0)) (c .before .refresh .ensures)) (c .by-number .ensures))
 
 pub refresh-spec : {M : Type 1} → statement M
 refresh-spec =

@@ -1,0 +1,67 @@
+-- A reply that the contract of a call allows is a refusal, or what the call answers when it is carried out on some ledger.
+use Prim.Native.Nat.{ℕ}
+use mathlib.Core.Bool.{true, true≢false}
+use mathlib.Core.List.{List, []}
+use mathlib.Core.Option.{Option, none, some}
+use mathlib.Core.Path.{_≡_, sym, ap, _∙_}
+use mir.Val.{Val}
+use denote.Laws.{Is}
+use Rattle.lists.proofs.Cases.{by-test}
+use Rattle.ledger.specs.Objects.{Reply, plain, replyTo, usage}
+use Rattle.ledger.specs.Ledger.{Ledger, verdictOn, replyBy, reply}
+use Rattle.ledger.specs.declared.Answer.{Answer}
+use Rattle.ledger.specs.declared.Answer.the-variants.{Refused, Counted}
+use Rattle.ledger.specs.declared.Refusal.{Refusal}
+use Rattle.ledger.specs.declared.Request.{Request}
+use Rattle.ledger.specs.declared.Request.the-variants.{Use, Report}
+use Rattle.record.specs.Reading.{Typed}
+use Rattle.record.specs.Tables.{tablesOf}
+use Rattle.record.specs.Pools.{isWellFormed}
+use Rattle.record.specs.declared.Pool.{Pool}
+use Rattle.record.proofs.Exists.{every-fit-record-reads}
+use Rattle.record.proofs.Pool.{the-row}
+use Rattle.calls.specs.Contract.{isStored, areWhole, Obeys}
+use Rattle.calls.proofs.Lent.{lent-typed}
+use Rattle.pool.proofs.Sizes.{head-typed, columns-sized}
+use Rattle.numbered.specs.Told.{numbersOf}
+
+-- what a request answers when it is carried out
+abbrev pub carriedOut : Request → Ledger → Reply
+carriedOut (Use call) L = replyTo call (L .memory)
+carriedOut Report L = plain (Counted (usage (L .memory) (L .expirations)))
+
+pub typed : (p : Pool) (vs : List Val) → Is the-row p vs → Typed (tablesOf p)
+typed p vs is =
+    let sized = columns-sized p vs is in
+    lent-typed _ (p .handles) (p .lengths) (p .clocks) (p .named) (p .dues) (head-typed p vs is) (sized .blocks) (sized .entries)
+
+module _ {C : Type 0} {p : Pool} (types : Typed (tablesOf p)) {new small large : List ℕ} {y : Reply} {p′ : Pool} {small′ large′ : List ℕ} where
+  by-ledger : (request : Request) → ((why : Refusal) → y ≡ plain (Refused why) → C) → ((L : Ledger) → y ≡ carriedOut request L → C)
+      → isWellFormed p ≡ true → (isStored request ≡ true → areWhole small large ≡ true) → Obeys request new p small large y p′ small′ large′ → C
+  unfolding reply
+  by-ledger Report refused carried w whole o =
+      let (L, reads) = every-fit-record-reads (tablesOf p) types w small large in carried L (o .answers w whole L reads)
+  by-ledger (Use call) refused carried w whole o =
+      let (L, reads) = every-fit-record-reads (tablesOf p) types w small large in by L (verdictOn L call new) (o .answers w whole L reads)
+    where
+      by : (L : Ledger) (v : Option Refusal) → y ≡ replyBy v (replyTo call (L .memory)) → C
+      by L none e = carried L e
+      by L (some why) e = refused why e
+
+  pub by-reply : {request : Request} → Obeys request new p small large y p′ small′ large′
+      → ((why : Refusal) → y ≡ plain (Refused why) → C) → ((L : Ledger) → y ≡ carriedOut request L → C) → C
+  by-reply {request} o refused carried =
+      by-test (isWellFormed p)
+      (λ w.
+      by-test (areWhole small large) (λ whole. by-ledger request refused carried w (λ s. whole) o)
+      (λ part.
+      by-test (isStored request) (λ s. refused _ (o .wrong w s part .refused))
+      (λ s. by-ledger request refused carried w (λ t. absurd (true≢false (sym t ∙ s))) o)))
+      (λ u. refused _ (o .unfit u .refused))
+
+-- an answer tells no number, where none is told by the call that is carried out
+pub tells-none : {p : Pool} → Typed (tablesOf p) → {request : Request} {new small large : List ℕ} {answer : Answer} {p′ : Pool} {small′ large′ : List ℕ}
+    → Obeys request new p small large (plain answer) p′ small′ large′
+    → ((L : Ledger) → answer ≡ carriedOut request L .answer → numbersOf answer [] ≡ []) → numbersOf answer [] ≡ []
+tells-none types o carried =
+    by-reply types o (λ why e. rw (ap (λ (y : Reply). y .answer) e)) (λ L e. carried L (ap (λ (y : Reply). y .answer) e))

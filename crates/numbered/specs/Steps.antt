@@ -1,0 +1,72 @@
+-- One step of a host: what it asks of an entry, what it is told, and what becomes of record and stores. Every entry's promise is such a step.
+use Prim.Native.Nat.{ℕ}
+use mathlib.Core.Bool.{Bool, true, false}
+use mathlib.Core.List.{List, []}
+use mathlib.Core.Logic.{_≢_}
+use mathlib.Core.Option.{Option, some}
+use mathlib.Core.Path.{_≡_}
+use lib.Dec.{leb}
+use lib.ListN.{length}
+use Rattle.ledger.specs.Objects.{Reply}
+use Rattle.ledger.specs.declared.Call.the-variants.{Make, Refresh, Read, Write}
+use Rattle.ledger.specs.declared.Kind.{Kind}
+use Rattle.ledger.specs.declared.Request.{Request}
+use Rattle.ledger.specs.declared.Request.the-variants.{Use}
+use Rattle.record.specs.declared.Pool.{Pool}
+use Rattle.frames.specs.Answers.{longestAnswer}
+use Rattle.frames.specs.Frames.{frameOf, payloadOf, frameWith, withKind}
+use Rattle.frames.specs.declared.Frame.{Frame}
+use Rattle.frames.specs.declared.requests.KindByte.{KindByte}
+use Rattle.execute.specs.Execution.{IsReplyTo}
+use Rattle.numbered.specs.Told.{tooShort, Loans, lent, buffered, Told, withNumber, toldBy, toldAsLine}
+use Rattle.numbered.specs.Entries.{Does, MakesBy, RefreshesBy, WritesTo, CopiesOut, Carries}
+
+-- a call by its own entry, with the bytes of a write, or no call where its kind is none; or a line
+pub data Asked : Type 0 where
+  entry : Option Request → List ℕ → Asked
+  line : List ℕ → Asked
+
+abbrev pub frameAsked : Asked → Frame
+frameAsked (entry request bytes) = frameWith request 0
+frameAsked (line text) = frameOf text
+
+abbrev pub bytesAsked : Asked → List ℕ
+bytesAsked (entry request bytes) = bytes
+bytesAsked (line text) = payloadOf text
+
+-- a line is not looked at where the buffer may be too short for its answer
+abbrev pub isHeard : Asked → Loans → Bool
+isHeard (entry request bytes) loans = true
+isHeard (line text) loans = leb longestAnswer (length (loans .buffer))
+
+abbrev pub tells : Asked → Reply → Loans → Told
+tells (entry request bytes) y loans = toldBy y loans
+tells (line text) y loans = toldAsLine y loans
+
+pub record Gives (asked : Asked) (loans : Loans) (p : Pool) (small large : List ℕ) (told : Told) (p′ : Pool) (small′ large′ : List ℕ) : Type 0 where
+  pub unheard : isHeard asked loans ≡ false → told ≡ withNumber tooShort loans
+  pub heard : isHeard asked loans ≡ true
+      → (y : Reply) × IsReplyTo (frameAsked asked) (bytesAsked asked) p small large y p′ small′ large′ × (told ≡ tells asked y loans)
+  -- whatever number it is but 0, record and stores are what they were
+  pub kept : told .number ≢ 0 → (p′ ≡ p) × (small′ ≡ small) × (large′ ≡ large)
+
+-- Each entry's promise gives that; of one that touches no store, whatever stores stand beside the record.
+pub record EachGives : Type 0 where
+  pub does : (request : Request) (p : Pool) (numbers : List ℕ) (number : ℕ) (p′ : Pool) (numbers′ small large : List ℕ)
+      → Does request p numbers number p′ numbers′
+      → Gives (entry (some request) []) (lent numbers) p small large (withNumber number (lent numbers′)) p′ small large
+  pub makes : (kind : KindByte) (task extension size : ℕ) (p : Pool) (small large numbers : List ℕ) (number : ℕ) (p′ : Pool) (small′ large′ numbers′ : List ℕ)
+      → MakesBy kind task extension size p small large numbers number p′ small′ large′ numbers′
+      → Gives (entry (withKind kind (λ (k : Kind). Use (Make task k extension size))) []) (lent numbers) p small large (withNumber number (lent numbers′)) p′ small′ large′
+  pub refreshes : (kind : KindByte) (task extension handle : ℕ) (p : Pool) (number : ℕ) (p′ : Pool) (small large : List ℕ)
+      → RefreshesBy kind task extension handle p number p′
+      → Gives (entry (withKind kind (λ (k : Kind). Use (Refresh task k extension handle))) []) (lent []) p small large (withNumber number (lent [])) p′ small large
+  pub writes : (task handle offset : ℕ) (bytes : List ℕ) (p : Pool) (small large : List ℕ) (number : ℕ) (small′ large′ : List ℕ)
+      → WritesTo task handle offset bytes p small large number small′ large′
+      → Gives (entry (some (Use (Write task handle offset))) bytes) (lent []) p small large (withNumber number (lent [])) p small′ large′
+  pub copies : (task handle : ℕ) (p : Pool) (small large : List ℕ) (loans : Loans) (number : ℕ) (loans′ : Loans)
+      → CopiesOut task handle p small large loans number loans′
+      → Gives (entry (some (Use (Read task handle))) []) loans p small large (withNumber number loans′) p small large
+  pub carries : (text : List ℕ) (p : Pool) (small large out : List ℕ) (old number : ℕ) (p′ : Pool) (small′ large′ out′ : List ℕ) (new : ℕ)
+      → Carries text p small large out old number p′ small′ large′ out′ new
+      → Gives (line text) (buffered old out) p small large (withNumber number (buffered new out′)) p′ small′ large′
