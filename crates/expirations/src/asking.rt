@@ -43,17 +43,19 @@ pub fn has_clock(clocks: &[u8; EXPIRATION_COUNT], clock: u8, from: usize, to: us
     some
 }
 
-// The first free entry: sixteen at a time, then one by one.
+// The first free entry: so many at a time, then one by one.
+const SPAN: usize = 16;
+
 pub fn free_entry(clocks: &[u8; EXPIRATION_COUNT]) -> usize
     requires { ⌜ length (now clocks) ≡ expirationEntries ⌝ }
     ensures { λ r. ⌜ r ≡ freeIn (now (clocks .entry)) ⌝ }
 {
     let mut n = 0;
-    while n <= EXPIRATION_COUNT - 16 {
-        if has_clock(clocks, FREE, n, n + 16) {
+    while n <= EXPIRATION_COUNT - SPAN {
+        if has_clock(clocks, FREE, n, n + SPAN) {
             break;
         }
-        n = n + 16;
+        n = n + SPAN;
     }
     for i in n..EXPIRATION_COUNT {
         if clocks[i] == FREE {

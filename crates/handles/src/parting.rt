@@ -1,5 +1,5 @@
 // Handles told apart in full, on any bytes in as many steps: the blocks are parted by the last digits of their handles, then each part by the next digit.
-// A part is known by a number below that of the blocks: by its last block, once a digit was looked at.
+// A part is known by a number below the count of blocks: by its last block, once a digit was looked at.
 ghost use mathlib.Core.Path.{_≡_};
 ghost use Prim.Native.Nat.{_+_, _*_, _%_};
 ghost use lib.Dec.{eqb};

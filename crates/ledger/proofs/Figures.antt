@@ -1,4 +1,4 @@
--- What a proof may know of 01's figures: their ranges, whichever are chosen; and today that they are all that there is room for.
+-- What a proof may know of 01's figures: that they are in the ranges a site may choose from, and where it must, that they are the largest.
 use Prim.Native.Nat.{_≤_}
 use native.Mathlib.Omega.{arith}
 use mathlib.Core.Path.{_≡_, refl}
@@ -26,7 +26,7 @@ allowed =
       most-extension = omega arith;
     }
 
--- The code's constant has the same figures: a proof of code that asks it cites this, and so does what needs every entry of a table to be in use at most.
+-- cited where the code compares with its constant, and where the entries of a table are counted as those that may be used
 pub at-capacity : limits ≡ capacity
 unfolding limits
 at-capacity = refl

@@ -10,11 +10,11 @@ pub record Limits : Type 0 where
   pub expirations : ℕ
   pub extension : ℕ
 
--- the largest of each: what a record has room for
+-- the largest of each; the record's tables have room for as many
 abbrev pub capacity : Limits
 capacity = record { smallBlocks = 64; largeBlocks = 32; expirations = 256; extension = 30 }
 
--- 01's: all that there is room for
+-- 01's: the two agree
 unfoldable pub limits : Limits
 limits = capacity
 

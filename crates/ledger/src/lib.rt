@@ -10,7 +10,7 @@ pub struct Limits {
     pub extension: u32,
 }
 
-// The largest of each: what a record has room for.
+// The largest of each; the record's tables have room for as many.
 pub const CAPACITY: Limits = Limits {
     small_blocks: 64,
     large_blocks: 32,
@@ -18,7 +18,7 @@ pub const CAPACITY: Limits = Limits {
     extension: 30,
 };
 
-// 01's: all that there is room for.
+// 01's: the two agree.
 pub const LIMITS: Limits = CAPACITY;
 
 // T1: how many tasks there are.

@@ -1,25 +1,16 @@
 -- A run from fresh goes on until the script ends.
-use Prim.Native.Nat.{_-_, _*_}
+use Prim.Native.Nat.{_-_}
 use native.Mathlib.Omega.{arith}
-use mathlib.Core.Path.{_≡_, refl, sym, _∙_}
+use mathlib.Core.Path.{_≡_, sym, _∙_}
 use borrow.Author.Needs.{needs}
 use lib.ListN.{length}
 use lib.Seq.{length-take-le}
-use Rattle.ledger.specs.Limits.{capacity, smallSize, largeSize}
-use Rattle.ledger.proofs.Figures.{at-capacity}
-use Rattle.record.specs.Reading.{wholeSmall, wholeLarge}
+use Rattle.record.proofs.Figures.{small-bytes, large-bytes}
 use Rattle.record.proofs.FreshReads.{fresh-well-formed}
 use Rattle.script.specs.Output.{Runnable}
 use Rattle.execute.proofs.Showing.{puts-within}
 use Rattle.poolrun.proofs.answer.Statement.{statement}
 use Rattle.poolrun.proofs.answer.Tie as tie
-
--- 01's lengths are those of the program's two arrays
-small-bytes : wholeSmall ≡ capacity .smallBlocks * smallSize
-small-bytes = rw at-capacity
-
-large-bytes : wholeLarge ≡ capacity .largeBlocks * largeSize
-large-bytes = rw at-capacity
 
 abbrev Inv-loop : tie.InvT-loop
 Inv-loop script small₀ large₀ out₀ p₀ at₀ small large out p at = Runnable p small large script at × (length out ≡ 65536)
