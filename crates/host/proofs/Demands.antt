@@ -5,12 +5,11 @@ use mathlib.Core.Bool.{Bool, true, false, _||_}
 use mathlib.Core.List.{List, [], _∷_, map}
 use mathlib.Core.Option.{Option, none, some}
 use mathlib.Core.Path.{_≡_, refl, ap, ap₂, _∙_}
-use borrow.Author.Tests.{le-ltb}
+use borrow.Author.Tests.{le-ltb, eq-eqb}
 use lib.Dec.{eqb, ltb}
 use lib.ListN.{length}
 use Rattle.lists.specs.Columns.{_⊛_}
 use Rattle.lists.proofs.Cases.{by-test}
-use Rattle.ledger.specs.Limits.{limits, smallSize, largeSize}
 use Rattle.ledger.specs.Numbers.{answerNumber}
 use Rattle.ledger.specs.Tasks.{isTested}
 use Rattle.ledger.specs.Objects.{Memory, Reply, replyTo}
@@ -29,7 +28,7 @@ use Rattle.frames.specs.declared.Frame.{Frame}
 use Rattle.execute.specs.Execution.{IsReplyTo, replyToFrame, afterFrame}
 use Rattle.numbered.specs.Told.{Loans, Told, toldBy}
 use Rattle.numbered.specs.Steps.{frameAsked, bytesAsked, isHeard, tells, Gives}
-use Rattle.host.specs.Demands.{Deed, HostRuns, toldOf, afterDeed, toldOfAll, afterDeeds, HostDemand2, Using, deedOf, usedIn, toldIn, HostDemand3}
+use Rattle.host.specs.Demands.{Action, HostRuns, toldOf, afterAction, toldOfAll, afterActions, HostDemand2, Using, actionOf, usedIn, toldIn, HostDemand3}
 
 -- A well-formed record with whole stores that reads as a ledger.
 record Beside (p : Pool) (small large : List ℕ) (L : Ledger) : Type 0 where
@@ -50,8 +49,8 @@ framed (Frame.Request request count) bytes {L = L} b o = (
 )
 framed (Frame.Refused why) bytes b r = (r .refused, rw (r .samePool, r .sameSmall, r .sameLarge) b)
 
-steps : (d : Deed) {t : Told} {p p′ : Pool} {small large small′ large′ : List ℕ} {L : Ledger} → Beside p small large L
-    → Gives (d .asked) (d .loans) p small large t p′ small′ large′ → (t ≡ toldOf L d) × Beside p′ small′ large′ (afterDeed L d)
+steps : (d : Action) {t : Told} {p p′ : Pool} {small large small′ large′ : List ℕ} {L : Ledger} → Beside p small large L
+    → Gives (d .asked) (d .loans) p small large t p′ small′ large′ → (t ≡ toldOf L d) × Beside p′ small′ large′ (afterAction L d)
 steps d b g =
     by-test (isHeard (d .asked) (d .loans))
     (λ h.
@@ -63,24 +62,23 @@ steps d b g =
     let (p, s, l) = g .kept (λ z. absurd (omega (arith, z, ap (λ (u : Told). u .number) told))) in
     rw h (told, rw (p, s, l) b))
 
-runs-follow : {p p′ : Pool} {small small′ large large′ : List ℕ} {ds : List Deed} {ts : List Told} → HostRuns p small large ds ts p′ small′ large′
-    → {L : Ledger} → Beside p small large L → (ts ≡ toldOfAll L ds) × Reads p′ small′ large′ (afterDeeds L ds)
-unfolding toldOfAll afterDeeds
-runs-follow HostRuns.done b = (refl, b .reads)
+runs-follow : {p p′ : Pool} {small small′ large large′ : List ℕ} {ds : List Action} {ts : List Told} → HostRuns p small large ds ts p′ small′ large′
+    → {L : Ledger} → Beside p small large L → (ts ≡ toldOfAll L ds) × Reads p′ small′ large′ (afterActions L ds) × (isWellFormed p′ ≡ true)
+unfolding toldOfAll afterActions
+runs-follow HostRuns.done b = (refl, b .reads, b .fit)
 runs-follow (HostRuns.step {d = d} g rest) b =
     let (told, after) = steps d b g in
-    let (others, left) = runs-follow rest after in (ap₂ _∷_ told others, left)
+    let (others, left, fit) = runs-follow rest after in (ap₂ _∷_ told others, left, fit)
 
 pub host-demand2 : HostDemand2
-unfolding limits smallSize largeSize
 host-demand2 small large s l ds ts p′ small′ large′ runs =
-    runs-follow runs (record { fit = fresh-well-formed; whole = rw (s, l); reads = fresh-reads small large })
+    runs-follow runs (record { fit = fresh-well-formed; whole = rw (eq-eqb _ _ s, eq-eqb _ _ l); reads = fresh-reads small large })
 
 -- what the ledger tells of the nine calls is its replies told
-told-replies : (us : List Using) (L : Ledger) → toldOfAll L (map deedOf us) ≡ (map toldIn us ⊛ replies L (map sent (map usedIn us)))
+told-replies : (us : List Using) (L : Ledger) → toldOfAll L (map actionOf us) ≡ (map toldIn us ⊛ replies L (map sent (map usedIn us)))
 unfolding toldOfAll replies
 told-replies [] L = refl
-told-replies (u ∷ us) L = ap (λ ts. toldOf L (deedOf u) ∷ ts) (told-replies us (next L (u .used .call) (u .used .bytes)))
+told-replies (u ∷ us) L = ap (λ ts. toldOf L (actionOf u) ∷ ts) (told-replies us (next L (u .used .call) (u .used .bytes)))
 
 -- a refusal of the pool's own is told by its number, and nothing else is told by that number
 isOwnTold : Told → Bool
@@ -105,5 +103,4 @@ shows u (some r) call m = rw (le-ltb (length (u .loans .buffer)) 0 (omega arith)
 
 pub host-demand3 : HostDemand3
 host-demand3 small large s l us ts p′ small′ large′ runs =
-    let (told, left) = host-demand2 small large s l (map deedOf us) ts p′ small′ large′ runs in
-    rw (told, told-replies us fresh) (demand3-told usedIn toldIn isOwnTold shows us)
+    rw (host-demand2 small large s l (map actionOf us) ts p′ small′ large′ runs .0, told-replies us fresh) (demand3-told usedIn toldIn isOwnTold shows us)

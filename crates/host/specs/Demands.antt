@@ -13,56 +13,56 @@ use Rattle.ledger.specs.Ledger.{Ledger, fresh}
 use Rattle.ledger.specs.Heap.{Used, heapReplies, allInTimeAndBounds}
 use Rattle.ledger.specs.declared.Request.the-variants.{Use}
 use Rattle.record.specs.Reading.{freshPool, wholeSmall, wholeLarge}
-use Rattle.record.specs.Pools.{Reads}
+use Rattle.record.specs.Pools.{isWellFormed, Reads}
 use Rattle.record.specs.declared.Pool.{Pool}
 use Rattle.execute.specs.Execution.{replyToFrame, afterFrame}
 use Rattle.numbered.specs.Told.{tooShort, Loans, Told, withNumber, toldBy}
 use Rattle.numbered.specs.Steps.{Asked, entry, frameAsked, bytesAsked, isHeard, tells, Gives}
 
 -- what a host does: it asks, and lends numbers and a buffer
-pub record Deed : Type 0 where
+pub record Action : Type 0 where
   pub asked : Asked
   pub loans : Loans
 
--- A list of deeds: each gets record and stores as the last one left them.
-pub data HostRuns : Pool → List ℕ → List ℕ → List Deed → List Told → Pool → List ℕ → List ℕ → Type 0 where
+-- A list of actions: each gets record and stores as the last one left them.
+pub data HostRuns : Pool → List ℕ → List ℕ → List Action → List Told → Pool → List ℕ → List ℕ → Type 0 where
   done : {p : Pool} {small large : List ℕ} → HostRuns p small large [] [] p small large
-  step : {p p′ p″ : Pool} {small small′ small″ large large′ large″ : List ℕ} {d : Deed} {ds : List Deed} {t : Told} {ts : List Told}
+  step : {p p′ p″ : Pool} {small small′ small″ large large′ large″ : List ℕ} {d : Action} {ds : List Action} {t : Told} {ts : List Told}
       → Gives (d .asked) (d .loans) p small large t p′ small′ large′ → HostRuns p′ small′ large′ ds ts p″ small″ large″
       → HostRuns p small large (d ∷ ds) (t ∷ ts) p″ small″ large″
 
--- what the ledger tells of a deed, and the ledger after it
-abbrev pub toldOf : Ledger → Deed → Told
+-- what the ledger tells of a action, and the ledger after it
+abbrev pub toldOf : Ledger → Action → Told
 toldOf L d =
     cond (isHeard (d .asked) (d .loans))
     (tells (d .asked) (replyToFrame L (frameAsked (d .asked)) (bytesAsked (d .asked))) (d .loans))
     (withNumber tooShort (d .loans))
 
-abbrev pub afterDeed : Ledger → Deed → Ledger
-afterDeed L d = cond (isHeard (d .asked) (d .loans)) (afterFrame L (frameAsked (d .asked)) (bytesAsked (d .asked))) L
+abbrev pub afterAction : Ledger → Action → Ledger
+afterAction L d = cond (isHeard (d .asked) (d .loans)) (afterFrame L (frameAsked (d .asked)) (bytesAsked (d .asked))) L
 
-unfoldable pub toldOfAll : Ledger → List Deed → List Told
+unfoldable pub toldOfAll : Ledger → List Action → List Told
 toldOfAll L [] = []
-toldOfAll L (d ∷ ds) = toldOf L d ∷ toldOfAll (afterDeed L d) ds
+toldOfAll L (d ∷ ds) = toldOf L d ∷ toldOfAll (afterAction L d) ds
 
-unfoldable pub afterDeeds : Ledger → List Deed → Ledger
-afterDeeds L [] = L
-afterDeeds L (d ∷ ds) = afterDeeds (afterDeed L d) ds
+unfoldable pub afterActions : Ledger → List Action → Ledger
+afterActions L [] = L
+afterActions L (d ∷ ds) = afterActions (afterAction L d) ds
 
 -- D4, demand 2 for a host: from a fresh record, with stores of 01's lengths and any bytes in them.
 abbrev pub HostDemand2 : Type 0
 HostDemand2 =
     (small large : List ℕ) → length small ≡ wholeSmall → length large ≡ wholeLarge
-    → (ds : List Deed) (ts : List Told) (p′ : Pool) (small′ large′ : List ℕ) → HostRuns freshPool small large ds ts p′ small′ large′
-    → (ts ≡ toldOfAll fresh ds) × Reads p′ small′ large′ (afterDeeds fresh ds)
+    → (ds : List Action) (ts : List Told) (p′ : Pool) (small′ large′ : List ℕ) → HostRuns freshPool small large ds ts p′ small′ large′
+    → (ts ≡ toldOfAll fresh ds) × Reads p′ small′ large′ (afterActions fresh ds) × (isWellFormed p′ ≡ true)
 
 -- one of the nine calls by its own entry
 pub record Using : Type 0 where
   pub used : Used
   pub loans : Loans
 
-abbrev pub deedOf : Using → Deed
-deedOf u = record { asked = entry (some (Use (u .used .call))) (u .used .bytes); loans = u .loans }
+abbrev pub actionOf : Using → Action
+actionOf u = record { asked = entry (some (Use (u .used .call))) (u .used .bytes); loans = u .loans }
 
 abbrev pub usedIn : Using → Used
 usedIn u = u .used
@@ -74,5 +74,5 @@ toldIn u y = toldBy y (u .loans)
 abbrev pub HostDemand3 : Type 0
 HostDemand3 =
     (small large : List ℕ) → length small ≡ wholeSmall → length large ≡ wholeLarge
-    → (us : List Using) (ts : List Told) (p′ : Pool) (small′ large′ : List ℕ) → HostRuns freshPool small large (map deedOf us) ts p′ small′ large′
+    → (us : List Using) (ts : List Told) (p′ : Pool) (small′ large′ : List ℕ) → HostRuns freshPool small large (map actionOf us) ts p′ small′ large′
     → (ts ≡ (map toldIn us ⊛ heapReplies freshMemory (map usedIn us))) ↔ (allInTimeAndBounds freshMemory [] (map usedIn us) ≡ true)

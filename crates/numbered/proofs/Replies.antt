@@ -40,9 +40,9 @@ module _ {C : Type 0} {p : Pool} (types : Typed (tablesOf p)) {new small large :
       → isWellFormed p ≡ true → (isStored request ≡ true → areWhole small large ≡ true) → Obeys request new p small large y p′ small′ large′ → C
   unfolding reply
   by-ledger Report refused carried w whole o =
-      let (L, reads) = every-fit-record-reads (tablesOf p) types w small large in carried L (o .answers w whole L reads)
+      let (L, reads) = every-fit-record-reads p types w small large in carried L (o .answers w whole L reads)
   by-ledger (Use call) refused carried w whole o =
-      let (L, reads) = every-fit-record-reads (tablesOf p) types w small large in by L (verdictOn L call new) (o .answers w whole L reads)
+      let (L, reads) = every-fit-record-reads p types w small large in by L (verdictOn L call new) (o .answers w whole L reads)
     where
       by : (L : Ledger) (v : Option Refusal) → y ≡ replyBy v (replyTo call (L .memory)) → C
       by L none e = carried L e
