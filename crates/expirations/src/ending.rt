@@ -13,21 +13,26 @@ use super::Passing;
 use super::asking::GROUP;
 use super::asking::GROUP_COUNT;
 use super::asking::has_clock;
+use record::Due;
 use record::EXPIRATION_COUNT;
 use record::GlobalTime;
+use record::LocalTime;
 use record::codes::FREE;
 use record::codes::GLOBAL;
 use record::codes::LOCAL;
+use record::codes::due_by;
+use record::codes::global_left;
 use record::codes::is_due_global;
 use record::codes::is_due_local;
+use record::codes::local_left;
 
 // Whether an event ends an expiration by its task's local time.
-fn ends_local(t: Passing, clock: u8, due: u32) -> bool
+fn ends_local(t: Passing, clock: u8, at: LocalTime) -> bool
     requires { ⌜ t .task < taskCount ⌝ }
-    ensures { λ r. ⌜ r ≡ isEndingLocal t (dueBy clock due) ⌝ }
+    ensures { λ r. ⌜ r ≡ isEndingLocal t (dueBy clock (at .0)) ⌝ }
 {
     let local = t.local;
-    (t.leaves & (clock == LOCAL + t.task)) | is_due_local(clock, due, t.task, local)
+    (t.leaves & (clock == LOCAL + t.task)) | is_due_local(clock, at, t.task, local)
 }
 
 // Whether it ends one of a group, by either.
@@ -45,7 +50,7 @@ fn any_local<'a>(
     }
     let mut some = false;
     for i in from..from + GROUP {
-        some = some | ends_local(t, clocks[i], dues[i]);
+        some = some | ends_local(t, clocks[i], LocalTime(dues[i]));
     }
     some
 }
@@ -64,7 +69,7 @@ fn any_global<'a>(
     }
     let mut some = false;
     for i in from..from + GROUP {
-        some = some | is_due_global(clocks[i], dues[i], global);
+        some = some | is_due_global(clocks[i], GlobalTime(dues[i]), global);
     }
     some
 }
@@ -88,17 +93,29 @@ fn any_ends<'a>(
     any_global(global, clocks, dues, from)
 }
 
-// What is left of a clock.
-fn kept_clock(t: Passing, clock: u8, due: u32) -> u8
-    requires { ⌜ t .task < taskCount ⌝ }
-    ensures { λ r. ⌜ r ≡ cond (isEnding t (dueBy clock due)) 0 clock ⌝ }
+// Whether it ends an expiration, by the clock that this goes by.
+fn is_ending(t: Passing, due: Due) -> bool
+    ensures { λ r. ⌜ r ≡ isEnding t due ⌝ }
 {
-    let global = t.global;
-    if ends_local(t, clock, due) | (t.advanced & is_due_global(clock, due, global)) {
-        FREE
-    } else {
-        clock
+    match due {
+        Due::Free => false,
+        Due::Local { setter, at } => {
+            let now = t.local;
+            (setter == t.task) & (t.leaves | (local_left(at, now) == 0))
+        }
+        Due::Global(at) => {
+            let now = t.global;
+            t.advanced & (global_left(at, now) == 0)
+        }
+        Due::Unknown => false,
     }
+}
+
+// What is left of a clock.
+fn kept_clock(t: Passing, clock: u8, due: Due) -> u8
+    ensures { λ r. ⌜ r ≡ cond (isEnding t due) 0 clock ⌝ }
+{
+    if is_ending(t, due) { FREE } else { clock }
 }
 
 // Ends what is over in a group, and says whether that was any.
@@ -115,7 +132,7 @@ fn end_in(
         return false;
     }
     for i in from..from + GROUP {
-        clocks[i] = kept_clock(t, clocks[i], dues[i]);
+        clocks[i] = kept_clock(t, clocks[i], due_by(clocks[i], dues[i]));
     }
     true
 }

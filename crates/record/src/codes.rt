@@ -55,18 +55,18 @@ pub fn due_by(clock: u8, due: u32) -> Due
 }
 
 // What due_by reads, asked at once: whether an expiration goes by this task's clock and is due,
-pub fn is_due_local(clock: u8, due: u32, task: u8, now: LocalTime) -> bool
+pub fn is_due_local(clock: u8, at: LocalTime, task: u8, now: LocalTime) -> bool
     requires { ⌜ task < taskCount ⌝ }
-    ensures { λ r. ⌜ r ≡ isDueLocal task now (dueBy clock due) ⌝ }
+    ensures { λ r. ⌜ r ≡ isDueLocal task now (dueBy clock (at .0)) ⌝ }
 {
-    (clock == LOCAL + task) & (local_left(LocalTime(due), now) == 0)
+    (clock == LOCAL + task) & (local_left(at, now) == 0)
 }
 
 // and whether it goes by the global time and is due.
-pub fn is_due_global(clock: u8, due: u32, now: GlobalTime) -> bool
-    ensures { λ r. ⌜ r ≡ isDueGlobal now (dueBy clock due) ⌝ }
+pub fn is_due_global(clock: u8, at: GlobalTime, now: GlobalTime) -> bool
+    ensures { λ r. ⌜ r ≡ isDueGlobal now (dueBy clock (at .0)) ⌝ }
 {
-    (clock == GLOBAL) & (global_left(GlobalTime(due), now) == 0)
+    (clock == GLOBAL) & (global_left(at, now) == 0)
 }
 
 // E6: what remains of a local expiration.

@@ -23,7 +23,8 @@ returns c =
 
 loop-again : tie.Need-loop-again Inv-loop μ-loop
 loop-again c =
-    let s = c .before .before .before .before .loop .inv .1 in (omega arith, changed-turn s (omega (arith, s .size)) (c .kept-clock .ensures))
+    let s = c .before .before .before .before .before .before .loop .inv .1 in
+    (omega arith, changed-turn s (omega (arith, s .size)) (rw (c .before .due-by .ensures) at (c .kept-clock .ensures)))
 
 returns-2 : tie.Need-returns-2 Inv-loop μ-loop
 returns-2 c =
@@ -45,6 +46,8 @@ end-in-spec =
     (λ c. omega arith)
     (λ c. omega arith)
     (λ c. omega arith)
+    (λ c. omega arith)
+    (λ c κs. search needs)
     (λ c κs. search needs)
     (λ c. omega arith)
     (λ c. omega arith)

@@ -10,4 +10,4 @@ ends-local-spec =
     (tie.spec
     (λ c. search needs)
     (λ c κs. search needs)
-    (λ c. let a = c .before .before .before .before .args in rw (c .is-due-local .ensures) (by-local (a .t) (search needs) (a .clock) (a .due))))
+    (λ c. let a = c .before .before .before .before .args in rw (c .is-due-local .ensures) (by-local (a .t) (search needs) (a .clock) (a .at .0))))

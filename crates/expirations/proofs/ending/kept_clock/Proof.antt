@@ -1,26 +1,13 @@
--- By either clock.
-use mathlib.Core.Bool.{_&&_, _||_}
-use mathlib.Core.Path.{_≡_, sym, _∙_}
+-- By the one test.
+use mathlib.Core.Path.{sym, _∙_}
 use borrow.Author.Needs.{needs}
-use Rattle.record.specs.Codes.{dueBy}
-use Rattle.expirations.specs.Ending.{isEnding}
-use Rattle.expirations.proofs.Clocks.{by-either}
 use Rattle.expirations.proofs.ending.kept_clock.Statement.{statement}
 use Rattle.expirations.proofs.ending.kept_clock.Tie as tie
-
--- what the tests come to
-tested : (c : tie.After-is-due-global)
-    → let a = c .before .before .before .args in
-    (c .before .ends-local .result || a .t .advanced && c .is-due-global .result) ≡ isEnding (a .t) (dueBy (a .clock) (a .due))
-tested c =
-    let a = c .before .before .before .args in
-    rw (c .before .ends-local .ensures, c .is-due-global .ensures) (sym (by-either (a .t) (dueBy (a .clock) (a .due))))
 
 pub kept-clock-spec : {M : Type 1} → statement M
 kept-clock-spec =
     tie.close
     (tie.spec
     (λ c κs. search needs)
-    (λ c κs. search needs)
-    (λ c. rw (sym (tested (c .before .before)) ∙ c .if1 .taken))
-    (λ c. rw (sym (tested (c .before .before)) ∙ c .if1 .left)))
+    (λ c. rw (sym (c .before .is-ending .ensures) ∙ c .if1 .taken))
+    (λ c. rw (sym (c .before .is-ending .ensures) ∙ c .if1 .left)))
