@@ -7,3 +7,4 @@ pub mod KeptTasks
 pub mod KeptObjects
 pub mod KeptExpirations
 pub mod Kept
+pub mod Remaining

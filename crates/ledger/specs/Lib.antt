@@ -5,6 +5,7 @@ pub mod Expirations
 pub mod Objects
 pub mod Refusals
 pub mod Ledger
+pub mod Remaining
 pub mod Heap
 pub mod Compared
 pub mod Kept

@@ -94,6 +94,12 @@ pub struct Usage {
     pub given: u32,
 }
 
+// E15, E16: the remaining life of an object, in ticks of the task that asks and in advances of the global time.
+pub struct Life {
+    pub local: u8,
+    pub global: u8,
+}
+
 // R1 to R19, in the order of their numbers: 1 to 15 of a call, 16 to 19 of a frame.
 pub enum Refusal {
     NoSuchTask,

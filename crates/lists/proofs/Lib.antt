@@ -15,3 +15,4 @@ pub mod Implied
 pub mod Searches
 pub mod Columns
 pub mod Filling
+pub mod Most

@@ -3,3 +3,4 @@ pub mod Tables
 pub mod Blocks
 pub mod Columns
 pub mod Filled
+pub mod Most
