@@ -11,6 +11,7 @@ pub mod EventsFollow
 pub mod EventTypes
 pub mod StoreBytes
 pub mod Finding
+pub mod Remaining
 pub mod Rooms
 pub mod Verdicts
 pub mod Taken

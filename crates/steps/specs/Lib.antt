@@ -2,3 +2,4 @@ pub mod Events
 pub mod Objects
 pub mod Usage
 pub mod Staying
+pub mod Remaining
