@@ -3,3 +3,4 @@ pub mod Clocks
 pub mod Counting
 pub mod Flags
 pub mod Tables
+pub mod Longest

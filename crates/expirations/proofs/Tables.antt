@@ -76,10 +76,10 @@ dated-clock clock due =
 
 -- what a test of the entries finds, by a test of their numbers at each place
 module _ {cs ns ds : List ℕ} (sized : SizedEntries cs ns ds) where
-  size-of : length (entriesOf cs ns ds) ≡ expirationEntries
+  pub size-of : length (entriesOf cs ns ds) ≡ expirationEntries
   size-of = length-entries cs ns ds (sized .of-clocks) (sized .of-named) (sized .of-dues)
 
-  entry-of : (k : ℕ) → getD (entriesOf cs ns ds) k freeEntry ≡ expirationEntry (getD cs k 0) (getD ns k 0) (getD ds k 0)
+  pub entry-of : (k : ℕ) → getD (entriesOf cs ns ds) k freeEntry ≡ expirationEntry (getD cs k 0) (getD ns k 0) (getD ds k 0)
   entry-of = entry-at cs ns ds (sized .of-clocks) (sized .of-named) (sized .of-dues)
 
   asked-entries : (p : ExpirationEntry → Bool) {q : ℕ → Bool} {r : Bool}

@@ -3,3 +3,4 @@ pub mod Standing
 pub mod Setting
 pub mod Ending
 pub mod Releasing
+pub mod Remaining

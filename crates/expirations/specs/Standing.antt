@@ -36,8 +36,8 @@ abbrev pub isDatedClock : ℕ → Bool
 isDatedClock clock = leb localCode clock && leb clock globalCode
 
 -- what the entry at a place has
-abbrev pub isClockAt : ℕ → List ℕ → ℕ → Bool
-isClockAt clock clocks k = eqb (getD clocks k 0) clock
+abbrev pub isByteAt : ℕ → List ℕ → ℕ → Bool
+isByteAt byte column k = eqb (getD column k 0) byte
 
 abbrev pub isDatedAt : List ℕ → ℕ → Bool
 isDatedAt clocks k = isDatedClock (getD clocks k 0)

@@ -1,11 +1,11 @@
-// Entries asked by their clocks alone, many at a time: most are free, and then the other columns are not looked at. Loops that count or ask have no way out before
+// Entries asked by one column alone, many at a time: most are free or another block's, and then the other columns are not looked at. Loops that count or ask have no way out before
 // the end, so that many bytes are compared at once.
 ghost use Prim.Native.Nat.{_+_, _≤_};
 ghost use mathlib.Core.Path.{_≡_};
 ghost use lib.ListN.{length, take, drop};
 ghost use Rattle.record.specs.Tables.{expirationEntries};
 ghost use Rattle.expirations.specs.Places.{Asked};
-ghost use Rattle.expirations.specs.Standing.{standingOf, freeIn, isDatedClock, isClockAt, isDatedAt, halfSize, groupSize};
+ghost use Rattle.expirations.specs.Standing.{standingOf, freeIn, isDatedClock, isByteAt, isDatedAt, halfSize, groupSize};
 use record::EXPIRATION_COUNT;
 use record::codes::FREE;
 use record::codes::GLOBAL;
@@ -31,14 +31,14 @@ pub const GROUP: usize = 32;
 
 pub const GROUP_COUNT: usize = EXPIRATION_COUNT / GROUP;
 
-// Whether one of these entries has this clock.
-pub fn has_clock(clocks: &[u8; EXPIRATION_COUNT], clock: u8, from: usize, to: usize) -> bool
-    requires { ⌜ (length (now clocks) ≡ expirationEntries) × (from ≤ to) × (to ≤ expirationEntries) ⌝ }
-    ensures { λ r. ⌜ Asked (isClockAt clock (now (clocks .entry))) from to r ⌝ }
+// Whether one of these places of a column has this byte: a clock, or the number of a block.
+pub fn has_byte(column: &[u8; EXPIRATION_COUNT], byte: u8, from: usize, to: usize) -> bool
+    requires { ⌜ (length (now column) ≡ expirationEntries) × (from ≤ to) × (to ≤ expirationEntries) ⌝ }
+    ensures { λ r. ⌜ Asked (isByteAt byte (now (column .entry))) from to r ⌝ }
 {
     let mut some = false;
     for i in from..to {
-        some = some | (clocks[i] == clock);
+        some = some | (column[i] == byte);
     }
     some
 }
@@ -52,7 +52,7 @@ pub fn free_entry(clocks: &[u8; EXPIRATION_COUNT]) -> usize
 {
     let mut n = 0;
     while n <= EXPIRATION_COUNT - SPAN {
-        if has_clock(clocks, FREE, n, n + SPAN) {
+        if has_byte(clocks, FREE, n, n + SPAN) {
             break;
         }
         n = n + SPAN;

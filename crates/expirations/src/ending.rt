@@ -12,7 +12,7 @@ ghost use Rattle.expirations.specs.Standing.{groupSize};
 use super::Passing;
 use super::asking::GROUP;
 use super::asking::GROUP_COUNT;
-use super::asking::has_clock;
+use super::asking::has_byte;
 use record::Due;
 use record::EXPIRATION_COUNT;
 use record::GlobalTime;
@@ -45,7 +45,7 @@ fn any_local<'a>(
     requires { ⌜ (t .task < taskCount) × (length (now clocks) ≡ expirationEntries) × (length (now dues) ≡ expirationEntries) × (from + groupSize ≤ expirationEntries) ⌝ }
     ensures { λ r. ⌜ Asked (isLocalAt t (now (clocks .entry)) (now (dues .entry))) from (from + groupSize) r ⌝ }
 {
-    if !has_clock(clocks, LOCAL + t.task, from, from + GROUP) {
+    if !has_byte(clocks, LOCAL + t.task, from, from + GROUP) {
         return false;
     }
     let mut some = false;
@@ -64,7 +64,7 @@ fn any_global<'a>(
     requires { ⌜ (length (now clocks) ≡ expirationEntries) × (length (now dues) ≡ expirationEntries) × (from + groupSize ≤ expirationEntries) ⌝ }
     ensures { λ r. ⌜ Asked (isGlobalAt global (now (clocks .entry)) (now (dues .entry))) from (from + groupSize) r ⌝ }
 {
-    if !has_clock(clocks, GLOBAL, from, from + GROUP) {
+    if !has_byte(clocks, GLOBAL, from, from + GROUP) {
         return false;
     }
     let mut some = false;

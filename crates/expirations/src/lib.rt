@@ -1,5 +1,5 @@
-// How expirations (01: dates) are kept: a table of entries, of which those with clock 0 are free. A call knows how many stand, sets one on a block, and has an
-// event end those that are over; where an entry stands is known here alone.
+// How expirations (01: dates) are kept: a table of entries, of which those with clock 0 are free. A call knows how many stand and how
+// long the object in a block has left, sets one on a block, and has an event end those that are over; where an entry stands is known here alone.
 ghost use Prim.Native.Nat.{_<_};
 ghost use mathlib.Core.Path.{_≡_};
 ghost use lib.ListN.{length};
@@ -12,6 +12,7 @@ ghost use Rattle.record.specs.Tables.{SizedEntries, blockEntries, expirationEnt
 mod asking;
 mod ending;
 mod releasing;
+mod remaining;
 
 use asking::HALF;
 use asking::free_entry;
@@ -29,6 +30,7 @@ use record::codes::GLOBAL;
 use record::codes::LOCAL;
 use releasing::flags_of;
 use releasing::keep_named;
+pub use remaining::remaining_life;
 use std::num::wrapping_add_u32;
 
 // How many expirations stand.

@@ -38,7 +38,7 @@ free-entry-spec =
     (λ c κs. search needs)
     (λ c. omega arith)
     (λ c. omega arith)
-    (λ c. first-past isFree 0 16 _ (c .before .before .before .loop .inv) (search needs) (c .before .has-clock .ensures .none (c .if1 .left)))
+    (λ c. first-past isFree 0 16 _ (c .before .before .before .loop .inv) (search needs) (c .before .has-byte .ensures .none (c .if1 .left)))
     (λ c. c .before .loop .inv)
     (λ c. omega arith)
     (λ c. first-stop isFree 0 (c .before .before .before .loop2 .inv) (search needs) (eq-eqb _ _ (c .if2 .taken)))

@@ -24,7 +24,7 @@ any-global-spec =
     μ-loop
     (λ c. omega arith)
     (λ c κs. search needs)
-    (λ c. asked-unless (c .before .has-clock .ensures) (not-true _ (c .if1 .taken)) (λ k. global-clock (c .before .before .args .global) _ _))
+    (λ c. asked-unless (c .before .has-byte .ensures) (not-true _ (c .if1 .taken)) (λ k. global-clock (c .before .before .args .global) _ _))
     (λ c. omega arith)
     (λ c. (omega arith, asked-start _ _))
     (λ c. omega arith)

@@ -25,7 +25,7 @@ any-local-spec =
     (λ c. omega arith)
     (λ c. omega arith)
     (λ c κs. search needs)
-    (λ c. asked-unless (c .before .has-clock .ensures) (not-true _ (c .if1 .taken)) (λ k. local-clock (c .before .before .before .args .t) _ _))
+    (λ c. asked-unless (c .before .has-byte .ensures) (not-true _ (c .if1 .taken)) (λ k. local-clock (c .before .before .before .args .t) _ _))
     (λ c. omega arith)
     (λ c. (omega arith, asked-start _ _))
     (λ c. omega arith)

@@ -1,22 +1,22 @@
--- Clock by clock, to the end of the range.
+-- Byte by byte, to the end of the range.
 use Prim.Native.Nat.{_≤_, _-_}
 use native.Mathlib.Omega.{arith}
 use mathlib.Core.Path.{refl}
 use borrow.Author.Needs.{needs}
 use Rattle.expirations.specs.Places.{Asked}
-use Rattle.expirations.specs.Standing.{isClockAt}
+use Rattle.expirations.specs.Standing.{isByteAt}
 use Rattle.expirations.proofs.Places.{asked-start, asked-turn, asked-end}
-use Rattle.expirations.proofs.asking.has_clock.Statement.{statement}
-use Rattle.expirations.proofs.asking.has_clock.Tie as tie
+use Rattle.expirations.proofs.asking.has_byte.Statement.{statement}
+use Rattle.expirations.proofs.asking.has_byte.Tie as tie
 
 abbrev Inv-loop : tie.InvT-loop
-Inv-loop clocks clock from to some₀ i₀ some i = (i ≤ to) × Asked (isClockAt clock clocks) from i some
+Inv-loop column byte from to some₀ i₀ some i = (i ≤ to) × Asked (isByteAt byte column) from i some
 
 abbrev μ-loop : tie.MeasureT-loop
-μ-loop clocks clock from to some₀ i₀ some i = to - i
+μ-loop column byte from to some₀ i₀ some i = to - i
 
-pub has-clock-spec : {M : Type 1} → statement M
-has-clock-spec =
+pub has-byte-spec : {M : Type 1} → statement M
+has-byte-spec =
     tie.close
     (tie.spec
     Inv-loop
