@@ -1,9 +1,12 @@
 -- The record that has a head and lent columns, by its entries.
+use mathlib.Core.Bool.{true}
 use mathlib.Core.List.{List}
 use mathlib.Core.Path.{_≡_, refl}
 use Prim.Native.Nat.{ℕ}
+use Rattle.record.specs.Pools.{isWellFormed}
 use Rattle.record.specs.Reading.{HeadTyped, Typed}
-use Rattle.record.specs.Tables.{SizedBlocks, SizedEntries, blocksOf, entriesOf, tablesBy, tablesOf, pooled}
+use Rattle.record.specs.Tables.{SizedBlocks, SizedEntries, blocksOf, entriesOf, tablesBy, tablesOf, lent, pooled}
+use Rattle.record.specs.WellFormed as WellFormed
 use Rattle.record.specs.declared.Head.{Head}
 use Rattle.record.proofs.Columns.{length-blocks, length-entries}
 use Rattle.record.proofs.Types.{typed-by}
@@ -12,6 +15,12 @@ module _ (h : Head) (handles lengths clocks named dues : List ℕ) where
   pub tables-of : tablesOf (pooled h handles lengths clocks named dues) ≡ tablesBy h (blocksOf handles lengths) (entriesOf clocks named dues)
   unfolding tablesOf
   tables-of = refl
+
+  -- its well-formedness is that of the tables
+  pub lent-fits : isWellFormed (pooled h handles lengths clocks named dues) ≡ true
+      → WellFormed.isWellFormed (lent h handles lengths clocks named dues) ≡ true
+  unfolding tablesOf
+  lent-fits w = w
 
   pub lent-typed : HeadTyped h → SizedBlocks handles lengths → SizedEntries clocks named dues → Typed (tablesOf (pooled h handles lengths clocks named dues))
   lent-typed t b e =

@@ -1,25 +1,16 @@
 -- The record that make and refresh leave on lent tables.
 use Prim.Native.Nat.{ℕ, _+_}
 use mathlib.Core.List.{List}
-use mathlib.Core.Path.{_≡_, refl, sym, ap, _∙_}
-use lib.ListN.{length, set}
-use Rattle.lists.proofs.Counts.{count-map}
+use mathlib.Core.Path.{_≡_}
+use lib.ListN.{set}
 use Rattle.ledger.specs.declared.Kind.{Kind}
-use Rattle.ledger.specs.declared.Kind.the-variants.{Local, Global}
-use Rattle.record.specs.Tables.{ExpirationEntry, SizedEntries, blocksOf, entriesOf, tablesBy, tablesOf, pooled}
+use Rattle.record.specs.Tables.{blocksOf, tablesBy, tablesOf, pooled}
 use Rattle.record.specs.declared.Head.{Head}
-use Rattle.record.proofs.Columns.{clocks-of, blocks-set}
-use Rattle.steps.specs.Objects.{placeOf, freePlace, standingIn, entryFor, madePool, refreshedPool}
+use Rattle.record.proofs.Columns.{blocks-set}
+use Rattle.steps.specs.Objects.{placeOf, freePlace, entryFor, madePool, refreshedPool}
 use Rattle.expirations.specs.Setting.{Sets}
 use Rattle.expirations.specs.Setting.{entryFor as newEntry}
-use Rattle.expirations.specs.Standing.{isUsedClock, standingOf}
 use Rattle.calls.specs.Engine.{withGiven}
-
--- how many stand, by the clocks or by the entries
-pub standing-of : {cs ns ds : List ℕ} → SizedEntries cs ns ds → standingOf cs ≡ standingIn (entriesOf cs ns ds)
-standing-of {cs} {ns} {ds} e =
-    ap standingOf (sym (clocks-of cs ns ds (e .of-clocks) (e .of-named) (e .of-dues)))
-    ∙ count-map isUsedClock (λ (x : ExpirationEntry). x .clock) (entriesOf cs ns ds)
 
 module _ (h : Head) (hs ls cs ns ds : List ℕ) {cs′ ns′ ds′ : List ℕ} (kind : Kind) (task extension place : ℕ)
     (sets : Sets (newEntry (h .tasks) (h .global) kind task extension place) cs ns ds cs′ ns′ ds′) where

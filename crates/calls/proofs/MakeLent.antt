@@ -3,9 +3,9 @@ use Prim.Native.Nat.{ℕ, _+_, _<_}
 use native.Mathlib.Omega.{arith}
 use mathlib.Core.Bool.{_||_}
 use mathlib.Core.List.{List}
-use mathlib.Core.Path.{_≡_, refl, sym, ap, _∙_}
+use mathlib.Core.Path.{_≡_, sym, ap, _∙_}
 use lib.Dec.{eqb, leb, ltb}
-use lib.ListN.{length, getD, set, replicate, length-set}
+use lib.ListN.{getD, set, replicate, length-set}
 use lib.Seq.{getD-set-same}
 use Rattle.ledger.specs.Limits.{taskCount, largeSize, lastHandle}
 use Rattle.ledger.specs.declared.Answer.the-variants.{Handle}
@@ -18,7 +18,7 @@ use Rattle.ledger.specs.declared.Request.the-variants.{Use}
 use Rattle.ledger.specs.declared.Verdict.the-variants.{Accepted, Refused}
 use Rattle.stores.specs.Places.{sizeOf, InBlock, smallAfter, largeAfter}
 use Rattle.record.specs.Reading.{HeadTyped, Typed}
-use Rattle.record.specs.Tables.{BlockEntry, SizedBlocks, SizedEntries, Sized, blocksOf, entriesOf, tablesBy, tablesOf, pooled, blockEntries, expirationEntries}
+use Rattle.record.specs.Tables.{BlockEntry, Sized, blocksOf, entriesOf, tablesBy, tablesOf, pooled, blockEntries, expirationEntries}
 use Rattle.record.specs.declared.Head.{Head}
 use Rattle.record.proofs.Columns.{block-at}
 use Rattle.steps.specs.Objects.{endFor, freePlace, freePlaceIn, refuseIf, taskVerdict, extensionVerdict, roomVerdict, makeVerdict}
@@ -32,7 +32,8 @@ use Rattle.expirations.specs.Standing.{standingOf}
 use Rattle.calls.specs.Contract.{Ready, Makes}
 use Rattle.calls.specs.Engine.{withGiven, outcomeOf}
 use Rattle.calls.proofs.Lent.{tables-of, lent-typed}
-use Rattle.calls.proofs.MadeLent.{standing-of, made-left}
+use Rattle.expirations.proofs.Counting.{standing-of}
+use Rattle.calls.proofs.MadeLent.{made-left}
 use Rattle.calls.proofs.Meets.{block-in, place-known, make-kept, make-cleared}
 use Rattle.calls.proofs.RefreshLent.{room-left}
 

@@ -1,5 +1,5 @@
 -- Make, refresh, read and write after 15 and 14: what the record's functions give meets the contracts.
-use Prim.Native.Nat.{ℕ, _+_, _≤_, _<_}
+use Prim.Native.Nat.{ℕ, _+_, _<_}
 use native.Mathlib.Omega.{arith}
 use mathlib.Core.Bool.{true, true≢false, and-eq-true-iff}
 use mathlib.Core.List.{List, []}
@@ -9,7 +9,8 @@ use Rattle.ledger.specs.Objects.{plain}
 use Rattle.ledger.specs.declared.Kind.{Kind}
 use Rattle.ledger.specs.declared.Answer.the-variants.{Done, Handle, Bytes}
 use Rattle.ledger.specs.declared.Answer.the-variants.{Refused as RefusedAnswer}
-use Rattle.ledger.specs.declared.Call.the-variants.{Make, Refresh, Read, Write}
+use Rattle.ledger.specs.declared.Call.the-variants.{Make, Read, Write}
+use Rattle.ledger.specs.declared.Life.{Life}
 use Rattle.ledger.specs.declared.Refusal.{Refusal}
 use Rattle.ledger.specs.declared.Request.the-variants.{Use}
 use Rattle.ledger.specs.declared.Verdict.{Verdict}
@@ -18,20 +19,20 @@ use Rattle.stores.specs.Places.{blockCount, sizeOf, InBlock, smallAfter, largeA
 use Rattle.stores.proofs.Places.{all-blocks}
 use Rattle.record.specs.Reading.{isWholeSmall, isWholeLarge, blockBytes, Typed}
 use Rattle.record.specs.Tables.{tablesOf}
-use Rattle.record.specs.Pools.{isWellFormed}
 use Rattle.record.specs.declared.Pool.{Pool}
-use Rattle.steps.specs.Objects.{placeIn, placeOf, freePlace, makeVerdict, refreshVerdict, readVerdict, writeVerdict, madePool, refreshedPool}
+use Rattle.steps.specs.Objects.{placeIn, placeOf, freePlace, makeVerdict, readVerdict, writeVerdict, madePool}
 use Rattle.objects.specs.Outcomes.{foundBy}
 use Rattle.objects.specs.declared.Found.{Found}
 use Rattle.objects.specs.declared.Found.the-variants.{At}
 use Rattle.objects.specs.declared.Found.the-variants.{Refused as RefusedFound}
+use Rattle.objects.proofs.Outcomes.{found-refused, found-accepted}
 use Rattle.steps.proofs.ObjectsFollow.{read-place, write-place}
 use Rattle.record.proofs.Exists.{every-fit-record-reads}
 use Rattle.record.specs.Codes.{freeBlock}
 use Rattle.steps.proofs.Chosen.{make-takes}
 use Rattle.calls.specs.Contract.{areWhole, Ready, Obeys, Makes, Locates, ReadsBack, Writes}
 use Rattle.calls.proofs.Promises.{isRefusal}
-use Rattle.calls.proofs.Outcomes.{refresh-refused, refresh-done, make-refused, make-done, read-refused, read-done, write-refused, write-done}
+use Rattle.calls.proofs.Outcomes.{make-refused, make-done, read-refused, read-done, write-refused, write-done}
 
 -- both stores, each by itself
 halves : (small large : List ℕ) → areWhole small large ≡ true → (isWholeSmall small ≡ true) × (isWholeLarge large ≡ true)
@@ -59,20 +60,14 @@ pub refused-locates : (task handle : ℕ) (p : Pool) (small large : List ℕ) (r
     → Obeys (Use (Read task handle)) [] p small large (plain (RefusedAnswer r)) p small large
     → Locates task handle p small large (RefusedFound r)
 refused-locates task handle p small large r o =
-    record { reads = o; inside = λ block count f. let z : _≡_ {A = ℕ} 0 1 = cc in absurd (omega arith) }
+    record { reads = o; inside = λ block count life f. let z : _≡_ {A = ℕ} 0 1 = cc in absurd (omega arith) }
 
 module _ {task handle : ℕ} {p : Pool} {small large : List ℕ} {f : Found} (l : Locates task handle p small large f) where
   pub read-refusal : {why : Refusal} → f ≡ RefusedFound why → ReadsBack task handle p small large (RefusedAnswer why) []
   read-refusal e = rw e at (l .reads)
 
-  pub read-part : {block count : ℕ} → f ≡ At block count → ReadsBack task handle p small large Bytes (blockBytes small large block count)
+  pub read-part : {block count : ℕ} {life : Life} → f ≡ At block count life → ReadsBack task handle p small large Bytes (blockBytes small large block count)
   read-part e = rw e at (l .reads)
-
--- refresh, refused or carried out
-module _ {p : Pool} (types : Typed (tablesOf p)) (w : isWellFormed p ≡ true) (small large : List ℕ) (task : ℕ) (kind : Kind) (extension handle : ℕ) where
-  pub refresh-kept : (why : Refusal) → refreshVerdict task extension handle (tablesOf p) ≡ Refused why
-      → Obeys (Use (Refresh task kind extension handle)) [] p small large (plain (RefusedAnswer why)) p small large
-  refresh-kept = refresh-refused p types w small large task kind extension handle
 
 -- make, refused or carried out
 module _ {task : ℕ} {kind : Kind} {extension size : ℕ} {p : Pool} {small large : List ℕ} (types : Typed (tablesOf p))
@@ -114,11 +109,11 @@ module _ {task : ℕ} {kind : Kind} {extension size : ℕ} {p : Pool} {small lar
 
 -- an object that is found, or why not
 module _ {task handle : ℕ} {p : Pool} {small large : List ℕ} (types : Typed (tablesOf p)) (ready : Ready (Use (Read task handle)) p small large) where
-  locates-by : (v : Verdict) → readVerdict task handle (tablesOf p) ≡ v → Locates task handle p small large (foundBy v handle (tablesOf p))
+  locates-by : (v : Verdict) → readVerdict task handle (tablesOf p) ≡ v → Locates task handle p small large (foundBy v task handle (tablesOf p))
   locates-by Accepted e =
       record {
         reads = read-done p types (ready .fit) small large (ready .whole refl) task handle e;
-        inside = λ block count f.
+        inside = λ block count life f.
             let b : placeOf handle (tablesOf p .blocks) ≡ block = cc in
             let n : getD (tablesOf p .blocks) (placeOf handle (tablesOf p .blocks)) freeBlock .length ≡ count = cc in
             let (small-whole, large-whole) = halves small large (ready .whole refl) in
@@ -128,41 +123,29 @@ module _ {task handle : ℕ} {p : Pool} {small large : List ℕ} (types : Typed 
   locates-by (Refused r) e =
       refused-locates task handle p small large r (read-refused p types (ready .fit) small large (ready .whole refl) task handle r e)
 
-  pub locates : (f : Found) → f ≡ foundBy (readVerdict task handle (tablesOf p)) handle (tablesOf p) → Locates task handle p small large f
+  pub locates : (f : Found) → f ≡ foundBy (readVerdict task handle (tablesOf p)) task handle (tablesOf p) → Locates task handle p small large f
   locates f e = rw e (locates-by (readVerdict task handle (tablesOf p)) refl)
 
 module _ {task handle offset : ℕ} {p : Pool} {small large : List ℕ} (types : Typed (tablesOf p)) (ready : Ready (Use (Write task handle offset)) p small large)
     (here : placeIn handle (p .handles) ≡ placeOf handle (tablesOf p .blocks)) (new : List ℕ) where
-  write-by : (v : Verdict) → writeVerdict task handle offset (length new) (tablesOf p) ≡ v → (why : Refusal) → foundBy v handle (tablesOf p) ≡ RefusedFound why
-      → Writes task handle offset new p small large (RefusedAnswer why) small large
-  write-by Accepted e why f = let z : _≡_ {A = ℕ} 0 1 = cc in absurd (omega arith)
-  write-by (Refused r) e why f =
-      let same : r ≡ why = cc in
-      refused-writes task handle offset new p small large why
-      (rw same at (write-refused p types (ready .fit) small large (ready .whole refl) task handle offset new r e))
+  module _ (f : Found) (so : f ≡ foundBy (writeVerdict task handle offset (length new) (tablesOf p)) task handle (tablesOf p)) where
+    pub write-kept : (why : Refusal) → f ≡ RefusedFound why → Writes task handle offset new p small large (RefusedAnswer why) small large
+    write-kept why g =
+        refused-writes task handle offset new p small large why
+        (write-refused p types (ready .fit) small large (ready .whole refl) task handle offset new why (found-refused task handle (tablesOf p) _ (sym so ∙ g)))
 
-  write-at-by : (v : Verdict) → writeVerdict task handle offset (length new) (tablesOf p) ≡ v → (block count : ℕ) → foundBy v handle (tablesOf p) ≡ At block count
-      → InBlock small large block (offset + length new)
-      × Writes task handle offset new p small large Done (smallAfter block offset new small) (largeAfter block offset new large)
-  write-at-by Accepted e block count f =
-      let b : placeOf handle (tablesOf p .blocks) ≡ block = cc in
-      let (small-whole, large-whole) = halves small large (ready .whole refl) in
-      let (L, reads) = every-fit-record-reads p types (ready .fit) small large in
-      rw (← b) (
-        write-place (ready .fit) types reads small-whole large-whole task handle offset new e,
-        record {
-          obeys = write-done p types (ready .fit) small large (ready .whole refl) task handle offset new e;
-          smallWritten = λ d. rw here;
-          largeWritten = λ d. rw here;
-        },
-      )
-  write-at-by (Refused r) e block count f = let z : _≡_ {A = ℕ} 0 1 = cc in absurd (omega arith)
-
-  pub write-kept : (f : Found) → f ≡ foundBy (writeVerdict task handle offset (length new) (tablesOf p)) handle (tablesOf p) → (why : Refusal) → f ≡ RefusedFound why
-      → Writes task handle offset new p small large (RefusedAnswer why) small large
-  write-kept f e why g = write-by (writeVerdict task handle offset (length new) (tablesOf p)) refl why (sym e ∙ g)
-
-  pub write-found : (f : Found) → f ≡ foundBy (writeVerdict task handle offset (length new) (tablesOf p)) handle (tablesOf p) → (block count : ℕ) → f ≡ At block count
-      → InBlock small large block (offset + length new)
-      × Writes task handle offset new p small large Done (smallAfter block offset new small) (largeAfter block offset new large)
-  write-found f e block count g = write-at-by (writeVerdict task handle offset (length new) (tablesOf p)) refl block count (sym e ∙ g)
+    pub write-found : (block count : ℕ) (life : Life) → f ≡ At block count life
+        → InBlock small large block (offset + length new)
+        × Writes task handle offset new p small large Done (smallAfter block offset new small) (largeAfter block offset new large)
+    write-found block count life g =
+        let (e, b, n) = found-accepted task handle (tablesOf p) _ (sym so ∙ g) in
+        let (small-whole, large-whole) = halves small large (ready .whole refl) in
+        let (L, reads) = every-fit-record-reads p types (ready .fit) small large in
+        rw (← b) (
+          write-place (ready .fit) types reads small-whole large-whole task handle offset new e,
+          record {
+            obeys = write-done p types (ready .fit) small large (ready .whole refl) task handle offset new e;
+            smallWritten = λ d. rw here;
+            largeWritten = λ d. rw here;
+          },
+        )

@@ -11,6 +11,7 @@ use Rattle.ledger.specs.declared.Kind.{Kind}
 use Rattle.ledger.specs.declared.Answer.{Answer}
 use Rattle.ledger.specs.declared.Answer.the-variants.{Refused, Done, Handle, Bytes}
 use Rattle.ledger.specs.declared.Call.the-variants.{Schedule, Make, Refresh, Read, Write}
+use Rattle.ledger.specs.declared.Life.{Life}
 use Rattle.ledger.specs.declared.Refusal.{Refusal}
 use Rattle.ledger.specs.declared.Refusal.the-variants.{WrongStoreLength, NotWellFormed}
 use Rattle.ledger.specs.declared.Request.{Request}
@@ -113,12 +114,12 @@ ReadsBack task handle p small large answer part =
 -- the reply of a read that was found in a block, or was refused
 abbrev pub replyFound : List ℕ → List ℕ → Found → Reply
 replyFound small large (RefusedFound why) = plain (Refused why)
-replyFound small large (At block count) = record { answer = Bytes; bytes = blockBytes small large block count }
+replyFound small large (At block count life) = record { answer = Bytes; bytes = blockBytes small large block count }
 
 -- where a read finds its object: those bytes are its reply, and they lie in a block
 pub record Locates (task handle : ℕ) (p : Pool) (small large : List ℕ) (f : Found) : Type 0 where
   pub reads : Obeys (Use (Read task handle)) [] p small large (replyFound small large f) p small large
-  pub inside : (block count : ℕ) → f ≡ At block count → InBlock small large block count
+  pub inside : (block count : ℕ) (life : Life) → f ≡ At block count life → InBlock small large block count
 
 -- the same for whatever stores have these lengths
 abbrev pub LocatesIn : ℕ → ℕ → ℕ → ℕ → Pool → Found → Type 0

@@ -6,15 +6,13 @@ use mathlib.Core.Path.{_≡_}
 use lib.ListN.{length}
 use Rattle.ledger.specs.declared.Answer.{Answer}
 use Rattle.ledger.specs.declared.Answer.the-variants.{Done as DoneAnswer, Refused as RefusedAnswer}
-use Rattle.ledger.specs.declared.Call.the-variants.{Write}
 use Rattle.ledger.specs.declared.Request.{Request}
-use Rattle.ledger.specs.declared.Request.the-variants.{Use}
 use Rattle.ledger.specs.declared.Verdict.{Verdict}
 use Rattle.ledger.specs.declared.Verdict.the-variants.{Accepted, Refused}
 use Rattle.record.specs.Tables.{pooled, SizedEntries, blockEntries}
 use Rattle.record.specs.Pools.{isWellFormed}
 use Rattle.record.specs.declared.Head.{Head}
-use Rattle.calls.specs.Contract.{Ready, Follows, Writes}
+use Rattle.calls.specs.Contract.{Follows}
 use Rattle.calls.specs.declared.Step.{Step}
 use Rattle.calls.specs.declared.Outcome.{Outcome}
 
@@ -37,17 +35,3 @@ pub record FollowsBeside (request : Request) (h : Head) (handles clocks named du
   pub sized : SizedEntries clocks′ named′ dues′
   pub follows : (lengths : List ℕ) → length lengths ≡ blockEntries → isWellFormed (pooled h handles lengths clocks named dues) ≡ true
       → Follows request (pooled h handles lengths clocks named dues) answer (pooled h′ handles′ lengths clocks′ named′ dues′)
-
--- A write goes by the blocks alone: some expirations stand beside them that make the record well-formed,
-pub record ReadyBeside (request : Request) (h : Head) (handles lengths small large : List ℕ) : Type 0 where
-  pub clocks : List ℕ
-  pub named : List ℕ
-  pub dues : List ℕ
-  pub sized : SizedEntries clocks named dues
-  pub ready : Ready request (pooled h handles lengths clocks named dues) small large
-
--- and it does what it promises whichever they are.
-abbrev pub WritesBeside : ℕ → ℕ → ℕ → List ℕ → Head → List ℕ → List ℕ → List ℕ → List ℕ → Answer → List ℕ → List ℕ → Type 0
-WritesBeside task handle offset new h handles lengths small large answer small′ large′ =
-    (clocks named dues : List ℕ) → SizedEntries clocks named dues → Ready (Use (Write task handle offset)) (pooled h handles lengths clocks named dues) small large
-    → Writes task handle offset new (pooled h handles lengths clocks named dues) small large answer small′ large′

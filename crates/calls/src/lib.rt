@@ -1,12 +1,14 @@
 // Each call that changes something, of a well-formed record with stores of 01's lengths: what follows the tests of 15 and 14. The head goes by value, tables and stores
 // are lent. A call decides first, by what it only reads, and then changes: a refusal has touched nothing.
+ghost use mathlib.Core.Bool.{true};
 ghost use mathlib.Core.Path.{_≡_};
 ghost use lib.ListN.{length};
 ghost use Rattle.ledger.specs.declared.Call.the-variants.{Schedule, Make, Refresh, Write};
 ghost use Rattle.ledger.specs.declared.Request.the-variants.{Use};
-ghost use Rattle.record.specs.Tables.{pooled, SizedBlocks, SizedEntries, Sized, blockEntries};
-ghost use Rattle.calls.specs.Contract.{Ready, Makes, Writes};
-ghost use Rattle.calls.specs.Engine.{refusedBy, withGiven, outcomeOf, FollowsBeside, ReadyBeside, WritesBeside};
+ghost use Rattle.record.specs.Pools.{isWellFormed};
+ghost use Rattle.record.specs.Tables.{pooled, SizedEntries, Sized, blockEntries};
+ghost use Rattle.calls.specs.Contract.{Ready, Follows, Makes, Writes};
+ghost use Rattle.calls.specs.Engine.{refusedBy, withGiven, outcomeOf, FollowsBeside};
 use expirations::Passing;
 use expirations::end;
 use expirations::set;
@@ -16,9 +18,9 @@ use ledger::Event;
 use ledger::Kind;
 use ledger::Verdict;
 use objects::Found;
+use objects::find_for_refresh;
 use objects::find_for_write;
 use objects::plan_make;
-use objects::plan_refresh;
 use record::BLOCK_COUNT;
 use record::EXPIRATION_COUNT;
 use record::Head;
@@ -151,9 +153,10 @@ pub fn make(
 }
 
 // Sets one more expiration.
-pub fn refresh(
+pub fn refresh<'a>(
     h: Head,
-    handles: &[u32; BLOCK_COUNT],
+    handles: &'a [u32; BLOCK_COUNT],
+    lengths: &'a [u16; BLOCK_COUNT],
     clocks: &mut [u8; EXPIRATION_COUNT],
     named: &mut [u8; EXPIRATION_COUNT],
     dues: &mut [u32; EXPIRATION_COUNT],
@@ -162,19 +165,35 @@ pub fn refresh(
     extension: u8,
     handle: u32,
 ) -> Step
-    requires { ⌜ (length (now handles) ≡ blockEntries) × SizedEntries (now clocks) (now named) (now dues) ⌝ }
-    ensures { λ r. ⌜ FollowsBeside (Use (Refresh task kind extension handle)) h (now (handles .entry)) (now (clocks .entry)) (now (named .entry)) (now (dues .entry)) (r .answer) (r .head) (now (handles .entry)) (now (clocks .exit)) (now (named .exit)) (now (dues .exit)) ⌝ }
+    requires { ⌜ Sized (now handles) (now lengths) (now clocks) (now named) (now dues) × (isWellFormed (pooled h (now handles) (now lengths) (now clocks) (now named) (now dues)) ≡ true) ⌝ }
+    ensures { λ r. ⌜ SizedEntries (now (clocks .exit)) (now (named .exit)) (now (dues .exit)) × Follows (Use (Refresh task kind extension handle)) (pooled h (now (handles .entry)) (now (lengths .entry)) (now (clocks .entry)) (now (named .entry)) (now (dues .entry))) (r .answer) (pooled (r .head) (now (handles .entry)) (now (lengths .entry)) (now (clocks .exit)) (now (named .exit)) (now (dues .exit))) ⌝ }
 {
-    let plan = plan_refresh(h, handles, standing(clocks), task, extension, handle);
-    let verdict = plan.verdict;
-    let place = plan.place;
-    let Verdict::Accepted = verdict else {
-        return refused_by(verdict, h);
-    };
-    set(h, kind, task, extension, place, clocks, named, dues);
-    Step {
-        answer: Answer::Done,
-        head: h,
+    match find_for_refresh(
+        h,
+        handles,
+        lengths,
+        clocks,
+        named,
+        dues,
+        task,
+        extension,
+        handle,
+    ) {
+        Found::Refused(why) => Step {
+            answer: Answer::Refused(why),
+            head: h,
+        },
+        Found::At {
+            block,
+            length: _,
+            life: _,
+        } => {
+            set(h, kind, task, extension, block, clocks, named, dues);
+            Step {
+                answer: Answer::Done,
+                head: h,
+            }
+        }
     }
 }
 
@@ -183,6 +202,9 @@ pub fn write<'a>(
     h: Head,
     handles: &'a [u32; BLOCK_COUNT],
     lengths: &'a [u16; BLOCK_COUNT],
+    clocks: &'a [u8; EXPIRATION_COUNT],
+    named: &'a [u8; EXPIRATION_COUNT],
+    dues: &'a [u32; EXPIRATION_COUNT],
     small: &mut [u8],
     large: &mut [u8],
     task: u8,
@@ -190,12 +212,27 @@ pub fn write<'a>(
     offset: u8,
     bytes: &[u8],
 ) -> Answer
-    requires { ⌜ SizedBlocks (now handles) (now lengths) × ReadyBeside (Use (Write task handle offset)) h (now handles) (now lengths) (now small) (now large) ⌝ }
-    ensures { λ r. ⌜ WritesBeside task handle offset (now (bytes .entry)) h (now (handles .entry)) (now (lengths .entry)) (now (small .entry)) (now (large .entry)) r (now (small .exit)) (now (large .exit)) ⌝ }
+    requires { ⌜ Sized (now handles) (now lengths) (now clocks) (now named) (now dues) × Ready (Use (Write task handle offset)) (pooled h (now handles) (now lengths) (now clocks) (now named) (now dues)) (now small) (now large) ⌝ }
+    ensures { λ r. ⌜ Writes task handle offset (now (bytes .entry)) (pooled h (now (handles .entry)) (now (lengths .entry)) (now (clocks .entry)) (now (named .entry)) (now (dues .entry))) (now (small .entry)) (now (large .entry)) r (now (small .exit)) (now (large .exit)) ⌝ }
 {
-    match find_for_write(h, handles, lengths, task, handle, offset, bytes.len()) {
+    match find_for_write(
+        h,
+        handles,
+        lengths,
+        clocks,
+        named,
+        dues,
+        task,
+        handle,
+        offset,
+        bytes.len(),
+    ) {
         Found::Refused(why) => Answer::Refused(why),
-        Found::At { block, length: _ } => {
+        Found::At {
+            block,
+            length: _,
+            life: _,
+        } => {
             write_place(small, large, block, offset as usize, bytes);
             Answer::Done
         }

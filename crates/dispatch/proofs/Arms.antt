@@ -2,7 +2,6 @@
 use Prim.Native.Nat.{ℕ}
 use mathlib.Core.List.{List}
 use mathlib.Core.Path.{_≡_, refl}
-use lib.ListN.{length}
 use Rattle.ledger.specs.Objects.{memoryAfter}
 use Rattle.ledger.specs.Refusals.{testsOf}
 use Rattle.ledger.specs.Ledger.{reply, next}
@@ -15,22 +14,23 @@ use Rattle.ledger.specs.declared.Kind.{Kind}
 use Rattle.ledger.specs.declared.Request.{Request}
 use Rattle.ledger.specs.declared.Request.the-variants.{Use, Report}
 use Rattle.record.specs.Reading.{HeadTyped}
-use Rattle.record.specs.Tables.{Sized, blocksOf, entriesOf, tablesBy, tablesOf, pooled}
+use Rattle.record.specs.Tables.{SizedEntries, Sized, entriesOf, tablesOf, lent, pooled}
 use Rattle.record.specs.declared.Head.{Head}
 use Rattle.record.specs.declared.Pool.{Pool}
 use Rattle.expirations.specs.Standing.{standingOf}
-use Rattle.objects.specs.Outcomes.{foundIn}
+use Rattle.steps.specs.Objects.{readVerdict}
+use Rattle.objects.specs.Outcomes.{foundBy}
 use Rattle.objects.specs.Usage.{usageIn}
 use Rattle.objects.specs.declared.Found.{Found}
 use Rattle.objects.specs.declared.Found.the-variants.{At, Refused}
 use Rattle.objects.proofs.Laws.{usage-of}
-use Rattle.calls.specs.Contract.{Ready, Makes, Locates}
+use Rattle.calls.specs.Contract.{Ready, Follows, Makes, Locates, Writes}
 use Rattle.calls.specs.Served.{Serves}
-use Rattle.calls.specs.Engine.{outcomeOf, FollowsBeside, ReadyBeside, WritesBeside}
+use Rattle.calls.specs.Engine.{outcomeOf, FollowsBeside}
 use Rattle.dispatch.specs.Done.{withoutBytes, whereFound, givenBack}
 use Rattle.calls.specs.declared.Step.{Step}
 use Rattle.dispatch.specs.declared.Done.{Done}
-use Rattle.calls.proofs.MadeLent.{standing-of}
+use Rattle.expirations.proofs.Counting.{standing-of}
 use Rattle.calls.proofs.Reported.{report-obeys}
 use Rattle.calls.proofs.Served.{whatever-bytes, serves-plain, schedule-serves, refresh-serves, make-serves, write-serves, report-serves}
 use Rattle.calls.proofs.WriteLent.{read-locates}
@@ -44,22 +44,16 @@ module _ (new : List ℕ) (h : Head) (hs ls cs ns ds small large : List ℕ) whe
       → Serves (Use (Read task handle)) new lentPool small large (givenBack (whereFound f h) hs ls cs ns ds) small large
   unfolding reply next testsOf memoryAfter
   read-serves task handle (Refused why) l = serves-plain tt (whatever-bytes new (λ L. refl) (λ L. refl) (l .reads))
-  read-serves task handle (At block count) l =
+  read-serves task handle (At block count life) l =
       record {
         obeys = whatever-bytes new (λ L. refl) (λ L. refl) (l .reads);
         beyond = tt;
-        inside = λ some. l .inside block count refl;
+        inside = λ some. l .inside block count life refl;
       }
 
 -- what is ready for a request is ready for the one that it is
 pub ready-for : {request other : Request} {p : Pool} {small large : List ℕ} → Ready request p small large → request ≡ other → Ready other p small large
 ready-for ready is = rw is at ready
-
--- the expirations beside a write
-pub write-ready : {h : Head} {hs ls cs ns ds : List ℕ} → Sized hs ls cs ns ds → {small large : List ℕ} {call : Call}
-    → Ready (Use call) (pooled h hs ls cs ns ds) small large → {task handle offset : ℕ} → call ≡ Write task handle offset
-    → ReadyBeside (Use (Write task handle offset)) h hs ls small large
-write-ready {cs = cs} {ns} {ds} sized ready is = record { clocks = cs; named = ns; dues = ds; sized = sized .entries; ready = rw is at ready }
 
 -- what a call on these tables and stores owes
 abbrev Served : Request → List ℕ → Head → List ℕ → List ℕ → List ℕ → List ℕ → List ℕ → List ℕ → List ℕ → Done
@@ -80,12 +74,13 @@ module _ (new : List ℕ) {h : Head} {hs ls cs ns ds : List ℕ} (sized : Sized 
       )
 
   pub refresh-arm : {task : ℕ} {kind : Kind} {extension handle : ℕ} → call ≡ Refresh task kind extension handle → {s : Step} {cs′ ns′ ds′ : List ℕ}
-      → FollowsBeside (Use (Refresh task kind extension handle)) h hs cs ns ds (s .answer) (s .head) hs cs′ ns′ ds′ → r ≡ withoutBytes (s .answer) (s .head)
-      → Served (Use call) new h hs ls cs ns ds small large r hs ls cs′ ns′ ds′ small large
-  refresh-arm {task} {kind} {extension} {handle} is {s} f so =
+      → SizedEntries cs′ ns′ ds′
+      × Follows (Use (Refresh task kind extension handle)) (pooled h hs ls cs ns ds) (s .answer) (pooled (s .head) hs ls cs′ ns′ ds′)
+      → r ≡ withoutBytes (s .answer) (s .head) → Served (Use call) new h hs ls cs ns ds small large r hs ls cs′ ns′ ds′ small large
+  refresh-arm {task} {kind} {extension} {handle} is {s} (entries, f) so =
       rw (is, so) (
-        record { blocks = sized .blocks; entries = f .sized },
-        refresh-serves new _ small large task kind extension handle (s .answer) _ (f .follows ls (sized .blocks .of-lengths) (ready .fit)),
+        record { blocks = sized .blocks; entries = entries },
+        refresh-serves new _ small large task kind extension handle (s .answer) _ f,
       )
 
   pub make-arm : {task : ℕ} {kind : Kind} {extension size : ℕ} → call ≡ Make task kind extension size → {s : Step} {hs′ ls′ cs′ ns′ ds′ small′ large′ : List ℕ}
@@ -95,16 +90,17 @@ module _ (new : List ℕ) {h : Head} {hs ls cs ns ds : List ℕ} (sized : Sized 
   make-arm {task} {kind} {extension} {size} is (sized′, m) so =
       rw (is, so) (sized′, make-serves new _ small large task kind extension size _ _ _ m)
 
-  pub read-arm : HeadTyped h → {task handle : ℕ} → call ≡ Read task handle → {f : Found} → f ≡ foundIn task handle h (blocksOf hs ls) → r ≡ whereFound f h
+  pub read-arm : HeadTyped h → {task handle : ℕ} → call ≡ Read task handle → {f : Found}
+      → f ≡ foundBy (readVerdict task handle (lent h hs ls cs ns ds)) task handle (lent h hs ls cs ns ds) → r ≡ whereFound f h
       → Served (Use call) new h hs ls cs ns ds small large r hs ls cs ns ds small large
   read-arm types {task} {handle} is {f} found so =
-      rw (is, so) (sized, read-serves new h hs ls cs ns ds small large task handle f (read-locates types (sized .blocks) (sized .entries) task handle (rw is at ready) f found))
+      rw (is, so) (sized, read-serves new h hs ls cs ns ds small large task handle f (read-locates types sized task handle (rw is at ready) f found))
 
   pub write-arm : {task handle offset : ℕ} → call ≡ Write task handle offset → {answer : Answer} {small′ large′ : List ℕ}
-      → WritesBeside task handle offset new h hs ls small large answer small′ large′ → r ≡ withoutBytes answer h
+      → Writes task handle offset new (pooled h hs ls cs ns ds) small large answer small′ large′ → r ≡ withoutBytes answer h
       → Served (Use call) new h hs ls cs ns ds small large r hs ls cs ns ds small′ large′
   write-arm {task} {handle} {offset} is {answer} w so =
-      rw (is, so) (sized, write-serves new _ small large task handle offset answer _ _ (w cs ns ds (sized .entries) (rw is at ready)))
+      rw (is, so) (sized, write-serves new _ small large task handle offset answer _ _ w)
 
 -- report, and any request by its call
 module _ (new : List ℕ) {h : Head} {hs ls cs ns ds : List ℕ} (sized : Sized hs ls cs ns ds) {small large : List ℕ} {request : Request}

@@ -18,7 +18,7 @@ withoutBytes answer h = record { answer = answer; head = h; block = 0; length = 
 
 abbrev pub whereFound : Found → Head → Done
 whereFound (RefusedFound why) h = withoutBytes (RefusedAnswer why) h
-whereFound (At block count) h = record { answer = Bytes; head = h; block = block; length = count }
+whereFound (At block count life) h = record { answer = Bytes; head = h; block = block; length = count }
 
 -- what a caller by value is given, with the columns that were left
 abbrev pub givenBack : Done → List ℕ → List ℕ → List ℕ → List ℕ → List ℕ → Called

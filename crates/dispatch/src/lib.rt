@@ -14,7 +14,7 @@ use ledger::Answer;
 use ledger::Call;
 use ledger::Request;
 use objects::Found;
-use objects::find;
+use objects::find_for_read;
 use objects::usage;
 use record::BLOCK_COUNT;
 use record::EXPIRATION_COUNT;
@@ -44,7 +44,11 @@ fn where_found(found: Found, h: Head) -> Done
 {
     match found {
         Found::Refused(why) => without_bytes(Answer::Refused(why), h),
-        Found::At { block, length } => Done {
+        Found::At {
+            block,
+            length,
+            life: _,
+        } => Done {
             answer: Answer::Bytes,
             head: h,
             block: block,
@@ -108,6 +112,7 @@ fn serve(
             let step = refresh(
                 h,
                 handles,
+                lengths,
                 clocks,
                 named,
                 dues,
@@ -120,7 +125,10 @@ fn serve(
             let head = step.head;
             without_bytes(answer, head)
         }
-        Call::Read { task, handle } => where_found(find(h, handles, lengths, task, handle), h),
+        Call::Read { task, handle } => where_found(
+            find_for_read(h, handles, lengths, clocks, named, dues, task, handle),
+            h,
+        ),
         Call::Write {
             task,
             handle,
@@ -130,6 +138,9 @@ fn serve(
                 h,
                 handles,
                 lengths,
+                clocks,
+                named,
+                dues,
                 small,
                 large,
                 task,

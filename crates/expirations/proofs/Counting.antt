@@ -8,13 +8,13 @@ use borrow.Author.Tests.{lt-leb, leb-false}
 use lib.Dec.{eqb}
 use lib.ListN.{length, set, take, drop, length-set, length-take, length-drop, take-append-drop}
 use lib.Seq.{take-all}
-use Rattle.lists.proofs.Counts.{count-append, length-filter}
+use Rattle.lists.proofs.Counts.{count-append, count-map, length-filter}
 use Rattle.lists.proofs.Filters.{count-length}
 use Rattle.lists.proofs.First.{first-full, first-map}
 use Rattle.lists.proofs.Loops.{Scanned}
 use Rattle.record.specs.Tables.{ExpirationEntry, entriesOf, SizedEntries, expirationEntries}
 use Rattle.record.proofs.Columns.{clocks-of, entries-set}
-use Rattle.steps.specs.Objects.{freeSlot}
+use Rattle.steps.specs.Objects.{freeSlot, standingIn}
 use Rattle.expirations.specs.Setting.{entryOf, Sets}
 use Rattle.expirations.specs.declared.Entry.{Entry}
 use Rattle.expirations.specs.Standing.{isUsedClock, standingOf, freeIn, halfSize}
@@ -28,6 +28,12 @@ pub part-within : (from to m : ℕ) {clocks : List ℕ} {i : ℕ}
 part-within from to m {clocks} s =
     let part = drop from (take to clocks) in
     omega (arith, s .so, count-length isUsedClock part, length-filter isUsedClock part, length-drop from (take to clocks), length-take to clocks)
+
+-- how many stand, by the clocks or by the entries
+pub standing-of : {cs ns ds : List ℕ} → SizedEntries cs ns ds → standingOf cs ≡ standingIn (entriesOf cs ns ds)
+standing-of {cs} {ns} {ds} e =
+    ap standingOf (sym (clocks-of cs ns ds (e .of-clocks) (e .of-named) (e .of-dues)))
+    ∙ count-map isUsedClock (λ (x : ExpirationEntry). x .clock) (entriesOf cs ns ds)
 
 pub halves : (clocks : List ℕ) → length clocks ≡ expirationEntries
     → standingOf clocks ≡ standingOf (drop 0 (take halfSize clocks)) + standingOf (drop halfSize (take expirationEntries clocks))

@@ -157,7 +157,11 @@ pub fn read<'a>(
 {
     match locate(p, small.len(), large.len(), task, handle) {
         Found::Refused(why) => number_of(why),
-        Found::At { block, length } => {
+        Found::At {
+            block,
+            length,
+            life: _,
+        } => {
             let part = block_part(small, large, block, length as usize);
             if out.len() < part.len() {
                 return TOO_SHORT;

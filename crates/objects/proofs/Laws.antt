@@ -8,9 +8,9 @@ use Rattle.lists.proofs.First.{first-map}
 use Rattle.record.specs.Tables.{BlockEntry, ExpirationEntry, blocksOf, tablesBy, blockEntries}
 use Rattle.record.specs.declared.Head.{Head}
 use Rattle.record.proofs.Columns.{handles-of}
-use Rattle.steps.specs.Objects.{placeOf, placeIn, freePlace, freePlaceIn, standingIn, makeVerdict, refreshVerdict, readVerdict, writeVerdict}
+use Rattle.steps.specs.Objects.{placeOf, placeIn, freePlace, freePlaceIn, standingIn, makeVerdict}
 use Rattle.steps.specs.Usage.{usageOf}
-use Rattle.objects.specs.Outcomes.{makePlan, refreshPlan, foundBy, foundIn, foundForWriteIn}
+use Rattle.objects.specs.Outcomes.{makePlan}
 use Rattle.objects.specs.Usage.{usageIn}
 
 module _ {ℓ κ} {A : Type ℓ} {B : Type κ} (f : A → B) where
@@ -53,21 +53,3 @@ module _ (hs ls : List ℕ) (a : length hs ≡ blockEntries) (b : length ls ≡ 
         → makePlan task extension size h (freePlaceIn size hs) (standingIn xs) .verdict ≡ makeVerdict task extension size (tablesBy h (blocksOf hs ls) xs)
     unfolding makePlan makeVerdict tablesBy
     make-planned task extension size = rw (free-place-of size)
-
-    pub refresh-planned : (task extension handle : ℕ)
-        → refreshPlan task extension handle h (placeIn handle hs) (standingIn xs) .verdict
-        ≡ refreshVerdict task extension handle (tablesBy h (blocksOf hs ls) xs)
-    unfolding refreshPlan refreshVerdict tablesBy
-    refresh-planned task extension handle = rw (place-of handle)
-
--- on any blocks
-module _ (h : Head) (blocks : List BlockEntry) (xs : List ExpirationEntry) where
-  pub found-in : (task handle : ℕ) → foundIn task handle h blocks ≡ foundBy (readVerdict task handle (tablesBy h blocks xs)) handle (tablesBy h blocks xs)
-  unfolding foundIn readVerdict tablesBy
-  found-in task handle = refl
-
-  pub found-for-write-in : (task handle offset count : ℕ)
-      → foundForWriteIn task handle offset count h blocks
-      ≡ foundBy (writeVerdict task handle offset count (tablesBy h blocks xs)) handle (tablesBy h blocks xs)
-  unfolding foundForWriteIn writeVerdict readVerdict tablesBy
-  found-for-write-in task handle offset count = refl

@@ -1,2 +1,3 @@
 pub mod Searching
 pub mod Laws
+pub mod Outcomes

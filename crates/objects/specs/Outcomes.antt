@@ -1,39 +1,32 @@
 -- What make, refresh, read and write decide, by the head and by what was found in the tables.
-use Prim.Native.Nat.{ℕ, _+_}
-use mathlib.Core.List.{List}
+use Prim.Native.Nat.{ℕ}
 use lib.ListN.{getD}
 use Rattle.ledger.specs.declared.Verdict.{Verdict}
 use Rattle.ledger.specs.declared.Verdict.the-variants.{Accepted, Refused}
 use Rattle.record.specs.Codes.{freeBlock}
-use Rattle.record.specs.Tables.{BlockEntry, Tables}
+use Rattle.record.specs.Tables.{Tables}
 use Rattle.record.specs.declared.Head.{Head}
-use Rattle.steps.specs.Objects.{placeOf, andThen, endVerdict, makeVerdictBy, refreshVerdictBy, readVerdictIn}
+use Rattle.steps.specs.Objects.{placeOf, makeVerdictBy}
+use Rattle.steps.specs.Remaining.{lifeIn}
 use Rattle.objects.specs.declared.Plan.{Plan}
 use Rattle.objects.specs.declared.Found.{Found}
 use Rattle.objects.specs.declared.Found.the-variants.{At}
 use Rattle.objects.specs.declared.Found.the-variants.{Refused as RefusedFound}
 
--- the block of a read or a write, and the length that its object has there
-abbrev pub foundAt : Verdict → ℕ → List BlockEntry → Found
-foundAt Accepted handle blocks = At (placeOf handle blocks) (getD blocks (placeOf handle blocks) freeBlock .length)
-foundAt (Refused r) handle blocks = RefusedFound r
+-- the one finding, by the verdict of the call that asks: the object's block, the length that it has there and its remaining life for the task
+abbrev pub foundBy : Verdict → ℕ → ℕ → Tables → Found
+foundBy Accepted task handle p =
+    let place = placeOf handle (p .blocks) in
+    At place (getD (p .blocks) place freeBlock .length) (lifeIn task place (p .tasks) (p .global) (p .expirations))
+foundBy (Refused r) task handle p = RefusedFound r
 
-abbrev pub foundBy : Verdict → ℕ → Tables → Found
-foundBy v handle p = foundAt v handle (p .blocks)
+-- what was found, if one test more accepts
+abbrev pub foundIf : Found → Verdict → Found
+foundIf (RefusedFound r) v = RefusedFound r
+foundIf (At block length life) Accepted = At block length life
+foundIf (At block length life) (Refused r) = RefusedFound r
 
--- the same by the tables that a call reads
-unfoldable pub foundIn : ℕ → ℕ → Head → List BlockEntry → Found
-foundIn task handle h blocks = foundAt (readVerdictIn task handle (h .tasks) (h .given) blocks) handle blocks
-
-unfoldable pub foundForWriteIn : ℕ → ℕ → ℕ → ℕ → Head → List BlockEntry → Found
-foundForWriteIn task handle offset count h blocks =
-    foundAt (andThen (readVerdictIn task handle (h .tasks) (h .given) blocks) (endVerdict handle (offset + count) blocks)) handle blocks
-
--- the verdict of a make or a refresh, by the block that was found and how many expirations stand; and that block
+-- the verdict of a make, by the block that was found and how many expirations stand; and that block
 unfoldable pub makePlan : ℕ → ℕ → ℕ → Head → ℕ → ℕ → Plan
 makePlan task extension size h place standing =
     record { verdict = makeVerdictBy task extension size (h .tasks) (h .given) place standing; place = place }
-
-unfoldable pub refreshPlan : ℕ → ℕ → ℕ → Head → ℕ → ℕ → Plan
-refreshPlan task extension handle h place standing =
-    record { verdict = refreshVerdictBy task extension handle (h .tasks) (h .given) place standing; place = place }

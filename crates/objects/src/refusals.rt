@@ -2,7 +2,7 @@
 ghost use Prim.Native.Nat.{_+_};
 ghost use lib.Dec.{ltb};
 ghost use mathlib.Core.Path.{_≡_};
-ghost use Rattle.steps.specs.Objects.{andThen, refuseIf, byState, taskVerdict, extensionVerdict, foundVerdict, roomVerdict, makeVerdictBy, refreshVerdictBy};
+ghost use Rattle.steps.specs.Objects.{andThen, refuseIf, byState, taskVerdict, extensionVerdict, foundVerdict, roomVerdict, makeVerdictBy};
 use super::search::end_for;
 use ledger::LARGE_SIZE;
 use ledger::LIMITS;
@@ -57,7 +57,7 @@ pub fn task_verdict(task: u8, tasks: [TaskEntry; TASK_COUNT]) -> Verdict
 }
 
 // 6
-fn extension_verdict(extension: u8) -> Verdict
+pub fn extension_verdict(extension: u8) -> Verdict
     ensures { λ r. ⌜ r ≡ extensionVerdict extension ⌝ }
 {
     refuse_if(
@@ -77,7 +77,7 @@ pub fn found_verdict(handle: u32, given: u32, place: usize) -> Verdict
 }
 
 // 10
-fn room_verdict(standing: usize) -> Verdict
+pub fn room_verdict(standing: usize) -> Verdict
     ensures { λ r. ⌜ r ≡ roomVerdict standing ⌝ }
 {
     refuse_if(LIMITS.expirations <= standing, Refusal::NoFreeExpiration)
@@ -112,27 +112,6 @@ pub fn make_verdict(
                     ),
                 ),
             ),
-        ),
-    )
-}
-
-// R41: 11, 12 and 10 after 6
-pub fn refresh_verdict(
-    task: u8,
-    extension: u8,
-    handle: u32,
-    tasks: [TaskEntry; TASK_COUNT],
-    given: u32,
-    place: usize,
-    standing: usize,
-) -> Verdict
-    ensures { λ r. ⌜ r ≡ refreshVerdictBy task extension handle tasks given place standing ⌝ }
-{
-    and_then(
-        task_verdict(task, tasks),
-        and_then(
-            extension_verdict(extension),
-            and_then(found_verdict(handle, given, place), room_verdict(standing)),
         ),
     )
 }

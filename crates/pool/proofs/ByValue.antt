@@ -7,25 +7,26 @@ use lib.ListN.{length}
 use Rattle.ledger.specs.Objects.{plain}
 use Rattle.ledger.specs.declared.Answer.{Answer}
 use Rattle.ledger.specs.declared.Answer.the-variants.{Counted}
-use Rattle.ledger.specs.declared.Call.the-variants.{Read, Write}
+use Rattle.ledger.specs.declared.Call.the-variants.{Refresh, Read}
 use Rattle.ledger.specs.declared.Kind.{Kind}
 use Rattle.ledger.specs.declared.Request.{Request}
 use Rattle.ledger.specs.declared.Request.the-variants.{Use, Report}
 use Rattle.record.specs.Reading.{HeadTyped}
-use Rattle.record.specs.Tables.{SizedEntries, Sized, blocksOf, entriesOf, lent, headOf, tablesOf, pooled, blockEntries}
+use Rattle.record.specs.Tables.{Sized, entriesOf, lent, headOf, tablesOf, pooled, blockEntries}
 use Rattle.record.specs.WellFormed as WellFormed
 use Rattle.record.specs.Pools.{isWellFormed}
 use Rattle.record.specs.declared.Head.{Head}
 use Rattle.record.specs.declared.Pool.{Pool}
 use Rattle.expirations.specs.Standing.{standingOf}
-use Rattle.objects.specs.Outcomes.{foundIn}
+use Rattle.steps.specs.Objects.{readVerdict}
+use Rattle.objects.specs.Outcomes.{foundBy}
 use Rattle.objects.specs.Usage.{usageIn}
 use Rattle.objects.specs.declared.Found.{Found}
 use Rattle.objects.proofs.Laws.{usage-of}
 use Rattle.calls.specs.Contract.{Ready, Obeys, Follows, Makes, Locates, Writes}
-use Rattle.calls.specs.Engine.{outcomeOf, FollowsBeside, ReadyBeside, WritesBeside}
+use Rattle.calls.specs.Engine.{outcomeOf, FollowsBeside}
 use Rattle.calls.specs.declared.Step.{Step}
-use Rattle.calls.proofs.MadeLent.{standing-of}
+use Rattle.expirations.proofs.Counting.{standing-of}
 use Rattle.calls.proofs.Reported.{report-obeys}
 use Rattle.calls.proofs.WriteLent.{read-locates}
 
@@ -43,6 +44,14 @@ module _ (p : Pool) {h : Head} (e : h ≡ headOf p) where
       → {p′ : Pool} → p′ ≡ pooled h′ hs′ (p .lengths) cs′ ns′ ds′ → Follows request p answer p′
   follows-by-value f l w left = rw left ((rw e at f) .follows (p .lengths) l w)
 
+  pub refreshed-by-value : {task : ℕ} {kind : Kind} {extension handle : ℕ} {answer : Answer} {h′ : Head} {cs′ ns′ ds′ : List ℕ}
+      → Follows (Use (Refresh task kind extension handle)) (pooled h (p .handles) (p .lengths) (p .clocks) (p .named) (p .dues)) answer (pooled h′ (p .handles) (p .lengths) cs′ ns′ ds′)
+      → {p′ : Pool} → p′ ≡ pooled h′ (p .handles) (p .lengths) cs′ ns′ ds′ → Follows (Use (Refresh task kind extension handle)) p answer p′
+  refreshed-by-value f left = rw left (rw e at f)
+
+  pub pooled-by-value : isWellFormed p ≡ true → isWellFormed (pooled h (p .handles) (p .lengths) (p .clocks) (p .named) (p .dues)) ≡ true
+  pooled-by-value w = rw e w
+
   pub made-by-value : {task : ℕ} {kind : Kind} {extension size : ℕ} {small large small′ large′ : List ℕ} {s : Step} {hs′ ls′ cs′ ns′ ds′ : List ℕ}
       → Makes task kind extension size (pooled h (p .handles) (p .lengths) (p .clocks) (p .named) (p .dues)) small large (outcomeOf s hs′ ls′ cs′ ns′ ds′) small′ large′
       → {p′ : Pool} → p′ ≡ pooled (s .head) hs′ ls′ cs′ ns′ ds′
@@ -50,19 +59,15 @@ module _ (p : Pool) {h : Head} (e : h ≡ headOf p) where
   made-by-value m left = rw left (rw e at m)
 
   pub located-by-value : HeadTyped (headOf p) → Sized (p .handles) (p .lengths) (p .clocks) (p .named) (p .dues) → (task handle : ℕ) {small large : List ℕ}
-      → Ready (Use (Read task handle)) p small large → {f : Found} → f ≡ foundIn task handle h (blocksOf (p .handles) (p .lengths))
+      → Ready (Use (Read task handle)) p small large → {f : Found}
+      → f ≡ foundBy (readVerdict task handle (lent h (p .handles) (p .lengths) (p .clocks) (p .named) (p .dues))) task handle (lent h (p .handles) (p .lengths) (p .clocks) (p .named) (p .dues))
       → Locates task handle p small large f
-  located-by-value types sized task handle ready found = read-locates types (sized .blocks) (sized .entries) task handle ready _ (rw e at found)
-
-  -- the expirations beside a write are the record's
-  pub write-beside : {task handle offset : ℕ} {small large : List ℕ} → SizedEntries (p .clocks) (p .named) (p .dues)
-      → Ready (Use (Write task handle offset)) p small large → ReadyBeside (Use (Write task handle offset)) h (p .handles) (p .lengths) small large
-  write-beside sized r = record { clocks = p .clocks; named = p .named; dues = p .dues; sized = sized; ready = ready-by-value r }
+  located-by-value types sized task handle ready found = read-locates types sized task handle ready _ (rw e at found)
 
   pub written-by-value : {task handle offset : ℕ} {new small large small′ large′ : List ℕ} {answer : Answer}
-      → WritesBeside task handle offset new h (p .handles) (p .lengths) small large answer small′ large′ → SizedEntries (p .clocks) (p .named) (p .dues)
-      → Ready (Use (Write task handle offset)) p small large → Writes task handle offset new p small large answer small′ large′
-  written-by-value w sized r = rw e at (w (p .clocks) (p .named) (p .dues) sized (ready-by-value r))
+      → Writes task handle offset new (pooled h (p .handles) (p .lengths) (p .clocks) (p .named) (p .dues)) small large answer small′ large′
+      → Writes task handle offset new p small large answer small′ large′
+  written-by-value w = rw e at w
 
 -- report, by the record's own figures
 pub reported-by-value : (p : Pool) → Sized (p .handles) (p .lengths) (p .clocks) (p .named) (p .dues) → isWellFormed p ≡ true → (small large : List ℕ)

@@ -15,7 +15,7 @@ use ledger::Kind;
 use ledger::Refusal;
 use ledger::number_of;
 use objects::Found;
-use objects::find;
+use objects::find_for_read;
 use objects::usage;
 use record::Pool;
 use record::head_of;
@@ -117,6 +117,7 @@ pub fn refresh(p: Pool, task: u8, kind: Kind, extension: u8, handle: u32) -> Out
     let step = calls::refresh(
         h,
         &handles,
+        &lengths,
         &mut clocks,
         &mut named,
         &mut dues,
@@ -217,7 +218,16 @@ pub fn locate(p: Pool, small: usize, large: usize, task: u8, handle: u32) -> Fou
     if !are_whole(small, large) {
         return Found::Refused(Refusal::WrongStoreLength);
     }
-    find(h, &p.handles, &p.lengths, task, handle)
+    find_for_read(
+        h,
+        &p.handles,
+        &p.lengths,
+        &p.clocks,
+        &p.named,
+        &p.dues,
+        task,
+        handle,
+    )
 }
 
 // O19: the answer's number goes to `number`; where it is a refusal, the part is empty.
@@ -236,7 +246,11 @@ pub fn read<'a>(
             *number = number_of(why);
             no_part(small)
         }
-        Found::At { block, length } => {
+        Found::At {
+            block,
+            length,
+            life: _,
+        } => {
             *number = 0;
             block_part(small, large, block, length as usize)
         }
@@ -265,6 +279,9 @@ pub fn write(
         h,
         &p.handles,
         &p.lengths,
+        &p.clocks,
+        &p.named,
+        &p.dues,
         small,
         large,
         task,

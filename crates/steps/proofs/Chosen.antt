@@ -3,6 +3,7 @@ use Prim.Native.Nat.{ℕ, _+_, _<_}
 use native.Mathlib.Nat.{zero-add}
 use native.Mathlib.Omega.{arith}
 use mathlib.Core.Bool.{Bool, true, false, _||_}
+use mathlib.Core.List.{List}
 use mathlib.Core.Path.{_≡_, refl, sym, _∙_}
 use borrow.Author.Tests.{leb-false, ltb-false, eqb-true, eqb-false, lt-ltb, le-ltb, lt-leb}
 use lib.Dec.{eqb, leb, ltb}
@@ -17,7 +18,7 @@ use Rattle.ledger.specs.Tasks.{isAbsent}
 use Rattle.ledger.specs.declared.State.{State}
 use Rattle.ledger.specs.declared.State.the-variants.{Absent, Running, Waiting}
 use Rattle.ledger.specs.declared.Refusal.{Refusal}
-use Rattle.ledger.specs.declared.Refusal.the-variants.{LengthOutOfRange, HandlesSpent, NoFreeBlock}
+use Rattle.ledger.specs.declared.Refusal.the-variants.{NoSuchTask, LengthOutOfRange, HandlesSpent, NoFreeBlock}
 use Rattle.ledger.specs.declared.Verdict.{Verdict}
 use Rattle.ledger.specs.declared.Verdict.the-variants.{Accepted, Refused}
 use Rattle.stores.specs.Places.{blockCount}
@@ -25,6 +26,7 @@ use Rattle.stores.proofs.Places.{blocks-listed}
 use Rattle.record.specs.Codes.{stateOf, absentEntry, freeBlock, freeEntry}
 use Rattle.record.specs.Reading.{isSmallBlock, Typed}
 use Rattle.record.specs.Tables.{Tables, blockEntries}
+use Rattle.record.specs.declared.TaskEntry.{TaskEntry}
 use Rattle.steps.specs.Objects.{isFreeBlock, endFor, freePlace, isFreeEntry, standingIn, freeSlot, andThen, refuseIf, byState, taskVerdict, extensionVerdict, foundVerdict, handleVerdict, roomVerdict, makeVerdict, refreshVerdict}
 use Rattle.steps.proofs.Taken.{MaySet, SlotFree, PlaceFree}
 
@@ -146,3 +148,7 @@ handle-found handle given place v =
 
 pub place-listed : (handle given place : ℕ) → foundVerdict handle given place ≡ Accepted → place < blockEntries
 place-listed handle given place v = leb-false _ _ (handle-found handle given place v .1)
+
+pub task-known : (task : ℕ) (tasks : List TaskEntry) → taskVerdict task tasks ≡ Accepted → task < taskCount
+task-known task tasks v =
+    leb-false taskCount task (not-refused _ NoSuchTask (both-accept (refuseIf (leb taskCount task) NoSuchTask) _ v .0))

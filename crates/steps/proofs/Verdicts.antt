@@ -32,7 +32,7 @@ use Rattle.steps.proofs.Finding.{blockOf, gone-alike, found}
 use Rattle.steps.proofs.Rooms.{block-room, entries-alike}
 
 -- verdicts one after another, in whatever grouping
-then-assoc : (u v w : Verdict) → andThen (andThen u v) w ≡ andThen u (andThen v w)
+pub then-assoc : (u v w : Verdict) → andThen (andThen u v) w ≡ andThen u (andThen v w)
 then-assoc Accepted v w = refl
 then-assoc (Refused r) v w = refl
 

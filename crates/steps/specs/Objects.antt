@@ -98,7 +98,7 @@ handleVerdict handle p = foundVerdict handle (p .given) (placeOf handle (p .bloc
 abbrev pub roomVerdict : ℕ → Verdict
 roomVerdict standing = refuseIf (leb (limits .expirations) standing) NoFreeExpiration
 
--- R40 to R43, the tests of the four, first by the handles given and the places that were found
+-- R40 to R43, the tests of the four; make's also by the handles given and the place that was found
 abbrev pub makeVerdictBy : ℕ → ℕ → ℕ → List TaskEntry → ℕ → ℕ → ℕ → Verdict
 makeVerdictBy task extension size tasks given place standing =
     andThen (taskVerdict task tasks)
@@ -111,20 +111,13 @@ unfoldable pub makeVerdict : ℕ → ℕ → ℕ → Tables → Verdict
 makeVerdict task extension size p =
     makeVerdictBy task extension size (p .tasks) (p .given) (freePlace size (p .blocks)) (standingIn (p .expirations))
 
-abbrev pub refreshVerdictBy : ℕ → ℕ → ℕ → List TaskEntry → ℕ → ℕ → ℕ → Verdict
-refreshVerdictBy task extension handle tasks given place standing =
-    andThen (taskVerdict task tasks)
-    (andThen (extensionVerdict extension) (andThen (foundVerdict handle given place) (roomVerdict standing)))
-
 unfoldable pub refreshVerdict : ℕ → ℕ → ℕ → Tables → Verdict
 refreshVerdict task extension handle p =
-    refreshVerdictBy task extension handle (p .tasks) (p .given) (placeOf handle (p .blocks)) (standingIn (p .expirations))
-
-abbrev pub readVerdictIn : ℕ → ℕ → List TaskEntry → ℕ → List BlockEntry → Verdict
-readVerdictIn task handle tasks given blocks = andThen (taskVerdict task tasks) (foundVerdict handle given (placeOf handle blocks))
+    andThen (taskVerdict task (p .tasks))
+    (andThen (extensionVerdict extension) (andThen (handleVerdict handle p) (roomVerdict (standingIn (p .expirations)))))
 
 unfoldable pub readVerdict : ℕ → ℕ → Tables → Verdict
-readVerdict task handle p = readVerdictIn task handle (p .tasks) (p .given) (p .blocks)
+readVerdict task handle p = andThen (taskVerdict task (p .tasks)) (handleVerdict handle p)
 
 -- 13
 abbrev pub endVerdict : ℕ → ℕ → List BlockEntry → Verdict

@@ -3,7 +3,8 @@ use mathlib.Core.Path.{ap}
 use borrow.Author.Needs.{needs}
 use Rattle.ledger.specs.declared.Request.the-variants.{Use}
 use Rattle.record.proofs.Types.{head-typed}
-use Rattle.dispatch.proofs.Arms.{ready-for, schedule-arm, refresh-arm, make-arm, read-arm, write-ready, write-arm}
+use Rattle.calls.proofs.Lent.{lent-fits}
+use Rattle.dispatch.proofs.Arms.{ready-for, schedule-arm, refresh-arm, make-arm, read-arm, write-arm}
 use Rattle.dispatch.proofs.serve.Statement.{statement}
 use Rattle.dispatch.proofs.serve.Tie as tie
 
@@ -17,11 +18,16 @@ make-requires c κs =
     let s = start (made .before .before) in
     (s .pre .0, ready-for (s .pre .1) (ap Use (made .call2 .given .1)))
 
+find-for-read-requires : tie.Need-find-for-read-requires
+find-for-read-requires c κs =
+    let s = start (c .before .before .before .before .before .before .before .before) in
+    (s .pre .0, lent-fits _ _ _ _ _ _ (s .pre .1 .fit))
+
 write-requires : tie.Need-write-requires
 write-requires c κs =
-    let written = c .before .before .before .before .before in
+    let written = c .before .before .before .before .before .before .before .before in
     let s = start (written .before .before) in
-    (s .pre .0 .blocks, write-ready (s .pre .0) (s .pre .1) (written .call5 .given .1))
+    (s .pre .0, ready-for (s .pre .1) (ap Use (written .call5 .given .1)))
 
 returns : tie.Need-returns
 returns c =
@@ -38,20 +44,20 @@ returns-2 c =
 
 returns-3 : tie.Need-returns-3
 returns-3 c =
-    let told = c .before .before .before .before .before .before .before .before in
+    let told = c .before .before .before .before .before .before .before .before .before in
     let s = start (told .before .before) in
     refresh-arm _ (s .pre .0) (s .pre .1) (told .call3 .given .1) (c .before .before .refresh .ensures) (c .without-bytes3 .ensures)
 
 returns-4 : tie.Need-returns-4
 returns-4 c =
-    let told = c .before .before .before .before .before in
+    let told = c .before .before .before .before .before .before .before .before in
     let s = start (told .before .before) in
-    read-arm _ (s .pre .0) (s .pre .1) (head-typed _ _ (s .good .0)) (told .call4 .given .1) (c .before .find .ensures) (c .where-found .ensures)
+    read-arm _ (s .pre .0) (s .pre .1) (head-typed _ _ (s .good .0)) (told .call4 .given .1) (c .before .find-for-read .ensures) (c .where-found .ensures)
 
 returns-5 : tie.Need-returns-5
 returns-5 c =
     let written = c .before .before .before .before .before in
-    let told = written .before .before .before .before .before .before in
+    let told = written .before .before .before .before .before .before .before .before .before in
     let s = start (told .before .before) in
     write-arm _ (s .pre .0) (s .pre .1) (told .call5 .given .1) (written .write .ensures) (c .without-bytes4 .ensures)
 
@@ -69,7 +75,7 @@ serve-spec =
     (λ c κs. search needs)
     (λ c κs. search needs)
     (λ c. search needs)
-    (λ c κs. search needs)
+    find-for-read-requires
     (λ c κs. search needs)
     (λ c. search needs)
     write-requires

@@ -7,7 +7,7 @@ use Rattle.numbered.proofs.read.Statement.{statement}
 use Rattle.numbered.proofs.read.Tie as tie
 
 block-part-requires : tie.Need-block-part-requires
-block-part-requires c κs = c .before .before .before .locate .ensures _ _ refl refl .inside _ _ (c .before .block .given .1)
+block-part-requires c κs = c .before .before .before .locate .ensures _ _ refl refl .inside _ _ _ (c .before .block .given .1)
 
 returns : tie.Need-returns
 returns c =

@@ -1,7 +1,7 @@
 -- 15, 14, or what the search of the blocks gives.
 use mathlib.Core.Path.{_≡_, refl, sym, _∙_}
 use borrow.Author.Needs.{needs}
-use borrow.Author.Tests.{not-true}
+use borrow.Author.Tests.{not-true, not-false}
 use Rattle.record.specs.Pools.{isWellFormed}
 use Rattle.calls.proofs.Promises.{ready, unfit-obeys, wrong-obeys}
 use Rattle.calls.proofs.Meets.{refused-locates}
@@ -24,12 +24,18 @@ returns-2 c small large s l =
 
 returns-3 : tie.Need-returns-3
 returns-3 c small large s l =
-    let whole = c .before .before .before .before in
+    let whole = c .before .before .before .before .before .before .before in
     let made = whole .before .before .before .before .before .before .before .before .before .before in
     let start = made .before in
     located-by-value (start .args .t1) (made .head-of .ensures) (head-typed (start .args .t1) _ (start .good .0)) (columns-sized (start .args .t1) _ (start .good .0)) _ _
     (ready (tested (whole .before .before .before)) (whole .before .before .if1 .left) refl (λ xs ys a b. whole .before .are-whole .ensures xs ys (a ∙ s) (b ∙ l)) (whole .if2 .left))
-    (c .find .ensures)
+    (c .find-for-read .ensures)
+
+find-for-read-requires : tie.Need-find-for-read-requires
+find-for-read-requires c κs =
+    let tested = c .before .before .before .before .before .before .before .before in
+    let start = tested .before .before .before .before .before .before .before .before .before in
+    (columns-sized (start .args .t1) _ (start .good .0), sym (tested .before .is-well-formed .ensures) ∙ not-false _ (tested .if1 .left))
 
 pub locate-spec : {M : Type 1} → statement M
 locate-spec =
@@ -40,5 +46,5 @@ locate-spec =
     returns
     (λ c κs. search needs)
     returns-2
-    (λ c κs. search needs)
+    find-for-read-requires
     returns-3)

@@ -8,7 +8,7 @@ use Rattle.pool.proofs.values.read.Tie as tie
 
 block-part-requires : tie.Need-block-part-requires
 block-part-requires c κs =
-    c .before .before .before .locate .ensures _ _ refl refl .inside _ _ (c .before .block .given .1)
+    c .before .before .before .locate .ensures _ _ refl refl .inside _ _ _ (c .before .block .given .1)
 
 returns : tie.Need-returns
 returns c =

@@ -3,7 +3,7 @@ use mathlib.Core.Path.{refl, sym, _∙_}
 use borrow.Author.Needs.{needs}
 use borrow.Author.Tests.{not-true, not-false}
 use Rattle.calls.proofs.Promises.{unfit-obeys}
-use Rattle.pool.proofs.ByValue.{fits-by-value, follows-by-value}
+use Rattle.pool.proofs.ByValue.{fits-by-value, pooled-by-value, refreshed-by-value}
 use Rattle.pool.proofs.Sizes.{columns-sized}
 use Rattle.pool.proofs.values.refresh.Statement.{statement}
 use Rattle.pool.proofs.values.refresh.Tie as tie
@@ -16,17 +16,18 @@ returns c small large =
 returns-2 : tie.Need-returns-2
 returns-2 c =
     let called = c .before .before .before in
-    let tested = called .before .before .before .before .before in
-    let made = tested .before .before .before .before .before .before .before .before .before .before .before .before in
-    let start = made .before in
-    follows-by-value (start .args .p) (made .head-of .ensures) (called .refresh .ensures) (columns-sized (start .args .p) _ (start .good .0) .blocks .of-lengths)
-    (sym (fits-by-value (start .args .p) (made .head-of .ensures) (tested .before .is-well-formed .ensures)) ∙ not-false _ (tested .if1 .left)) refl
+    let made = called .before .before .before .before .before .before .before .before .before .before .before .before .before .before .before .before .before .before in
+    refreshed-by-value (made .before .args .p) (made .head-of .ensures) (called .refresh .ensures .1) refl
 
 refresh-requires : tie.Need-refresh-requires
 refresh-requires c κs =
-    let start = c .before .before .before .before .before .before .before .before .before .before .before .before .before .before .before .before .before in
-    let sized = columns-sized (start .args .p) _ (start .good .0) in
-    (sized .blocks .of-handles, sized .entries)
+    let tested = c .before .before .before .before .before in
+    let made = tested .before .before .before .before .before .before .before .before .before .before .before .before in
+    let start = made .before in (
+      columns-sized (start .args .p) _ (start .good .0),
+      pooled-by-value (start .args .p) (made .head-of .ensures)
+          (sym (fits-by-value (start .args .p) (made .head-of .ensures) (tested .before .is-well-formed .ensures)) ∙ not-false _ (tested .if1 .left)),
+    )
 
 pub refresh-spec : {M : Type 1} → statement M
 refresh-spec =

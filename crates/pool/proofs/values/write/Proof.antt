@@ -8,7 +8,7 @@ use Rattle.record.specs.Pools.{isWellFormed}
 use Rattle.calls.specs.Contract.{Ready}
 use Rattle.calls.proofs.Promises.{ready, unfit-obeys, wrong-obeys}
 use Rattle.calls.proofs.Meets.{refused-writes}
-use Rattle.pool.proofs.ByValue.{fits-by-value, write-beside, written-by-value}
+use Rattle.pool.proofs.ByValue.{fits-by-value, ready-by-value, written-by-value}
 use Rattle.pool.proofs.Sizes.{columns-sized}
 use Rattle.pool.proofs.values.write.Statement.{statement}
 use Rattle.pool.proofs.values.write.Tie as tie
@@ -29,19 +29,16 @@ passed t = ready (tested (t .before .before .before)) (t .before .before .if1 .l
 
 write-requires : tie.Need-write-requires
 write-requires c κs =
-    let whole = c .before .before .before .before .before in
+    let whole = c .before .before .before .before .before .before .before .before in
     let made = whole .before .before .before .before .before .before .before .before .before .before in
     let start = made .before .before .before .before in
-    let sized = columns-sized (start .args .t1) _ (start .good .0) in
-    (sized .blocks, write-beside (start .args .t1) (made .head-of .ensures) (sized .entries) (passed whole))
+    (columns-sized (start .args .t1) _ (start .good .0), ready-by-value (start .args .t1) (made .head-of .ensures) (passed whole))
 
 returns-3 : tie.Need-returns-3
 returns-3 c =
     let called = c .before .before .before .before in
-    let whole = called .before .before .before .before .before .before in
-    let made = whole .before .before .before .before .before .before .before .before .before .before in
-    let start = made .before .before .before .before in
-    written-by-value (start .args .t1) (made .head-of .ensures) (called .write .ensures) (columns-sized (start .args .t1) _ (start .good .0) .entries) (passed whole)
+    let made = called .before .before .before .before .before .before .before .before .before .before .before .before .before .before .before .before .before .before .before in
+    written-by-value (made .before .before .before .before .args .t1) (made .head-of .ensures) (called .write .ensures)
 
 pub write-spec : {M : Type 1} → statement M
 write-spec =

@@ -1,0 +1,52 @@
+-- What a read would find, by one test more.
+use Prim.Native.Nat.{ℕ, _+_}
+use mathlib.Core.Bool.{cond}
+use mathlib.Core.Path.{_≡_, refl}
+use borrow.Author.Needs.{needs}
+use lib.Dec.{ltb}
+use Rattle.lists.proofs.Cases.{by-test}
+use Rattle.ledger.specs.declared.Refusal.the-variants.{OutsideObject}
+use Rattle.ledger.specs.declared.Verdict.{Verdict}
+use Rattle.ledger.specs.declared.Verdict.the-variants.{Accepted, Refused}
+use Rattle.record.specs.Tables.{Tables, lent}
+use Rattle.steps.specs.Objects.{readVerdict, endVerdict, andThen, writeVerdict}
+use Rattle.steps.proofs.Finding.{blockOf}
+use Rattle.objects.specs.Outcomes.{foundBy}
+use Rattle.objects.specs.declared.Found.{Found}
+use Rattle.objects.specs.declared.Found.the-variants.{At}
+use Rattle.objects.specs.declared.Found.the-variants.{Refused as RefusedFound}
+use Rattle.objects.proofs.finding.find_for_write.Statement.{statement}
+use Rattle.objects.proofs.finding.find_for_write.Tie as tie
+
+-- what is found where the bytes lie within it
+abbrev reached : ℕ → Found → Found
+reached end (RefusedFound r) = RefusedFound r
+reached end (At block length life) = cond (ltb length end) (RefusedFound OutsideObject) (At block length life)
+
+by-read : (v : Verdict) (task handle end : ℕ) (p : Tables)
+    → foundBy (andThen v (endVerdict handle end (p .blocks))) task handle p ≡ reached end (foundBy v task handle p)
+by-read Accepted task handle end p = by-test (ltb (blockOf handle (p .blocks) .length) end) (λ e. rw e) (λ e. rw e)
+by-read (Refused r) task handle end p = refl
+
+-- the verdict's outcome, by what a read would find
+found : (c : tie.After-find-for-read)
+    → let a = c .before .args in
+    let p = lent (a .h) (a .handles .now) (a .lengths .now) (a .clocks .now) (a .named .now) (a .dues .now) in
+    foundBy (writeVerdict (a .task) (a .handle) (a .offset) (a .count) p) (a .task) (a .handle) p ≡ reached (a .offset + a .count) (c .find-for-read .result)
+unfolding writeVerdict
+found c =
+    let a = c .before .args in
+    let p = lent (a .h) (a .handles .now) (a .lengths .now) (a .clocks .now) (a .named .now) (a .dues .now) in
+    rw (c .find-for-read .ensures) (by-read (readVerdict (a .task) (a .handle) p) (a .task) (a .handle) (a .offset + a .count) p)
+
+pub find-for-write-spec : {M : Type 1} → statement M
+find-for-write-spec =
+    tie.close
+    (tie.spec
+    (λ c κs. search needs)
+    (λ c. search needs)
+    (λ c. search needs)
+    (λ c κs. search needs)
+    (λ c. rw (found (c .before .before .before), c .before .why .given .1))
+    (λ c. rw (found (c .before .before .before .before .before), c .before .before .before .block .given .1, ← c .before .reaches-past .ensures, c .if1 .taken))
+    (λ c. rw (found (c .before .before .before .before .before), c .before .before .before .block .given .1, ← c .before .reaches-past .ensures, c .if1 .left)))

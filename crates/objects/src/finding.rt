@@ -1,0 +1,152 @@
+// Where an object is: one finding, which read, write and refresh make after the tests that go before it. The record is well-formed, or its figures would not fit.
+ghost use Prim.Native.Nat.{_<_};
+ghost use mathlib.Core.Bool.{true};
+ghost use mathlib.Core.Path.{_≡_};
+ghost use Rattle.ledger.specs.Limits.{taskCount};
+ghost use Rattle.record.specs.Tables.{Sized, lent};
+ghost use Rattle.record.specs.WellFormed.{isWellFormed};
+ghost use Rattle.steps.specs.Objects.{handleVerdict, readVerdict, writeVerdict, refreshVerdict};
+ghost use Rattle.objects.specs.Outcomes.{foundBy, foundIf};
+use super::Found;
+use super::refusals::and_then;
+use super::refusals::extension_verdict;
+use super::refusals::found_verdict;
+use super::refusals::reaches_past;
+use super::refusals::room_verdict;
+use super::refusals::task_verdict;
+use super::search::locate;
+use expirations::remaining_life;
+use expirations::standing;
+use ledger::Refusal;
+use ledger::Verdict;
+use record::BLOCK_COUNT;
+use record::EXPIRATION_COUNT;
+use record::Head;
+
+// 11, 12, or where the object is.
+fn find<'a>(
+    h: Head,
+    handles: &'a [u32; BLOCK_COUNT],
+    lengths: &'a [u16; BLOCK_COUNT],
+    clocks: &'a [u8; EXPIRATION_COUNT],
+    named: &'a [u8; EXPIRATION_COUNT],
+    dues: &'a [u32; EXPIRATION_COUNT],
+    task: u8,
+    handle: u32,
+) -> Found
+    requires { ⌜ Sized (now handles) (now lengths) (now clocks) (now named) (now dues) × (isWellFormed (lent h (now handles) (now lengths) (now clocks) (now named) (now dues)) ≡ true) × (task < taskCount) ⌝ }
+    ensures { λ r. ⌜ r ≡ foundBy (handleVerdict handle (lent h (now (handles .entry)) (now (lengths .entry)) (now (clocks .entry)) (now (named .entry)) (now (dues .entry)))) task handle (lent h (now (handles .entry)) (now (lengths .entry)) (now (clocks .entry)) (now (named .entry)) (now (dues .entry))) ⌝ }
+{
+    let place = locate(handles, handle);
+    match found_verdict(handle, h.given, place) {
+        Verdict::Refused(why) => Found::Refused(why),
+        Verdict::Accepted => Found::At {
+            block: place,
+            length: lengths[place],
+            life: remaining_life(h, clocks, named, dues, task, place),
+        },
+    }
+}
+
+// One test more of what was found.
+fn found_if(found: Found, verdict: Verdict) -> Found
+    ensures { λ r. ⌜ r ≡ foundIf found verdict ⌝ }
+{
+    match found {
+        Found::Refused(why) => Found::Refused(why),
+        Found::At {
+            block,
+            length,
+            life,
+        } => match verdict {
+            Verdict::Refused(why) => Found::Refused(why),
+            Verdict::Accepted => Found::At {
+                block,
+                length,
+                life,
+            },
+        },
+    }
+}
+
+// The object that is read.
+pub fn find_for_read<'a>(
+    h: Head,
+    handles: &'a [u32; BLOCK_COUNT],
+    lengths: &'a [u16; BLOCK_COUNT],
+    clocks: &'a [u8; EXPIRATION_COUNT],
+    named: &'a [u8; EXPIRATION_COUNT],
+    dues: &'a [u32; EXPIRATION_COUNT],
+    task: u8,
+    handle: u32,
+) -> Found
+    requires { ⌜ Sized (now handles) (now lengths) (now clocks) (now named) (now dues) × (isWellFormed (lent h (now handles) (now lengths) (now clocks) (now named) (now dues)) ≡ true) ⌝ }
+    ensures { λ r. ⌜ r ≡ foundBy (readVerdict task handle (lent h (now (handles .entry)) (now (lengths .entry)) (now (clocks .entry)) (now (named .entry)) (now (dues .entry)))) task handle (lent h (now (handles .entry)) (now (lengths .entry)) (now (clocks .entry)) (now (named .entry)) (now (dues .entry))) ⌝ }
+{
+    let tasks = h.tasks;
+    match task_verdict(task, tasks) {
+        Verdict::Refused(why) => Found::Refused(why),
+        Verdict::Accepted => find(h, handles, lengths, clocks, named, dues, task, handle),
+    }
+}
+
+// The object that is written: count bytes from offset lie within its length.
+pub fn find_for_write<'a>(
+    h: Head,
+    handles: &'a [u32; BLOCK_COUNT],
+    lengths: &'a [u16; BLOCK_COUNT],
+    clocks: &'a [u8; EXPIRATION_COUNT],
+    named: &'a [u8; EXPIRATION_COUNT],
+    dues: &'a [u32; EXPIRATION_COUNT],
+    task: u8,
+    handle: u32,
+    offset: u8,
+    count: usize,
+) -> Found
+    requires { ⌜ Sized (now handles) (now lengths) (now clocks) (now named) (now dues) × (isWellFormed (lent h (now handles) (now lengths) (now clocks) (now named) (now dues)) ≡ true) ⌝ }
+    ensures { λ r. ⌜ r ≡ foundBy (writeVerdict task handle offset count (lent h (now (handles .entry)) (now (lengths .entry)) (now (clocks .entry)) (now (named .entry)) (now (dues .entry)))) task handle (lent h (now (handles .entry)) (now (lengths .entry)) (now (clocks .entry)) (now (named .entry)) (now (dues .entry))) ⌝ }
+{
+    match find_for_read(h, handles, lengths, clocks, named, dues, task, handle) {
+        Found::Refused(why) => Found::Refused(why),
+        Found::At {
+            block,
+            length,
+            life,
+        } => {
+            if reaches_past(length, offset, count) {
+                Found::Refused(Refusal::OutsideObject)
+            } else {
+                Found::At {
+                    block,
+                    length,
+                    life,
+                }
+            }
+        }
+    }
+}
+
+// The object that gets one more expiration, where that has room.
+pub fn find_for_refresh<'a>(
+    h: Head,
+    handles: &'a [u32; BLOCK_COUNT],
+    lengths: &'a [u16; BLOCK_COUNT],
+    clocks: &'a [u8; EXPIRATION_COUNT],
+    named: &'a [u8; EXPIRATION_COUNT],
+    dues: &'a [u32; EXPIRATION_COUNT],
+    task: u8,
+    extension: u8,
+    handle: u32,
+) -> Found
+    requires { ⌜ Sized (now handles) (now lengths) (now clocks) (now named) (now dues) × (isWellFormed (lent h (now handles) (now lengths) (now clocks) (now named) (now dues)) ≡ true) ⌝ }
+    ensures { λ r. ⌜ r ≡ foundBy (refreshVerdict task extension handle (lent h (now (handles .entry)) (now (lengths .entry)) (now (clocks .entry)) (now (named .entry)) (now (dues .entry)))) task handle (lent h (now (handles .entry)) (now (lengths .entry)) (now (clocks .entry)) (now (named .entry)) (now (dues .entry))) ⌝ }
+{
+    let tasks = h.tasks;
+    match and_then(task_verdict(task, tasks), extension_verdict(extension)) {
+        Verdict::Refused(why) => Found::Refused(why),
+        Verdict::Accepted => found_if(
+            find(h, handles, lengths, clocks, named, dues, task, handle),
+            room_verdict(standing(clocks) as usize),
+        ),
+    }
+}
