@@ -21,7 +21,7 @@ use Rattle.record.specs.Reading.{isWholeSmall, isWholeLarge, blockBytes, Typed}
 use Rattle.record.specs.Tables.{tablesOf}
 use Rattle.record.specs.declared.Pool.{Pool}
 use Rattle.steps.specs.Objects.{placeIn, placeOf, freePlace, makeVerdict, readVerdict, writeVerdict, madePool}
-use Rattle.objects.specs.Outcomes.{foundBy}
+use Rattle.objects.specs.Outcomes.{foundBy, foundIn}
 use Rattle.objects.specs.declared.Found.{Found}
 use Rattle.objects.specs.declared.Found.the-variants.{At}
 use Rattle.objects.specs.declared.Found.the-variants.{Refused as RefusedFound}
@@ -123,12 +123,12 @@ module _ {task handle : ℕ} {p : Pool} {small large : List ℕ} (types : Typed 
   locates-by (Refused r) e =
       refused-locates task handle p small large r (read-refused p types (ready .fit) small large (ready .whole refl) task handle r e)
 
-  pub locates : (f : Found) → f ≡ foundBy (readVerdict task handle (tablesOf p)) task handle (tablesOf p) → Locates task handle p small large f
+  pub locates : (f : Found) → f ≡ foundIn (readVerdict task handle) task handle (tablesOf p) → Locates task handle p small large f
   locates f e = rw e (locates-by (readVerdict task handle (tablesOf p)) refl)
 
 module _ {task handle offset : ℕ} {p : Pool} {small large : List ℕ} (types : Typed (tablesOf p)) (ready : Ready (Use (Write task handle offset)) p small large)
     (here : placeIn handle (p .handles) ≡ placeOf handle (tablesOf p .blocks)) (new : List ℕ) where
-  module _ (f : Found) (so : f ≡ foundBy (writeVerdict task handle offset (length new) (tablesOf p)) task handle (tablesOf p)) where
+  module _ (f : Found) (so : f ≡ foundIn (writeVerdict task handle offset (length new)) task handle (tablesOf p)) where
     pub write-kept : (why : Refusal) → f ≡ RefusedFound why → Writes task handle offset new p small large (RefusedAnswer why) small large
     write-kept why g =
         refused-writes task handle offset new p small large why

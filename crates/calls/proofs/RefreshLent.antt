@@ -21,7 +21,7 @@ use Rattle.record.specs.Tables.{Sized, blocksOf, tablesBy, tablesOf, lent, pool
 use Rattle.record.specs.declared.Head.{Head}
 use Rattle.steps.specs.Objects.{placeOf, taskVerdict, extensionVerdict, handleVerdict, roomVerdict, refreshVerdict}
 use Rattle.steps.proofs.Chosen.{both-accept, not-refused, place-listed, task-known}
-use Rattle.objects.specs.Outcomes.{foundBy}
+use Rattle.objects.specs.Outcomes.{foundIn}
 use Rattle.objects.specs.declared.Found.{Found}
 use Rattle.objects.specs.declared.Found.the-variants.{At}
 use Rattle.objects.specs.declared.Found.the-variants.{Refused as RefusedFound}
@@ -40,7 +40,7 @@ pub room-left : (n : ℕ) → roomVerdict n ≡ Accepted → n < expirationEntri
 room-left n v = omega (arith, leb-false (limits .expirations) n (not-refused _ _ v), allowed .most-expirations)
 
 module _ {h : Head} {hs ls cs ns ds : List ℕ} (types : HeadTyped h) (sized : Sized hs ls cs ns ds) (task : ℕ) (kind : Kind) (extension handle : ℕ) (f : Found)
-    (so : f ≡ foundBy (refreshVerdict task extension handle (lent h hs ls cs ns ds)) task handle (lent h hs ls cs ns ds)) where
+    (so : f ≡ foundIn (refreshVerdict task extension handle) task handle (lent h hs ls cs ns ds)) where
   of-entries : Typed (tablesOf (pooled h hs ls cs ns ds))
   of-entries = lent-typed h hs ls cs ns ds types (sized .blocks) (sized .entries)
 

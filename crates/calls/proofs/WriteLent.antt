@@ -14,7 +14,7 @@ use Rattle.record.specs.Reading.{HeadTyped, Typed}
 use Rattle.record.specs.Tables.{Sized, tablesBy, tablesOf, lent, pooled}
 use Rattle.record.specs.declared.Head.{Head}
 use Rattle.steps.specs.Objects.{placeIn, placeOf, readVerdict, writeVerdict}
-use Rattle.objects.specs.Outcomes.{foundBy}
+use Rattle.objects.specs.Outcomes.{foundIn}
 use Rattle.objects.specs.declared.Found.{Found}
 use Rattle.objects.specs.declared.Found.the-variants.{At}
 use Rattle.objects.specs.declared.Found.the-variants.{Refused as RefusedFound}
@@ -33,13 +33,13 @@ module _ {h : Head} {hs ls cs ns ds : List ℕ} (types : HeadTyped h) (sized : S
 
   -- where a read finds its object
   pub read-locates : (task handle : ℕ) {small large : List ℕ} → Ready (Use (Read task handle)) (pooled h hs ls cs ns ds) small large
-      → (f : Found) → f ≡ foundBy (readVerdict task handle (lent h hs ls cs ns ds)) task handle (lent h hs ls cs ns ds)
+      → (f : Found) → f ≡ foundIn (readVerdict task handle) task handle (lent h hs ls cs ns ds)
       → Locates task handle (pooled h hs ls cs ns ds) small large f
   read-locates task handle ready f so = locates of-entries ready f (rw (tables-of h hs ls cs ns ds) so)
 
   module _ (task handle offset : ℕ) (new : List ℕ) {small large : List ℕ} (ready : Ready (Use (Write task handle offset)) (pooled h hs ls cs ns ds) small large)
-      (f : Found) (so : f ≡ foundBy (writeVerdict task handle offset (length new) (lent h hs ls cs ns ds)) task handle (lent h hs ls cs ns ds)) where
-    found : f ≡ foundBy (writeVerdict task handle offset (length new) (tablesOf (pooled h hs ls cs ns ds))) task handle (tablesOf (pooled h hs ls cs ns ds))
+      (f : Found) (so : f ≡ foundIn (writeVerdict task handle offset (length new)) task handle (lent h hs ls cs ns ds)) where
+    found : f ≡ foundIn (writeVerdict task handle offset (length new)) task handle (tablesOf (pooled h hs ls cs ns ds))
     found = rw (tables-of h hs ls cs ns ds) so
 
     pub write-refused-lent : {why : Refusal} → f ≡ RefusedFound why

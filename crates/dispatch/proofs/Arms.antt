@@ -19,7 +19,7 @@ use Rattle.record.specs.declared.Head.{Head}
 use Rattle.record.specs.declared.Pool.{Pool}
 use Rattle.expirations.specs.Standing.{standingOf}
 use Rattle.steps.specs.Objects.{readVerdict}
-use Rattle.objects.specs.Outcomes.{foundBy}
+use Rattle.objects.specs.Outcomes.{foundIn}
 use Rattle.objects.specs.Usage.{usageIn}
 use Rattle.objects.specs.declared.Found.{Found}
 use Rattle.objects.specs.declared.Found.the-variants.{At, Refused}
@@ -91,7 +91,7 @@ module _ (new : List ℕ) {h : Head} {hs ls cs ns ds : List ℕ} (sized : Sized 
       rw (is, so) (sized′, make-serves new _ small large task kind extension size _ _ _ m)
 
   pub read-arm : HeadTyped h → {task handle : ℕ} → call ≡ Read task handle → {f : Found}
-      → f ≡ foundBy (readVerdict task handle (lent h hs ls cs ns ds)) task handle (lent h hs ls cs ns ds) → r ≡ whereFound f h
+      → f ≡ foundIn (readVerdict task handle) task handle (lent h hs ls cs ns ds) → r ≡ whereFound f h
       → Served (Use call) new h hs ls cs ns ds small large r hs ls cs ns ds small large
   read-arm types {task} {handle} is {f} found so =
       rw (is, so) (sized, read-serves new h hs ls cs ns ds small large task handle f (read-locates types sized task handle (rw is at ready) f found))

@@ -20,6 +20,10 @@ foundBy Accepted task handle p =
     At place (getD (p .blocks) place freeBlock .length) (lifeIn task place (p .tasks) (p .global) (p .expirations))
 foundBy (Refused r) task handle p = RefusedFound r
 
+-- by the tests of a call
+abbrev pub foundIn : (Tables → Verdict) → ℕ → ℕ → Tables → Found
+foundIn verdict task handle p = foundBy (verdict p) task handle p
+
 -- what was found, if one test more accepts
 abbrev pub foundIf : Found → Verdict → Found
 foundIf (RefusedFound r) v = RefusedFound r

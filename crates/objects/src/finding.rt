@@ -6,7 +6,7 @@ ghost use Rattle.ledger.specs.Limits.{taskCount};
 ghost use Rattle.record.specs.Tables.{Sized, lent};
 ghost use Rattle.record.specs.WellFormed.{isWellFormed};
 ghost use Rattle.steps.specs.Objects.{handleVerdict, readVerdict, writeVerdict, refreshVerdict};
-ghost use Rattle.objects.specs.Outcomes.{foundBy, foundIf};
+ghost use Rattle.objects.specs.Outcomes.{foundIn, foundIf};
 use super::Found;
 use super::refusals::and_then;
 use super::refusals::extension_verdict;
@@ -35,7 +35,7 @@ fn find<'a>(
     handle: u32,
 ) -> Found
     requires { ⌜ Sized (now handles) (now lengths) (now clocks) (now named) (now dues) × (isWellFormed (lent h (now handles) (now lengths) (now clocks) (now named) (now dues)) ≡ true) × (task < taskCount) ⌝ }
-    ensures { λ r. ⌜ r ≡ foundBy (handleVerdict handle (lent h (now (handles .entry)) (now (lengths .entry)) (now (clocks .entry)) (now (named .entry)) (now (dues .entry)))) task handle (lent h (now (handles .entry)) (now (lengths .entry)) (now (clocks .entry)) (now (named .entry)) (now (dues .entry))) ⌝ }
+    ensures { λ r. ⌜ r ≡ foundIn (handleVerdict handle) task handle (lent h (now (handles .entry)) (now (lengths .entry)) (now (clocks .entry)) (now (named .entry)) (now (dues .entry))) ⌝ }
 {
     let place = locate(handles, handle);
     match found_verdict(handle, h.given, place) {
@@ -81,7 +81,7 @@ pub fn find_for_read<'a>(
     handle: u32,
 ) -> Found
     requires { ⌜ Sized (now handles) (now lengths) (now clocks) (now named) (now dues) × (isWellFormed (lent h (now handles) (now lengths) (now clocks) (now named) (now dues)) ≡ true) ⌝ }
-    ensures { λ r. ⌜ r ≡ foundBy (readVerdict task handle (lent h (now (handles .entry)) (now (lengths .entry)) (now (clocks .entry)) (now (named .entry)) (now (dues .entry)))) task handle (lent h (now (handles .entry)) (now (lengths .entry)) (now (clocks .entry)) (now (named .entry)) (now (dues .entry))) ⌝ }
+    ensures { λ r. ⌜ r ≡ foundIn (readVerdict task handle) task handle (lent h (now (handles .entry)) (now (lengths .entry)) (now (clocks .entry)) (now (named .entry)) (now (dues .entry))) ⌝ }
 {
     let tasks = h.tasks;
     match task_verdict(task, tasks) {
@@ -104,7 +104,7 @@ pub fn find_for_write<'a>(
     count: usize,
 ) -> Found
     requires { ⌜ Sized (now handles) (now lengths) (now clocks) (now named) (now dues) × (isWellFormed (lent h (now handles) (now lengths) (now clocks) (now named) (now dues)) ≡ true) ⌝ }
-    ensures { λ r. ⌜ r ≡ foundBy (writeVerdict task handle offset count (lent h (now (handles .entry)) (now (lengths .entry)) (now (clocks .entry)) (now (named .entry)) (now (dues .entry)))) task handle (lent h (now (handles .entry)) (now (lengths .entry)) (now (clocks .entry)) (now (named .entry)) (now (dues .entry))) ⌝ }
+    ensures { λ r. ⌜ r ≡ foundIn (writeVerdict task handle offset count) task handle (lent h (now (handles .entry)) (now (lengths .entry)) (now (clocks .entry)) (now (named .entry)) (now (dues .entry))) ⌝ }
 {
     match find_for_read(h, handles, lengths, clocks, named, dues, task, handle) {
         Found::Refused(why) => Found::Refused(why),
@@ -139,7 +139,7 @@ pub fn find_for_refresh<'a>(
     handle: u32,
 ) -> Found
     requires { ⌜ Sized (now handles) (now lengths) (now clocks) (now named) (now dues) × (isWellFormed (lent h (now handles) (now lengths) (now clocks) (now named) (now dues)) ≡ true) ⌝ }
-    ensures { λ r. ⌜ r ≡ foundBy (refreshVerdict task extension handle (lent h (now (handles .entry)) (now (lengths .entry)) (now (clocks .entry)) (now (named .entry)) (now (dues .entry)))) task handle (lent h (now (handles .entry)) (now (lengths .entry)) (now (clocks .entry)) (now (named .entry)) (now (dues .entry))) ⌝ }
+    ensures { λ r. ⌜ r ≡ foundIn (refreshVerdict task extension handle) task handle (lent h (now (handles .entry)) (now (lengths .entry)) (now (clocks .entry)) (now (named .entry)) (now (dues .entry))) ⌝ }
 {
     let tasks = h.tasks;
     match and_then(task_verdict(task, tasks), extension_verdict(extension)) {

@@ -19,7 +19,7 @@ use Rattle.record.specs.declared.Head.{Head}
 use Rattle.record.specs.declared.Pool.{Pool}
 use Rattle.expirations.specs.Standing.{standingOf}
 use Rattle.steps.specs.Objects.{readVerdict}
-use Rattle.objects.specs.Outcomes.{foundBy}
+use Rattle.objects.specs.Outcomes.{foundIn}
 use Rattle.objects.specs.Usage.{usageIn}
 use Rattle.objects.specs.declared.Found.{Found}
 use Rattle.objects.proofs.Laws.{usage-of}
@@ -60,7 +60,7 @@ module _ (p : Pool) {h : Head} (e : h ≡ headOf p) where
 
   pub located-by-value : HeadTyped (headOf p) → Sized (p .handles) (p .lengths) (p .clocks) (p .named) (p .dues) → (task handle : ℕ) {small large : List ℕ}
       → Ready (Use (Read task handle)) p small large → {f : Found}
-      → f ≡ foundBy (readVerdict task handle (lent h (p .handles) (p .lengths) (p .clocks) (p .named) (p .dues))) task handle (lent h (p .handles) (p .lengths) (p .clocks) (p .named) (p .dues))
+      → f ≡ foundIn (readVerdict task handle) task handle (lent h (p .handles) (p .lengths) (p .clocks) (p .named) (p .dues))
       → Locates task handle p small large f
   located-by-value types sized task handle ready found = read-locates types sized task handle ready _ (rw e at found)
 
