@@ -21,7 +21,7 @@ use Rattle.ledger.specs.Ledger.{settled, fresh, verdictOn, replyBy, afte
 use Rattle.ledger.specs.Heap.{heapVerdictOn, heapReply, heapNext, heapReplies, bookNext, isInTimeAndBounds, isLeftAside, allInTimeAndBounds, Used, sent, Demand3}
 use Rattle.ledger.specs.declared.Refusal.{Refusal}
 use Rattle.ledger.specs.declared.Answer.{Answer}
-use Rattle.ledger.specs.declared.Answer.the-variants.{Refused, Done, Advanced, Handle, Bytes, Counted}
+use Rattle.ledger.specs.declared.Answer.the-variants.{Refused, Done, Advanced, Handle, Bytes, Counted, Lasts}
 use Rattle.ledger.specs.declared.Call.{Call}
 use Rattle.ledger.specs.declared.Call.the-variants.{Schedule, Make, Refresh, Read, Write}
 use Rattle.ledger.specs.declared.Event.{Event}
@@ -162,6 +162,7 @@ isOwnAnswer (Advanced b) = false
 isOwnAnswer (Handle h) = false
 isOwnAnswer Bytes = false
 isOwnAnswer (Counted u) = false
+isOwnAnswer (Lasts life) = false
 
 own-reply : (v : Option Refusal) (call : Call) (m : Memory) → isOwnAnswer (replyBy v (replyTo call m) .answer) ≡ isOwnVerdict v
 unfolding isOwnAnswer replyTo

@@ -18,7 +18,7 @@ use Rattle.ledger.specs.declared.Call.{Call}
 use Rattle.ledger.specs.declared.Call.the-variants.{Schedule, Make, Refresh, Read, Write}
 use Rattle.ledger.specs.declared.Refusal.{Refusal}
 use Rattle.ledger.specs.declared.Request.{Request}
-use Rattle.ledger.specs.declared.Request.the-variants.{Use, Report}
+use Rattle.ledger.specs.declared.Request.the-variants.{Use, Report, Remaining}
 use Rattle.ledger.proofs.Passed.{Passed, passed}
 use Rattle.ledger.proofs.KeptTasks.{absent-kept, clocks-after}
 use Rattle.ledger.proofs.KeptObjects.{objects-settled, objects-made, objects-written}
@@ -73,6 +73,7 @@ kept-carried m xs (Write task handle offset) new c k =
 pub kept-request : (L : Ledger) → Kept L → (request : Request) (new : List ℕ) → Kept (afterRequest L request new)
 unfolding next
 kept-request L k Report new = k
+kept-request L k (Remaining task handle) new = k
 kept-request L k (Use call) new = by (verdictOn L call new) refl
   where
     by : (v : Option Refusal) → verdictOn L call new ≡ v

@@ -5,11 +5,13 @@ use mathlib.Core.Option.{Option, none, some}
 use Rattle.ledger.specs.Expirations.{Expiration}
 use Rattle.ledger.specs.Objects.{Memory, Reply, freshMemory, plain, standing, replyTo, memoryAfter, expirationsAfter, usage}
 use Rattle.ledger.specs.Refusals.{testsOf, verdict}
-use Rattle.ledger.specs.declared.Answer.the-variants.{Refused, Counted}
+use Rattle.ledger.specs.Remaining.{remainingLife}
+use Rattle.ledger.specs.declared.Answer.the-variants.{Refused, Counted, Lasts}
 use Rattle.ledger.specs.declared.Call.{Call}
+use Rattle.ledger.specs.declared.Call.the-variants.{Read}
 use Rattle.ledger.specs.declared.Refusal.{Refusal}
 use Rattle.ledger.specs.declared.Request.{Request}
-use Rattle.ledger.specs.declared.Request.the-variants.{Use, Report}
+use Rattle.ledger.specs.declared.Request.the-variants.{Use, Report, Remaining}
 
 -- L1: tasks, times, handles given and objects are its memory; the expirations stand beside it
 pub record Ledger : Type 0 where
@@ -49,14 +51,17 @@ next L call new =
     (settled (memoryAfter call new (L .memory)) (expirationsAfter call (L .memory) (L .expirations)))
     L
 
--- all ten calls: report answers its figures (O24) and changes nothing (O25)
+-- all eleven calls: report answers its figures (O24), and remaining life makes the tests of a read (R46); neither changes anything (O25)
 abbrev pub replyToRequest : Ledger → Request → List ℕ → Reply
 replyToRequest L (Use call) new = reply L call new
 replyToRequest L Report new = plain (Counted (usage (L .memory) (L .expirations)))
+replyToRequest L (Remaining task handle) new =
+    replyBy (verdictOn L (Read task handle) []) (plain (Lasts (remainingLife task handle (L .memory .clocks) (L .expirations))))
 
 abbrev pub afterRequest : Ledger → Request → List ℕ → Ledger
 afterRequest L (Use call) new = next L call new
 afterRequest L Report new = L
+afterRequest L (Remaining task handle) new = L
 
 -- a call on its way: a write brings its bytes
 pub record Sent : Type 0 where

@@ -1,8 +1,8 @@
--- Rules of document 01 that none of the thirteen edges tries, in rows of the same kind: writing, leaving, waiting, the last handle, and refusals 1 to 6, 8 and 11.
+-- Rules of document 01 that none of the thirteen edges tries, in rows of the same kind: writing, leaving, waiting, the last handle, remaining life, and refusals 1 to 6, 8 and 11.
 use mathlib.Core.List.{List, [], _∷_}
 use Rattle.lists.specs.Tests.{All}
 use Rattle.ledger.specs.Ledger.{fresh}
-use Rattle.ledger.specs.Rows.{join, leave, block, resume, tick, make, refresh, read, write, report, refused, done, standsStill, advanced, handle, contents, zeros, figures, _⇒_, _⨾_, Row, _runs_clockReads_, RowHolds, lateStart}
+use Rattle.ledger.specs.Rows.{join, leave, block, resume, tick, make, refresh, read, write, report, remaining, refused, done, standsStill, advanced, handle, contents, zeros, figures, lasts, _⇒_, _⨾_, Row, _runs_clockReads_, RowHolds, lateStart}
 use Rattle.ledger.specs.declared.Kind.the-variants.{Local, Global}
 
 unfoldable pub moreEdges : List Row
@@ -51,6 +51,39 @@ moreEdges =
     read 1 1 ⇒ refused 12 ⨾
     join 0 ⇒ done
     clockReads 0 ∷
+    -- Remaining life: the longest of either kind counts, 1 more than its extension or 2; an own date counts for its setter alone, a common one for all, and each goes by its own
+    -- time.
+    fresh runs
+    join 0 ⇒ done ⨾
+    join 1 ⇒ done ⨾
+    make 0 Local 30 4 ⇒ handle 1 ⨾
+    remaining 0 1 ⇒ lasts 31 0 ⨾
+    remaining 1 1 ⇒ lasts 0 0 ⨾
+    refresh 1 1 Global 30 ⇒ done ⨾
+    refresh 1 1 Global 4 ⇒ done ⨾
+    refresh 1 1 Local 2 ⇒ done ⨾
+    remaining 0 1 ⇒ lasts 31 32 ⨾
+    remaining 1 1 ⇒ lasts 3 32 ⨾
+    tick 0 ⇒ standsStill ⨾
+    remaining 0 1 ⇒ lasts 30 32 ⨾
+    remaining 1 1 ⇒ lasts 3 32 ⨾
+    tick 1 ⇒ advanced ⨾
+    remaining 1 1 ⇒ lasts 2 31
+    clockReads 1 ∷
+    -- It makes the tests of a read: 1, 3, 4, 11, 12.
+    fresh runs
+    remaining 16 0 ⇒ refused 1 ⨾
+    remaining 0 0 ⇒ refused 3 ⨾
+    join 0 ⇒ done ⨾
+    block 0 ⇒ standsStill ⨾
+    remaining 0 0 ⇒ refused 4 ⨾
+    resume 0 ⇒ done ⨾
+    make 0 Local 0 4 ⇒ handle 1 ⨾
+    remaining 0 0 ⇒ refused 11 ⨾
+    remaining 0 2 ⇒ refused 11 ⨾
+    tick 0 ⇒ advanced ⨾
+    remaining 0 1 ⇒ refused 12
+    clockReads 1 ∷
     -- The last handle is given, and then 8. Its object stands.
     lateStart 0 4294967294 runs
     make 0 Local 30 4 ⇒ handle 4294967295 ⨾

@@ -5,7 +5,7 @@ use mathlib.Core.List.{List, [], _∷_}
 use Rattle.ledger.specs.declared.Refusal.{Refusal}
 use Rattle.ledger.specs.declared.Refusal.the-variants.{NoSuchTask, TaskPresent, TaskAbsent, TaskWaiting, TaskRunning, ExtensionTooLong, LengthOutOfRange, HandlesSpent, NoFreeBlock, NoFreeExpiration, HandleNotGiven, ObjectGone, OutsideObject, WrongStoreLength, NotWellFormed, NotHexadecimal, UnknownOperation, WrongFrameLength, UnknownKind}
 use Rattle.ledger.specs.declared.Answer.{Answer}
-use Rattle.ledger.specs.declared.Answer.the-variants.{Refused, Done, Advanced, Handle, Bytes, Counted}
+use Rattle.ledger.specs.declared.Answer.the-variants.{Refused, Done, Advanced, Handle, Bytes, Counted, Lasts}
 
 -- R45: the refusals by number
 abbrev pub numberOf : Refusal → ℕ
@@ -37,6 +37,7 @@ answerNumber (Advanced b) = 0
 answerNumber (Handle h) = 0
 answerNumber Bytes = 0
 answerNumber (Counted u) = 0
+answerNumber (Lasts life) = 0
 
 -- O26, O27: its values, but for the bytes of a read, which stand beside it
 abbrev pub answerValues : Answer → List ℕ
@@ -46,3 +47,4 @@ answerValues (Advanced b) = cond b 1 0 ∷ []
 answerValues (Handle h) = h ∷ []
 answerValues Bytes = []
 answerValues (Counted u) = u .small ∷ u .large ∷ u .expirations ∷ u .given ∷ []
+answerValues (Lasts life) = life .local ∷ life .global ∷ []

@@ -15,7 +15,7 @@ use Rattle.ledger.specs.declared.Kind.the-variants.{Local}
 use Rattle.ledger.specs.declared.Event.the-variants.{Join, Leave, Block, Resume, Tick}
 use Rattle.ledger.specs.declared.Call.{Call}
 use Rattle.ledger.specs.declared.Call.the-variants.{Schedule, Make, Refresh, Read, Write}
-use Rattle.ledger.specs.declared.Request.the-variants.{Use, Report}
+use Rattle.ledger.specs.declared.Request.the-variants.{Use, Report, Remaining}
 
 -- The calls, by their names in 01 and with its arguments in its order. Only a write brings bytes.
 abbrev pub send : Call → List ℕ → Sent
@@ -51,6 +51,9 @@ write task handle offset new = send (Write task handle offset) new
 abbrev pub report : Sent
 report = record { request = Report; bytes = [] }
 
+abbrev pub remaining : ℕ → ℕ → Sent
+remaining task handle = record { request = Remaining task handle; bytes = [] }
+
 -- The answers as numbers: that of the refusal, or 0 and the data, the bytes of a read among them.
 abbrev pub numbers : Reply → List ℕ
 numbers r = answerNumber (r .answer) ∷ answerValues (r .answer) ++ r .bytes
@@ -78,6 +81,9 @@ zeros size = contents (replicate size 0)
 
 abbrev pub figures : ℕ → ℕ → ℕ → ℕ → List ℕ
 figures small large expirations given = 0 ∷ small ∷ large ∷ expirations ∷ given ∷ []
+
+abbrev pub lasts : ℕ → ℕ → List ℕ
+lasts local global = 0 ∷ local ∷ global ∷ []
 
 -- A line: a call and the answer that it must get.
 pub record Line : Type 0 where

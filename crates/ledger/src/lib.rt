@@ -80,10 +80,11 @@ pub enum Call {
     },
 }
 
-// All ten calls.
+// All eleven calls.
 pub enum Request {
     Use(Call),
     Report,
+    Remaining { task: u8, handle: u32 },
 }
 
 // What report counts: standing objects of either store, expirations (01: dates), handles (01: numbers) given.
@@ -137,6 +138,7 @@ pub enum Answer {
     Handle(u32),
     Bytes,
     Counted(Usage),
+    Lasts(Life),
 }
 
 // R45: the number of a refusal.
@@ -177,5 +179,6 @@ pub fn answer_number(answer: Answer) -> u8
         Answer::Handle(_) => 0,
         Answer::Bytes => 0,
         Answer::Counted(_) => 0,
+        Answer::Lasts(_) => 0,
     }
 }
