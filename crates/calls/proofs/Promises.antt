@@ -1,15 +1,15 @@
 -- How a call meets its contract: by 15, by 14, by a refusal of the ledger's, or carried out.
 use Prim.Native.Nat.{ℕ}
 use mathlib.Core.Bool.{Bool, true, false, not, _&&_, true≢false, false≢true, and-eq-true-iff}
-use mathlib.Core.List.{List}
+use mathlib.Core.List.{List, []}
 use mathlib.Core.Option.{none, some}
 use mathlib.Core.Path.{_≡_, refl, sym, ap, _∙_}
 use borrow.Author.Tests.{not-true, not-false}
 use lib.ListN.{length}
 use Rattle.ledger.specs.Objects.{Reply, plain, replyTo}
-use Rattle.ledger.specs.Ledger.{Ledger, verdictOn, reply, next}
+use Rattle.ledger.specs.Ledger.{Ledger, verdictOn, reply, next, replyToRequest, afterRequest}
 use Rattle.ledger.specs.declared.Answer.{Answer}
-use Rattle.ledger.specs.declared.Answer.the-variants.{Refused, Done, Advanced, Handle, Bytes, Counted}
+use Rattle.ledger.specs.declared.Answer.the-variants.{Refused, Done, Advanced, Handle, Bytes, Counted, Lasts}
 use Rattle.ledger.specs.declared.Call.{Call}
 use Rattle.ledger.specs.declared.Refusal.{Refusal}
 use Rattle.ledger.specs.declared.Refusal.the-variants.{WrongStoreLength, NotWellFormed}
@@ -21,7 +21,7 @@ use Rattle.record.specs.declared.Pool.{Pool}
 use Rattle.steps.specs.Staying.{Stays}
 use Rattle.steps.proofs.ObjectsFollow.{carried}
 use Rattle.steps.proofs.Staying.{same-stays}
-use Rattle.calls.specs.Contract.{isStored, areWhole, TellsWhole, Ready, Refuses, Obeys}
+use Rattle.calls.specs.Contract.{isStored, areWhole, TellsWhole, Ready, Refuses, Obeys, Follows}
 
 abbrev pub isRefusal : Answer → Bool
 isRefusal (Refused r) = true
@@ -30,6 +30,7 @@ isRefusal (Advanced b) = false
 isRefusal (Handle h) = false
 isRefusal Bytes = false
 isRefusal (Counted u) = false
+isRefusal (Lasts life) = false
 
 -- what was refused for one reason was not for another
 kept : (p : Pool) (small large : List ℕ) (r why : Refusal) → Refused r ≡ Refused why → Refuses why p small large (plain (Refused r)) p small large
@@ -110,3 +111,18 @@ module _ (call : Call) (new : List ℕ) (p : Pool) (small large : List ℕ) (w :
         stays = stays;
         sizes = sizes;
       }
+
+-- a request that touches no store and changes nothing: what it tells is the ledger's
+pub tells-obeys : (request : Request) (p : Pool) → isWellFormed p ≡ true → isStored request ≡ false → ((L : Ledger) → afterRequest L request [] ≡ L) → (answer : Answer)
+    → ((small large : List ℕ) (L : Ledger) → Reads p small large L → plain answer ≡ replyToRequest L request []) → Follows request p answer p
+tells-obeys request p w unstored same answer answers small large =
+    record {
+      unfit = λ u. absurd (true≢false (sym w ∙ u));
+      wrong = λ x s n. absurd (false≢true (sym unstored ∙ s));
+      answers = λ x s L reads. answers small large L reads;
+      leaves = λ x s L reads. rw (same L) reads;
+      fits = λ x. w;
+      keeps = λ why e. record { refused = ap plain e; samePool = refl; sameSmall = refl; sameLarge = refl };
+      stays = same-stays refl refl;
+      sizes = (refl, refl);
+    }

@@ -1,31 +1,47 @@
--- Report of a well-formed record meets its contract.
+-- Report and remaining life of a well-formed record meet their contract.
 use Prim.Native.Nat.{ℕ}
-use mathlib.Core.Bool.{true, true≢false, false≢true}
+use mathlib.Core.Bool.{true}
 use mathlib.Core.List.{List, []}
-use mathlib.Core.Path.{_≡_, refl, sym, ap, _∙_}
-use Rattle.ledger.specs.Objects.{plain}
+use mathlib.Core.Path.{_≡_, refl}
 use Rattle.ledger.specs.declared.Answer.the-variants.{Counted}
-use Rattle.ledger.specs.declared.Request.the-variants.{Report}
+use Rattle.ledger.specs.declared.Request.the-variants.{Report, Remaining}
+use Rattle.ledger.specs.declared.Verdict.{Verdict}
+use Rattle.ledger.specs.declared.Verdict.the-variants.{Accepted, Refused}
 use Rattle.record.specs.Pools.{isWellFormed}
-use Rattle.record.specs.Tables.{tablesOf}
+use Rattle.record.specs.Reading.{HeadTyped, Typed}
+use Rattle.record.specs.Tables.{Sized, tablesOf, lent, pooled}
+use Rattle.record.specs.declared.Head.{Head}
 use Rattle.record.specs.declared.Pool.{Pool}
 use Rattle.record.proofs.Facts.{fit-parts}
+use Rattle.steps.specs.Objects.{readVerdict}
 use Rattle.steps.specs.Usage.{usageOf}
+use Rattle.steps.proofs.ObjectsFollow.{read-life}
 use Rattle.steps.proofs.Rooms.{usage-alike}
-use Rattle.steps.proofs.Staying.{same-stays}
-use Rattle.calls.specs.Contract.{Obeys}
-use Rattle.calls.proofs.Promises.{isRefusal}
+use Rattle.steps.proofs.Verdicts.{read-verdict}
+use Rattle.objects.specs.Outcomes.{foundBy, foundIn}
+use Rattle.objects.specs.declared.Found.{Found}
+use Rattle.calls.specs.Contract.{Follows}
+use Rattle.calls.specs.Engine.{lifeFound}
+use Rattle.calls.proofs.Lent.{tables-of, lent-typed}
+use Rattle.calls.proofs.Promises.{tells-obeys}
 
-pub report-obeys : (p : Pool) → isWellFormed p ≡ true → (small large : List ℕ)
-    → Obeys Report [] p small large (plain (Counted (usageOf (tablesOf p)))) p small large
-report-obeys p w small large =
-    record {
-      unfit = λ u. absurd (true≢false (sym w ∙ u));
-      wrong = λ x s n. absurd (false≢true s);
-      answers = λ x s L reads. rw (usage-alike (fit-parts (tablesOf p) w) reads);
-      leaves = λ x s L reads. reads;
-      fits = λ x. w;
-      keeps = λ why e. absurd (false≢true (ap isRefusal e));
-      stays = same-stays refl refl;
-      sizes = (refl, refl);
-    }
+pub report-obeys : (p : Pool) → isWellFormed p ≡ true → Follows Report p (Counted (usageOf (tablesOf p))) p
+report-obeys p w =
+    tells-obeys Report p w refl (λ L. refl) _ (λ small large L reads. rw (usage-alike (fit-parts (tablesOf p) w) reads))
+
+-- the life that was found is the ledger's, and so is the refusal
+module _ (task handle : ℕ) {p : Pool} (types : Typed (tablesOf p)) (w : isWellFormed p ≡ true) where
+  life-by : (v : Verdict) → readVerdict task handle (tablesOf p) ≡ v → Follows (Remaining task handle) p (lifeFound (foundBy v task handle (tablesOf p))) p
+  life-by Accepted e =
+      tells-obeys (Remaining task handle) p w refl (λ L. refl) _
+      (λ small large L reads. rw (read-verdict types (fit-parts (tablesOf p) w) reads task handle [], e, read-life w types reads task handle e))
+  life-by (Refused r) e =
+      tells-obeys (Remaining task handle) p w refl (λ L. refl) _
+      (λ small large L reads. rw (read-verdict types (fit-parts (tablesOf p) w) reads task handle [], e))
+
+pub life-obeys : {h : Head} {hs ls cs ns ds : List ℕ} → HeadTyped h → Sized hs ls cs ns ds → isWellFormed (pooled h hs ls cs ns ds) ≡ true → (task handle : ℕ) {f : Found}
+    → f ≡ foundIn (readVerdict task handle) task handle (lent h hs ls cs ns ds)
+    → Follows (Remaining task handle) (pooled h hs ls cs ns ds) (lifeFound f) (pooled h hs ls cs ns ds)
+life-obeys {h} {hs} {ls} {cs} {ns} {ds} types sized w task handle so =
+    rw (so, ← tables-of h hs ls cs ns ds)
+    (life-by task handle (lent-typed h hs ls cs ns ds types (sized .blocks) (sized .entries)) w (readVerdict task handle (tablesOf (pooled h hs ls cs ns ds))) refl)

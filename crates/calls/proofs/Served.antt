@@ -18,7 +18,7 @@ use Rattle.ledger.specs.declared.Event.the-variants.{Join, Leave, Block, Resume
 use Rattle.ledger.specs.declared.Kind.{Kind}
 use Rattle.ledger.specs.declared.Refusal.{Refusal}
 use Rattle.ledger.specs.declared.Request.{Request}
-use Rattle.ledger.specs.declared.Request.the-variants.{Use, Report}
+use Rattle.ledger.specs.declared.Request.the-variants.{Use, Report, Remaining}
 use Rattle.record.specs.Reading.{isWholeSmall, blockBytes}
 use Rattle.record.specs.declared.Pool.{Pool}
 use Rattle.objects.specs.declared.Found.{Found}
@@ -78,6 +78,7 @@ nothing-beyond (Use (Refresh task kind extension handle)) new p small large why 
 nothing-beyond (Use (Read task handle)) new p small large why = tt
 nothing-beyond (Use (Write task handle offset)) new p small large why = λ d. absurd (true≢false (ap isRefusal d))
 nothing-beyond Report new p small large why = tt
+nothing-beyond (Remaining task handle) new p small large why = tt
 
 pub refused-serves : {request : Request} {new : List ℕ} {p : Pool} {small large : List ℕ} {why : Refusal}
     → Obeys request new p small large (plain (RefusedAnswer why)) p small large
@@ -99,6 +100,10 @@ module _ (new : List ℕ) (p : Pool) (small large : List ℕ) where
 
   pub report-serves : (answer : Answer) → Follows Report p answer p → Serves Report new p small large (withoutBytes answer p) small large
   report-serves answer f = serves-plain tt (whatever-bytes new (λ L. refl) (λ L. refl) (f small large))
+
+  pub life-serves : (task handle : ℕ) (answer : Answer) → Follows (Remaining task handle) p answer p
+      → Serves (Remaining task handle) new p small large (withoutBytes answer p) small large
+  life-serves task handle answer f = serves-plain tt (whatever-bytes new (λ L. refl) (λ L. refl) (f small large))
 
   pub make-serves : (task : ℕ) (kind : Kind) (extension size : ℕ) (o : Outcome) (small′ large′ : List ℕ)
       → Makes task kind extension size p small large o small′ large′

@@ -15,7 +15,7 @@ use Rattle.ledger.specs.declared.Life.{Life}
 use Rattle.ledger.specs.declared.Refusal.{Refusal}
 use Rattle.ledger.specs.declared.Refusal.the-variants.{WrongStoreLength, NotWellFormed}
 use Rattle.ledger.specs.declared.Request.{Request}
-use Rattle.ledger.specs.declared.Request.the-variants.{Use, Report}
+use Rattle.ledger.specs.declared.Request.the-variants.{Use, Report, Remaining}
 use Rattle.stores.specs.Places.{blockCount, sizeOf, InBlock, smallAfter, largeAfter}
 use Rattle.record.specs.Reading.{isWholeSmall, isWholeLarge, blockBytes, Typed}
 use Rattle.record.specs.Tables.{tablesOf}
@@ -36,6 +36,7 @@ isStored (Use (Refresh task kind extension handle)) = false
 isStored (Use (Read task handle)) = true
 isStored (Use (Write task handle offset)) = true
 isStored Report = false
+isStored (Remaining task handle) = false
 
 -- both stores have 01's lengths
 abbrev pub areWhole : List ℕ → List ℕ → Bool

@@ -5,13 +5,15 @@ use mathlib.Core.List.{List}
 use mathlib.Core.Path.{_≡_}
 use lib.ListN.{length}
 use Rattle.ledger.specs.declared.Answer.{Answer}
-use Rattle.ledger.specs.declared.Answer.the-variants.{Done as DoneAnswer, Refused as RefusedAnswer}
+use Rattle.ledger.specs.declared.Answer.the-variants.{Done as DoneAnswer, Refused as RefusedAnswer, Lasts}
 use Rattle.ledger.specs.declared.Request.{Request}
 use Rattle.ledger.specs.declared.Verdict.{Verdict}
 use Rattle.ledger.specs.declared.Verdict.the-variants.{Accepted, Refused}
 use Rattle.record.specs.Tables.{pooled, SizedEntries, blockEntries}
 use Rattle.record.specs.Pools.{isWellFormed}
 use Rattle.record.specs.declared.Head.{Head}
+use Rattle.objects.specs.declared.Found.{Found}
+use Rattle.objects.specs.declared.Found.the-variants.{At, Refused as RefusedFound}
 use Rattle.calls.specs.Contract.{Follows}
 use Rattle.calls.specs.declared.Step.{Step}
 use Rattle.calls.specs.declared.Outcome.{Outcome}
@@ -20,6 +22,11 @@ use Rattle.calls.specs.declared.Outcome.{Outcome}
 abbrev pub refusedBy : Verdict → Head → Step
 refusedBy Accepted h = record { answer = DoneAnswer; head = h }
 refusedBy (Refused why) h = record { answer = RefusedAnswer why; head = h }
+
+-- the remaining life that was found, or why nothing was
+abbrev pub lifeFound : Found → Answer
+lifeFound (RefusedFound why) = RefusedAnswer why
+lifeFound (At block length life) = Lasts life
 
 abbrev pub withGiven : Head → ℕ → Head
 withGiven h given = record { tasks = h .tasks; global = h .global; given = given }

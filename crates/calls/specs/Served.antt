@@ -7,7 +7,7 @@ use Rattle.ledger.specs.declared.Answer.{Answer}
 use Rattle.ledger.specs.declared.Answer.the-variants.{Done, Handle}
 use Rattle.ledger.specs.declared.Call.the-variants.{Schedule, Make, Refresh, Read, Write}
 use Rattle.ledger.specs.declared.Request.{Request}
-use Rattle.ledger.specs.declared.Request.the-variants.{Use, Report}
+use Rattle.ledger.specs.declared.Request.the-variants.{Use, Report, Remaining}
 use Rattle.stores.specs.Places.{InBlock, smallAfter, largeAfter}
 use Rattle.record.specs.Reading.{blockBytes}
 use Rattle.record.specs.declared.Pool.{Pool}
@@ -33,6 +33,7 @@ Beyond (Use (Write task handle offset)) new p small large answer p′ small′ l
     answer ≡ Done
     → (small′ ≡ smallAfter (placeIn handle (p .handles)) offset new small) × (large′ ≡ largeAfter (placeIn handle (p .handles)) offset new large)
 Beyond Report new p small large answer p′ small′ large′ = Unit
+Beyond (Remaining task handle) new p small large answer p′ small′ large′ = Unit
 
 pub record Serves (request : Request) (new : List ℕ) (p : Pool) (small large : List ℕ) (r : Called) (small′ large′ : List ℕ) : Type 0 where
   pub obeys : Obeys request new p small large (replyOf r small′ large′) (r .pool) small′ large′

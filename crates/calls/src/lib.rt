@@ -1,10 +1,10 @@
-// Each call that changes something, of a well-formed record with stores of 01's lengths: what follows the tests of 15 and 14. The head goes by value, tables and stores
+// Each call that changes something, and remaining life, of a well-formed record with stores of 01's lengths: what follows the tests of 15 and 14. The head goes by value, tables and stores
 // are lent. A call decides first, by what it only reads, and then changes: a refusal has touched nothing.
 ghost use mathlib.Core.Bool.{true};
 ghost use mathlib.Core.Path.{_≡_};
 ghost use lib.ListN.{length};
 ghost use Rattle.ledger.specs.declared.Call.the-variants.{Schedule, Make, Refresh, Write};
-ghost use Rattle.ledger.specs.declared.Request.the-variants.{Use};
+ghost use Rattle.ledger.specs.declared.Request.the-variants.{Use, Remaining};
 ghost use Rattle.record.specs.Pools.{isWellFormed};
 ghost use Rattle.record.specs.Tables.{pooled, SizedEntries, Sized, blockEntries};
 ghost use Rattle.calls.specs.Contract.{Ready, Follows, Makes, Writes};
@@ -18,6 +18,7 @@ use ledger::Event;
 use ledger::Kind;
 use ledger::Verdict;
 use objects::Found;
+use objects::find_for_read;
 use objects::find_for_refresh;
 use objects::find_for_write;
 use objects::plan_make;
@@ -236,5 +237,29 @@ pub fn write<'a>(
             write_place(small, large, block, offset as usize, bytes);
             Answer::Done
         }
+    }
+}
+
+// How long an object has left for the task that asks; nothing is changed.
+pub fn remaining<'a>(
+    h: Head,
+    handles: &'a [u32; BLOCK_COUNT],
+    lengths: &'a [u16; BLOCK_COUNT],
+    clocks: &'a [u8; EXPIRATION_COUNT],
+    named: &'a [u8; EXPIRATION_COUNT],
+    dues: &'a [u32; EXPIRATION_COUNT],
+    task: u8,
+    handle: u32,
+) -> Answer
+    requires { ⌜ Sized (now handles) (now lengths) (now clocks) (now named) (now dues) × (isWellFormed (pooled h (now handles) (now lengths) (now clocks) (now named) (now dues)) ≡ true) ⌝ }
+    ensures { λ r. ⌜ Follows (Remaining task handle) (pooled h (now (handles .entry)) (now (lengths .entry)) (now (clocks .entry)) (now (named .entry)) (now (dues .entry))) r (pooled h (now (handles .entry)) (now (lengths .entry)) (now (clocks .entry)) (now (named .entry)) (now (dues .entry))) ⌝ }
+{
+    match find_for_read(h, handles, lengths, clocks, named, dues, task, handle) {
+        Found::Refused(why) => Answer::Refused(why),
+        Found::At {
+            block: _,
+            length: _,
+            life,
+        } => Answer::Lasts(life),
     }
 }

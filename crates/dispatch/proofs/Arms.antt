@@ -12,7 +12,7 @@ use Rattle.ledger.specs.declared.Call.the-variants.{Schedule, Make, Refresh, Re
 use Rattle.ledger.specs.declared.Event.{Event}
 use Rattle.ledger.specs.declared.Kind.{Kind}
 use Rattle.ledger.specs.declared.Request.{Request}
-use Rattle.ledger.specs.declared.Request.the-variants.{Use, Report}
+use Rattle.ledger.specs.declared.Request.the-variants.{Use, Report, Remaining}
 use Rattle.record.specs.Reading.{HeadTyped}
 use Rattle.record.specs.Tables.{SizedEntries, Sized, entriesOf, tablesOf, lent, pooled}
 use Rattle.record.specs.declared.Head.{Head}
@@ -32,7 +32,7 @@ use Rattle.calls.specs.declared.Step.{Step}
 use Rattle.dispatch.specs.declared.Done.{Done}
 use Rattle.expirations.proofs.Counting.{standing-of}
 use Rattle.calls.proofs.Reported.{report-obeys}
-use Rattle.calls.proofs.Served.{whatever-bytes, serves-plain, schedule-serves, refresh-serves, make-serves, write-serves, report-serves}
+use Rattle.calls.proofs.Served.{whatever-bytes, serves-plain, schedule-serves, refresh-serves, make-serves, write-serves, report-serves, life-serves}
 use Rattle.calls.proofs.WriteLent.{read-locates}
 
 -- a read gives back where its object is
@@ -102,7 +102,7 @@ module _ (new : List ℕ) {h : Head} {hs ls cs ns ds : List ℕ} (sized : Sized 
   write-arm {task} {handle} {offset} is {answer} w so =
       rw (is, so) (sized, write-serves new _ small large task handle offset answer _ _ w)
 
--- report, and any request by its call
+-- report, remaining life, and any request by its call
 module _ (new : List ℕ) {h : Head} {hs ls cs ns ds : List ℕ} (sized : Sized hs ls cs ns ds) {small large : List ℕ} {request : Request}
     (ready : Ready request (pooled h hs ls cs ns ds) small large) {r : Done} where
   pub report-arm : request ≡ Report → r ≡ withoutBytes (Counted (usageIn (h .given) hs (standingOf cs))) h
@@ -112,6 +112,11 @@ module _ (new : List ℕ) {h : Head} {hs ls cs ns ds : List ℕ} (sized : Sized 
       let figures = usage-of hs ls (sized .blocks .of-handles) (sized .blocks .of-lengths) h (entriesOf cs ns ds) in
       rw (is, so, standing-of (sized .entries), figures)
       (sized, report-serves new (pooled h hs ls cs ns ds) small large _ (report-obeys (pooled h hs ls cs ns ds) (ready .fit)))
+
+  pub life-arm : {task handle : ℕ} → request ≡ Remaining task handle → {answer : Answer}
+      → Follows (Remaining task handle) (pooled h hs ls cs ns ds) answer (pooled h hs ls cs ns ds) → r ≡ withoutBytes answer h
+      → Served request new h hs ls cs ns ds small large r hs ls cs ns ds small large
+  life-arm {task} {handle} is {answer} f so = rw (is, so) (sized, life-serves new _ small large task handle answer f)
 
   pub use-arm : {call : Call} → request ≡ Use call → {hs′ ls′ cs′ ns′ ds′ small′ large′ : List ℕ}
       → Served (Use call) new h hs ls cs ns ds small large r hs′ ls′ cs′ ns′ ds′ small′ large′

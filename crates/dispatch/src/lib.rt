@@ -1,4 +1,4 @@
-// The one dispatch: a call of the ten by its request, on a head by value and lent tables and stores.
+// The one dispatch: a call of the eleven by its request, on a head by value and lent tables and stores.
 ghost use mathlib.Core.Path.{_≡_};
 ghost use Rattle.ledger.specs.declared.Request.the-variants.{Use};
 ghost use Rattle.record.specs.Tables.{pooled, Sized};
@@ -7,6 +7,7 @@ ghost use Rattle.calls.specs.Served.{Serves};
 ghost use Rattle.dispatch.specs.Done.{withoutBytes, whereFound, givenBack};
 use calls::make;
 use calls::refresh;
+use calls::remaining;
 use calls::schedule;
 use calls::write;
 use expirations::standing;
@@ -153,7 +154,7 @@ fn serve(
     }
 }
 
-// One call of the ten, by its request. The bytes are those of a write; other calls leave them aside.
+// One call of the eleven, by its request. The bytes are those of a write; other calls leave them aside.
 pub fn call(
     h: Head,
     handles: &mut [u32; BLOCK_COUNT],
@@ -184,6 +185,10 @@ pub fn call(
         ),
         Request::Report => without_bytes(
             Answer::Counted(usage(h.given, handles, standing(clocks))),
+            h,
+        ),
+        Request::Remaining { task, handle } => without_bytes(
+            remaining(h, handles, lengths, clocks, named, dues, task, handle),
             h,
         ),
     }

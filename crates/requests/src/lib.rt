@@ -40,6 +40,7 @@ fn is_stored(request: Request) -> bool
             } => true,
         },
         Request::Report => false,
+        Request::Remaining { task: _, handle: _ } => false,
     }
 }
 
@@ -55,7 +56,7 @@ fn refused(why: Refusal, p: Pool) -> Called
     }
 }
 
-// One call of the ten, by its request. The bytes are those of a write; other calls leave them aside.
+// One call of the eleven, by its request. The bytes are those of a write; other calls leave them aside.
 pub fn call(p: Pool, small: &mut [u8], large: &mut [u8], request: Request, bytes: &[u8]) -> Called
     ensures { λ r. ⌜ Serves request (now (bytes .entry)) p (now (small .entry)) (now (large .entry)) r (now (small .exit)) (now (large .exit)) ⌝ }
 {

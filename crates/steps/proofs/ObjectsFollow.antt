@@ -1,14 +1,16 @@
 -- Make, refresh, read and write on a well-formed record follow the ledger that it reads as.
 use Prim.Native.Nat.{ℕ, _+_, _≤_, _<_}
 use native.Mathlib.Omega.{arith}
-use mathlib.Core.Bool.{true}
+use mathlib.Core.Bool.{true, false}
 use mathlib.Core.List.{List, []}
 use mathlib.Core.Logic.{_≢_}
 use mathlib.Core.Path.{_≡_, sym, _∙_}
 use borrow.Author.Tests.{not-false, ltb-false, eqb-false}
+use lib.Dec.{eqb}
 use lib.ListN.{length, getD, replicate}
-use Rattle.ledger.specs.Objects.{replyTo, memoryAfter, expirationsAfter, objectAt}
+use Rattle.ledger.specs.Objects.{replyTo, memoryAfter, expirationsAfter, objectAt, stands}
 use Rattle.ledger.specs.Refusals.{asRefusal}
+use Rattle.ledger.specs.Remaining.{remainingLife}
 use Rattle.ledger.specs.Ledger.{Ledger, settled, replyBy, afterBy, verdictOn, reply, next}
 use Rattle.ledger.specs.Compared.{viewOf}
 use Rattle.ledger.specs.declared.Kind.{Kind}
@@ -25,8 +27,10 @@ use Rattle.record.specs.Tables.{Tables, blockEntries}
 use Rattle.record.proofs.Distinct.{handleAt}
 use Rattle.record.proofs.Facts.{fit-parts, fit-whole}
 use Rattle.steps.specs.Objects.{taskVerdict, placeOf, freePlace, handleVerdict, makeVerdict, refreshVerdict, readVerdict, writeVerdict, madePool, refreshedPool}
+use Rattle.steps.specs.Remaining.{lifeIn}
 use Rattle.steps.proofs.Chosen.{both-accept, not-refused, make-takes, refresh-takes, handle-found}
 use Rattle.steps.proofs.Finding.{Found, gone-alike, found, blockOf}
+use Rattle.steps.proofs.Remaining.{life-alike}
 use Rattle.steps.proofs.StoreBytes.{used-in-block, made-bytes}
 use Rattle.steps.proofs.FitMade.{fit-made, fit-refreshed}
 use Rattle.steps.proofs.ReadMade.{both-whole, made-reads, refreshed-reads}
@@ -43,11 +47,23 @@ unfolding reply next
 by-verdict L call new v e = (rw e, rw e)
 
 module _ {p : Tables} {small large : List ℕ} {L : Ledger} (w : isWellFormed p ≡ true) (types : Typed p) (reads : Reads p small large L) where
-  -- an accepted handle is that of an object that stands, in a block in use
-  place-found : (handle : ℕ) → handleVerdict handle p ≡ Accepted → Found small large (p .blocks) handle (objectAt handle (L .memory .objects))
-  place-found handle v =
+  -- an accepted handle is that of an object that stands,
+  handle-stands : (handle : ℕ) → handleVerdict handle p ≡ Accepted → (eqb handle 0 ≡ false) × (stands (L .expirations) handle ≡ true)
+  handle-stands handle v =
       let (nonzero, place) = handle-found handle (p .given) (placeOf handle (p .blocks)) v in
-      found (fit-parts p w) reads handle nonzero (not-false _ (sym (gone-alike (fit-parts p w) reads handle nonzero types) ∙ place))
+      (nonzero, not-false _ (sym (gone-alike (fit-parts p w) reads handle nonzero types) ∙ place))
+
+  -- in a block in use
+  place-found : (handle : ℕ) → handleVerdict handle p ≡ Accepted → Found small large (p .blocks) handle (objectAt handle (L .memory .objects))
+  place-found handle v = let (nonzero, standing) = handle-stands handle v in found (fit-parts p w) reads handle nonzero standing
+
+  -- and with the life that the ledger gives it
+  pub read-life : (task handle : ℕ) → readVerdict task handle p ≡ Accepted
+      → lifeIn task (placeOf handle (p .blocks)) (p .tasks) (p .global) (p .expirations) ≡ remainingLife task handle (L .memory .clocks) (L .expirations)
+  unfolding readVerdict
+  read-life task handle v =
+      let (nonzero, standing) = handle-stands handle (both-accept (taskVerdict task (p .tasks)) _ v .1) in
+      life-alike (fit-parts p w) reads task handle nonzero standing
 
   pub same-given : p .given ≡ L .memory .given
   unfolding recordView viewOf

@@ -1,9 +1,9 @@
--- One of the nine, or report.
+-- One of the nine, report, or remaining life.
 use mathlib.Core.Path.{ap, _∙_}
 use borrow.Author.Needs.{needs}
 use Rattle.ledger.specs.declared.Answer.the-variants.{Counted}
 use Rattle.dispatch.specs.Done.{withoutBytes}
-use Rattle.dispatch.proofs.Arms.{ready-for, report-arm, use-arm}
+use Rattle.dispatch.proofs.Arms.{ready-for, report-arm, life-arm, use-arm}
 use Rattle.dispatch.proofs.call.Statement.{statement}
 use Rattle.dispatch.proofs.call.Tie as tie
 
@@ -27,6 +27,18 @@ returns-2 c =
     report-arm _ (s .pre .0) (s .pre .1) (told .enum-told .given .1)
     (rw (c .without-bytes .ensures, c .before .usage .ensures, c .before .before .standing .ensures))
 
+remaining-requires : tie.Need-remaining-requires
+remaining-requires c κs =
+    let s = c .before .before .before .before .before .before .before .before .before .before .before in
+    (s .pre .0, s .pre .1 .fit)
+
+returns-3 : tie.Need-returns-3
+returns-3 c =
+    let called = c .before in
+    let told = called .before .before .before .before .before .before .before in
+    let s = told .before .before .before .before .before in
+    life-arm _ (s .pre .0) (s .pre .1) (told .request2 .given .1) (called .remaining .ensures) (c .without-bytes2 .ensures)
+
 pub call-spec : {M : Type 1} → statement M
 call-spec =
     tie.close
@@ -38,6 +50,10 @@ call-spec =
     (λ c κs. search needs)
     (λ c κs. search needs)
     (λ c. search needs)
+    remaining-requires
+    (λ c κs. search needs)
+    (λ c. search needs)
     (λ c. search needs)
     returns
-    returns-2)
+    returns-2
+    returns-3)
