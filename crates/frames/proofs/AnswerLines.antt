@@ -8,7 +8,7 @@ use mir.Val.{boolByte}
 use lib.ListN.{length, set, length-append, length-set}
 use Rattle.lists.proofs.Blocks.{overwritten-on, set-overwritten}
 use Rattle.ledger.specs.declared.Answer.{Answer}
-use Rattle.ledger.specs.declared.Answer.the-variants.{Refused, Done, Advanced, Handle, Bytes, Counted}
+use Rattle.ledger.specs.declared.Answer.the-variants.{Refused, Done, Advanced, Handle, Bytes, Counted, Lasts}
 use Rattle.ledger.specs.Limits.{largeSize}
 use Rattle.frames.specs.Answers.{answerHead, answerLine, longestAnswer}
 use Rattle.text.specs.Fields.{inBytes}
@@ -70,3 +70,4 @@ line-within (Advanced advanced) bytes few = omega (arith, length-line (Advanced 
 line-within (Handle handle) bytes few = omega (arith, length-line (Handle handle) bytes)
 line-within Bytes bytes few = omega (arith, length-line Bytes bytes)
 line-within (Counted usage) bytes few = omega (arith, length-line (Counted usage) bytes)
+line-within (Lasts life) bytes few = omega (arith, length-line (Lasts life) bytes)

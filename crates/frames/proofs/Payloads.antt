@@ -15,7 +15,7 @@ use Rattle.ledger.specs.declared.Refusal.{Refusal}
 use Rattle.ledger.specs.declared.Request.{Request}
 use Rattle.ledger.specs.Limits.{largeSize}
 use Rattle.text.specs.Fields.{fieldsAt}
-use Rattle.frames.specs.Frames.{Operation, widthsOf, headSize, mostBytes, isSizeOf, requestOf, frameWith, frameAs, operations, operationIn, frameBy, frameIn, frameOf, payloadOf, Decodes, schedule, make, refresh, read, write, report}
+use Rattle.frames.specs.Frames.{Operation, widthsOf, headSize, mostBytes, isSizeOf, requestOf, frameWith, frameAs, operations, operationIn, frameBy, frameIn, frameOf, payloadOf, Decodes, schedule, make, refresh, read, write, report, remaining}
 use Rattle.text.specs.Hex.{isHex, bytesOf}
 use Rattle.frames.specs.declared.Frame.{Frame}
 use Rattle.text.proofs.Digits.{length-bytes}
@@ -34,6 +34,7 @@ most-bytes refresh = omega arith
 most-bytes read = omega arith
 most-bytes write = omega arith
 most-bytes report = omega arith
+most-bytes remaining = omega arith
 
 -- a request brings at most the bytes of the largest object, and no more than its frame has
 module _ (bytes : List ℕ) {request : Request} {count : ℕ} where

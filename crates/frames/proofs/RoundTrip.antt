@@ -13,9 +13,9 @@ use Rattle.ledger.specs.declared.Call.the-variants.{Schedule, Make, Refresh, Re
 use Rattle.ledger.specs.declared.Event.the-variants.{Join, Leave, Block, Resume, Tick}
 use Rattle.ledger.specs.declared.Kind.the-variants.{Local, Global}
 use Rattle.ledger.specs.declared.Request.{Request}
-use Rattle.ledger.specs.declared.Request.the-variants.{Use, Report}
+use Rattle.ledger.specs.declared.Request.the-variants.{Use, Report, Remaining}
 use Rattle.text.specs.Fields.{inFields, FitFields}
-use Rattle.frames.specs.Frames.{Operation, schedule, make, refresh, read, write, report, operations, operationNumber, operationIn, widthsOf, headSize, mostBytes, requestOf, frameAs, frameBy, frameIn, frameOf, payloadOf, operationOf, valuesOf, lineOf, RoundTrip}
+use Rattle.frames.specs.Frames.{Operation, schedule, make, refresh, read, write, report, remaining, operations, operationNumber, operationIn, widthsOf, headSize, mostBytes, requestOf, frameAs, frameBy, frameIn, frameOf, payloadOf, operationOf, valuesOf, lineOf, RoundTrip}
 use Rattle.text.specs.Hex.{isHex, bytesOf}
 use Rattle.frames.specs.declared.Frame.{Frame}
 use Rattle.text.proofs.Digits.{within, hex-hex, bytes-hex}
@@ -33,6 +33,7 @@ found refresh = (refl, omega arith)
 found read = (refl, omega arith)
 found write = (refl, omega arith)
 found report = (refl, omega arith)
+found remaining = (refl, omega arith)
 
 -- its fields' values make the request
 same-request : (request : Request) → requestOf (operationOf request) (valuesOf request) ≡ some request
@@ -44,6 +45,7 @@ same-request (Use (Refresh task Global extension handle)) = refl
 same-request (Use (Read task handle)) = refl
 same-request (Use (Write task handle offset)) = refl
 same-request Report = refl
+same-request (Remaining task handle) = refl
 
 module _ (request : Request) (bytes : List ℕ) (fit : FitFields (widthsOf (operationOf request)) (valuesOf request))
     (below : All (λ (b : ℕ). b < 256) bytes) (most : length bytes ≤ mostBytes (operationOf request)) where

@@ -1,11 +1,11 @@
--- The rules F27 to F31: the line of an answer.
+-- The rules F27 to F32: the line of an answer.
 use Prim.Native.Nat.{ℕ, _+_, _*_}
 use mathlib.Core.List.{List, [], _∷_, _++_}
 use Rattle.text.specs.Fields.{inFields, total}
 use Rattle.text.specs.Hex.{hexOf}
 use Rattle.ledger.specs.Numbers.{answerNumber, answerValues}
 use Rattle.ledger.specs.declared.Answer.{Answer}
-use Rattle.ledger.specs.declared.Answer.the-variants.{Refused, Done, Advanced, Handle, Bytes, Counted}
+use Rattle.ledger.specs.declared.Answer.the-variants.{Refused, Done, Advanced, Handle, Bytes, Counted, Lasts}
 use Rattle.ledger.specs.Limits.{largeSize}
 
 -- F31: the figures of a report
@@ -22,6 +22,8 @@ answerWidths (Advanced advanced) = 1 ∷ []
 answerWidths (Handle handle) = 4 ∷ []
 answerWidths Bytes = []
 answerWidths (Counted usage) = reportWidths
+-- F32
+answerWidths (Lasts life) = 1 ∷ 1 ∷ []
 
 -- F28: the number of the answer, 0 or its refusal's, and what it tells
 unfoldable pub answerHead : Answer → List ℕ

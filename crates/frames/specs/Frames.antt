@@ -20,13 +20,13 @@ use Rattle.ledger.specs.declared.Kind.{Kind}
 use Rattle.ledger.specs.declared.Kind.the-variants.{Local, Global}
 use Rattle.ledger.specs.declared.Refusal.the-variants.{NotHexadecimal, UnknownOperation, WrongFrameLength, UnknownKind}
 use Rattle.ledger.specs.declared.Request.{Request}
-use Rattle.ledger.specs.declared.Request.the-variants.{Use, Report}
+use Rattle.ledger.specs.declared.Request.the-variants.{Use, Report, Remaining}
 use Rattle.ledger.specs.Limits.{largeSize}
 
--- the ten operations; five of them are the events of a task
+-- the eleven operations; five of them are the events of a task
 pub data Operation : Type 0 where
   schedule : Event → Operation
-  make refresh read write report : Operation
+  make refresh read write report remaining : Operation
 
 abbrev pub operationNumber : Operation → ℕ
 operationNumber (schedule Join) = 1
@@ -39,10 +39,11 @@ operationNumber refresh = 7
 operationNumber read = 8
 operationNumber write = 9
 operationNumber report = 10
+operationNumber remaining = 11
 
 abbrev pub operations : List Operation
 operations =
-    schedule Join ∷ schedule Leave ∷ schedule Block ∷ schedule Resume ∷ schedule Tick ∷ make ∷ refresh ∷ read ∷ write ∷ report ∷ []
+    schedule Join ∷ schedule Leave ∷ schedule Block ∷ schedule Resume ∷ schedule Tick ∷ make ∷ refresh ∷ read ∷ write ∷ report ∷ remaining ∷ []
 
 -- the one of these with a number, or none
 abbrev pub operationIn : List Operation → ℕ → Option Operation
@@ -63,6 +64,8 @@ widthsOf read = 1 ∷ 4 ∷ []
 widthsOf write = 1 ∷ 4 ∷ 1 ∷ []
 -- F10: none
 widthsOf report = []
+-- F11: task, handle
+widthsOf remaining = 1 ∷ 4 ∷ []
 
 -- F9: how many bytes may follow the fields
 abbrev pub mostBytes : Operation → ℕ
@@ -72,6 +75,7 @@ mostBytes refresh = 0
 mostBytes read = 0
 mostBytes write = largeSize
 mostBytes report = 0
+mostBytes remaining = 0
 
 -- operation and fields
 abbrev pub headSize : Operation → ℕ
@@ -99,6 +103,7 @@ requestOf refresh values =
 requestOf read values = some (Use (Read (getD values 0 0) (getD values 1 0)))
 requestOf write values = some (Use (Write (getD values 0 0) (getD values 1 0) (getD values 2 0)))
 requestOf report values = some Report
+requestOf remaining values = some (Remaining (getD values 0 0) (getD values 1 0))
 
 abbrev pub frameWith : Option Request → ℕ → Frame
 frameWith none count = Frame.Refused UnknownKind
@@ -145,6 +150,7 @@ operationOf (Use (Refresh task kind extension handle)) = refresh
 operationOf (Use (Read task handle)) = read
 operationOf (Use (Write task handle offset)) = write
 operationOf Report = report
+operationOf (Remaining task handle) = remaining
 
 abbrev pub kindNumber : Kind → ℕ
 kindNumber Local = 0
@@ -157,6 +163,7 @@ valuesOf (Use (Refresh task kind extension handle)) = task ∷ kindNumber kind �
 valuesOf (Use (Read task handle)) = task ∷ handle ∷ []
 valuesOf (Use (Write task handle offset)) = task ∷ handle ∷ offset ∷ []
 valuesOf Report = []
+valuesOf (Remaining task handle) = task ∷ handle ∷ []
 
 -- a request with its bytes, as a line
 unfoldable pub lineOf : Request → List ℕ → List ℕ

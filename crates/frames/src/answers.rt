@@ -1,5 +1,6 @@
 // The line of an answer.
 use ledger::Answer;
+use ledger::Life;
 use ledger::Usage;
 use ledger::number_of;
 use text::hex::put_byte;
@@ -10,7 +11,7 @@ ghost use lib.ListN.{length};
 ghost use Rattle.frames.specs.Answers.{answerHead, answerLine};
 ghost use Rattle.text.specs.Fields.{inBytes};
 ghost use Rattle.text.specs.Hex.{hexOf, Puts};
-ghost use Rattle.ledger.specs.declared.Answer.the-variants.{Counted};
+ghost use Rattle.ledger.specs.declared.Answer.the-variants.{Counted, Lasts};
 
 // A number in four bytes, high byte first.
 fn word(value: u32) -> [u8; 4]
@@ -53,6 +54,13 @@ fn counts(usage: Usage) -> [u8; WIDEST_HEAD]
     ]
 }
 
+// The head of a remaining life's answer.
+fn lasts(life: Life) -> [u8; 3]
+    ensures { λ r. ⌜ r ≡ answerHead (Lasts life) ⌝ }
+{
+    [0, life.local, life.global]
+}
+
 // The head as digits at the start of a buffer; the place after them.
 fn put_head(out: &mut [u8], answer: Answer) -> usize
     requires { ⌜ 2 * length (answerHead answer) ≤ length (now out) ⌝ }
@@ -71,6 +79,7 @@ fn put_head(out: &mut [u8], answer: Answer) -> usize
             put_word(out, next, handle)
         }
         Answer::Counted(usage) => put_hex(out, 0, &counts(usage)),
+        Answer::Lasts(life) => put_hex(out, 0, &lasts(life)),
     }
 }
 

@@ -16,7 +16,7 @@ ghost use mathlib.Core.Bool.{true};
 ghost use mathlib.Core.Path.{_≡_};
 ghost use lib.ListN.{length};
 ghost use Rattle.ledger.specs.Limits.{largeSize};
-ghost use Rattle.frames.specs.Frames.{Decodes, kindOf, frameAs, frameIn, frameOf, schedule, make, refresh, read, write, report};
+ghost use Rattle.frames.specs.Frames.{Decodes, kindOf, frameAs, frameIn, frameOf, schedule, make, refresh, read, write, report, remaining};
 ghost use Rattle.text.specs.Hex.{isHex, bytesOf};
 
 // F21: the kind that a byte names.
@@ -153,6 +153,19 @@ fn report(line: &[u8]) -> Frame
     Frame::Request(Request::Report, 0)
 }
 
+// F11: task, handle.
+fn remaining(line: &[u8]) -> Frame
+    requires { ⌜ isHex (now line) ≡ true ⌝ }
+    ensures { λ r. ⌜ r ≡ frameAs remaining (bytesOf (now (line .entry))) ⌝ }
+{
+    if line.len() / 2 != 6 {
+        return Frame::Refused(Refusal::WrongFrameLength);
+    }
+    let task = byte_at(line, 1);
+    let handle = word_at(line, 2);
+    Frame::Request(Request::Remaining { task, handle }, 0)
+}
+
 // By the operation's number; R17 where there is none.
 fn frame_in(line: &[u8]) -> Frame
     requires { ⌜ isHex (now line) ≡ true ⌝ }
@@ -172,6 +185,7 @@ fn frame_in(line: &[u8]) -> Frame
         8 => read(line),
         9 => write(line),
         10 => report(line),
+        11 => remaining(line),
         _ => Frame::Refused(Refusal::UnknownOperation),
     }
 }

@@ -72,6 +72,14 @@ returns-5 c =
 returns-6 : tie.Need-returns-6
 returns-6 c = rw (c .before .before .before .before .before .before .before .answer4 .given .1) (rw (c .before .before .before .before .counts .ensures) at (c .before .before .put-hex .ensures))
 
+put-hex-requires-2 : tie.Need-put-hex-requires-2
+put-hex-requires-2 c κs =
+    let known = c .before .before .before .before in
+    omega (arith, known .before .before .before .pre, ap length (c .before .lasts .ensures), ap length (ap answerHead (known .answer5 .given .1)))
+
+returns-7 : tie.Need-returns-7
+returns-7 c = rw (c .before .before .before .before .before .before .before .answer5 .given .1) (rw (c .before .before .before .before .lasts .ensures) at (c .before .before .put-hex2 .ensures))
+
 pub put-head-spec : {M : Type 1} → statement M
 put-head-spec =
     tie.close
@@ -95,6 +103,10 @@ put-head-spec =
     (λ c. search needs)
     put-hex-requires
     (λ c. search needs)
+    (λ c κs. search needs)
+    (λ c. search needs)
+    put-hex-requires-2
+    (λ c. search needs)
     returns
     (λ c. search needs)
     returns-2
@@ -105,4 +117,6 @@ put-head-spec =
     (λ c. search needs)
     returns-5
     (λ c. search needs)
-    returns-6)
+    returns-6
+    (λ c. search needs)
+    returns-7)
