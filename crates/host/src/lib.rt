@@ -4,7 +4,7 @@ ghost use mathlib.Core.List.{[], _∷_};
 ghost use mathlib.Core.Path.{_≡_};
 ghost use Rattle.ledger.specs.declared.Call.the-variants.{Schedule};
 ghost use Rattle.ledger.specs.declared.Event.the-variants.{Join, Leave, Block, Resume, Tick};
-ghost use Rattle.ledger.specs.declared.Request.the-variants.{Use, Report};
+ghost use Rattle.ledger.specs.declared.Request.the-variants.{Use, Report, Remaining};
 ghost use Rattle.record.specs.Reading.{freshPool};
 ghost use Rattle.frames.specs.Frames.{kindOf};
 ghost use Rattle.numbered.specs.Told.{buffered};
@@ -142,6 +142,20 @@ pub extern "C" fn ramsummer_report(
     ensures { λ r. ⌜ Does Report (now (p .entry)) (now (small .entry) ∷ now (large .entry) ∷ now (expirations .entry) ∷ now (given .entry) ∷ []) r (now (p .entry)) (now (small .exit) ∷ now (large .exit) ∷ now (expirations .exit) ∷ now (given .exit) ∷ []) × (now (p .exit) ≡ now (p .entry)) ⌝ }
 {
     numbered::report(*p, small, large, expirations, given)
+}
+
+// How long an object has left: ticks of the task that asks, and advances. The record stays.
+#[no_mangle]
+pub extern "C" fn ramsummer_remaining(
+    p: &mut Pool,
+    task: u8,
+    handle: u32,
+    local: &mut u8,
+    global: &mut u8,
+) -> u8
+    ensures { λ r. ⌜ Does (Remaining task handle) (now (p .entry)) (now (local .entry) ∷ now (global .entry) ∷ []) r (now (p .entry)) (now (local .exit) ∷ now (global .exit) ∷ []) × (now (p .exit) ≡ now (p .entry)) ⌝ }
+{
+    numbered::remaining(*p, task, handle, local, global)
 }
 
 // One line without its LF; the line of its answer goes to the start of a buffer of at least 531 bytes, and how many to `count`.

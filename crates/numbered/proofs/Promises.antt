@@ -14,13 +14,14 @@ use Rattle.ledger.specs.Numbers.{numberOf, answerNumber}
 use Rattle.ledger.specs.Tasks.{isTested}
 use Rattle.ledger.specs.Objects.{plain, replyTo}
 use Rattle.ledger.specs.declared.Answer.{Answer}
-use Rattle.ledger.specs.declared.Answer.the-variants.{Refused, Advanced, Handle, Bytes, Counted}
+use Rattle.ledger.specs.declared.Answer.the-variants.{Refused, Advanced, Handle, Bytes, Counted, Lasts}
 use Rattle.ledger.specs.declared.Call.the-variants.{Schedule, Make, Refresh, Write}
 use Rattle.ledger.specs.declared.Event.{Event}
 use Rattle.ledger.specs.declared.Kind.{Kind}
+use Rattle.ledger.specs.declared.Life.{Life}
 use Rattle.ledger.specs.declared.Refusal.{Refusal}
 use Rattle.ledger.specs.declared.Request.{Request}
-use Rattle.ledger.specs.declared.Request.the-variants.{Use, Report}
+use Rattle.ledger.specs.declared.Request.the-variants.{Use, Report, Remaining}
 use Rattle.ledger.specs.declared.Usage.{Usage}
 use Rattle.ledger.proofs.Answer.{the-type}
 use Rattle.record.specs.Reading.{Typed}
@@ -50,8 +51,9 @@ pub does : {request : Request} {p : Pool} (done : Outcome) {r : Numbered} {numbe
     → Follows request p (done .answer) (done .pool) → Tells (done .answer) numbers numbers′ → ByNumber done r → Does request p numbers (r .number) (r .pool) numbers′
 does done f t e = record { answer = done .answer; follows = rw (e .1) f; told = told (done .answer) (e .0) t }
 
-pub reports : {p : Pool} (answer : Answer) {number : ℕ} {numbers numbers′ : List ℕ}
-    → Follows Report p answer p → Tells answer numbers numbers′ → number ≡ answerNumber answer → Does Report p numbers number p numbers′
+-- report and remaining life leave the record
+pub reports : {request : Request} {p : Pool} (answer : Answer) {number : ℕ} {numbers numbers′ : List ℕ}
+    → Follows request p answer p → Tells answer numbers numbers′ → number ≡ answerNumber answer → Does request p numbers number p numbers′
 reports answer f t n = record { answer = answer; follows = f; told = told answer n t }
 
 pub makes : {task : ℕ} {kind : Kind} {extension size : ℕ} {p : Pool} {small large : List ℕ} (done : Outcome) {small′ large′ : List ℕ} {r : Numbered} {numbers numbers′ : List ℕ}
@@ -73,7 +75,7 @@ bool-number : (b : Bool) → boolByte b ≡ cond b 1 0
 bool-number true = refl
 bool-number false = refl
 
--- whether time advanced; the handle; the figures
+-- whether time advanced; the handle; the figures; the two of a life
 module _ {answer : Answer} where
   pub tells-advance : {b : Bool} {old : ℕ} → answer ≡ Advanced b → Tells answer (old ∷ []) (boolByte b ∷ [])
   unfolding overwritten
@@ -87,21 +89,29 @@ module _ {answer : Answer} where
   unfolding overwritten
   tells-usage e = record { now = rw e }
 
+  pub tells-life : {life : Life} {a b : ℕ} → answer ≡ Lasts life → Tells answer (a ∷ b ∷ []) (life .local ∷ life .global ∷ [])
+  unfolding overwritten
+  tells-life e = record { now = rw e }
+
 module _ {p : Pool} (types : Typed (tablesOf p)) {answer : Answer} {p′ : Pool} where
   -- where another form of answer would tell a number, the call was refused
   pub no-advance : {event : Event} {task : ℕ} → isTested event ≡ true → Follows (Use (Schedule event task)) p answer p′
-      → OneOf (0 ∷ 1 ∷ 3 ∷ 4 ∷ 5 ∷ []) (tagOf the-type answer) → (numbers : List ℕ) → Tells answer numbers numbers
+      → OneOf (0 ∷ 1 ∷ 3 ∷ 4 ∷ 5 ∷ 6 ∷ []) (tagOf the-type answer) → (numbers : List ℕ) → Tells answer numbers numbers
   unfolding replyTo
-  no-advance t f k numbers = stays answer numbers (tells-none types (f [] []) (λ L e. absurd (miss (0 ∷ 1 ∷ 3 ∷ 4 ∷ 5 ∷ []) 2 tt (rw (e, t) at k))))
+  no-advance t f k numbers = stays answer numbers (tells-none types (f [] []) (λ L e. absurd (miss (0 ∷ 1 ∷ 3 ∷ 4 ∷ 5 ∷ 6 ∷ []) 2 tt (rw (e, t) at k))))
 
-  pub no-usage : Follows Report p answer p′ → OneOf (0 ∷ 1 ∷ 2 ∷ 3 ∷ 4 ∷ []) (tagOf the-type answer) → (numbers : List ℕ) → Tells answer numbers numbers
-  no-usage f k numbers = stays answer numbers (tells-none types (f [] []) (λ L e. absurd (miss (0 ∷ 1 ∷ 2 ∷ 3 ∷ 4 ∷ []) 5 tt (rw e at k))))
+  pub no-usage : Follows Report p answer p′ → OneOf (0 ∷ 1 ∷ 2 ∷ 3 ∷ 4 ∷ 6 ∷ []) (tagOf the-type answer) → (numbers : List ℕ) → Tells answer numbers numbers
+  no-usage f k numbers = stays answer numbers (tells-none types (f [] []) (λ L e. absurd (miss (0 ∷ 1 ∷ 2 ∷ 3 ∷ 4 ∷ 6 ∷ []) 5 tt (rw e at k))))
+
+  pub no-life : {task handle : ℕ} → Follows (Remaining task handle) p answer p′ → OneOf (0 ∷ 1 ∷ 2 ∷ 3 ∷ 4 ∷ 5 ∷ []) (tagOf the-type answer)
+      → (numbers : List ℕ) → Tells answer numbers numbers
+  no-life f k numbers = stays answer numbers (tells-none types (f [] []) (λ L e. absurd (miss (0 ∷ 1 ∷ 2 ∷ 3 ∷ 4 ∷ 5 ∷ []) 6 tt (rw e at k))))
 
   pub no-handle : {task : ℕ} {kind : Kind} {extension size : ℕ} {small large small′ large′ : List ℕ}
       → Obeys (Use (Make task kind extension size)) [] p small large (plain answer) p′ small′ large′
-      → OneOf (0 ∷ 1 ∷ 2 ∷ 4 ∷ 5 ∷ []) (tagOf the-type answer) → (numbers : List ℕ) → Tells answer numbers numbers
+      → OneOf (0 ∷ 1 ∷ 2 ∷ 4 ∷ 5 ∷ 6 ∷ []) (tagOf the-type answer) → (numbers : List ℕ) → Tells answer numbers numbers
   unfolding replyTo
-  no-handle o k numbers = stays answer numbers (tells-none types o (λ L e. absurd (miss (0 ∷ 1 ∷ 2 ∷ 4 ∷ 5 ∷ []) 3 tt (rw e at k))))
+  no-handle o k numbers = stays answer numbers (tells-none types o (λ L e. absurd (miss (0 ∷ 1 ∷ 2 ∷ 4 ∷ 5 ∷ 6 ∷ []) 3 tt (rw e at k))))
 
   -- join, resume, refresh and write tell none
   pub silent : {event : Event} {task : ℕ} → isTested event ≡ false → Follows (Use (Schedule event task)) p answer p′ → Tells answer [] []

@@ -8,12 +8,14 @@ use mir.Val.{Val}
 use denote.Laws.{Is}
 use Rattle.lists.proofs.Cases.{by-test}
 use Rattle.ledger.specs.Objects.{Reply, plain, replyTo, usage}
+use Rattle.ledger.specs.Remaining.{remainingLife}
 use Rattle.ledger.specs.Ledger.{Ledger, verdictOn, replyBy, reply}
 use Rattle.ledger.specs.declared.Answer.{Answer}
-use Rattle.ledger.specs.declared.Answer.the-variants.{Refused, Counted}
+use Rattle.ledger.specs.declared.Answer.the-variants.{Refused, Counted, Lasts}
+use Rattle.ledger.specs.declared.Call.the-variants.{Read}
 use Rattle.ledger.specs.declared.Refusal.{Refusal}
 use Rattle.ledger.specs.declared.Request.{Request}
-use Rattle.ledger.specs.declared.Request.the-variants.{Use, Report}
+use Rattle.ledger.specs.declared.Request.the-variants.{Use, Report, Remaining}
 use Rattle.record.specs.Reading.{Typed}
 use Rattle.record.specs.Tables.{tablesOf}
 use Rattle.record.specs.Pools.{isWellFormed}
@@ -29,11 +31,17 @@ use Rattle.numbered.specs.Told.{numbersOf}
 abbrev pub carriedOut : Request → Ledger → Reply
 carriedOut (Use call) L = replyTo call (L .memory)
 carriedOut Report L = plain (Counted (usage (L .memory) (L .expirations)))
+carriedOut (Remaining task handle) L = plain (Lasts (remainingLife task handle (L .memory .clocks) (L .expirations)))
 
 pub typed : (p : Pool) (vs : List Val) → Is the-row p vs → Typed (tablesOf p)
 typed p vs is =
     let sized = columns-sized p vs is in
     lent-typed _ (p .handles) (p .lengths) (p .clocks) (p .named) (p .dues) (head-typed p vs is) (sized .blocks) (sized .entries)
+
+-- by the ledger's verdict
+by-verdict : {C : Type 0} {y done : Reply} (v : Option Refusal) → ((why : Refusal) → y ≡ plain (Refused why) → C) → (y ≡ done → C) → y ≡ replyBy v done → C
+by-verdict none refused carried e = carried e
+by-verdict (some why) refused carried e = refused why e
 
 module _ {C : Type 0} {p : Pool} (types : Typed (tablesOf p)) {new small large : List ℕ} {y : Reply} {p′ : Pool} {small′ large′ : List ℕ} where
   by-ledger : (request : Request) → ((why : Refusal) → y ≡ plain (Refused why) → C) → ((L : Ledger) → y ≡ carriedOut request L → C)
@@ -41,12 +49,11 @@ module _ {C : Type 0} {p : Pool} (types : Typed (tablesOf p)) {new small large :
   unfolding reply
   by-ledger Report refused carried w whole o =
       let (L, reads) = every-fit-record-reads p types w small large in carried L (o .answers w whole L reads)
+  by-ledger (Remaining task handle) refused carried w whole o =
+      let (L, reads) = every-fit-record-reads p types w small large in
+      by-verdict (verdictOn L (Read task handle) []) refused (carried L) (o .answers w whole L reads)
   by-ledger (Use call) refused carried w whole o =
-      let (L, reads) = every-fit-record-reads p types w small large in by L (verdictOn L call new) (o .answers w whole L reads)
-    where
-      by : (L : Ledger) (v : Option Refusal) → y ≡ replyBy v (replyTo call (L .memory)) → C
-      by L none e = carried L e
-      by L (some why) e = refused why e
+      let (L, reads) = every-fit-record-reads p types w small large in by-verdict (verdictOn L call new) refused (carried L) (o .answers w whole L reads)
 
   pub by-reply : {request : Request} → Obeys request new p small large y p′ small′ large′
       → ((why : Refusal) → y ≡ plain (Refused why) → C) → ((L : Ledger) → y ≡ carriedOut request L → C) → C

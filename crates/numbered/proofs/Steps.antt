@@ -13,7 +13,7 @@ use Rattle.lists.proofs.Cases.{by-test}
 use Rattle.ledger.specs.Numbers.{numberOf, answerNumber}
 use Rattle.ledger.specs.Objects.{Reply, plain}
 use Rattle.ledger.specs.declared.Answer.{Answer}
-use Rattle.ledger.specs.declared.Answer.the-variants.{Refused, Done, Advanced, Handle, Bytes, Counted}
+use Rattle.ledger.specs.declared.Answer.the-variants.{Refused, Done, Advanced, Handle, Bytes, Counted, Lasts}
 use Rattle.ledger.specs.declared.Call.the-variants.{Make, Refresh}
 use Rattle.ledger.specs.declared.Kind.{Kind}
 use Rattle.ledger.specs.declared.Refusal.{Refusal}
@@ -41,6 +41,7 @@ refusal-in (Advanced b) n = absurd (n refl)
 refusal-in (Handle handle) n = absurd (n refl)
 refusal-in Bytes n = absurd (n refl)
 refusal-in (Counted usage) n = absurd (n refl)
+refusal-in (Lasts life) n = absurd (n refl)
 
 -- a call that is told by numbers alone
 module _ {request : Request} {bytes : List ℕ} {p : Pool} {small large : List ℕ} (answer : Answer) {p′ : Pool} {small′ large′ : List ℕ} where

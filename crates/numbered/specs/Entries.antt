@@ -19,7 +19,7 @@ use Rattle.frames.specs.declared.requests.KindByte.the-variants.{Known, Unknown
 use Rattle.execute.specs.Execution.{Executes}
 use Rattle.numbered.specs.Told.{tooShort, Loans, lent, withNumber, toldBy}
 
--- a call that touches no store: join, leave, block, resume, tick, report, and a refresh of a known kind; with the numbers that it is lent
+-- a call that touches no store: join, leave, block, resume, tick, report, remaining life, and a refresh of a known kind; with the numbers that it is lent
 pub record Does (request : Request) (p : Pool) (numbers : List ℕ) (number : ℕ) (p′ : Pool) (numbers′ : List ℕ) : Type 0 where
   pub answer : Answer
   pub follows : Contract.Follows request p answer p′

@@ -8,7 +8,7 @@ use Rattle.lists.specs.Blocks.{overwritten}
 use Rattle.ledger.specs.Numbers.{answerNumber, answerValues}
 use Rattle.ledger.specs.Objects.{Reply}
 use Rattle.ledger.specs.declared.Answer.{Answer}
-use Rattle.ledger.specs.declared.Answer.the-variants.{Refused, Done, Advanced, Handle, Bytes, Counted}
+use Rattle.ledger.specs.declared.Answer.the-variants.{Refused, Done, Advanced, Handle, Bytes, Counted, Lasts}
 use Rattle.frames.specs.Answers.{answerLine}
 
 -- a buffer too short: a number that is none of 01's
@@ -48,6 +48,7 @@ numbersOf (Advanced b) bytes = answerValues (Advanced b)
 numbersOf (Handle handle) bytes = answerValues (Handle handle)
 numbersOf Bytes bytes = length bytes ∷ []
 numbersOf (Counted usage) bytes = answerValues (Counted usage)
+numbersOf (Lasts life) bytes = answerValues (Lasts life)
 
 -- a reply by the call's own entry: a refusal has neither numbers nor bytes; nothing is copied where the bytes have no room
 abbrev pub toldBy : Reply → Loans → Told

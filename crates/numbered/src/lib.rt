@@ -4,7 +4,7 @@ ghost use mathlib.Core.Path.{_≡_};
 ghost use Rattle.ledger.specs.Numbers.{answerNumber};
 ghost use Rattle.ledger.specs.declared.Call.the-variants.{Schedule};
 ghost use Rattle.ledger.specs.declared.Event.the-variants.{Join, Leave, Block, Resume, Tick};
-ghost use Rattle.ledger.specs.declared.Request.the-variants.{Use, Report};
+ghost use Rattle.ledger.specs.declared.Request.the-variants.{Use, Report, Remaining};
 ghost use Rattle.record.specs.Reading.{freshPool};
 ghost use Rattle.frames.specs.Frames.{kindOf};
 ghost use Rattle.numbered.specs.Told.{buffered};
@@ -198,6 +198,18 @@ pub fn report(p: Pool, small: &mut u8, large: &mut u8, expirations: &mut u16, gi
     *large = usage.large;
     *expirations = usage.expirations;
     *given = usage.given;
+    0
+}
+
+pub fn remaining(p: Pool, task: u8, handle: u32, local: &mut u8, global: &mut u8) -> u8
+    ensures { λ r. ⌜ Does (Remaining task handle) p (now (local .entry) ∷ now (global .entry) ∷ []) r p (now (local .exit) ∷ now (global .exit) ∷ []) ⌝ }
+{
+    let answer = values::remaining(p, task, handle);
+    let Answer::Lasts(life) = answer else {
+        return answer_number(answer);
+    };
+    *local = life.local;
+    *global = life.global;
     0
 }
 

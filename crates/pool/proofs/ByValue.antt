@@ -10,7 +10,7 @@ use Rattle.ledger.specs.declared.Answer.the-variants.{Counted}
 use Rattle.ledger.specs.declared.Call.the-variants.{Refresh, Read}
 use Rattle.ledger.specs.declared.Kind.{Kind}
 use Rattle.ledger.specs.declared.Request.{Request}
-use Rattle.ledger.specs.declared.Request.the-variants.{Use, Report}
+use Rattle.ledger.specs.declared.Request.the-variants.{Use, Report, Remaining}
 use Rattle.record.specs.Reading.{HeadTyped}
 use Rattle.record.specs.Tables.{Sized, entriesOf, lent, headOf, tablesOf, pooled, blockEntries}
 use Rattle.record.specs.WellFormed as WellFormed
@@ -68,6 +68,11 @@ module _ (p : Pool) {h : Head} (e : h ≡ headOf p) where
       → Writes task handle offset new (pooled h (p .handles) (p .lengths) (p .clocks) (p .named) (p .dues)) small large answer small′ large′
       → Writes task handle offset new p small large answer small′ large′
   written-by-value w = rw e at w
+
+  pub told-by-value : {task handle : ℕ} {answer : Answer}
+      → Follows (Remaining task handle) (pooled h (p .handles) (p .lengths) (p .clocks) (p .named) (p .dues)) answer (pooled h (p .handles) (p .lengths) (p .clocks) (p .named) (p .dues))
+      → Follows (Remaining task handle) p answer p
+  told-by-value f = rw e at f
 
 -- report, by the record's own figures
 pub reported-by-value : (p : Pool) → Sized (p .handles) (p .lengths) (p .clocks) (p .named) (p .dues) → isWellFormed p ≡ true → (small large : List ℕ)

@@ -2,7 +2,7 @@
 // where it touches one, and then has the engine carry it out.
 ghost use Rattle.ledger.specs.declared.Call.the-variants.{Schedule, Refresh};
 ghost use Rattle.ledger.specs.declared.Event.the-variants.{Join, Leave, Block, Resume, Tick};
-ghost use Rattle.ledger.specs.declared.Request.the-variants.{Use, Report};
+ghost use Rattle.ledger.specs.declared.Request.the-variants.{Use, Report, Remaining};
 ghost use Rattle.calls.specs.Contract.{Follows, Makes, LocatesIn, ReadsTo, Writes};
 use super::lengths::are_whole;
 use calls;
@@ -97,6 +97,25 @@ pub fn report(p: Pool) -> Answer
     }
     let count = standing(&p.clocks);
     Answer::Counted(usage(p.given, &p.handles, count))
+}
+
+pub fn remaining(p: Pool, task: u8, handle: u32) -> Answer
+    ensures { λ r. ⌜ Follows (Remaining task handle) p r p ⌝ }
+{
+    let h = head_of(p);
+    if !is_well_formed(h, &p.handles, &p.lengths, &p.clocks, &p.named, &p.dues) {
+        return Answer::Refused(Refusal::NotWellFormed);
+    }
+    calls::remaining(
+        h,
+        &p.handles,
+        &p.lengths,
+        &p.clocks,
+        &p.named,
+        &p.dues,
+        task,
+        handle,
+    )
 }
 
 pub fn refresh(p: Pool, task: u8, kind: Kind, extension: u8, handle: u32) -> Outcome
