@@ -111,6 +111,19 @@ pub fn report(pool: &Pool, small: &mut u8, large: &mut u8, expirations: &mut u16
     ACCEPTED
 }
 
+pub fn remaining(pool: &Pool, task: u8, handle: u32, local: &mut u8, global: &mut u8) -> u8 {
+    if !is_well_formed(pool) {
+        return NOT_WELL_FORMED;
+    }
+    match work::remaining(pool, task, handle) {
+        Ok(lifetime) => {
+            (*local, *global) = (lifetime.local, lifetime.global);
+            ACCEPTED
+        }
+        Err(refusal) => refusal,
+    }
+}
+
 /// One frame, without its LF. The answer line goes to the start of `out`, a refusal's too.
 pub fn frame(
     pool: &mut Pool,
@@ -150,6 +163,7 @@ fn carry_out<'a>(pool: &mut Pool, small: &'a mut [u8], large: &'a mut [u8], requ
             work::write(pool, small, large, task, handle, (offset, bytes)).map(|()| Reply::Done)
         }
         Request::Report => Ok(Reply::Report(work::report(pool))),
+        Request::Remaining(task, handle) => work::remaining(pool, task, handle).map(Reply::Remaining),
     }
 }
 

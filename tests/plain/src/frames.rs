@@ -1,7 +1,7 @@
 //! Frames: a line of hexadecimal to a request, a reply to its line.
 
 use crate::refusals::{ACCEPTED, NOT_HEXADECIMAL, UNKNOWN_KIND, UNKNOWN_OPERATION, WRONG_FRAME_LENGTH};
-use crate::work::Figures;
+use crate::work::{Figures, Lifetime};
 
 /// The bytes of the longest frame, a write of 256.
 pub const LONGEST_FRAME: usize = 7 + 256;
@@ -19,6 +19,7 @@ pub enum Request<'a> {
     Read(u8, u32),
     Write(u8, u32, u8, &'a [u8]),
     Report,
+    Remaining(u8, u32),
 }
 
 /// What an accepted call gives back.
@@ -29,6 +30,7 @@ pub enum Reply<'a> {
     Handle(u32),
     Bytes(&'a [u8]),
     Report(Figures),
+    Remaining(Lifetime),
 }
 
 /// The request in a line without its LF, or 16, 17, 18, 19. The room is one byte more than the longest frame, so that
@@ -53,7 +55,8 @@ pub fn decode<'a>(line: &[u8], room: &'a mut [u8; LONGEST_FRAME + 1]) -> Result<
             Ok(Request::Write(task, u32::from_be_bytes([h3, h2, h1, h0]), offset, bytes))
         }
         (10, &[]) => Ok(Request::Report),
-        (1..=10, _) => Err(WRONG_FRAME_LENGTH),
+        (11, &[task, h3, h2, h1, h0]) => Ok(Request::Remaining(task, u32::from_be_bytes([h3, h2, h1, h0]))),
+        (1..=11, _) => Err(WRONG_FRAME_LENGTH),
         _ => Err(UNKNOWN_OPERATION),
     }
 }
@@ -132,6 +135,7 @@ fn data(reply: Reply, line: &mut Line) {
             line.hex(&expirations.to_be_bytes());
             line.hex(&given.to_be_bytes());
         }
+        Reply::Remaining(Lifetime { local, global }) => line.hex(&[local, global]),
     }
 }
 

@@ -7,6 +7,7 @@ pub enum Kind {
     Global,
 }
 
+/// One of the scope paper's ten calls; or `Remaining`, order 1, which asks how long an object has left.
 #[derive(Clone, Copy, Debug, PartialEq, Eq)]
 pub enum Call<'a> {
     Join { task: u8 },
@@ -19,10 +20,11 @@ pub enum Call<'a> {
     Read { task: u8, handle: u32 },
     Write { task: u8, handle: u32, offset: u8, bytes: &'a [u8] },
     Report,
+    Remaining { task: u8, handle: u32 },
 }
 
 impl Call<'_> {
-    /// The call's place among the ten, in the order of their operations, from 0.
+    /// The call's place among the eleven, in the order of their operations, from 0.
     pub fn place(&self) -> usize {
         match self {
             Call::Join { .. } => 0,
@@ -35,7 +37,13 @@ impl Call<'_> {
             Call::Read { .. } => 7,
             Call::Write { .. } => 8,
             Call::Report => 9,
+            Call::Remaining { .. } => 10,
         }
+    }
+
+    /// Whether its answer is compared with the heap's.
+    pub fn is_compared(&self) -> bool {
+        !matches!(self, Call::Report | Call::Remaining { .. })
     }
 }
 
@@ -71,6 +79,7 @@ pub enum Accepted<'a> {
     Handle(u32),
     Bytes(&'a [u8]),
     Report(Figures),
+    Remaining(Lifetime),
 }
 
 pub type Answer<'a> = Result<Accepted<'a>, Refusal>;
@@ -90,6 +99,7 @@ pub trait Model {
     fn read(&self, task: u8, handle: u32) -> Answer<'_>;
     fn write(&mut self, task: u8, handle: u32, offset: u8, bytes: &[u8]) -> Answer<'static>;
     fn report(&self) -> Answer<'static>;
+    fn remaining(&self, task: u8, handle: u32) -> Answer<'static>;
 
     /// Does the call and answers it.
     fn call(&mut self, call: &Call) -> Answer<'_> {
@@ -104,6 +114,7 @@ pub trait Model {
             Call::Read { task, handle } => self.read(task, handle),
             Call::Write { task, handle, offset, bytes } => self.write(task, handle, offset, bytes),
             Call::Report => self.report(),
+            Call::Remaining { task, handle } => self.remaining(task, handle),
         }
     }
 }
@@ -115,4 +126,12 @@ pub struct Figures {
     pub large: u8,
     pub expirations: u16,
     pub given: u32,
+}
+
+/// What remains to an object: the most units of the asking task's local expirations on it, and of all global ones; 0 for
+/// none.
+#[derive(Clone, Copy, Debug, PartialEq, Eq)]
+pub struct Lifetime {
+    pub local: u8,
+    pub global: u8,
 }

@@ -26,8 +26,8 @@ impl Draft {
 
     // Lines.
 
-    /// Does the call on the ledger and writes it. A script that stays in time leaves out what is not;
-    /// a refused call has changed nothing.
+    /// Does the call on the ledger and writes it. A script that stays in time leaves out what is not and is
+    /// compared; a refused call has changed nothing.
     pub fn call(&mut self, call: &Call) {
         if !self.is_left_out(call) {
             encode(call, &mut self.script);
@@ -37,7 +37,7 @@ impl Draft {
     fn is_left_out(&mut self, call: &Call) -> bool {
         let out = [Refusal::NoFreeBlock, Refusal::ExpirationsFull, Refusal::ObjectGone];
         let answer = self.ledger.call(call);
-        self.in_time && answer.is_err_and(|refusal| out.contains(&refusal))
+        self.in_time && call.is_compared() && answer.is_err_and(|refusal| out.contains(&refusal))
     }
 
     /// Writes any line, and follows it if it is a call after all.
@@ -62,6 +62,7 @@ impl Draft {
             Call::Read { task, handle },
             Call::Write { task, handle, offset: 0, bytes: &bytes },
             Call::Report,
+            Call::Remaining { task, handle },
         ]);
         let mut line = Vec::new();
         encode(&call, &mut line);
@@ -85,8 +86,9 @@ impl Draft {
             0..=24 => self.tick(),
             25..=39 => self.make(),
             40..=50 => self.refresh(),
-            51..=65 => self.read(),
-            66..=79 => self.write(),
+            51..=62 => self.read(),
+            63..=75 => self.write(),
+            76..=79 => self.remaining(),
             80..=83 => self.block(),
             84..=89 => self.resume(),
             90..=91 => self.leave(),
@@ -137,6 +139,11 @@ impl Draft {
     fn read(&mut self) {
         let (task, handle) = (self.task(), self.handle());
         self.call(&Call::Read { task, handle });
+    }
+
+    fn remaining(&mut self) {
+        let (task, handle) = (self.task(), self.handle());
+        self.call(&Call::Remaining { task, handle });
     }
 
     fn write(&mut self) {
@@ -202,7 +209,7 @@ impl Draft {
         let handle = self.random.pick(&[1, newest, strange]);
         let offset = self.random.pick(&[0, 1, 31, 32, 33, 255]);
         let count = self.random.pick(&[0, 1, 31, 32, 33, 255, 256, 257]);
-        match self.random.below(12) {
+        match self.random.below(13) {
             0 => self.call(&Call::Join { task }),
             1 => self.call(&Call::Leave { task }),
             2 => self.call(&Call::Block { task }),
@@ -212,6 +219,7 @@ impl Draft {
             7 => self.call(&Call::Refresh { task, kind, extension, handle }),
             8 => self.call(&Call::Read { task, handle }),
             9 | 10 => self.write_at(task, handle, offset, count),
+            11 => self.call(&Call::Remaining { task, handle }),
             _ => self.call(&Call::Report),
         }
     }
@@ -261,9 +269,22 @@ impl Draft {
         self.call(&Call::Refresh { task, kind, extension, handle });
     }
 
+    /// One of the first so many tasks refreshes the object.
+    pub fn refresh_by(&mut self, tasks: usize, extension: u8, handle: u32) {
+        let (task, kind) = (self.random.below(tasks) as u8, self.kind());
+        self.call(&Call::Refresh { task, kind, extension, handle });
+    }
+
     pub fn read_now(&mut self, handle: u32) {
         let task = self.runner();
         self.call(&Call::Read { task, handle });
+    }
+
+    /// Each of the first so many tasks asks what remains to the object.
+    pub fn remaining_to_each(&mut self, tasks: usize, handle: u32) {
+        for task in 0..tasks as u8 {
+            self.call(&Call::Remaining { task, handle });
+        }
     }
 
     pub fn write_whole(&mut self, handle: u32) {

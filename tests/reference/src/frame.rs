@@ -1,6 +1,6 @@
 //! Frames: lines of hexadecimal to calls, calls and answers to lines.
 
-use crate::call::{Accepted, Answer, Call, Figures, Kind, Refusal};
+use crate::call::{Accepted, Answer, Call, Figures, Kind, Lifetime, Refusal};
 
 const JOIN: u8 = 0x01;
 const LEAVE: u8 = 0x02;
@@ -12,6 +12,7 @@ const REFRESH: u8 = 0x07;
 const READ: u8 = 0x08;
 const WRITE: u8 = 0x09;
 const REPORT: u8 = 0x0A;
+const REMAINING: u8 = 0x0B;
 
 /// The most bytes that one write brings.
 const MOST_WRITTEN: usize = 256;
@@ -37,6 +38,7 @@ pub fn decode<'a>(line: &[u8], room: &'a mut [u8]) -> Result<Call<'a>, Refusal> 
         READ => read(fields),
         WRITE => write(fields),
         REPORT => report(fields),
+        REMAINING => remaining(fields),
         _ => Err(Refusal::UnknownOperation),
     }
 }
@@ -72,6 +74,11 @@ fn write(fields: &[u8]) -> Result<Call<'_>, Refusal> {
 fn report(fields: &[u8]) -> Result<Call<'_>, Refusal> {
     let [] = fields else { return Err(Refusal::WrongFrameLength) };
     Ok(Call::Report)
+}
+
+fn remaining(fields: &[u8]) -> Result<Call<'_>, Refusal> {
+    let &[task, h3, h2, h1, h0] = fields else { return Err(Refusal::WrongFrameLength) };
+    Ok(Call::Remaining { task, handle: u32::from_be_bytes([h3, h2, h1, h0]) })
 }
 
 fn kind_of(kind: u8) -> Result<Kind, Refusal> {
@@ -128,6 +135,10 @@ pub fn encode(call: &Call, line: &mut Vec<u8>) {
             hex(bytes, line);
         }
         Call::Report => hex(&[REPORT], line),
+        Call::Remaining { task, handle } => {
+            hex(&[REMAINING, task], line);
+            hex(&handle.to_be_bytes(), line);
+        }
     }
     line.push(b'\n');
 }
@@ -153,6 +164,7 @@ fn encode_accepted(accepted: Accepted, line: &mut Vec<u8>) {
             hex(&expirations.to_be_bytes(), line);
             hex(&given.to_be_bytes(), line);
         }
+        Accepted::Remaining(Lifetime { local, global }) => hex(&[local, global], line),
     }
 }
 

@@ -25,6 +25,8 @@ pub enum Profile {
     Reuse,
     /// One of the longest objects read over and over: the longest outputs.
     Reading,
+    /// Expirations of several tasks on one object, and how long it stands for each of them.
+    Remaining,
     /// Arguments at the ends of their ranges.
     Edges,
     /// Damaged lines among good ones.
@@ -33,7 +35,7 @@ pub enum Profile {
     Noise,
 }
 
-pub const PROFILES: [Profile; 11] = [
+pub const PROFILES: [Profile; 12] = [
     Profile::Everyday,
     Profile::Crowd,
     Profile::SmallFlood,
@@ -42,6 +44,7 @@ pub const PROFILES: [Profile; 11] = [
     Profile::Lapse,
     Profile::Reuse,
     Profile::Reading,
+    Profile::Remaining,
     Profile::Edges,
     Profile::Damage,
     Profile::Noise,
@@ -94,6 +97,7 @@ fn phase(draft: &mut Draft, profile: Profile) {
         Profile::Lapse => lapse(draft),
         Profile::Reuse => reuse(draft),
         Profile::Reading => reading(draft),
+        Profile::Remaining => remaining(draft),
         Profile::Edges => edges(draft),
         Profile::Damage => damage(draft),
         Profile::Noise => noise(draft),
@@ -228,6 +232,27 @@ fn reading(draft: &mut Draft) {
     draft.write_whole(handle);
     for _ in 0..200 {
         draft.read_now(handle);
+    }
+}
+
+/// A few tasks refresh one object, ask for it and tick, until it is gone and a little longer.
+fn remaining(draft: &mut Draft) {
+    let tasks = 1 + draft.random.below(4);
+    draft.gather(tasks);
+    let longest = draft.random.pick(&[2, 5, LONGEST_EXTENSION]);
+    let Some(handle) = draft.make_in(Store::Small, longest) else { return draft.round() };
+    for _ in 0..draft.random.below(12) {
+        let below = draft.random.below(usize::from(longest)) as u8;
+        let extension = draft.random.pick(&[below, longest]);
+        draft.refresh_by(tasks, extension, handle);
+    }
+    draft.remaining_to_each(tasks + 1, handle);
+    for _ in 0..longest + 3 {
+        if draft.random.one_in(4) {
+            draft.any_call();
+        }
+        draft.round();
+        draft.remaining_to_each(tasks, handle);
     }
 }
 

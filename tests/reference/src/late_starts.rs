@@ -1,6 +1,6 @@
 //! Tests of both ledgers at clocks and counts that no script lives to see.
 
-use crate::call::{Accepted, Call, Kind, Model, Refusal};
+use crate::call::{Accepted, Call, Kind, Lifetime, Model, Refusal};
 use crate::limits::Store;
 use crate::{indexed, ledger};
 
@@ -26,6 +26,7 @@ fn local_expiration_set_at_the_highest_32_bit_clock<L: LateStart>() {
     let mut ledger: L = started(u64::from(u32::MAX), 0);
     assert_eq!(ledger.call(&MAKE), Ok(Accepted::Handle(1)));
     assert_eq!(ledger.call(&READ), Ok(Accepted::Bytes(&[0; 4])));
+    assert_eq!(ledger.remaining(0, 1), Ok(Accepted::Remaining(Lifetime { local: 1, global: 0 })));
     assert_eq!(ledger.call(&TICK), Ok(Accepted::Advanced(true)));
     assert_eq!(ledger.call(&READ), Err(Refusal::ObjectGone));
     assert_eq!(*ledger.clock_and_given().0 as u32, 0);

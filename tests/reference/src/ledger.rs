@@ -1,7 +1,7 @@
 //! The ledger, as the scope paper says it. A number such as O3 is a rule's in docs/RULES.md. Nothing here is
 //! arranged for speed: what a rule asks of the objects is looked up among all of them.
 
-use crate::call::{Accepted, Answer, Figures, Kind, Model, Refusal};
+use crate::call::{Accepted, Answer, Figures, Kind, Lifetime, Model, Refusal};
 use crate::expiration::{remaining, Expiration, Remaining};
 use crate::limits::{check_extension, Store, MOST_EXPIRATIONS};
 use crate::tasks::Tasks;
@@ -120,6 +120,21 @@ impl Model for Ledger {
 
     fn report(&self) -> Answer<'static> {
         Ok(Accepted::Report(self.figures()))
+    }
+
+    /// Order 1: 1, 3, 4, 11, 12. Of the local expirations only the asking task's count, of the global ones all.
+    fn remaining(&self, task: u8, handle: u32) -> Answer<'static> {
+        self.tasks.check_running(task)?;
+        let place = self.check_standing(handle)?;
+        let mut most = Lifetime { local: 0, global: 0 };
+        for left in remaining(&self.objects[place].expirations, &self.tasks) {
+            match left {
+                Remaining::Local { setter, units } if setter == task => most.local = most.local.max(units as u8),
+                Remaining::Local { .. } => {}
+                Remaining::Global { units } => most.global = most.global.max(units as u8),
+            }
+        }
+        Ok(Accepted::Remaining(most))
     }
 }
 

@@ -33,14 +33,13 @@ pub fn lines(script: &[u8]) -> impl Iterator<Item = &[u8]> {
     whole.map(|line| line.strip_suffix(b"\n").unwrap_or(line))
 }
 
-/// The script's list for the heap: its calls without reports and refused frames. `room` has at least
-/// half the script's length.
+/// The script's calls, without refused frames. `room` has at least half the script's length.
 pub fn calls<'a>(script: &[u8], mut room: &'a mut [u8]) -> Vec<Call<'a>> {
     let mut calls = Vec::new();
     for line in lines(script) {
         let (part, rest) = room.split_at_mut(line.len() / 2);
         room = rest;
-        calls.extend(decode(line, part).ok().filter(|call| *call != Call::Report));
+        calls.extend(decode(line, part));
     }
     calls
 }

@@ -1,97 +1,27 @@
 //! The scripts of the generator reach what they are meant to.
 
-use reference::call::{Accepted, Answer, Call, Model};
-use reference::frame::decode;
+mod census;
+
+use census::{remaining, Census, OPERATIONS};
 use reference::generate::{script, script_of, Profile, PROFILES};
-use reference::ledger::Ledger;
-use reference::script::{lines, run, LIMIT};
+use reference::script::LIMIT;
 
-const OPERATIONS: [&str; 10] =
-    ["join", "leave", "block", "resume", "tick", "make", "refresh", "read", "write", "report"];
-
-/// How often what was met.
-#[derive(Default)]
-struct Census {
-    accepted: [usize; 10],
-    refused: [usize; 20],
-    advances: usize,
-    most_small: u8,
-    most_large: u8,
-    most_expirations: u16,
-    most_running: usize,
-    empty_writes: usize,
-    whole_writes: usize,
-    longest_output: usize,
-}
-
-impl Census {
-    fn of(scripts: impl Iterator<Item = Vec<u8>>) -> Census {
-        let mut census = Census::default();
-        scripts.for_each(|script| census.take(&script));
-        census
-    }
-
-    fn take(&mut self, script: &[u8]) {
-        self.longest_output = self.longest_output.max(run(script).len());
-        let (mut ledger, mut room) = (Ledger::fresh(), vec![0; script.len()]);
-        for line in lines(script) {
-            match decode(line, &mut room) {
-                Err(refusal) => self.refused[refusal as usize] += 1,
-                Ok(call) => {
-                    let answer = ledger.call(&call);
-                    self.note(&call, answer);
-                    self.note_state(&ledger);
-                }
-            }
-        }
-    }
-
-    fn note(&mut self, call: &Call, answer: Answer) {
-        match answer {
-            Err(refusal) => self.refused[refusal as usize] += 1,
-            Ok(accepted) => {
-                self.accepted[call.place()] += 1;
-                self.advances += usize::from(accepted == Accepted::Advanced(true));
-                if let Call::Write { bytes, .. } = call {
-                    self.empty_writes += usize::from(bytes.is_empty());
-                    self.whole_writes += usize::from(bytes.len() == 256);
-                }
-            }
-        }
-    }
-
-    fn note_state(&mut self, ledger: &Ledger) {
-        let figures = ledger.figures();
-        self.most_small = self.most_small.max(figures.small);
-        self.most_large = self.most_large.max(figures.large);
-        self.most_expirations = self.most_expirations.max(figures.expirations);
-        let running = (0..16).filter(|&task| ledger.tasks().is_running(task)).count();
-        self.most_running = self.most_running.max(running);
-    }
-
-    fn print(&self) {
-        for (name, count) in OPERATIONS.iter().zip(self.accepted) {
-            println!("accepted {name}: {count}");
-        }
-        for (number, count) in self.refused.iter().enumerate().filter(|(_, &count)| count > 0) {
-            println!("refused {number}: {count}");
-        }
-        println!("advances: {}, most running: {}", self.advances, self.most_running);
-        println!("most small, large, expirations: {}, {}, {}", self.most_small, self.most_large, self.most_expirations);
-        println!("writes of no byte, of 256: {}, {}", self.empty_writes, self.whole_writes);
-        println!("longest output: {}", self.longest_output);
-    }
-}
+/// No script lives to see it.
+const HANDLES_SPENT: usize = 8;
 
 #[test]
 fn all_is_met() {
     let census = Census::of((1..=300).map(script).filter(|script| script.len() <= LIMIT));
     census.print();
-    for (name, count) in OPERATIONS.iter().zip(census.accepted) {
-        assert!(count >= 100, "{name}");
+    for (place, (name, tests)) in OPERATIONS.iter().enumerate() {
+        assert!(census.accepted[place] >= 100, "{name}");
+        for &number in tests.iter().filter(|&&number| number != HANDLES_SPENT) {
+            assert!(census.refused_by[place][number] >= 50, "{name}, {number}");
+        }
     }
-    for number in (1..=7).chain(9..=13).chain(16..=19) {
-        assert!(census.refused[number] >= 100, "{number}");
+    assert!(census.refused[16].min(census.refused[17]) >= 100);
+    for ((name, _), count) in remaining::SITUATIONS.iter().zip(census.remaining) {
+        assert!(count >= 50, "remaining, {name}");
     }
     assert_eq!((census.most_small, census.most_large, census.most_expirations), (64, 32, 256));
     assert_eq!(census.most_running, 16);
@@ -135,6 +65,7 @@ fn each_profile_meets_its_own() {
             Profile::Lapse => least(&[12]) > 100 && census.accepted[7] > 1_000,
             Profile::Reuse => census.accepted[8] > 1_000 && census.accepted[7] > 1_000,
             Profile::Reading => census.longest_output > 800_000,
+            Profile::Remaining => census.remaining.iter().all(|&count| count > 20),
             Profile::Edges => least(&[1, 3, 6, 7, 11, 13]) > 100 && census.empty_writes.min(census.whole_writes) > 10,
             Profile::Damage => least(&[16, 17, 18, 19]) > 100,
             Profile::Noise => least(&[16, 17, 18]) > 100,

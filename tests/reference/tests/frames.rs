@@ -1,6 +1,6 @@
 //! Frames: calls go to their lines and back, and bad lines are refused in order.
 
-use reference::call::{Accepted, Answer, Call, Figures, Kind, Refusal};
+use reference::call::{Accepted, Answer, Call, Figures, Kind, Lifetime, Refusal};
 use reference::frame::{decode, encode, encode_answer};
 use reference::random::Random;
 
@@ -20,6 +20,7 @@ fn random_call<'a>(random: &mut Random, bytes: &'a [u8; 256]) -> Call<'a> {
         Call::Read { task, handle },
         Call::Write { task, handle, offset, bytes },
         Call::Report,
+        Call::Remaining { task, handle },
     ])
 }
 
@@ -90,9 +91,9 @@ const REFUSED: &[(&[u8], u8)] = &[
     (b"060002000004G0", 16),
     (b"", 17),
     (b"00", 17),
-    (b"0B", 17),
+    (b"0C", 17),
     (b"FF", 17),
-    (b"0B00", 17),
+    (b"0C00", 17),
     (b"FF0000", 17),
     (b"01", 18),
     (b"06", 18),
@@ -104,6 +105,10 @@ const REFUSED: &[(&[u8], u8)] = &[
     (b"0800000001", 18),
     (b"090000000001", 18),
     (b"0A00", 18),
+    (b"0B", 18),
+    (b"0B00", 18),
+    (b"0B00000001", 18),
+    (b"0B000000000100", 18),
     (b"060002000004", 19),
     (b"06FF80FF9C40", 19),
     (b"0700FF0000000001", 19),
@@ -116,6 +121,7 @@ fn arguments_out_of_range_are_calls() {
     let make = Call::Make { task: 255, kind: Kind::Global, extension: 255, length: 40_000 };
     assert_eq!(decode(b"06FF01FF9C40", &mut room), Ok(make));
     assert_eq!(decode(b"080000000000", &mut room), Ok(Call::Read { task: 0, handle: 0 }));
+    assert_eq!(decode(b"0BFFFFFFFFFE", &mut room), Ok(Call::Remaining { task: 255, handle: u32::MAX - 1 }));
 }
 
 #[test]
@@ -131,13 +137,14 @@ fn every_character() {
 #[test]
 fn answers() {
     let figures = Figures { small: 64, large: 32, expirations: 256, given: 0x0102_0304 };
-    let rows: [(Answer, &[u8]); 7] = [
+    let rows: [(Answer, &[u8]); 8] = [
         (Ok(Accepted::Done), b"00\n"),
         (Ok(Accepted::Advanced(false)), b"0000\n"),
         (Ok(Accepted::Advanced(true)), b"0001\n"),
         (Ok(Accepted::Handle(0xAB)), b"00000000AB\n"),
         (Ok(Accepted::Bytes(&[0xA5, 0x0F])), b"00A50F\n"),
         (Ok(Accepted::Report(figures)), b"004020010001020304\n"),
+        (Ok(Accepted::Remaining(Lifetime { local: 31, global: 32 })), b"001F20\n"),
         (Err(Refusal::KindAbove1), b"13\n"),
     ];
     for (answer, expected) in rows {

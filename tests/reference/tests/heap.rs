@@ -132,6 +132,16 @@ fn the_heap_keeps_for_ever() {
     assert_eq!(heap.call(&Call::Read { task, handle: 301 }), Err(Refusal::HandleNotGiven));
 }
 
+/// Reports and the remaining life: they are no use.
+#[test]
+fn what_is_not_compared_may_ask_for_a_gone_object() {
+    let (task, handle) = (0, 1);
+    let make = Call::Make { task, kind: Kind::Local, extension: 0, length: 4 };
+    let (ask, read) = (Call::Remaining { task, handle }, Call::Read { task, handle });
+    let list = [Call::Join { task }, ask, make, ask, Call::Tick { task }, ask, Call::Report, read];
+    assert_eq!(check(&list), Some(list.len() - 1));
+}
+
 #[test]
 fn a_refused_range_of_a_gone_object_is_a_use_out_of_time() {
     let (task, handle) = (0, 1);

@@ -45,8 +45,8 @@ fn the_most_ticks() {
 }
 
 #[test]
-fn the_list_for_the_heap_has_no_reports_and_no_refused_frames() {
+fn the_calls_of_a_script_have_no_refused_frames() {
     let mut room = [0; 64];
     let calls = calls(b"0100\n0A\n\n0G\n09000000000100A5\n0500", &mut room);
-    assert_eq!(calls.len(), 3);
+    assert_eq!(calls.len(), 4);
 }

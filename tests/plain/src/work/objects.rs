@@ -99,6 +99,39 @@ pub fn report(pool: &Pool) -> Figures {
     }
 }
 
+/// What remains to an object: the most units of the asking task's local expirations on it, and of all global ones; 0 for
+/// none.
+#[derive(Clone, Copy, Debug, PartialEq, Eq)]
+pub struct Lifetime {
+    pub local: u8,
+    pub global: u8,
+}
+
+/// One pass over the expirations. A group of them is asked at once whether one is on the object: most have none. At most 32
+/// units remain, so that the last bytes tell them.
+pub fn remaining(pool: &Pool, task: u8, handle: u32) -> Result<Lifetime, u8> {
+    let clock = running(pool, task)?;
+    let block = find(pool, handle)? as u8;
+    let mut most = Lifetime { local: 0, global: 0 };
+    let groups = pool.clocks.as_chunks::<GROUP>().0.iter();
+    let groups = groups.zip(pool.named.as_chunks::<GROUP>().0).zip(pool.dues.as_chunks::<GROUP>().0);
+    for ((clocks, blocks), dues) in groups {
+        let is_on = |(&clock, &other): (&u8, &u8)| (clock != FREE) & (other == block);
+        if !clocks.iter().zip(blocks).fold(false, |has, entry| has | is_on(entry)) {
+            continue;
+        }
+        for i in 0..GROUP {
+            let units = |goes_by: u8, now: u32| {
+                let counts = (clocks[i] == goes_by) & (blocks[i] == block);
+                u8::from(counts) * (dues[i] as u8).wrapping_sub(now as u8)
+            };
+            most.local = most.local.max(units(LOCAL + task, clock));
+            most.global = most.global.max(units(GLOBAL, pool.global));
+        }
+    }
+    Ok(most)
+}
+
 // Tests.
 
 /// 14.

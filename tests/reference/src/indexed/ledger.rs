@@ -3,7 +3,7 @@
 use super::objects::Objects;
 use super::schedule::Schedule;
 use super::tasks::Tasks;
-use crate::call::{Accepted, Answer, Figures, Kind, Model, Refusal};
+use crate::call::{Accepted, Answer, Figures, Kind, Lifetime, Model, Refusal};
 use crate::expiration::Remaining;
 use crate::ledger::Standing;
 use crate::limits::{check_extension, Store, MOST_EXPIRATIONS, TASKS};
@@ -106,6 +106,15 @@ impl Model for Ledger {
     fn report(&self) -> Answer<'static> {
         Ok(Accepted::Report(self.figures()))
     }
+
+    fn remaining(&self, task: u8, handle: u32) -> Answer<'static> {
+        self.tasks.check_running(task)?;
+        let slot = self.check_standing(handle)?;
+        Ok(Accepted::Remaining(Lifetime {
+            local: self.local[usize::from(task)].longest(slot, self.tasks.clock(task)),
+            global: self.global.longest(slot, self.tasks.global()),
+        }))
+    }
 }
 
 impl Ledger {
@@ -132,7 +141,7 @@ impl Ledger {
         let show = |&(handle, slot): &(u32, u8)| Standing {
             handle,
             bytes: self.objects.bytes(slot).to_vec(),
-            expirations: self.remaining(slot),
+            expirations: self.all_remaining(slot),
         };
         self.objects.order().iter().map(show).collect()
     }
@@ -178,7 +187,7 @@ impl Ledger {
         self.objects.find(handle).ok_or(Refusal::ObjectGone)
     }
 
-    fn remaining(&self, slot: u8) -> Vec<Remaining> {
+    fn all_remaining(&self, slot: u8) -> Vec<Remaining> {
         let local = (0..TASKS as u8).flat_map(|setter| {
             let remaining = self.local[usize::from(setter)].remaining(slot, self.tasks.clock(setter));
             remaining.map(move |units| Remaining::Local { setter, units })

@@ -43,6 +43,12 @@ impl Schedule {
             due.iter().filter(move |&&other| other == slot).map(move |_| units)
         })
     }
+
+    /// What remains to the last expiration of the object in this slot, 0 if it has none here.
+    pub fn longest(&self, slot: u8, now: u64) -> u8 {
+        let is_due_in = |units: &u64| self.ring[place(now + units)].contains(&slot);
+        (1..RING as u64).rev().find(is_due_in).unwrap_or(0) as u8
+    }
 }
 
 fn place(time: u64) -> usize {

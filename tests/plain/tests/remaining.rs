@@ -1,0 +1,75 @@
+//! Order 1 by its own entry: the ledger's answers on the reference's scripts, 15 first, and counters that go round.
+
+use plain::calls::{self, ANSWER_ROOM};
+use plain::limits::{LARGE_STORE, SMALL_STORE};
+use plain::record::{Pool, FRESH, RUNNING};
+use reference::call::{Accepted, Call, Lifetime, Model};
+use reference::frame::decode;
+use reference::generate::{script_of, Profile};
+use reference::ledger::Ledger;
+use reference::script::lines;
+
+const UNTOLD: u8 = 0xA5;
+
+/// What the entry tells: the number of its answer, and what is lent for the rest.
+fn told(pool: &Pool, task: u8, handle: u32) -> (u8, u8, u8) {
+    let (mut local, mut global) = (UNTOLD, UNTOLD);
+    let number = calls::remaining(pool, task, handle, &mut local, &mut global);
+    (number, local, global)
+}
+
+#[test]
+fn the_answers_of_the_ledger() {
+    let mut asked = 0;
+    for seed in 0..40 {
+        let script = script_of(Some(Profile::Remaining), seed, 20_000);
+        let mut room = vec![0; script.len()];
+        let (mut pool, mut small, mut large) = (FRESH, [7; SMALL_STORE], [7; LARGE_STORE]);
+        let (mut ledger, mut out) = (Ledger::fresh(), [0; ANSWER_ROOM]);
+        for line in lines(&script) {
+            let Ok(call) = decode(line, &mut room) else { continue };
+            let expected = ledger.call(&call);
+            if let Call::Remaining { task, handle } = call {
+                let expected = match expected {
+                    Ok(Accepted::Remaining(Lifetime { local, global })) => (0, local, global),
+                    other => (other.expect_err("a refusal") as u8, UNTOLD, UNTOLD),
+                };
+                assert_eq!(told(&pool, task, handle), expected, "{call:?}");
+                asked += 1;
+            }
+            calls::frame(&mut pool, &mut small, &mut large, line, &mut out, &mut 0);
+        }
+    }
+    assert!(asked > 5_000, "{asked}");
+}
+
+/// Object 1 has a local expiration of task 0 and a global one, both with extension 30, set when both counters read this.
+fn set_at(counter: u32) -> Pool {
+    let mut pool = Pool { global: counter, ..FRESH };
+    (pool.tasks[0].state, pool.tasks[0].clock) = (RUNNING, counter);
+    let (mut small, mut large) = ([0; SMALL_STORE], [0; LARGE_STORE]);
+    assert_eq!(calls::make(&mut pool, &mut small, &mut large, 0, 0, 30, 1, &mut 0), 0);
+    assert_eq!(calls::refresh(&mut pool, 0, 1, 30, 1), 0);
+    pool
+}
+
+#[test]
+fn where_the_counters_go_round() {
+    for counter in [0, 200, 255, 256, u32::MAX - 31, u32::MAX - 7, u32::MAX] {
+        let mut pool = set_at(counter);
+        for ticks in 0..32 {
+            assert_eq!(told(&pool, 0, 1), (0, 31 - ticks, 32 - ticks), "{counter}");
+            calls::tick(&mut pool, 0, &mut 0);
+        }
+        assert_eq!(told(&pool, 0, 1), (12, UNTOLD, UNTOLD), "{counter}");
+    }
+}
+
+#[test]
+fn a_record_that_is_not_well_formed_is_15_first() {
+    let mut pool = set_at(0);
+    pool.tasks[3].state = 3;
+    for (task, handle) in [(0, 1), (16, 1), (1, 1), (0, 0)] {
+        assert_eq!(told(&pool, task, handle), (15, UNTOLD, UNTOLD));
+    }
+}

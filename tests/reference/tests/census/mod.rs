@@ -1,0 +1,118 @@
+//! How often the scripts of the generator meet what.
+
+pub mod remaining;
+
+use reference::call::{Accepted, Answer, Call, Model, Refusal};
+use reference::frame::decode;
+use reference::ledger::Ledger;
+use reference::script::{lines, run};
+
+/// Each operation and the refusals that its frames and calls may give, in the order of the tests. The ledger gives neither
+/// 14 nor 15.
+pub const OPERATIONS: [(&str, &[usize]); 11] = [
+    ("join", &[18, 1, 2]),
+    ("leave", &[18, 1, 3]),
+    ("block", &[18, 1, 3, 4]),
+    ("resume", &[18, 1, 3, 5]),
+    ("tick", &[18, 1, 3, 4]),
+    ("make", &[18, 19, 1, 3, 4, 6, 7, 8, 9, 10]),
+    ("refresh", &[18, 19, 1, 3, 4, 6, 11, 12, 10]),
+    ("read", &[18, 1, 3, 4, 11, 12]),
+    ("write", &[18, 1, 3, 4, 11, 12, 13]),
+    ("report", &[18]),
+    ("remaining", &[18, 1, 3, 4, 11, 12]),
+];
+
+#[derive(Default)]
+pub struct Census {
+    pub accepted: [usize; OPERATIONS.len()],
+    /// By operation and number.
+    pub refused_by: [[usize; 20]; OPERATIONS.len()],
+    /// By number.
+    pub refused: [usize; 20],
+    pub advances: usize,
+    pub most_small: u8,
+    pub most_large: u8,
+    pub most_expirations: u16,
+    pub most_running: usize,
+    pub empty_writes: usize,
+    pub whole_writes: usize,
+    pub longest_output: usize,
+    pub remaining: [usize; remaining::SITUATIONS.len()],
+}
+
+impl Census {
+    pub fn of(scripts: impl Iterator<Item = Vec<u8>>) -> Census {
+        let mut census = Census::default();
+        scripts.for_each(|script| census.take(&script));
+        census
+    }
+
+    fn take(&mut self, script: &[u8]) {
+        self.longest_output = self.longest_output.max(run(script).len());
+        let (mut ledger, mut room) = (Ledger::fresh(), vec![0; script.len()]);
+        for line in lines(script) {
+            match decode(line, &mut room) {
+                Err(refusal) => self.note_frame(line, refusal),
+                Ok(call) => {
+                    let answer = ledger.call(&call);
+                    self.note(&call, answer);
+                    self.note_state(&ledger);
+                    remaining::note(&mut self.remaining, &call, &ledger);
+                }
+            }
+        }
+    }
+
+    /// A frame that is refused with 18 or 19 has a known operation.
+    fn note_frame(&mut self, line: &[u8], refusal: Refusal) {
+        self.refused[refusal as usize] += 1;
+        if matches!(refusal, Refusal::WrongFrameLength | Refusal::KindAbove1) {
+            let operation = str::from_utf8(&line[..2]).ok().and_then(|digits| usize::from_str_radix(digits, 16).ok());
+            self.refused_by[operation.expect("two digits") - 1][refusal as usize] += 1;
+        }
+    }
+
+    fn note(&mut self, call: &Call, answer: Answer) {
+        match answer {
+            Err(refusal) => {
+                self.refused[refusal as usize] += 1;
+                self.refused_by[call.place()][refusal as usize] += 1;
+            }
+            Ok(accepted) => {
+                self.accepted[call.place()] += 1;
+                self.advances += usize::from(accepted == Accepted::Advanced(true));
+                if let Call::Write { bytes, .. } = call {
+                    self.empty_writes += usize::from(bytes.is_empty());
+                    self.whole_writes += usize::from(bytes.len() == 256);
+                }
+            }
+        }
+    }
+
+    fn note_state(&mut self, ledger: &Ledger) {
+        let figures = ledger.figures();
+        self.most_small = self.most_small.max(figures.small);
+        self.most_large = self.most_large.max(figures.large);
+        self.most_expirations = self.most_expirations.max(figures.expirations);
+        let running = (0..16).filter(|&task| ledger.tasks().is_running(task)).count();
+        self.most_running = self.most_running.max(running);
+    }
+
+    pub fn print(&self) {
+        for (place, (name, tests)) in OPERATIONS.iter().enumerate() {
+            let refused: Vec<_> = tests.iter().map(|&number| (number, self.refused_by[place][number])).collect();
+            println!("{name}: accepted {}, refused by number {refused:?}", self.accepted[place]);
+        }
+        for (number, count) in self.refused.iter().enumerate().filter(|(_, &count)| count > 0) {
+            println!("refused {number}: {count}");
+        }
+        println!("advances: {}, most running: {}", self.advances, self.most_running);
+        println!("most small, large, expirations: {}, {}, {}", self.most_small, self.most_large, self.most_expirations);
+        println!("writes of no byte, of 256: {}, {}", self.empty_writes, self.whole_writes);
+        println!("longest output: {}", self.longest_output);
+        for ((name, _), count) in remaining::SITUATIONS.iter().zip(self.remaining) {
+            println!("remaining, {name}: {count}");
+        }
+    }
+}
