@@ -2,7 +2,8 @@
  * A logger of sixteen tasks, and the weekend on which the sensor of one is dead. examples/logger.rs is the same in Rust.
  *
  * Each cycle every task makes a block for its reading, task 0 reads them all, and every task ticks. The readings are
- * for another task, so their expirations are global: due once every running task has ticked twice.
+ * for another task, so their expirations are global: due once every running task has ticked twice. Task 0 also keeps
+ * the newest reading of the dead sensor, and refreshes it only where it would be gone at the next look.
  */
 #include <stdbool.h>
 #include <stdio.h>
@@ -16,6 +17,7 @@ enum { READER = 0, WAITER = 7, CYCLES = 10, FIRST_DEAD = 3, LAST_DEAD = 8, READI
 
 static ramsummer_pool pool;
 static uint8_t small[RAMSUMMER_SMALL], large[RAMSUMMER_LARGE];
+static uint32_t newest[RAMSUMMER_TASKS]; /* the newest reading of each task */
 
 /* A pool's record and stores, as make, read and write take them. */
 #define POOL &pool, small, sizeof small, large, sizeof large
@@ -32,33 +34,43 @@ static void sense(uint8_t task, uint8_t cycle, uint8_t reading[LENGTH]) {
 }
 
 /* The task makes a block and writes its reading to it. */
-static uint8_t write_reading(uint8_t task, uint8_t cycle, uint32_t *handle) {
+static uint8_t write_reading(uint8_t task, uint8_t cycle) {
     uint8_t reading[LENGTH];
-    uint8_t refusal = ramsummer_make(POOL, task, RAMSUMMER_GLOBAL, 0, LENGTH, handle);
+    uint8_t refusal = ramsummer_make(POOL, task, RAMSUMMER_GLOBAL, 0, LENGTH, &newest[task]);
     if (refusal) return refusal;
     sense(task, cycle, reading);
-    return ramsummer_write(POOL, task, *handle, 0, reading, LENGTH);
+    return ramsummer_write(POOL, task, newest[task], 0, reading, LENGTH);
 }
 
 /* Task 0 reads it, and counts it where it is as it was written. */
-static uint8_t read_reading(uint8_t task, uint8_t cycle, uint32_t handle, unsigned *read) {
+static uint8_t read_reading(uint8_t task, uint8_t cycle, unsigned *read) {
     uint8_t expected[LENGTH], found[LENGTH];
     size_t count;
-    uint8_t refusal = ramsummer_read(POOL, READER, handle, found, sizeof found, &count);
+    uint8_t refusal = ramsummer_read(POOL, READER, newest[task], found, sizeof found, &count);
     if (refusal) return refusal;
     sense(task, cycle, expected);
     *read += count == LENGTH && memcmp(found, expected, LENGTH) == 0;
     return RAMSUMMER_DONE;
 }
 
-/* One cycle of the tasks at work. Read says how many readings task 0 has read as they were written. */
-static uint8_t run(uint8_t cycle, unsigned *read) {
-    uint32_t handles[RAMSUMMER_TASKS];
+/* Task 0 looks at a reading once a cycle, and refreshes it where it would be gone an advance later. */
+static uint8_t keep(uint32_t handle, bool *refreshed) {
+    uint8_t local, global;
+    uint8_t refusal = ramsummer_remaining(&pool, READER, handle, &local, &global);
+    if (refusal) return refusal;
+    *refreshed = global <= 1;
+    return *refreshed ? ramsummer_refresh(&pool, READER, RAMSUMMER_GLOBAL, 1, handle) : RAMSUMMER_DONE;
+}
+
+/* One cycle of the tasks at work. Read says how many readings task 0 has read as they were written, refreshed whether
+ * it has refreshed the newest one of WAITER. */
+static uint8_t run(uint8_t cycle, unsigned *read, bool *refreshed) {
     uint8_t refusal = RAMSUMMER_DONE, advanced, task;
     for (task = 0; task < RAMSUMMER_TASKS && !refusal; task++)
-        if (at_work(task, cycle)) refusal = write_reading(task, cycle, &handles[task]);
+        if (at_work(task, cycle)) refusal = write_reading(task, cycle);
     for (task = 0; task < RAMSUMMER_TASKS && !refusal; task++)
-        if (at_work(task, cycle)) refusal = read_reading(task, cycle, handles[task], read);
+        if (at_work(task, cycle)) refusal = read_reading(task, cycle, read);
+    if (!refusal) refusal = keep(newest[WAITER], refreshed);
     for (task = 0; task < RAMSUMMER_TASKS && !refusal; task++)
         if (at_work(task, cycle)) refusal = ramsummer_tick(&pool, task, &advanced);
     return refusal;
@@ -72,14 +84,14 @@ static uint8_t wait_or_go_on(uint8_t cycle) {
     return RAMSUMMER_DONE;
 }
 
-static uint8_t print_cycle(uint8_t cycle, unsigned read) {
+static uint8_t print_cycle(uint8_t cycle, unsigned read, bool refreshed) {
     uint8_t small_objects, large_objects;
     uint16_t expirations;
     uint32_t given;
     uint8_t refusal = ramsummer_report(&pool, &small_objects, &large_objects, &expirations, &given);
     if (!refusal)
-        printf("cycle %2d: %u readings, global time %2u, %d blocks in use\n", cycle, read, (unsigned)pool.global,
-               small_objects);
+        printf("cycle %2d: %u readings, global time %2u, %d blocks in use%s\n", cycle, read, (unsigned)pool.global,
+               small_objects, refreshed ? ", the last reading refreshed" : "");
     return refusal;
 }
 
@@ -90,10 +102,11 @@ static uint8_t log_all(bool with_block, unsigned *total) {
     for (task = 0; task < RAMSUMMER_TASKS && !refusal; task++) refusal = ramsummer_join(&pool, task);
     for (cycle = 1; cycle <= CYCLES && !refusal; cycle++) {
         unsigned read = 0;
+        bool refreshed;
         if (with_block) refusal = wait_or_go_on(cycle);
-        if (!refusal) refusal = run(cycle, &read);
+        if (!refusal) refusal = run(cycle, &read, &refreshed);
         if (refusal) printf("cycle %2d: refused with %d, %s\n", cycle, refusal, ramsummer_text(refusal));
-        else refusal = print_cycle(cycle, read);
+        else refusal = print_cycle(cycle, read, refreshed);
         *total += read;
     }
     return refusal;

@@ -1,7 +1,8 @@
 //! A logger of sixteen tasks, and the weekend on which the sensor of one is dead. examples/logger.c is the same in C.
 //!
 //! Each cycle every task makes a block for its reading, task 0 reads them all, and every task ticks. The readings are
-//! for another task, so their expirations are global: due once every running task has ticked twice.
+//! for another task, so their expirations are global: due once every running task has ticked twice. Task 0 also keeps
+//! the newest reading of the dead sensor, and refreshes it only where it would be gone at the next look.
 
 use ramsummer::{Handle, Kind, Pool, Refusal};
 use std::ops::RangeInclusive;
@@ -13,6 +14,12 @@ const WAITER: u8 = 7;
 const CYCLES: u8 = 10;
 const DEAD: RangeInclusive<u8> = 3..=8; // the cycles in which the sensor of WAITER gives nothing
 const READINGS: usize = 4 * 16 + 6 * 15; // of all cycles
+
+/// The pool, and the newest reading of each task.
+struct Logger {
+    pool: Pool,
+    newest: [Handle; TASKS as usize],
+}
 
 fn main() -> ExitCode {
     println!("Task {WAITER} waits for its sensor without block:");
@@ -27,17 +34,17 @@ fn main() -> ExitCode {
 
 /// All cycles from a fresh pool, up to the first refusal. Gives the count of readings.
 fn log(with_block: bool) -> Result<usize, Refusal> {
-    let mut pool = Pool::new();
+    let mut logger = Logger { pool: Pool::new(), newest: [Handle::from(0); TASKS as usize] };
     for task in 0..TASKS {
-        pool.join(task)?;
+        logger.pool.join(task)?;
     }
     let mut total = 0;
     for cycle in 1..=CYCLES {
         if with_block {
-            wait_or_go_on(&mut pool, cycle)?;
+            wait_or_go_on(&mut logger.pool, cycle)?;
         }
-        let read = run(&mut pool, cycle).inspect_err(|refusal| print_refusal(cycle, *refusal))?;
-        print_cycle(&pool, cycle, read)?;
+        let (read, refreshed) = run(&mut logger, cycle).inspect_err(|refusal| print_refusal(cycle, *refusal))?;
+        print_cycle(&logger.pool, cycle, read, refreshed)?;
         total += read;
     }
     Ok(total)
@@ -53,23 +60,33 @@ fn wait_or_go_on(pool: &mut Pool, cycle: u8) -> Result<(), Refusal> {
     Ok(())
 }
 
-/// One cycle of the tasks at work. Gives how many readings task 0 has read as they were written.
-fn run(pool: &mut Pool, cycle: u8) -> Result<usize, Refusal> {
+/// One cycle of the tasks at work. Gives how many readings task 0 has read as they were written, and whether it has
+/// refreshed the newest one of WAITER.
+fn run(Logger { pool, newest }: &mut Logger, cycle: u8) -> Result<(usize, bool), Refusal> {
     let at_work = |task: &u8| *task != WAITER || !DEAD.contains(&cycle);
-    let mut written: Vec<(u8, Handle)> = Vec::new();
     for task in (0..TASKS).filter(at_work) {
         let handle = pool.make(task, Kind::Global, 0, 4)?;
         pool.write(task, handle, 0, &reading(task, cycle))?;
-        written.push((task, handle));
+        newest[usize::from(task)] = handle;
     }
     let mut read = 0;
-    for (task, handle) in written {
-        read += usize::from(pool.read_to_vec(READER, handle)? == reading(task, cycle));
+    for task in (0..TASKS).filter(at_work) {
+        read += usize::from(pool.read_to_vec(READER, newest[usize::from(task)])? == reading(task, cycle));
     }
+    let refreshed = keep(pool, newest[usize::from(WAITER)])?;
     for task in (0..TASKS).filter(at_work) {
         pool.tick(task)?;
     }
-    Ok(read)
+    Ok((read, refreshed))
+}
+
+/// Task 0 looks at a reading once a cycle, and refreshes it where it would be gone an advance later.
+fn keep(pool: &mut Pool, handle: Handle) -> Result<bool, Refusal> {
+    let would_go = pool.remaining(READER, handle)?.global <= 1;
+    if would_go {
+        pool.refresh(READER, Kind::Global, 1, handle)?;
+    }
+    Ok(would_go)
 }
 
 /// What a sensor says: the task, the cycle, and the water level in centimetres.
@@ -79,9 +96,10 @@ fn reading(task: u8, cycle: u8) -> [u8; 4] {
     [task, cycle, high, low]
 }
 
-fn print_cycle(pool: &Pool, cycle: u8, read: usize) -> Result<(), Refusal> {
+fn print_cycle(pool: &Pool, cycle: u8, read: usize, refreshed: bool) -> Result<(), Refusal> {
     let (time, blocks) = (pool.record().global, pool.report()?.small);
-    println!("cycle {cycle:2}: {read} readings, global time {time:2}, {blocks} blocks in use");
+    let kept = if refreshed { ", the last reading refreshed" } else { "" };
+    println!("cycle {cycle:2}: {read} readings, global time {time:2}, {blocks} blocks in use{kept}");
     Ok(())
 }
 

@@ -151,6 +151,10 @@ uint8_t ramsummer_write(ramsummer_pool *pool, uint8_t *small_store, size_t small
 uint8_t ramsummer_report(ramsummer_pool *pool, uint8_t *small_objects, uint8_t *large_objects, uint16_t *expirations,
                          uint32_t *given);
 
+/* How long the object stands without a refresh. Local is set to the ticks of this task until the last of its local
+ * expirations is due, global to the advances until the last global one is, whoever set it; 0 where there is none. */
+uint8_t ramsummer_remaining(ramsummer_pool *pool, uint8_t task, uint32_t handle, uint8_t *local, uint8_t *global);
+
 /* Carries out one call frame. Line is without its LF; the answer line goes to the start of out with its LF, and count
  * says how many bytes. The number is the one that the answer line starts with. */
 uint8_t ramsummer_frame(ramsummer_pool *pool, uint8_t *small_store, size_t small_length, uint8_t *large_store,

@@ -1,4 +1,4 @@
-//! What the calls answer that have more to say than a number: report and frame.
+//! What the calls answer that have more to say than a number: report, remaining and frame.
 
 use crate::Refusal;
 use std::fmt;
@@ -22,6 +22,16 @@ impl fmt::Display for Report {
         let Report { small, large, expirations, given } = self;
         write!(f, "small {small}, large {large}, expirations {expirations}, given {given}")
     }
+}
+
+/// How long an object stands without a refresh. It is gone when both figures have come to 0, and no other task has a
+/// local expiration on it.
+#[derive(Clone, Copy, Debug, Default, PartialEq, Eq)]
+pub struct Remaining {
+    /// The asking task's ticks until the last of its local expirations is due; 0 where it has none.
+    pub local: u8,
+    /// The advances of global time until the last global expiration is due, whoever set it; 0 where there is none.
+    pub global: u8,
 }
 
 /// The answer to a frame: whether its call was carried out, and the answer line, which says that too.

@@ -40,7 +40,7 @@ mod refusal;
 #[allow(unsafe_code)]
 mod sys;
 
-pub use answer::{Answer, Report};
+pub use answer::{Answer, Remaining, Report};
 pub use handle::Handle;
 pub use kind::Kind;
 pub use pool::{Pool, LARGE, LINE, LONGEST, SMALL};

@@ -1,6 +1,6 @@
 //! The pool: a record and two stores, owned or borrowed, and the calls on them.
 
-use crate::{sys, Answer, Handle, Kind, Record, Refusal, Report};
+use crate::{sys, Answer, Handle, Kind, Record, Refusal, Remaining, Report};
 use std::borrow::BorrowMut;
 use std::fmt;
 
@@ -221,6 +221,25 @@ where
     /// ```
     pub fn report(&self) -> Result<Report, Refusal> {
         sys::report(&mut self.record().clone())
+    }
+
+    /// How long the object stands without a refresh, for a task that refreshes only what would be gone too soon. As for
+    /// a report, the library is lent a copy of the record.
+    ///
+    /// ```
+    /// use ramsummer::{Kind, Pool, Remaining};
+    ///
+    /// let mut pool = Pool::new();
+    /// pool.join(0)?;
+    /// let handle = pool.make(0, Kind::Local, 0, 4)?;
+    /// pool.refresh(0, Kind::Global, 1, handle)?;
+    /// assert_eq!(pool.remaining(0, handle)?, Remaining { local: 1, global: 3 });
+    /// pool.tick(0)?; // global time advances too, since task 0 runs alone
+    /// assert_eq!(pool.remaining(0, handle)?, Remaining { local: 0, global: 2 });
+    /// # Ok::<(), ramsummer::Refusal>(())
+    /// ```
+    pub fn remaining(&self, task: u8, handle: Handle) -> Result<Remaining, Refusal> {
+        sys::remaining(&mut self.record().clone(), task, handle)
     }
 
     /// Carries out one call frame: a line of hexadecimal without its LF. The answer line goes to the start of `out`,

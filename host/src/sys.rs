@@ -6,7 +6,7 @@
 //! and no memory of its own between calls.
 
 use crate::record::RECORD;
-use crate::{Handle, Kind, Record, Refusal, Report};
+use crate::{Handle, Kind, Record, Refusal, Remaining, Report};
 
 // As in include/ramsummer.h. A reference to one value is a pointer to C; a slice is a pointer and then a length.
 extern "C" {
@@ -60,6 +60,7 @@ extern "C" {
         expirations: &mut u16,
         given: &mut u32,
     ) -> u8;
+    fn ramsummer_remaining(pool: &mut Record, task: u8, handle: u32, local: &mut u8, global: &mut u8) -> u8;
     fn ramsummer_frame(
         pool: &mut Record,
         small: *mut u8,
@@ -215,6 +216,14 @@ pub(crate) fn report(pool: &mut Record) -> Result<Report, Refusal> {
     // SAFETY: five `&mut`; the figures are four fields of a variable of this function.
     outcome(unsafe { ramsummer_report(pool, small, large, expirations, given) })?;
     Ok(report)
+}
+
+pub(crate) fn remaining(pool: &mut Record, task: u8, handle: Handle) -> Result<Remaining, Refusal> {
+    let mut remaining = Remaining::default();
+    let Remaining { local, global } = &mut remaining;
+    // SAFETY: three `&mut`; the figures are two fields of a variable of this function.
+    outcome(unsafe { ramsummer_remaining(pool, task, handle.into(), local, global) })?;
+    Ok(remaining)
 }
 
 /// What became of the frame's call, and how many bytes of `out` the answer line has.

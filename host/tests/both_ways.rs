@@ -43,7 +43,7 @@ fn call(pool: &mut Pool, random: &mut Random) -> (String, String) {
     let handle = u32::from(random.byte(2)).wrapping_add(pool.record().given).wrapping_sub(random.below(12) as u32);
     let named = Handle::from(handle);
     let dated = format!("{task:02X}{:02X}{extension:02X}", kind.number());
-    match random.below(24) {
+    match random.below(26) {
         0 => (format!("01{task:02X}"), line(pool.join(task), nothing)),
         1 => (format!("02{task:02X}"), line(pool.leave(task), flag)),
         2 => (format!("03{task:02X}"), line(pool.block(task), flag)),
@@ -64,6 +64,11 @@ fn call(pool: &mut Pool, random: &mut Random) -> (String, String) {
             let bytes: Vec<u8> = (0..random.below(20)).map(|_| random.below(256) as u8).collect();
             let written = pool.write(task, named, offset, &bytes);
             (format!("09{task:02X}{handle:08X}{offset:02X}{}", hexadecimal(&bytes)), line(written, nothing))
+        }
+        23..=24 => {
+            let remaining = pool.remaining(task, named);
+            let figures = line(remaining, |left| format!("{:02X}{:02X}", left.local, left.global));
+            (format!("0B{task:02X}{handle:08X}"), figures)
         }
         _ => {
             let figures = line(pool.report(), |report| {
@@ -91,7 +96,7 @@ fn typed_calls_and_frames_do_the_same() {
         seen.insert((frame[..2].to_string(), expected[..2].to_string()));
     }
     let done = seen.iter().filter(|(_, answer)| answer == "00").count();
-    assert_eq!(done, 10, "each operation was carried out");
+    assert_eq!(done, 11, "each operation was carried out");
     let refusals: BTreeSet<_> =
         seen.iter().map(|(_, answer)| answer.as_str()).filter(|answer| *answer != "00").collect();
     let expected = ["01", "02", "03", "04", "05", "06", "07", "09", "0B", "0C", "0D"];

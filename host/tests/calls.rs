@@ -1,6 +1,8 @@
 //! Each call through the safe interface: what it answers, each of its refusals, and that a refusal changes nothing.
 
-use ramsummer::{Handle, Kind, Pool, Record, Refusal, Report, BLOCKS, EXPIRATIONS, LARGE, LONGEST, RECORD, SMALL};
+use ramsummer::{
+    Handle, Kind, Pool, Record, Refusal, Remaining, Report, BLOCKS, EXPIRATIONS, LARGE, LONGEST, RECORD, SMALL,
+};
 
 /// A pool in which task 0 runs, 1 waits and 2 is absent.
 fn pool() -> Pool {
@@ -28,7 +30,32 @@ fn an_object_lasts_until_its_last_expiration() {
     assert_eq!(pool.report(), Ok(Report { small: 1, large: 0, expirations: 1, given: 1 }));
     assert_eq!(pool.tick(0), Ok(true));
     refused(&mut pool, Refusal::ObjectGone, |pool| pool.read_to_vec(0, handle));
+    refused(&mut pool, Refusal::ObjectGone, |pool| pool.remaining(0, handle));
     assert_eq!(pool.report(), Ok(Report { small: 0, large: 0, expirations: 0, given: 1 }));
+}
+
+/// Local expirations count for the task that set them, global ones for every task; the one that is due last tells.
+#[test]
+fn a_task_is_told_how_long_an_object_stands() {
+    let mut pool = pool();
+    pool.resume(1).unwrap();
+    pool.join(2).unwrap();
+    let handle = pool.make(0, Kind::Local, 4, 4).unwrap();
+    pool.refresh(0, Kind::Local, 1, handle).unwrap();
+    pool.refresh(1, Kind::Local, 30, handle).unwrap();
+    let told = |pool: &Pool| [0, 1, 2].map(|task| pool.remaining(task, handle).unwrap());
+    let left = |local, global| Remaining { local, global };
+    assert_eq!(told(&pool), [left(5, 0), left(31, 0), left(0, 0)]);
+    pool.refresh(2, Kind::Global, 30, handle).unwrap();
+    pool.refresh(0, Kind::Global, 0, handle).unwrap();
+    let before = pool.clone();
+    assert_eq!(told(&pool), [left(5, 32), left(31, 32), left(0, 32)]);
+    assert!(pool == before, "the record and the stores stay");
+    pool.tick(0).unwrap();
+    assert_eq!(told(&pool), [left(4, 32), left(31, 32), left(0, 32)]);
+    pool.tick(1).unwrap();
+    assert_eq!(pool.tick(2), Ok(true));
+    assert_eq!(told(&pool), [left(4, 31), left(30, 31), left(0, 31)]);
 }
 
 #[test]
@@ -94,6 +121,7 @@ fn tasks_are_tested() {
         refused(&mut pool, refusal, |pool| pool.refresh(task, Kind::Local, 0, handle));
         refused(&mut pool, refusal, |pool| pool.read_to_vec(task, handle));
         refused(&mut pool, refusal, |pool| pool.write(task, handle, 0, &[1]));
+        refused(&mut pool, refusal, |pool| pool.remaining(task, handle));
     }
 }
 
@@ -113,6 +141,7 @@ fn arguments_are_tested() {
         refused(&mut pool, Refusal::HandleNotGiven, |pool| pool.read_to_vec(0, handle));
         refused(&mut pool, Refusal::HandleNotGiven, |pool| pool.write(0, handle, 0, &[]));
         refused(&mut pool, Refusal::HandleNotGiven, |pool| pool.refresh(0, Kind::Local, 0, handle));
+        refused(&mut pool, Refusal::HandleNotGiven, |pool| pool.remaining(0, handle));
     }
     pool.write(0, handle, 4, &[]).unwrap();
     refused(&mut pool, Refusal::OutsideObject, |pool| pool.write(0, handle, 4, &[1]));
@@ -158,6 +187,7 @@ fn stores_of_another_length_are_refused() {
         refused(&mut pool, Refusal::WrongStoreLength, |pool| pool.read_to_vec(16, handle));
         refused(&mut pool, Refusal::WrongStoreLength, |pool| pool.write(16, handle, 0, &[]));
         refused(&mut pool, Refusal::NoSuchTask, |pool| pool.tick(16));
+        refused(&mut pool, Refusal::NoSuchTask, |pool| pool.remaining(16, handle));
     }
 }
 
@@ -176,6 +206,7 @@ fn a_damaged_record_is_refused_until_it_is_fresh() {
     refused(&mut pool, Refusal::NotWellFormed, |pool| pool.read_to_vec(16, handle));
     refused(&mut pool, Refusal::NotWellFormed, |pool| pool.write(16, handle, 0, &[]));
     refused(&mut pool, Refusal::NotWellFormed, |pool| pool.report());
+    refused(&mut pool, Refusal::NotWellFormed, |pool| pool.remaining(16, handle));
     assert_eq!(pool.to_string(), "the record is not well-formed");
     pool.fresh();
     assert_eq!(*pool.record(), Record::fresh());

@@ -28,6 +28,23 @@ fn the_worked_example() {
     }
 }
 
+/// Local, extension 2, and global, extension 4: the first byte is the task's local time, the second global time.
+#[test]
+fn what_remains_to_an_object() {
+    let mut pool = Pool::new();
+    for (frame, expected) in [
+        ("0100", "00"),
+        ("060000020004", "0000000001"),
+        ("0700010400000001", "00"),
+        ("0B0000000001", "000306"),
+        ("0500", "0001"),
+        ("0B0000000001", "000205"),
+        ("0B0000000002", "0B"),
+    ] {
+        assert_eq!(answer(&mut pool, frame), expected, "{frame}");
+    }
+}
+
 #[test]
 fn refused_frames_change_nothing() {
     let mut pool = Pool::new();
@@ -39,8 +56,10 @@ fn refused_frames_change_nothing() {
         ("0100\n", "10"),
         ("", "11"),
         ("00", "11"),
-        ("0B", "11"),
+        ("0C", "11"),
         ("01", "12"),
+        ("0B", "12"),
+        ("0B00000001", "12"),
         ("060002000004", "13"),
         ("0110", "01"),
         ("0500", "03"),
