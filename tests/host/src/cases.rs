@@ -99,9 +99,16 @@ fn calls_on_objects(expirations: usize) -> Vec<Case> {
             case("read 256", Entry::Read, expirations, with(large, 256)),
             case("write 32", Entry::Write, expirations, with(small, 32)),
             case("write 256", Entry::Write, expirations, with(large, 256)),
+            case("remaining", Entry::Remaining, expirations, with(small, 0)),
+            all_on_one(case("remaining, all on the object", Entry::Remaining, expirations, with(1, 0))),
         ]);
     }
     cases
+}
+
+/// The case on a record with no other object.
+fn all_on_one(case: Case) -> Case {
+    Case { memory: standing(usize::from(RUN), (1, 0), case.expirations), ..case }
 }
 
 fn frames(expirations: usize) -> Vec<Case> {
@@ -113,6 +120,7 @@ fn frames(expirations: usize) -> Vec<Case> {
     if expirations > 0 {
         let (_, handle) = last_handles(expirations);
         cases.push(frame("frame: read 256", Call::Read { task: 0, handle }));
+        cases.push(frame("frame: remaining", Call::Remaining { task: 0, handle }));
         cases.push(frame("frame: write 256", Call::Write { task: 0, handle, offset: 0, bytes: &[7; 256] }));
     }
     cases

@@ -18,11 +18,13 @@ pub struct Desk {
     out: [u8; ANSWER_ROOM],
     count: usize,
     figures: (u8, u8, u16, u32),
+    left: (u8, u8),
 }
 
 impl Desk {
     pub fn with(memory: Memory) -> Desk {
-        Desk { memory, advanced: 0, handle: 0, out: [0; ANSWER_ROOM], count: 0, figures: (0, 0, 0, 0) }
+        let out = [0; ANSWER_ROOM];
+        Desk { memory, advanced: 0, handle: 0, out, count: 0, figures: (0, 0, 0, 0), left: (0, 0) }
     }
 }
 
@@ -64,13 +66,14 @@ pub enum Entry {
     Read,
     Write,
     Report,
+    Remaining,
     Frame,
     /// The test of well-formedness and nothing else, of the plain pool alone.
     Fit,
 }
 
 impl Entry {
-    pub const ALL: [Entry; 12] = [
+    pub const ALL: [Entry; 13] = [
         Entry::Join,
         Entry::Leave,
         Entry::Block,
@@ -81,6 +84,7 @@ impl Entry {
         Entry::Read,
         Entry::Write,
         Entry::Report,
+        Entry::Remaining,
         Entry::Frame,
         Entry::Fit,
     ];
@@ -136,6 +140,10 @@ fn entry_of<E: Entries>(entry: Entry) -> Action {
             let (small, large, expirations, given) = &mut desk.figures;
             E::report(&mut desk.memory.pool, small, large, expirations, given)
         },
+        Entry::Remaining => |desk, with| {
+            let (local, global) = &mut desk.left;
+            E::remaining(&mut desk.memory.pool, with.task, with.handle, local, global)
+        },
         Entry::Frame => |desk, with| {
             let Memory { pool, small, large } = &mut desk.memory;
             E::frame(pool, small, large, &with.line, &mut desk.out, &mut desk.count)
@@ -172,6 +180,10 @@ fn work_of(entry: Entry) -> Option<Action> {
             let work::Figures { small, large, expirations, given } = work::report(&desk.memory.pool);
             desk.figures = (small, large, expirations, given);
             0
+        },
+        Entry::Remaining => |desk, with| {
+            let left = work::remaining(&desk.memory.pool, with.task, with.handle);
+            number(left.map(|work::Lifetime { local, global }| desk.left = (local, global)))
         },
         Entry::Frame | Entry::Fit => return None,
     })

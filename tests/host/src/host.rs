@@ -5,7 +5,7 @@ use std::marker::PhantomData;
 
 use plain::calls::ANSWER_ROOM;
 use plain::limits::LARGE_SIZE;
-use reference::call::{Accepted, Call, Figures, Kind};
+use reference::call::{Accepted, Call, Figures, Kind, Lifetime};
 
 use crate::entries::Entries;
 use crate::memory::Memory;
@@ -32,6 +32,8 @@ struct Out {
     large: u8,
     expirations: u16,
     given: u32,
+    local: u8,
+    global: u8,
 }
 
 /// What stands there before a call.
@@ -45,6 +47,8 @@ const UNTOLD: Out = Out {
     large: 0xA5,
     expirations: 0xA5A5,
     given: 0xA5A5_A5A5,
+    local: 0xA5,
+    global: 0xA5,
 };
 
 impl<E: Entries> Host<E> {
@@ -99,11 +103,12 @@ impl<E: Entries> Host<E> {
             Call::Read { task, handle } => E::read(pool, small, large, task, handle, &mut out.bytes, &mut out.count),
             Call::Write { task, handle, offset, bytes } => E::write(pool, small, large, task, handle, offset, bytes),
             Call::Report => E::report(pool, &mut out.small, &mut out.large, &mut out.expirations, &mut out.given),
+            Call::Remaining { task, handle } => E::remaining(pool, task, handle, &mut out.local, &mut out.global),
         }
     }
 
     /// An accepted call touches its own bytes alone: a make clears one block, a write replaces its bytes, and no
-    /// other call touches a store. Read, write and report leave the record.
+    /// other call touches a store. Read, write, report and remaining leave the record.
     fn check_memory(&mut self, call: &Call) {
         let Host { memory, before, .. } = self;
         match *call {
@@ -118,7 +123,7 @@ impl<E: Entries> Host<E> {
             }
             _ => {}
         }
-        if matches!(call, Call::Read { .. } | Call::Write { .. } | Call::Report) {
+        if matches!(call, Call::Read { .. } | Call::Write { .. } | Call::Report | Call::Remaining { .. }) {
             assert!(memory == before, "{call:?} changes more than is its own");
         } else {
             let stores = memory.small == before.small && memory.large == before.large;
@@ -146,6 +151,7 @@ impl<E: Entries> Host<E> {
                 expirations: out.expirations,
                 given: out.given,
             }),
+            Call::Remaining { .. } => Accepted::Remaining(Lifetime { local: out.local, global: out.global }),
         }
     }
 }

@@ -53,6 +53,7 @@ extern "C" {
         count: usize,
     ) -> u8;
     fn ramsummer_report(pool: *mut Pool, small: *mut u8, large: *mut u8, expirations: *mut u16, given: *mut u32) -> u8;
+    fn ramsummer_remaining(pool: *mut Pool, task: u8, handle: u32, local: *mut u8, global: *mut u8) -> u8;
     fn ramsummer_frame(
         pool: *mut Pool,
         small: *mut u8,
@@ -156,6 +157,11 @@ impl Entries for Library {
     #[inline]
     fn report(pool: &mut Pool, small: &mut u8, large: &mut u8, expirations: &mut u16, given: &mut u32) -> u8 {
         unsafe { ramsummer_report(pool, small, large, expirations, given) }
+    }
+
+    #[inline]
+    fn remaining(pool: &mut Pool, task: u8, handle: u32, local: &mut u8, global: &mut u8) -> u8 {
+        unsafe { ramsummer_remaining(pool, task, handle, local, global) }
     }
 
     #[inline]

@@ -5,12 +5,12 @@ use host_tests::entries::Plain;
 use host_tests::host::Host;
 use host_tests::library::Library;
 use host_tests::memory::{bytes_mut, Memory};
-use host_tests::reading::of_record;
+use host_tests::reading::{figures, of_record};
 use host_tests::samples::{after, full};
 use plain::fit::is_well_formed;
-use plain::limits::{EXPIRATIONS, TASKS};
+use plain::limits::{BLOCKS, EXPIRATIONS, TASKS};
 use plain::record::{Pool, ABSENT, FREE, GLOBAL, LOCAL, RECORD, RUNNING};
-use reference::call::{Call, Kind};
+use reference::call::{Accepted, Call, Figures, Kind, Lifetime};
 use reference::generate::Profile;
 use reference::random::Random;
 
@@ -60,7 +60,7 @@ struct Pair {
     library: Host<Library>,
     plain: Host<Plain>,
     whole: Memory,
-    calls: [Call<'static>; 4],
+    calls: [Call<'static>; 5],
     fit: usize,
     unfit: usize,
 }
@@ -73,13 +73,14 @@ impl Pair {
         Pair {
             library: Host::new(whole.clone()),
             plain: Host::new(whole.clone()),
-            whole,
             calls: [
                 Call::Report,
                 Call::Tick { task },
                 Call::Read { task, handle },
+                Call::Remaining { task, handle: busiest(&whole.pool, task) },
                 Call::Make { task, kind: Kind::Local, extension: 30, length: 40 },
             ],
+            whole,
             fit: 0,
             unfit: 0,
         }
@@ -107,7 +108,7 @@ impl Pair {
     fn compare(&mut self, call: &Call) {
         let told = self.library.call(call);
         assert_eq!(told, self.plain.call(call), "{call:?}");
-        if told.is_ok() && !matches!(call, Call::Read { .. } | Call::Report) {
+        if told.is_ok() && !matches!(call, Call::Read { .. } | Call::Remaining { .. } | Call::Report) {
             assert_eq!(of_record(&self.library.memory), of_record(&self.plain.memory), "{call:?}");
             self.library.memory.clone_from(&self.whole);
             self.plain.memory.clone_from(&self.whole);
@@ -121,6 +122,15 @@ impl Pair {
     }
 }
 
+/// The object on which the most expirations count for this task, local and global.
+fn busiest(pool: &Pool, task: u8) -> u32 {
+    let counting = |block: &usize| {
+        let on = pool.clocks.iter().zip(&pool.named).filter(|(_, &named)| usize::from(named) == *block);
+        on.filter(|(&clock, _)| [LOCAL + task, GLOBAL].contains(&clock)).count()
+    };
+    pool.handles[(0..BLOCKS).max_by_key(counting).unwrap_or(0)]
+}
+
 // Damages.
 
 /// All values at all offsets: a report, and one of the other calls in turn.
@@ -130,7 +140,7 @@ fn overwrite_each_byte(whole: Memory) {
     for offset in 0..RECORD {
         let held = bytes_mut(&mut pair.whole.pool)[offset];
         for value in 0..=255 {
-            let turn = 1 + (offset + usize::from(value)) % 3;
+            let turn = 1 + (offset + usize::from(value)) % 4;
             pair.examine(&[calls[0], calls[turn]], |pool| bytes_mut(pool)[offset] = value);
         }
         bytes_mut(&mut pair.library.memory.pool)[offset] = held;
@@ -159,14 +169,14 @@ fn one_byte_of_a_late_record() {
     overwrite_each_byte(late());
 }
 
-/// Tasks of every state, 28 small and 14 large objects, 53 expirations; all four calls are accepted.
+/// Tasks of every state.
 fn mixed() -> Memory {
-    after(Profile::Everyday, 4, 1_500)
+    after(Profile::Everyday, 15, 900)
 }
 
-/// 57 objects and 75 expirations, with all clocks put forward to the end of 32 bits, and what goes by them.
+/// All clocks put forward to the end of 32 bits, and what goes by them.
 fn late() -> Memory {
-    let mut memory = after(Profile::Everyday, 6, 900);
+    let mut memory = after(Profile::Everyday, 16, 1_300);
     let ahead = (u32::MAX - 7).wrapping_sub(memory.pool.global);
     memory.pool.global = memory.pool.global.wrapping_add(ahead);
     for task in memory.pool.tasks.iter_mut().filter(|task| task.state != ABSENT) {
@@ -179,12 +189,18 @@ fn late() -> Memory {
     memory
 }
 
+/// What stands in them, what remains to the object that is asked for, and what the calls are told.
 #[test]
 fn undamaged_records() {
-    for (whole, expected) in [(mixed(), [0; 4]), (late(), [0; 4]), (full(256), [0, 0, 0, 9])] {
+    let mixed = (mixed(), (27, 9, 51), (22, 10), [0; 5]);
+    let late = (late(), (42, 16, 82), (2, 29), [0; 5]);
+    let full = (full(256), (64, 32, 256), (0, 28), [0, 0, 0, 0, 9]);
+    for (whole, standing, (local, global), expected) in [mixed, late, full] {
+        let Figures { small, large, expirations, .. } = figures(&whole.pool);
+        assert_eq!((small, large, expirations), standing);
         let Pair { calls, mut library, .. } = Pair::of(whole);
-        let told = calls.map(|call| library.call(&call).err().unwrap_or(0));
-        assert_eq!(told, expected);
+        assert_eq!(library.call(&calls[3]), Ok(Accepted::Remaining(Lifetime { local, global })));
+        assert_eq!(calls.map(|call| library.call(&call).err().unwrap_or(0)), expected);
     }
 }
 

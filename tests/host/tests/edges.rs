@@ -93,7 +93,7 @@ fn a_record_that_is_not_well_formed_is_15_before_14() {
         assert_eq!(make(&mut memory, stores, 0, 0), 15);
         assert_eq!(read(&mut memory, stores, 0), 15);
         assert_eq!(write(&mut memory, stores, 0), 15);
-        for line in [&b"060000030004"[..], b"080000000001", b"09000000000100AA", b"0A"] {
+        for line in [&b"060000030004"[..], b"080000000001", b"09000000000100AA", b"0A", b"0B0000000001"] {
             assert_eq!(frame(&mut memory, stores, line, ANSWER_ROOM), (15, b"0F\n".to_vec()));
         }
     }
@@ -110,6 +110,8 @@ fn calls_that_touch_no_store_do_not_look() {
         assert_eq!(told(b"0400"), (0, b"00\n".to_vec()));
         assert_eq!(told(b"0500"), (0, b"0000\n".to_vec()));
         assert_eq!(told(b"0700010300000001"), (0, b"00\n".to_vec()));
+        // The local one of task 0, which has ticked once, and a global one of task 5.
+        assert_eq!(told(b"0B0000000001"), (0, b"00050C\n".to_vec()));
         // One of the ten expirations left with its setter, and one is new.
         assert_eq!(told(b"0A"), (0, b"000302000A00000005\n".to_vec()));
     }
@@ -189,7 +191,8 @@ fn lines_of_any_length() {
         // A write of 256 bytes to handle 0 is a call, a longer one is none.
         assert_eq!(told(&with(b"09")), if count == 263 { 11 } else { 18 });
         assert_eq!(told(&with(b"0A")), 18);
-        assert_eq!(told(&with(b"0B")), 17);
+        assert_eq!(told(&with(b"0B")), 18);
+        assert_eq!(told(&with(b"0C")), 17);
         assert_eq!(told(&digits), 17);
         assert_eq!(told(&digits[1..]), 16);
         let mut other = with(b"09");

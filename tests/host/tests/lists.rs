@@ -1,12 +1,15 @@
 //! Long lists of calls, on the library, the plain pool and both ledgers at once: the same answers and, from time to
 //! time, the same state. The lists are the reference's scripts; lines that hold no call go to the entry for frames.
 
+mod census;
+
+use census::{is_due_across, Census};
 use host_tests::entries::{Entries, Plain};
 use host_tests::host::{Host, Told};
 use host_tests::library::Library;
 use host_tests::memory::Memory;
-use host_tests::reading::{figures, of_ledger, of_record, Ahead};
-use reference::call::{Answer, Call, Model};
+use host_tests::reading::{of_ledger, of_record, Ahead};
+use reference::call::{Call, Model};
 use reference::frame::{decode, encode_answer};
 use reference::generate::{script_of, Profile, PROFILES};
 use reference::indexed;
@@ -32,19 +35,6 @@ struct Company {
     ahead: Ahead,
     global_before: u32,
     census: Census,
-}
-
-/// How often what was met.
-#[derive(Default)]
-struct Census {
-    calls: usize,
-    frames: usize,
-    accepted: [usize; 10],
-    refused: [usize; 20],
-    advances: usize,
-    clock_wraps: usize,
-    global_wraps: usize,
-    most: (u8, u8, u16),
 }
 
 impl Company {
@@ -130,6 +120,10 @@ impl Company {
                 let wrapped = self.plain.memory.pool.tasks[usize::from(task)].clock == 0;
                 self.census.clock_wraps += usize::from(wrapped);
             }
+            Call::Remaining { handle, .. } if accepted => {
+                let across = is_due_across(&self.plain.memory.pool, handle);
+                self.census.remaining_across += usize::from(across);
+            }
             _ => {}
         }
         if accepted {
@@ -153,48 +147,6 @@ impl Company {
     }
 }
 
-impl Census {
-    fn note(&mut self, call: &Call, answer: Answer) {
-        self.note_refusal(answer);
-        if let Ok(accepted) = answer {
-            self.accepted[call.place()] += 1;
-            self.advances += usize::from(accepted == reference::call::Accepted::Advanced(true));
-        }
-    }
-
-    fn note_refusal(&mut self, answer: Answer) {
-        if let Err(refusal) = answer {
-            self.refused[refusal as usize] += 1;
-        }
-    }
-
-    fn note_state(&mut self, pool: &plain::record::Pool) {
-        let figures = figures(pool);
-        let (small, large, expirations) = self.most;
-        self.most = (small.max(figures.small), large.max(figures.large), expirations.max(figures.expirations));
-    }
-
-    fn add(&mut self, other: &Census) {
-        self.calls += other.calls;
-        self.frames += other.frames;
-        self.accepted.iter_mut().zip(other.accepted).for_each(|(sum, count)| *sum += count);
-        self.refused.iter_mut().zip(other.refused).for_each(|(sum, count)| *sum += count);
-        self.advances += other.advances;
-        self.clock_wraps += other.clock_wraps;
-        self.global_wraps += other.global_wraps;
-        let (small, large, expirations) = self.most;
-        self.most = (small.max(other.most.0), large.max(other.most.1), expirations.max(other.most.2));
-    }
-
-    fn print(&self) {
-        println!("calls {}, frames {}, advances {}", self.calls, self.frames, self.advances);
-        println!("accepted {:?}", self.accepted);
-        println!("refused, by number, {:?}", self.refused);
-        println!("wraps of clocks {}, of global time {}", self.clock_wraps, self.global_wraps);
-        println!("most small, large, expirations {:?}", self.most);
-    }
-}
-
 /// Lists of one profile each and of all together. Those of every seed differ.
 fn run_lists(seeds: std::ops::Range<u64>, late: bool) -> Census {
     let mut census = Census::default();
@@ -212,6 +164,9 @@ fn check_all_met(census: &Census) {
     for number in (1..=7).chain(9..=13).chain(16..=19) {
         assert!(census.refused[number] > 500, "{number}");
     }
+    for number in [1, 3, 4, 11, 12] {
+        assert!(census.remaining_refused[number] > 100, "remaining, {number}");
+    }
     assert_eq!(census.most, (64, 32, 256));
     assert!(census.advances > 10_000 && census.frames > 100_000);
 }
@@ -227,7 +182,7 @@ fn of_fresh_records() {
 fn of_records_whose_counters_go_round() {
     let census = run_lists(1_000..1_105, true);
     check_all_met(&census);
-    assert!(census.clock_wraps > 100 && census.global_wraps > 20);
+    assert!(census.clock_wraps > 100 && census.global_wraps > 20 && census.remaining_across > 1_000);
     assert!(census.calls + census.frames > 1_000_000);
 }
 
@@ -264,6 +219,7 @@ fn with_handle_after(given: u32, call: Call) -> Call {
         }
         Call::Read { task, handle } => Call::Read { task, handle: later(handle) },
         Call::Write { task, handle, offset, bytes } => Call::Write { task, handle: later(handle), offset, bytes },
+        Call::Remaining { task, handle } => Call::Remaining { task, handle: later(handle) },
         other => other,
     }
 }
