@@ -26,6 +26,11 @@ module _ {ℓ} {A : Type ℓ} where
   take-replicate n m a h =
       rw (← add-sub-of-le h, ← replicate-append-replicate) (take-at (replicate n a) _ n (length-replicate n a))
 
+  pub part-replicate : (i n m : ℕ) (a : A) → i + n ≤ m → take n (drop i (replicate m a)) ≡ replicate n a
+  part-replicate zero n m a h = take-replicate n m a (omega arith)
+  part-replicate (suc i) n zero a h = absurd (omega arith)
+  part-replicate (suc i) n (suc m) a h = part-replicate i n m a (omega arith)
+
   -- parts of an overwritten list: before the new elements, after them, and with them inside
   module _ (at : ℕ) (new old : List A) (h : at + length new ≤ length old) where
     pub length-overwritten : length (overwritten at new old) ≡ length old
