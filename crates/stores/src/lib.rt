@@ -15,21 +15,69 @@ pub const SMALL_SIZE: usize = ledger::SMALL_SIZE as usize;
 
 pub const LARGE_SIZE: usize = ledger::LARGE_SIZE as usize;
 
-// All bytes zero.
+// The bytes of one turn. All are read before the first is stored, so that a machine may move them as one word.
+const TURN: usize = 8;
+
+// A turn's bytes, read.
+fn read_turn(bytes: &[u8]) -> [u8; TURN]
+    requires { ⌜ length (now bytes) ≡ 8 ⌝ }
+    ensures { λ r. ⌜ r ≡ now (bytes .entry) ⌝ }
+{
+    [
+        bytes[0],
+        bytes[1],
+        bytes[2],
+        bytes[3],
+        bytes[4],
+        bytes[5],
+        bytes[6],
+        bytes[7],
+    ]
+}
+
+// A turn's bytes, stored.
+fn store_turn(part: &mut [u8], turn: [u8; TURN])
+    requires { ⌜ length (now part) ≡ 8 ⌝ }
+    ensures { λ _. ⌜ now (part .exit) ≡ turn ⌝ }
+{
+    part[0] = turn[0];
+    part[1] = turn[1];
+    part[2] = turn[2];
+    part[3] = turn[3];
+    part[4] = turn[4];
+    part[5] = turn[5];
+    part[6] = turn[6];
+    part[7] = turn[7];
+}
+
+// All bytes zero: eight a turn, and the odd ones at the end singly.
 fn clear(part: &mut [u8])
     ensures { λ _. ⌜ now (part .exit) ≡ replicate (length (now (part .entry))) 0 ⌝ }
 {
-    for i in 0..part.len() {
+    let mut done = 0;
+    while TURN <= part.len() - done {
+        let end = done + TURN;
+        store_turn(&mut part[done..end], [0; TURN]);
+        done = end;
+    }
+    for i in done..part.len() {
         part[i] = 0;
     }
 }
 
-// The bytes over a part of as many.
+// The bytes over a part of as many: eight a turn, and the odd ones at the end singly.
 fn copy(part: &mut [u8], bytes: &[u8])
     requires { ⌜ length (now part) ≡ length (now bytes) ⌝ }
     ensures { λ _. ⌜ now (part .exit) ≡ now (bytes .entry) ⌝ }
 {
-    for i in 0..bytes.len() {
+    let mut done = 0;
+    while TURN <= bytes.len() - done {
+        let end = done + TURN;
+        let turn = read_turn(&bytes[done..end]);
+        store_turn(&mut part[done..end], turn);
+        done = end;
+    }
+    for i in done..bytes.len() {
         part[i] = bytes[i];
     }
 }
