@@ -101,6 +101,7 @@ fn calls_on_objects(expirations: usize) -> Vec<Case> {
             case("write 256", Entry::Write, expirations, with(large, 256)),
             case("remaining", Entry::Remaining, expirations, with(small, 0)),
             all_on_one(case("remaining, all on the object", Entry::Remaining, expirations, with(1, 0))),
+            all_on_one(case("read 32, all on the object", Entry::Read, expirations, with(1, 32))),
         ]);
     }
     cases
