@@ -1,19 +1,22 @@
 -- A reply that the contract of a call allows is a refusal, or what the call answers when it is carried out on some ledger.
 use Prim.Native.Nat.{ℕ}
+use native.Mathlib.Omega.{arith}
 use mathlib.Core.Bool.{true, true≢false}
 use mathlib.Core.List.{List, []}
 use mathlib.Core.Option.{Option, none, some}
-use mathlib.Core.Path.{_≡_, sym, ap, _∙_}
+use mathlib.Core.Path.{_≡_, refl, sym, _∙_}
 use mir.Val.{Val}
 use denote.Laws.{Is}
 use Rattle.lists.proofs.Cases.{by-test}
+use Rattle.ledger.specs.Numbers.{numberOf, answerNumber}
 use Rattle.ledger.specs.Objects.{Reply, plain, replyTo, usage}
 use Rattle.ledger.specs.Remaining.{remainingLife}
 use Rattle.ledger.specs.Ledger.{Ledger, verdictOn, replyBy, reply}
 use Rattle.ledger.specs.declared.Answer.{Answer}
-use Rattle.ledger.specs.declared.Answer.the-variants.{Refused, Counted, Lasts}
+use Rattle.ledger.specs.declared.Answer.the-variants.{Refused, Done, Advanced, Handle, Bytes, Counted, Lasts}
 use Rattle.ledger.specs.declared.Call.the-variants.{Read}
 use Rattle.ledger.specs.declared.Refusal.{Refusal}
+use Rattle.ledger.specs.declared.Refusal.the-variants.{NoSuchTask, TaskPresent, TaskAbsent, TaskWaiting, TaskRunning, ExtensionTooLong, LengthOutOfRange, HandlesSpent, NoFreeBlock, NoFreeExpiration, HandleNotGiven, ObjectGone, OutsideObject, WrongStoreLength, NotWellFormed, NotHexadecimal, UnknownOperation, WrongFrameLength, UnknownKind}
 use Rattle.ledger.specs.declared.Request.{Request}
 use Rattle.ledger.specs.declared.Request.the-variants.{Use, Report, Remaining}
 use Rattle.record.specs.Reading.{Typed}
@@ -25,7 +28,6 @@ use Rattle.record.proofs.Pool.{the-row}
 use Rattle.calls.specs.Contract.{isStored, areWhole, Obeys}
 use Rattle.calls.proofs.Lent.{lent-typed}
 use Rattle.pool.proofs.Sizes.{head-typed, columns-sized}
-use Rattle.numbered.specs.Told.{numbersOf}
 
 -- what a request answers when it is carried out
 abbrev pub carriedOut : Request → Ledger → Reply
@@ -66,9 +68,34 @@ module _ {C : Type 0} {p : Pool} (types : Typed (tablesOf p)) {new small large :
       (λ s. by-ledger request refused carried w (λ t. absurd (true≢false (sym t ∙ s))) o)))
       (λ u. refused _ (o .unfit u .refused))
 
--- an answer tells no number, where none is told by the call that is carried out
-pub tells-none : {p : Pool} → Typed (tablesOf p) → {request : Request} {new small large : List ℕ} {answer : Answer} {p′ : Pool} {small′ large′ : List ℕ}
-    → Obeys request new p small large (plain answer) p′ small′ large′
-    → ((L : Ledger) → answer ≡ carriedOut request L .answer → numbersOf answer [] ≡ []) → numbersOf answer [] ≡ []
-tells-none types o carried =
-    by-reply types o (λ why e. rw (ap (λ (y : Reply). y .answer) e)) (λ L e. carried L (ap (λ (y : Reply). y .answer) e))
+-- an answer that is not 0 is a refusal,
+pub refusal-in : (answer : Answer) → (answerNumber answer ≡ 0 → ⊥) → (why : Refusal) × (answer ≡ Refused why)
+refusal-in (Refused why) n = (why, refl)
+refusal-in Done n = absurd (n refl)
+refusal-in (Advanced b) n = absurd (n refl)
+refusal-in (Handle handle) n = absurd (n refl)
+refusal-in Bytes n = absurd (n refl)
+refusal-in (Counted usage) n = absurd (n refl)
+refusal-in (Lasts life) n = absurd (n refl)
+
+-- and a refusal is not 0
+pub above-0 : (why : Refusal) → numberOf why ≡ 0 → ⊥
+above-0 NoSuchTask e = omega arith
+above-0 TaskPresent e = omega arith
+above-0 TaskAbsent e = omega arith
+above-0 TaskWaiting e = omega arith
+above-0 TaskRunning e = omega arith
+above-0 ExtensionTooLong e = omega arith
+above-0 LengthOutOfRange e = omega arith
+above-0 HandlesSpent e = omega arith
+above-0 NoFreeBlock e = omega arith
+above-0 NoFreeExpiration e = omega arith
+above-0 HandleNotGiven e = omega arith
+above-0 ObjectGone e = omega arith
+above-0 OutsideObject e = omega arith
+above-0 WrongStoreLength e = omega arith
+above-0 NotWellFormed e = omega arith
+above-0 NotHexadecimal e = omega arith
+above-0 UnknownOperation e = omega arith
+above-0 WrongFrameLength e = omega arith
+above-0 UnknownKind e = omega arith

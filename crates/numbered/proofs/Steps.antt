@@ -13,10 +13,9 @@ use Rattle.lists.proofs.Cases.{by-test}
 use Rattle.ledger.specs.Numbers.{numberOf, answerNumber}
 use Rattle.ledger.specs.Objects.{Reply, plain}
 use Rattle.ledger.specs.declared.Answer.{Answer}
-use Rattle.ledger.specs.declared.Answer.the-variants.{Refused, Done, Advanced, Handle, Bytes, Counted, Lasts}
+use Rattle.ledger.specs.declared.Answer.the-variants.{Refused}
 use Rattle.ledger.specs.declared.Call.the-variants.{Make, Refresh}
 use Rattle.ledger.specs.declared.Kind.{Kind}
-use Rattle.ledger.specs.declared.Refusal.{Refusal}
 use Rattle.ledger.specs.declared.Refusal.the-variants.{UnknownKind}
 use Rattle.ledger.specs.declared.Request.{Request}
 use Rattle.ledger.specs.declared.Request.the-variants.{Use}
@@ -31,17 +30,8 @@ use Rattle.execute.specs.Execution.{Answered}
 use Rattle.execute.proofs.Demand1.{demand-1}
 use Rattle.numbered.specs.Told.{tooShort, lent, buffered, Told, withNumber, toldBy, toldAsLine}
 use Rattle.numbered.specs.Entries.{MakesBy, RefreshesBy, Carries}
+use Rattle.numbered.proofs.Replies.{refusal-in}
 use Rattle.numbered.specs.Steps.{entry, line, Gives, EachGives}
-
--- an answer that is not 0 is a refusal
-refusal-in : (answer : Answer) → (answerNumber answer ≡ 0 → ⊥) → (why : Refusal) × (answer ≡ Refused why)
-refusal-in (Refused why) n = (why, refl)
-refusal-in Done n = absurd (n refl)
-refusal-in (Advanced b) n = absurd (n refl)
-refusal-in (Handle handle) n = absurd (n refl)
-refusal-in Bytes n = absurd (n refl)
-refusal-in (Counted usage) n = absurd (n refl)
-refusal-in (Lasts life) n = absurd (n refl)
 
 -- a call that is told by numbers alone
 module _ {request : Request} {bytes : List ℕ} {p : Pool} {small large : List ℕ} (answer : Answer) {p′ : Pool} {small′ large′ : List ℕ} where

@@ -1,29 +1,46 @@
-// The calls by value, each with its answer by the number: what the entries call. What an answer tells goes to numbers that the host lends.
+// The calls on a record by value (P7), each with its answer by the number: what the entries call. Each tests first whether the record is well-formed (15), then the stores (14)
+// where it touches one, and then has the engine carry it out. What an answer tells goes to numbers that the host lends.
 ghost use mathlib.Core.List.{[], _∷_};
 ghost use mathlib.Core.Path.{_≡_};
-ghost use Rattle.ledger.specs.Numbers.{answerNumber};
+ghost use Rattle.ledger.specs.Numbers.{numberOf, answerNumber};
 ghost use Rattle.ledger.specs.declared.Call.the-variants.{Schedule};
 ghost use Rattle.ledger.specs.declared.Event.the-variants.{Join, Leave, Block, Resume, Tick};
 ghost use Rattle.ledger.specs.declared.Request.the-variants.{Use, Report, Remaining};
 ghost use Rattle.record.specs.Reading.{freshPool};
+ghost use Rattle.record.specs.Tables.{pooled};
 ghost use Rattle.frames.specs.Frames.{kindOf};
 ghost use Rattle.numbered.specs.Told.{buffered};
 ghost use Rattle.numbered.specs.Entries.{Does, MakesBy, RefreshesBy, WritesTo, CopiesOut, Carries};
-use calls::Outcome;
+
+mod events;
+mod kinds;
+mod reading;
+
+use calls;
+use events::advance_or;
+use events::schedule;
 use execute::LONGEST_ANSWER;
 use execute::execute;
+use expirations::standing;
+use fitness::is_well_formed;
 use frames::KindByte;
 use frames::kind_of;
+use kinds::make_one;
+use kinds::refresh_one;
 use ledger::Answer;
+use ledger::Event;
 use ledger::Refusal;
 use ledger::answer_number;
 use ledger::number_of;
-use objects::Found;
-use pool::values;
-use pool::values::locate;
+use objects::usage;
+use pool::lengths::are_whole;
+use reading::read_part;
+use record::BLOCK_COUNT;
+use record::EXPIRATION_COUNT;
+use record::Head;
 use record::Pool;
 use record::fresh;
-use stores::block_part;
+use record::head_of;
 use stores::write_block;
 
 // A buffer too short: a number that is none of 01's.
@@ -45,64 +62,167 @@ pub fn renew(p: Pool) -> Numbered
     }
 }
 
-// The number of an outcome's answer, with its record.
-fn by_number(done: Outcome) -> Numbered
-    ensures { λ r. ⌜ (r .number ≡ answerNumber (done .answer)) × (r .pool ≡ done .pool) ⌝ }
+// A call that is refused leaves the record.
+fn refused(why: Refusal, p: Pool) -> Numbered
+    ensures { λ r. ⌜ (r .number ≡ numberOf why) × (r .pool ≡ p) ⌝ }
 {
-    let answer = done.answer;
-    let pool = done.pool;
     Numbered {
-        number: answer_number(answer),
-        pool: pool,
+        number: number_of(why),
+        pool: p,
     }
 }
 
+// The number of an answer, and the record put together from its head and its columns.
+fn put_together(
+    answer: Answer,
+    head: Head,
+    handles: [u32; BLOCK_COUNT],
+    lengths: [u16; BLOCK_COUNT],
+    clocks: [u8; EXPIRATION_COUNT],
+    named: [u8; EXPIRATION_COUNT],
+    dues: [u32; EXPIRATION_COUNT],
+) -> Numbered
+    ensures { λ r. ⌜ (r .number ≡ answerNumber answer) × (r .pool ≡ pooled head handles lengths clocks named dues) ⌝ }
+{
+    let tasks = head.tasks;
+    let global = head.global;
+    Numbered {
+        number: answer_number(answer),
+        pool: Pool {
+            tasks: tasks,
+            global: global,
+            given: head.given,
+            handles: handles,
+            lengths: lengths,
+            clocks: clocks,
+            named: named,
+            dues: dues,
+        },
+    }
+}
+
+// A call that changes the record takes its columns out, has them tested and changed, and puts the record together again; one that only reads it lends them where they are.
 pub fn join(p: Pool, task: u8) -> Numbered
     ensures { λ r. ⌜ Does (Use (Schedule Join task)) p [] (r .number) (r .pool) [] ⌝ }
 {
-    by_number(values::join(p, task))
+    let h = head_of(p);
+    let mut handles = p.handles;
+    let lengths = p.lengths;
+    let mut clocks = p.clocks;
+    let named = p.named;
+    let dues = p.dues;
+    let step = schedule(
+        h,
+        &mut handles,
+        &lengths,
+        &mut clocks,
+        &named,
+        &dues,
+        Event::Join,
+        task,
+    );
+    let answer = step.answer;
+    let head = step.head;
+    put_together(answer, head, handles, lengths, clocks, named, dues)
 }
 
 pub fn leave(p: Pool, task: u8, advanced: &mut u8) -> Numbered
     ensures { λ r. ⌜ Does (Use (Schedule Leave task)) p (now (advanced .entry) ∷ []) (r .number) (r .pool) (now (advanced .exit) ∷ []) ⌝ }
 {
-    let done = values::leave(p, task);
-    let answer = done.answer;
-    let Answer::Advanced(yes) = answer else {
-        return by_number(done);
-    };
-    *advanced = yes as u8;
-    by_number(done)
+    let h = head_of(p);
+    let mut handles = p.handles;
+    let lengths = p.lengths;
+    let mut clocks = p.clocks;
+    let named = p.named;
+    let dues = p.dues;
+    let step = schedule(
+        h,
+        &mut handles,
+        &lengths,
+        &mut clocks,
+        &named,
+        &dues,
+        Event::Leave,
+        task,
+    );
+    let answer = step.answer;
+    let head = step.head;
+    *advanced = advance_or(*advanced, answer);
+    put_together(answer, head, handles, lengths, clocks, named, dues)
 }
 
 pub fn block(p: Pool, task: u8, advanced: &mut u8) -> Numbered
     ensures { λ r. ⌜ Does (Use (Schedule Block task)) p (now (advanced .entry) ∷ []) (r .number) (r .pool) (now (advanced .exit) ∷ []) ⌝ }
 {
-    let done = values::block(p, task);
-    let answer = done.answer;
-    let Answer::Advanced(yes) = answer else {
-        return by_number(done);
-    };
-    *advanced = yes as u8;
-    by_number(done)
+    let h = head_of(p);
+    let mut handles = p.handles;
+    let lengths = p.lengths;
+    let mut clocks = p.clocks;
+    let named = p.named;
+    let dues = p.dues;
+    let step = schedule(
+        h,
+        &mut handles,
+        &lengths,
+        &mut clocks,
+        &named,
+        &dues,
+        Event::Block,
+        task,
+    );
+    let answer = step.answer;
+    let head = step.head;
+    *advanced = advance_or(*advanced, answer);
+    put_together(answer, head, handles, lengths, clocks, named, dues)
 }
 
 pub fn resume(p: Pool, task: u8) -> Numbered
     ensures { λ r. ⌜ Does (Use (Schedule Resume task)) p [] (r .number) (r .pool) [] ⌝ }
 {
-    by_number(values::resume(p, task))
+    let h = head_of(p);
+    let mut handles = p.handles;
+    let lengths = p.lengths;
+    let mut clocks = p.clocks;
+    let named = p.named;
+    let dues = p.dues;
+    let step = schedule(
+        h,
+        &mut handles,
+        &lengths,
+        &mut clocks,
+        &named,
+        &dues,
+        Event::Resume,
+        task,
+    );
+    let answer = step.answer;
+    let head = step.head;
+    put_together(answer, head, handles, lengths, clocks, named, dues)
 }
 
 pub fn tick(p: Pool, task: u8, advanced: &mut u8) -> Numbered
     ensures { λ r. ⌜ Does (Use (Schedule Tick task)) p (now (advanced .entry) ∷ []) (r .number) (r .pool) (now (advanced .exit) ∷ []) ⌝ }
 {
-    let done = values::tick(p, task);
-    let answer = done.answer;
-    let Answer::Advanced(yes) = answer else {
-        return by_number(done);
-    };
-    *advanced = yes as u8;
-    by_number(done)
+    let h = head_of(p);
+    let mut handles = p.handles;
+    let lengths = p.lengths;
+    let mut clocks = p.clocks;
+    let named = p.named;
+    let dues = p.dues;
+    let step = schedule(
+        h,
+        &mut handles,
+        &lengths,
+        &mut clocks,
+        &named,
+        &dues,
+        Event::Tick,
+        task,
+    );
+    let answer = step.answer;
+    let head = step.head;
+    *advanced = advance_or(*advanced, answer);
+    put_together(answer, head, handles, lengths, clocks, named, dues)
 }
 
 pub fn make(
@@ -118,32 +238,21 @@ pub fn make(
     ensures { λ r. ⌜ MakesBy (kindOf kind) task extension size p (now (small .entry)) (now (large .entry)) (now (handle .entry) ∷ []) (r .number) (r .pool) (now (small .exit)) (now (large .exit)) (now (handle .exit) ∷ []) ⌝ }
 {
     let KindByte::Known(known) = kind_of(kind) else {
-        return Numbered {
-            number: number_of(Refusal::UnknownKind),
-            pool: p,
-        };
+        return refused(Refusal::UnknownKind, p);
     };
-    let made = values::make(p, small, large, task, known, extension, size);
-    let answer = made.answer;
-    let Answer::Handle(given) = answer else {
-        return by_number(made);
-    };
-    *handle = given;
-    by_number(made)
+    make_one(p, small, large, task, known, extension, size, handle)
 }
 
 pub fn refresh(p: Pool, task: u8, kind: u8, extension: u8, handle: u32) -> Numbered
     ensures { λ r. ⌜ RefreshesBy (kindOf kind) task extension handle p (r .number) (r .pool) ⌝ }
 {
     let KindByte::Known(known) = kind_of(kind) else {
-        return Numbered {
-            number: number_of(Refusal::UnknownKind),
-            pool: p,
-        };
+        return refused(Refusal::UnknownKind, p);
     };
-    by_number(values::refresh(p, task, known, extension, handle))
+    refresh_one(p, task, known, extension, handle)
 }
 
+// That part copied out.
 pub fn read<'a>(
     p: Pool,
     small: &'a [u8],
@@ -155,22 +264,17 @@ pub fn read<'a>(
 ) -> u8
     ensures { λ r. ⌜ CopiesOut task handle p (now (small .entry)) (now (large .entry)) (buffered (now (count .entry)) (now (out .entry))) r (buffered (now (count .exit)) (now (out .exit))) ⌝ }
 {
-    match locate(p, small.len(), large.len(), task, handle) {
-        Found::Refused(why) => number_of(why),
-        Found::At {
-            block,
-            length,
-            life: _,
-        } => {
-            let part = block_part(small, large, block, length as usize);
-            if out.len() < part.len() {
-                return TOO_SHORT;
-            }
-            write_block(out, 0, part);
-            *count = part.len();
-            0
-        }
+    let mut number = 0;
+    let part = read_part(p, small, large, task, handle, &mut number);
+    if number != 0 {
+        return number;
     }
+    if out.len() < part.len() {
+        return TOO_SHORT;
+    }
+    write_block(out, 0, part);
+    *count = part.len();
+    0
 }
 
 pub fn write(
@@ -184,16 +288,39 @@ pub fn write(
 ) -> u8
     ensures { λ r. ⌜ WritesTo task handle offset (now (bytes .entry)) p (now (small .entry)) (now (large .entry)) r (now (small .exit)) (now (large .exit)) ⌝ }
 {
-    answer_number(values::write(p, small, large, task, handle, offset, bytes))
+    let h = head_of(p);
+    if !is_well_formed(h, &p.handles, &p.lengths, &p.clocks, &p.named, &p.dues) {
+        return number_of(Refusal::NotWellFormed);
+    }
+    if !are_whole(small.len(), large.len()) {
+        return number_of(Refusal::WrongStoreLength);
+    }
+    let answer = calls::write(
+        h,
+        &p.handles,
+        &p.lengths,
+        &p.clocks,
+        &p.named,
+        &p.dues,
+        small,
+        large,
+        task,
+        handle,
+        offset,
+        bytes,
+    );
+    answer_number(answer)
 }
 
 pub fn report(p: Pool, small: &mut u8, large: &mut u8, expirations: &mut u16, given: &mut u32) -> u8
     ensures { λ r. ⌜ Does Report p (now (small .entry) ∷ now (large .entry) ∷ now (expirations .entry) ∷ now (given .entry) ∷ []) r p (now (small .exit) ∷ now (large .exit) ∷ now (expirations .exit) ∷ now (given .exit) ∷ []) ⌝ }
 {
-    let answer = values::report(p);
-    let Answer::Counted(usage) = answer else {
-        return answer_number(answer);
-    };
+    let h = head_of(p);
+    if !is_well_formed(h, &p.handles, &p.lengths, &p.clocks, &p.named, &p.dues) {
+        return number_of(Refusal::NotWellFormed);
+    }
+    let count = standing(&p.clocks);
+    let usage = usage(p.given, &p.handles, count);
     *small = usage.small;
     *large = usage.large;
     *expirations = usage.expirations;
@@ -204,7 +331,20 @@ pub fn report(p: Pool, small: &mut u8, large: &mut u8, expirations: &mut u16, gi
 pub fn remaining(p: Pool, task: u8, handle: u32, local: &mut u8, global: &mut u8) -> u8
     ensures { λ r. ⌜ Does (Remaining task handle) p (now (local .entry) ∷ now (global .entry) ∷ []) r p (now (local .exit) ∷ now (global .exit) ∷ []) ⌝ }
 {
-    let answer = values::remaining(p, task, handle);
+    let h = head_of(p);
+    if !is_well_formed(h, &p.handles, &p.lengths, &p.clocks, &p.named, &p.dues) {
+        return number_of(Refusal::NotWellFormed);
+    }
+    let answer = calls::remaining(
+        h,
+        &p.handles,
+        &p.lengths,
+        &p.clocks,
+        &p.named,
+        &p.dues,
+        task,
+        handle,
+    );
     let Answer::Lasts(life) = answer else {
         return answer_number(answer);
     };

@@ -1,6 +1,5 @@
-// The calls as others see them, on a record by value: 15 and 14 first, then the call itself.
+// What the calls on a record by value share: the lengths of the two stores (14), and demands 2 and 3 over lists of calls.
 pub mod lengths;
-pub mod values;
 
 pub use lengths::LARGE_BYTES;
 pub use lengths::SMALL_BYTES;

@@ -1,35 +1,34 @@
 -- 15, 14, or what the search of the blocks gives.
-use mathlib.Core.Path.{_≡_, refl, sym, _∙_}
+use mathlib.Core.Path.{refl, sym, _∙_}
 use borrow.Author.Needs.{needs}
-use borrow.Author.Tests.{not-true, not-false}
-use Rattle.record.specs.Pools.{isWellFormed}
-use Rattle.calls.proofs.Promises.{ready, unfit-obeys, wrong-obeys}
+use borrow.Author.Tests.{not-false}
+use Rattle.calls.proofs.Promises.{ready, wrong-obeys}
 use Rattle.calls.proofs.Meets.{refused-locates}
-use Rattle.pool.proofs.ByValue.{fits-by-value, located-by-value}
+use Rattle.pool.proofs.ByValue.{fits-by-value}
 use Rattle.pool.proofs.Sizes.{head-typed, columns-sized}
-use Rattle.pool.proofs.values.locate.Statement.{statement}
-use Rattle.pool.proofs.values.locate.Tie as tie
-
--- the test of the lent columns is the record's
-tested : (c : tie.After-is-well-formed) → (let made = c .before .before .before .before .before .before .before in c .is-well-formed .result ≡ isWellFormed (made .before .args .t1))
-tested c = let made = c .before .before .before .before .before .before .before in fits-by-value (made .before .args .t1) (made .head-of .ensures) (c .is-well-formed .ensures)
+use Rattle.numbered.proofs.ByValue.{unfit-by-value, located-by-value}
+use Rattle.numbered.proofs.reading.locate.Statement.{statement}
+use Rattle.numbered.proofs.reading.locate.Tie as tie
 
 returns : tie.Need-returns
-returns c small large s l = refused-locates _ _ _ _ _ _ (unfit-obeys _ _ _ small large (sym (tested (c .before)) ∙ not-true _ (c .if1 .taken)))
+returns c small large s l =
+    let made = c .before .before .before .before .before .before .before .before in
+    refused-locates _ _ _ _ _ _ (unfit-by-value (made .before .args .t1) (made .head-of .ensures) (c .before .is-well-formed .ensures) (c .if1 .taken) small large)
 
 returns-2 : tie.Need-returns-2
 returns-2 c small large s l =
-    refused-locates _ _ _ _ _ _
-    (wrong-obeys (tested (c .before .before .before)) (c .before .before .if1 .left) refl (λ xs ys a b. c .before .are-whole .ensures xs ys (a ∙ s) (b ∙ l)) (c .if2 .taken))
+    let made = c .before .before .before .before .before .before .before .before .before .before in
+    let fits = fits-by-value (made .before .args .t1) (made .head-of .ensures) (c .before .before .before .is-well-formed .ensures) in
+    refused-locates _ _ _ _ _ _ (wrong-obeys fits (c .before .before .if1 .left) refl (λ xs ys a b. c .before .are-whole .ensures xs ys (a ∙ s) (b ∙ l)) (c .if2 .taken))
 
 returns-3 : tie.Need-returns-3
 returns-3 c small large s l =
     let whole = c .before .before .before .before .before .before .before in
     let made = whole .before .before .before .before .before .before .before .before .before .before in
     let start = made .before in
+    let fits = fits-by-value (start .args .t1) (made .head-of .ensures) (whole .before .before .before .is-well-formed .ensures) in
     located-by-value (start .args .t1) (made .head-of .ensures) (head-typed (start .args .t1) _ (start .good .0)) (columns-sized (start .args .t1) _ (start .good .0)) _ _
-    (ready (tested (whole .before .before .before)) (whole .before .before .if1 .left) refl (λ xs ys a b. whole .before .are-whole .ensures xs ys (a ∙ s) (b ∙ l)) (whole .if2 .left))
-    (c .find-for-read .ensures)
+    (ready fits (whole .before .before .if1 .left) refl (λ xs ys a b. whole .before .are-whole .ensures xs ys (a ∙ s) (b ∙ l)) (whole .if2 .left)) (c .find-for-read .ensures)
 
 find-for-read-requires : tie.Need-find-for-read-requires
 find-for-read-requires c κs =

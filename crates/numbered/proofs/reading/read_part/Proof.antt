@@ -3,8 +3,8 @@ use mathlib.Core.Path.{refl}
 use borrow.Author.Needs.{needs}
 use Rattle.ledger.specs.declared.Answer.the-variants.{Bytes, Refused}
 use Rattle.calls.proofs.Meets.{read-refusal, read-part}
-use Rattle.pool.proofs.values.read.Statement.{statement}
-use Rattle.pool.proofs.values.read.Tie as tie
+use Rattle.numbered.proofs.reading.read_part.Statement.{statement}
+use Rattle.numbered.proofs.reading.read_part.Tie as tie
 
 block-part-requires : tie.Need-block-part-requires
 block-part-requires c κs =
@@ -30,8 +30,8 @@ returns-2 c =
           (read-part (c .before .before .before .before .locate .ensures _ _ refl refl) (c .before .before .block .given .1));
     }
 
-pub read-spec : {M : Type 1} → statement M
-read-spec =
+pub read-part-spec : {M : Type 1} → statement M
+read-part-spec =
     tie.close
     (tie.spec
     (λ c κs. search needs)

@@ -1,0 +1,108 @@
+// Make and refresh of a known kind, each on the columns that it takes out of the record and puts together again.
+ghost use mathlib.Core.List.{[], _∷_};
+ghost use mathlib.Core.Path.{_≡_};
+ghost use Rattle.ledger.specs.declared.Call.the-variants.{Refresh};
+ghost use Rattle.ledger.specs.declared.Request.the-variants.{Use};
+ghost use Rattle.numbered.specs.Told.{handleOr};
+ghost use Rattle.numbered.specs.Entries.{Does, MakesOne};
+use super::Numbered;
+use super::put_together;
+use super::refused;
+use calls;
+use fitness::is_well_formed;
+use ledger::Answer;
+use ledger::Kind;
+use ledger::Refusal;
+use pool::lengths::are_whole;
+use record::Pool;
+use record::head_of;
+
+// The handle, where an answer gives one; else the number that was lent.
+fn handle_or(old: u32, answer: Answer) -> u32
+    ensures { λ r. ⌜ r ≡ handleOr old answer ⌝ }
+{
+    match answer {
+        Answer::Handle(handle) => handle,
+        Answer::Refused(_) => old,
+        Answer::Done => old,
+        Answer::Advanced(_) => old,
+        Answer::Bytes => old,
+        Answer::Counted(_) => old,
+        Answer::Lasts(_) => old,
+    }
+}
+
+// A make of a known kind.
+pub fn make_one(
+    p: Pool,
+    small: &mut [u8],
+    large: &mut [u8],
+    task: u8,
+    kind: Kind,
+    extension: u8,
+    size: u16,
+    handle: &mut u32,
+) -> Numbered
+    ensures { λ r. ⌜ MakesOne task kind extension size p (now (small .entry)) (now (large .entry)) (now (handle .entry) ∷ []) (r .number) (r .pool) (now (small .exit)) (now (large .exit)) (now (handle .exit) ∷ []) ⌝ }
+{
+    let h = head_of(p);
+    let mut handles = p.handles;
+    let mut lengths = p.lengths;
+    let mut clocks = p.clocks;
+    let mut named = p.named;
+    let mut dues = p.dues;
+    if !is_well_formed(h, &handles, &lengths, &clocks, &named, &dues) {
+        return refused(Refusal::NotWellFormed, p);
+    }
+    if !are_whole(small.len(), large.len()) {
+        return refused(Refusal::WrongStoreLength, p);
+    }
+    let step = calls::make(
+        h,
+        &mut handles,
+        &mut lengths,
+        &mut clocks,
+        &mut named,
+        &mut dues,
+        small,
+        large,
+        task,
+        kind,
+        extension,
+        size,
+    );
+    let answer = step.answer;
+    let head = step.head;
+    *handle = handle_or(*handle, answer);
+    put_together(answer, head, handles, lengths, clocks, named, dues)
+}
+
+// A refresh of a known kind.
+pub fn refresh_one(p: Pool, task: u8, kind: Kind, extension: u8, handle: u32) -> Numbered
+    ensures { λ r. ⌜ Does (Use (Refresh task kind extension handle)) p [] (r .number) (r .pool) [] ⌝ }
+{
+    let h = head_of(p);
+    let handles = p.handles;
+    let lengths = p.lengths;
+    let mut clocks = p.clocks;
+    let mut named = p.named;
+    let mut dues = p.dues;
+    if !is_well_formed(h, &handles, &lengths, &clocks, &named, &dues) {
+        return refused(Refusal::NotWellFormed, p);
+    }
+    let step = calls::refresh(
+        h,
+        &handles,
+        &lengths,
+        &mut clocks,
+        &mut named,
+        &mut dues,
+        task,
+        kind,
+        extension,
+        handle,
+    );
+    let answer = step.answer;
+    let head = step.head;
+    put_together(answer, head, handles, lengths, clocks, named, dues)
+}

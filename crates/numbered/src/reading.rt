@@ -1,0 +1,62 @@
+// The part of a store that a read hands back. The record stays, and so its columns are lent where they are.
+ghost use Rattle.calls.specs.Contract.{LocatesIn, ReadsTo};
+use fitness::is_well_formed;
+use ledger::Refusal;
+use ledger::number_of;
+use objects::Found;
+use objects::find_for_read;
+use pool::lengths::are_whole;
+use record::Pool;
+use record::head_of;
+use stores::block_part;
+use stores::no_part;
+
+// Where a read finds its object in two stores of these lengths.
+fn locate(p: Pool, small: usize, large: usize, task: u8, handle: u32) -> Found
+    ensures { λ r. ⌜ LocatesIn small large task handle p r ⌝ }
+{
+    let h = head_of(p);
+    if !is_well_formed(h, &p.handles, &p.lengths, &p.clocks, &p.named, &p.dues) {
+        return Found::Refused(Refusal::NotWellFormed);
+    }
+    if !are_whole(small, large) {
+        return Found::Refused(Refusal::WrongStoreLength);
+    }
+    find_for_read(
+        h,
+        &p.handles,
+        &p.lengths,
+        &p.clocks,
+        &p.named,
+        &p.dues,
+        task,
+        handle,
+    )
+}
+
+// O19: hands back the object's part of its store. The answer's number goes to `number`; where it is a refusal, the part is empty.
+pub fn read_part<'a>(
+    p: Pool,
+    small: &'a [u8],
+    large: &'a [u8],
+    task: u8,
+    handle: u32,
+    number: &mut u8,
+) -> &'a [u8]
+    ensures { λ r. ⌜ ReadsTo task handle p (now (small .entry)) (now (large .entry)) (now (number .exit)) (now r) ⌝ }
+{
+    match locate(p, small.len(), large.len(), task, handle) {
+        Found::Refused(why) => {
+            *number = number_of(why);
+            no_part(small)
+        }
+        Found::At {
+            block,
+            length,
+            life: _,
+        } => {
+            *number = 0;
+            block_part(small, large, block, length as usize)
+        }
+    }
+}
