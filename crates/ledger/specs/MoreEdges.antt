@@ -51,8 +51,8 @@ moreEdges =
     read 1 1 ⇒ refused 12 ⨾
     join 0 ⇒ done
     clockReads 0 ∷
-    -- Remaining life: the longest of either kind counts, 1 more than its extension or 2; an own date counts for its setter alone, a common one for all, and each goes by its own
-    -- time.
+    -- Remaining life: the longest date of either kind counts, an own one for its setter alone and a common one for all. Straight after it is set e + 1 ticks or e + 2
+    -- advances are left, and each goes by its own time.
     fresh runs
     join 0 ⇒ done ⨾
     join 1 ⇒ done ⨾

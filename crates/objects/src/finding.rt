@@ -1,4 +1,4 @@
-// Where an object is: one finding, which read, write and refresh make after the tests that go before it. The record is well-formed, or its figures would not fit.
+// Where an object is: one finding (O30), which read, write, refresh and remaining life make after the tests that go before it. The record is well-formed, or its figures would not fit.
 ghost use Prim.Native.Nat.{_<_};
 ghost use mathlib.Core.Bool.{true};
 ghost use mathlib.Core.Path.{_≡_};
@@ -69,7 +69,7 @@ fn found_if(found: Found, verdict: Verdict) -> Found
     }
 }
 
-// The object that is read.
+// The object that is read, or whose life is asked for.
 pub fn find_for_read<'a>(
     h: Head,
     handles: &'a [u32; BLOCK_COUNT],
