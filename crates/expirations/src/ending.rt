@@ -1,30 +1,26 @@
 // The end of expirations that are due or were a leaver's own, group by group: one where no clock is asked for is passed by.
 ghost use Prim.Native.Nat.{_+_, _≤_, _<_};
-ghost use mathlib.Core.Bool.{cond};
+ghost use mathlib.Core.Bool.{cond, _&&_, _||_};
 ghost use mathlib.Core.Path.{_≡_};
 ghost use lib.ListN.{length};
 ghost use Rattle.ledger.specs.Limits.{taskCount};
-ghost use Rattle.record.specs.Codes.{dueBy};
+ghost use Rattle.record.specs.Codes.{dueBy, isDueGlobal};
 ghost use Rattle.record.specs.Tables.{expirationEntries};
 ghost use Rattle.expirations.specs.Places.{Asked};
-ghost use Rattle.expirations.specs.Ending.{isEnding, isEndingLocal, isEndingAt, isLocalAt, isGlobalAt, Ended};
+ghost use Rattle.expirations.specs.Ending.{isEndingLocal, isEndingAt, isLocalAt, isGlobalAt, Ended};
 ghost use Rattle.expirations.specs.Standing.{groupSize};
 use super::Passing;
 use super::asking::GROUP;
 use super::asking::GROUP_COUNT;
 use super::asking::has_byte;
-use record::Due;
 use record::EXPIRATION_COUNT;
 use record::GlobalTime;
 use record::LocalTime;
 use record::codes::FREE;
 use record::codes::GLOBAL;
 use record::codes::LOCAL;
-use record::codes::due_by;
-use record::codes::global_left;
 use record::codes::is_due_global;
 use record::codes::is_due_local;
-use record::codes::local_left;
 
 // Whether an event ends an expiration by its task's local time.
 fn ends_local(t: Passing, clock: u8, at: LocalTime) -> bool
@@ -93,29 +89,17 @@ fn any_ends<'a>(
     any_global(global, clocks, dues, from)
 }
 
-// Whether it ends an expiration, by the clock that this goes by.
-fn is_ending(t: Passing, due: Due) -> bool
-    ensures { λ r. ⌜ r ≡ isEnding t due ⌝ }
+// What is left of a clock, with the number of its entry as a time by either: it is asked for what it is alone.
+fn kept_clock(t: Passing, clock: u8, local: LocalTime, global: GlobalTime) -> u8
+    requires { ⌜ t .task < taskCount ⌝ }
+    ensures { λ r. ⌜ r ≡ cond (isEndingLocal t (dueBy clock (local .0)) || t .advanced && isDueGlobal (t .global) (dueBy clock (global .0))) 0 clock ⌝ }
 {
-    match due {
-        Due::Free => false,
-        Due::Local { setter, at } => {
-            let now = t.local;
-            (setter == t.task) & (t.leaves | (local_left(at, now) == 0))
-        }
-        Due::Global(at) => {
-            let now = t.global;
-            t.advanced & (global_left(at, now) == 0)
-        }
-        Due::Unknown => false,
+    let now = t.global;
+    if ends_local(t, clock, local) | (t.advanced & is_due_global(clock, global, now)) {
+        FREE
+    } else {
+        clock
     }
-}
-
-// What is left of a clock.
-fn kept_clock(t: Passing, clock: u8, due: Due) -> u8
-    ensures { λ r. ⌜ r ≡ cond (isEnding t due) 0 clock ⌝ }
-{
-    if is_ending(t, due) { FREE } else { clock }
 }
 
 // Ends what is over in a group, and says whether that was any.
@@ -132,7 +116,7 @@ fn end_in(
         return false;
     }
     for i in from..from + GROUP {
-        clocks[i] = kept_clock(t, clocks[i], due_by(clocks[i], dues[i]));
+        clocks[i] = kept_clock(t, clocks[i], LocalTime(dues[i]), GlobalTime(dues[i]));
     }
     true
 }

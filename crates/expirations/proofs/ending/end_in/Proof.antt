@@ -6,6 +6,7 @@ use borrow.Author.Needs.{needs}
 use borrow.Author.Tests.{not-true, not-false}
 use Rattle.expirations.specs.Ending.{keptClock}
 use Rattle.expirations.specs.Places.{Changed}
+use Rattle.expirations.proofs.Clocks.{by-either}
 use Rattle.expirations.proofs.Places.{asked-is, changed-none, changed-start, changed-turn, changed-end}
 use Rattle.expirations.proofs.ending.end_in.Statement.{statement}
 use Rattle.expirations.proofs.ending.end_in.Tie as tie
@@ -23,8 +24,8 @@ returns c =
 
 loop-again : tie.Need-loop-again Inv-loop μ-loop
 loop-again c =
-    let s = c .before .before .before .before .before .before .loop .inv .1 in
-    (omega arith, changed-turn s (omega (arith, s .size)) (rw (c .before .due-by .ensures) at (c .kept-clock .ensures)))
+    let s = c .before .before .before .before .before .loop .inv .1 in
+    (omega arith, changed-turn s (omega (arith, s .size)) (rw (by-either _ _) (c .kept-clock .ensures)))
 
 returns-2 : tie.Need-returns-2 Inv-loop μ-loop
 returns-2 c =
@@ -47,7 +48,7 @@ end-in-spec =
     (λ c. omega arith)
     (λ c. omega arith)
     (λ c. omega arith)
-    (λ c κs. search needs)
+    (λ c. omega arith)
     (λ c κs. search needs)
     (λ c. omega arith)
     (λ c. omega arith)
