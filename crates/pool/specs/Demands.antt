@@ -22,7 +22,7 @@ pub data Runs : Pool → List ℕ → List ℕ → List Sent → List Reply → 
       → Obeys (s .request) (s .bytes) p small large y p′ small′ large′ → Runs p′ small′ large′ ss ys p″ small″ large″
       → Runs p small large (s ∷ ss) (y ∷ ys) p″ small″ large″
 
--- Demand 2: for every list of the ten calls from a fresh pool, with stores of 01's lengths and any bytes in them, each answer is the ledger's, record and
+-- Demand 2: for every list of all calls from a fresh pool, with stores of 01's lengths and any bytes in them, each answer is the ledger's, record and
 -- stores then read as the ledger, and the record is fit. (Every beginning of a list is a list: so it is after each call.)
 abbrev pub Demand2 : Type 0
 Demand2 =
