@@ -1,7 +1,7 @@
 -- Make, refresh, read and write after 15 and 14: what the record's functions give meets the contracts.
 use Prim.Native.Nat.{ℕ, _+_, _<_}
 use native.Mathlib.Omega.{arith}
-use mathlib.Core.Bool.{true, true≢false, and-eq-true-iff}
+use mathlib.Core.Bool.{true, false, true≢false, and-eq-true-iff}
 use mathlib.Core.List.{List, []}
 use mathlib.Core.Path.{_≡_, refl, sym, ap, _∙_}
 use lib.ListN.{length, getD, replicate}
@@ -109,7 +109,7 @@ module _ {task : ℕ} {kind : Kind} {extension size : ℕ} {p : Pool} {small lar
 
 -- an object that is found, or why not
 module _ {task handle : ℕ} {p : Pool} {small large : List ℕ} (types : Typed (tablesOf p)) (ready : Ready (Use (Read task handle)) p small large) where
-  locates-by : (v : Verdict) → readVerdict task handle (tablesOf p) ≡ v → Locates task handle p small large (foundBy v task handle (tablesOf p))
+  locates-by : (v : Verdict) → readVerdict task handle (tablesOf p) ≡ v → Locates task handle p small large (foundBy false v task handle (tablesOf p))
   locates-by Accepted e =
       record {
         reads = read-done p types (ready .fit) small large (ready .whole refl) task handle e;
@@ -123,22 +123,22 @@ module _ {task handle : ℕ} {p : Pool} {small large : List ℕ} (types : Typed 
   locates-by (Refused r) e =
       refused-locates task handle p small large r (read-refused p types (ready .fit) small large (ready .whole refl) task handle r e)
 
-  pub locates : (f : Found) → f ≡ foundIn (readVerdict task handle) task handle (tablesOf p) → Locates task handle p small large f
+  pub locates : (f : Found) → f ≡ foundIn false (readVerdict task handle) task handle (tablesOf p) → Locates task handle p small large f
   locates f e = rw e (locates-by (readVerdict task handle (tablesOf p)) refl)
 
 module _ {task handle offset : ℕ} {p : Pool} {small large : List ℕ} (types : Typed (tablesOf p)) (ready : Ready (Use (Write task handle offset)) p small large)
     (here : placeIn handle (p .handles) ≡ placeOf handle (tablesOf p .blocks)) (new : List ℕ) where
-  module _ (f : Found) (so : f ≡ foundIn (writeVerdict task handle offset (length new)) task handle (tablesOf p)) where
+  module _ (f : Found) (so : f ≡ foundIn false (writeVerdict task handle offset (length new)) task handle (tablesOf p)) where
     pub write-kept : (why : Refusal) → f ≡ RefusedFound why → Writes task handle offset new p small large (RefusedAnswer why) small large
     write-kept why g =
         refused-writes task handle offset new p small large why
-        (write-refused p types (ready .fit) small large (ready .whole refl) task handle offset new why (found-refused task handle (tablesOf p) _ (sym so ∙ g)))
+        (write-refused p types (ready .fit) small large (ready .whole refl) task handle offset new why (found-refused false task handle (tablesOf p) _ (sym so ∙ g)))
 
     pub write-found : (block count : ℕ) (life : Life) → f ≡ At block count life
         → InBlock small large block (offset + length new)
         × Writes task handle offset new p small large Done (smallAfter block offset new small) (largeAfter block offset new large)
     write-found block count life g =
-        let (e, b, n) = found-accepted task handle (tablesOf p) _ (sym so ∙ g) in
+        let (e, b, n) = found-accepted false task handle (tablesOf p) _ (sym so ∙ g) in
         let (small-whole, large-whole) = halves small large (ready .whole refl) in
         let (L, reads) = every-fit-record-reads p types (ready .fit) small large in
         rw (← b) (

@@ -1,7 +1,7 @@
 -- Refresh on lent tables, by what was found: refused or carried out.
 use Prim.Native.Nat.{ℕ, _<_}
 use native.Mathlib.Omega.{arith}
-use mathlib.Core.Bool.{true}
+use mathlib.Core.Bool.{true, false}
 use mathlib.Core.List.{List}
 use mathlib.Core.Path.{_≡_, sym, _∙_}
 use borrow.Author.Tests.{leb-false}
@@ -40,7 +40,7 @@ pub room-left : (n : ℕ) → roomVerdict n ≡ Accepted → n < expirationEntri
 room-left n v = omega (arith, leb-false (limits .expirations) n (not-refused _ _ v), allowed .most-expirations)
 
 module _ {h : Head} {hs ls cs ns ds : List ℕ} (types : HeadTyped h) (sized : Sized hs ls cs ns ds) (task : ℕ) (kind : Kind) (extension handle : ℕ) (f : Found)
-    (so : f ≡ foundIn (refreshVerdict task extension handle) task handle (lent h hs ls cs ns ds)) where
+    (so : f ≡ foundIn false (refreshVerdict task extension handle) task handle (lent h hs ls cs ns ds)) where
   of-entries : Typed (tablesOf (pooled h hs ls cs ns ds))
   of-entries = lent-typed h hs ls cs ns ds types (sized .blocks) (sized .entries)
 
@@ -48,11 +48,11 @@ module _ {h : Head} {hs ls cs ns ds : List ℕ} (types : HeadTyped h) (sized : S
       → Follows (Use (Refresh task kind extension handle)) (pooled h hs ls cs ns ds) (RefusedAnswer why) (pooled h hs ls cs ns ds)
   refresh-kept w e small large =
       refresh-refused _ of-entries w small large task kind extension handle _
-      (rw (tables-of h hs ls cs ns ds) (found-refused task handle (lent h hs ls cs ns ds) _ (sym so ∙ e)))
+      (rw (tables-of h hs ls cs ns ds) (found-refused false task handle (lent h hs ls cs ns ds) _ (sym so ∙ e)))
 
   module _ {block count : ℕ} {life : Life} (at : f ≡ At block count life) where
     accepted : (refreshVerdict task extension handle (lent h hs ls cs ns ds) ≡ Accepted) × (placeOf handle (lent h hs ls cs ns ds .blocks) ≡ block)
-    accepted = let (v, place, size) = found-accepted task handle (lent h hs ls cs ns ds) _ (sym so ∙ at) in (v, place)
+    accepted = let (v, place, size) = found-accepted false task handle (lent h hs ls cs ns ds) _ (sym so ∙ at) in (v, place)
 
     pub refresh-set : isWellFormed (pooled h hs ls cs ns ds) ≡ true → {cs′ ns′ ds′ : List ℕ}
         → Sets (newEntry (h .tasks) (h .global) kind task extension block) cs ns ds cs′ ns′ ds′

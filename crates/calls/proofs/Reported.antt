@@ -31,7 +31,7 @@ report-obeys p w =
 
 -- the life that was found is the ledger's, and so is the refusal
 module _ (task handle : ℕ) {p : Pool} (types : Typed (tablesOf p)) (w : isWellFormed p ≡ true) where
-  life-by : (v : Verdict) → readVerdict task handle (tablesOf p) ≡ v → Follows (Remaining task handle) p (lifeFound (foundBy v task handle (tablesOf p))) p
+  life-by : (v : Verdict) → readVerdict task handle (tablesOf p) ≡ v → Follows (Remaining task handle) p (lifeFound (foundBy true v task handle (tablesOf p))) p
   life-by Accepted e =
       tells-obeys (Remaining task handle) p w refl (λ L. refl) _
       (λ small large L reads. rw (read-verdict types (fit-parts (tablesOf p) w) reads task handle [], e, read-life w types reads task handle e))
@@ -40,7 +40,7 @@ module _ (task handle : ℕ) {p : Pool} (types : Typed (tablesOf p)) (w : isWell
       (λ small large L reads. rw (read-verdict types (fit-parts (tablesOf p) w) reads task handle [], e))
 
 pub life-obeys : {h : Head} {hs ls cs ns ds : List ℕ} → HeadTyped h → Sized hs ls cs ns ds → isWellFormed (pooled h hs ls cs ns ds) ≡ true → (task handle : ℕ) {f : Found}
-    → f ≡ foundIn (readVerdict task handle) task handle (lent h hs ls cs ns ds)
+    → f ≡ foundIn true (readVerdict task handle) task handle (lent h hs ls cs ns ds)
     → Follows (Remaining task handle) (pooled h hs ls cs ns ds) (lifeFound f) (pooled h hs ls cs ns ds)
 life-obeys {h} {hs} {ls} {cs} {ns} {ds} types sized w task handle so =
     rw (so, ← tables-of h hs ls cs ns ds)

@@ -1,5 +1,6 @@
 -- Read and write on lent tables, by what was found.
 use Prim.Native.Nat.{ℕ, _+_}
+use mathlib.Core.Bool.{false}
 use mathlib.Core.List.{List}
 use mathlib.Core.Path.{_≡_}
 use lib.ListN.{length}
@@ -33,13 +34,13 @@ module _ {h : Head} {hs ls cs ns ds : List ℕ} (types : HeadTyped h) (sized : S
 
   -- where a read finds its object
   pub read-locates : (task handle : ℕ) {small large : List ℕ} → Ready (Use (Read task handle)) (pooled h hs ls cs ns ds) small large
-      → (f : Found) → f ≡ foundIn (readVerdict task handle) task handle (lent h hs ls cs ns ds)
+      → (f : Found) → f ≡ foundIn false (readVerdict task handle) task handle (lent h hs ls cs ns ds)
       → Locates task handle (pooled h hs ls cs ns ds) small large f
   read-locates task handle ready f so = locates of-entries ready f (rw (tables-of h hs ls cs ns ds) so)
 
   module _ (task handle offset : ℕ) (new : List ℕ) {small large : List ℕ} (ready : Ready (Use (Write task handle offset)) (pooled h hs ls cs ns ds) small large)
-      (f : Found) (so : f ≡ foundIn (writeVerdict task handle offset (length new)) task handle (lent h hs ls cs ns ds)) where
-    found : f ≡ foundIn (writeVerdict task handle offset (length new)) task handle (tablesOf (pooled h hs ls cs ns ds))
+      (f : Found) (so : f ≡ foundIn false (writeVerdict task handle offset (length new)) task handle (lent h hs ls cs ns ds)) where
+    found : f ≡ foundIn false (writeVerdict task handle offset (length new)) task handle (tablesOf (pooled h hs ls cs ns ds))
     found = rw (tables-of h hs ls cs ns ds) so
 
     pub write-refused-lent : {why : Refusal} → f ≡ RefusedFound why

@@ -254,7 +254,7 @@ pub fn remaining<'a>(
     requires { ⌜ Sized (now handles) (now lengths) (now clocks) (now named) (now dues) × (isWellFormed (pooled h (now handles) (now lengths) (now clocks) (now named) (now dues)) ≡ true) ⌝ }
     ensures { λ r. ⌜ Follows (Remaining task handle) (pooled h (now (handles .entry)) (now (lengths .entry)) (now (clocks .entry)) (now (named .entry)) (now (dues .entry))) r (pooled h (now (handles .entry)) (now (lengths .entry)) (now (clocks .entry)) (now (named .entry)) (now (dues .entry))) ⌝ }
 {
-    match find_for_read(h, handles, lengths, clocks, named, dues, task, handle) {
+    match find_for_read(h, handles, lengths, clocks, named, dues, task, handle, true) {
         Found::Refused(why) => Answer::Refused(why),
         Found::At {
             block: _,

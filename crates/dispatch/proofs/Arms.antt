@@ -1,5 +1,6 @@
 -- The arms of the dispatch: what each call promises on lent tables serves its request.
 use Prim.Native.Nat.{ℕ}
+use mathlib.Core.Bool.{false}
 use mathlib.Core.List.{List}
 use mathlib.Core.Path.{_≡_, refl}
 use Rattle.ledger.specs.Objects.{memoryAfter}
@@ -91,7 +92,7 @@ module _ (new : List ℕ) {h : Head} {hs ls cs ns ds : List ℕ} (sized : Sized 
       rw (is, so) (sized′, make-serves new _ small large task kind extension size _ _ _ m)
 
   pub read-arm : HeadTyped h → {task handle : ℕ} → call ≡ Read task handle → {f : Found}
-      → f ≡ foundIn (readVerdict task handle) task handle (lent h hs ls cs ns ds) → r ≡ whereFound f h
+      → f ≡ foundIn false (readVerdict task handle) task handle (lent h hs ls cs ns ds) → r ≡ whereFound f h
       → Served (Use call) new h hs ls cs ns ds small large r hs ls cs ns ds small large
   read-arm types {task} {handle} is {f} found so =
       rw (is, so) (sized, read-serves new h hs ls cs ns ds small large task handle f (read-locates types sized task handle (rw is at ready) f found))

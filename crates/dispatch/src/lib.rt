@@ -127,7 +127,17 @@ fn serve(
             without_bytes(answer, head)
         }
         Call::Read { task, handle } => where_found(
-            find_for_read(h, handles, lengths, clocks, named, dues, task, handle),
+            find_for_read(
+                h,
+                handles,
+                lengths,
+                clocks,
+                named,
+                dues,
+                task,
+                handle,
+                false,
+            ),
             h,
         ),
         Call::Write {

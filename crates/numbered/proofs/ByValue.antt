@@ -75,7 +75,7 @@ module _ (p : Pool) {h : Head} (e : h ≡ headOf p) where
 
   pub located-by-value : HeadTyped (headOf p) → Sized (p .handles) (p .lengths) (p .clocks) (p .named) (p .dues) → (task handle : ℕ) {small large : List ℕ}
       → Ready (Use (Read task handle)) p small large → {f : Found}
-      → f ≡ foundIn (readVerdict task handle) task handle (lent h (p .handles) (p .lengths) (p .clocks) (p .named) (p .dues))
+      → f ≡ foundIn false (readVerdict task handle) task handle (lent h (p .handles) (p .lengths) (p .clocks) (p .named) (p .dues))
       → Locates task handle p small large f
   located-by-value types sized task handle ready found = read-locates types sized task handle ready _ (rw e at found)
 

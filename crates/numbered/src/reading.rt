@@ -31,6 +31,7 @@ fn locate(p: Pool, small: usize, large: usize, task: u8, handle: u32) -> Found
         &p.dues,
         task,
         handle,
+        false,
     )
 }
 

@@ -1,6 +1,6 @@
 -- Laws of the one finding: what a test before it or after it makes of it, and what the columns give.
 use Prim.Native.Nat.{ℕ}
-use mathlib.Core.Bool.{true}
+use mathlib.Core.Bool.{Bool, true, false}
 use mathlib.Core.List.{List}
 use mathlib.Core.Path.{_≡_, refl, _∙_}
 use lib.ListN.{getD}
@@ -20,31 +20,31 @@ use Rattle.steps.proofs.Remaining.{life-within}
 use Rattle.steps.proofs.Verdicts.{then-assoc}
 use Rattle.expirations.specs.Standing.{standingOf}
 use Rattle.expirations.proofs.Counting.{standing-of}
-use Rattle.objects.specs.Outcomes.{foundBy, foundIf}
+use Rattle.objects.specs.Outcomes.{foundBy, foundIf, lifeIf}
 use Rattle.objects.specs.declared.Found.the-variants.{At}
 use Rattle.objects.specs.declared.Found.the-variants.{Refused as RefusedFound}
 use Rattle.objects.proofs.Laws.{place-of}
 
-module _ (task handle : ℕ) (p : Tables) where
+module _ (asks : Bool) (task handle : ℕ) (p : Tables) where
   -- a test before it
-  pub refused-before : (u v : Verdict) {why : Refusal} → u ≡ Refused why → RefusedFound why ≡ foundBy (andThen u v) task handle p
+  pub refused-before : (u v : Verdict) {why : Refusal} → u ≡ Refused why → RefusedFound why ≡ foundBy asks (andThen u v) task handle p
   refused-before u v e = rw e
 
-  pub accepted-before : (u v : Verdict) → u ≡ Accepted → foundBy v task handle p ≡ foundBy (andThen u v) task handle p
+  pub accepted-before : (u v : Verdict) → u ≡ Accepted → foundBy asks v task handle p ≡ foundBy asks (andThen u v) task handle p
   accepted-before u v e = rw e
 
   -- a test after it
-  tested-after : (v w : Verdict) → foundIf (foundBy v task handle p) w ≡ foundBy (andThen v w) task handle p
+  tested-after : (v w : Verdict) → foundIf (foundBy asks v task handle p) w ≡ foundBy asks (andThen v w) task handle p
   tested-after Accepted Accepted = refl
   tested-after Accepted (Refused r) = refl
   tested-after (Refused r) w = refl
 
   -- what it tells of the verdict
-  pub found-refused : (v : Verdict) {why : Refusal} → foundBy v task handle p ≡ RefusedFound why → v ≡ Refused why
+  pub found-refused : (v : Verdict) {why : Refusal} → foundBy asks v task handle p ≡ RefusedFound why → v ≡ Refused why
   found-refused Accepted e = cc
   found-refused (Refused r) e = cc
 
-  pub found-accepted : (v : Verdict) {block count : ℕ} {life : Life} → foundBy v task handle p ≡ At block count life
+  pub found-accepted : (v : Verdict) {block count : ℕ} {life : Life} → foundBy asks v task handle p ≡ At block count life
       → (v ≡ Accepted) × (placeOf handle (p .blocks) ≡ block) × (getD (p .blocks) (placeOf handle (p .blocks)) freeBlock .length ≡ count)
   found-accepted Accepted e = (refl, cc, cc)
   found-accepted (Refused r) e = (cc, cc, cc)
@@ -55,27 +55,27 @@ firstVerdict task extension h = andThen (taskVerdict task (h .tasks)) (extension
 
 module _ (task extension handle : ℕ) (h : Head) (hs ls cs ns ds : List ℕ) where
   pub refresh-refused : {why : Refusal} → firstVerdict task extension h ≡ Refused why
-      → RefusedFound why ≡ foundBy (refreshVerdict task extension handle (lent h hs ls cs ns ds)) task handle (lent h hs ls cs ns ds)
+      → RefusedFound why ≡ foundBy false (refreshVerdict task extension handle (lent h hs ls cs ns ds)) task handle (lent h hs ls cs ns ds)
   unfolding refreshVerdict tablesBy
-  refresh-refused e = rw (← then-assoc (taskVerdict task (h .tasks))) (refused-before task handle (lent h hs ls cs ns ds) (firstVerdict task extension h) _ e)
+  refresh-refused e = rw (← then-assoc (taskVerdict task (h .tasks))) (refused-before false task handle (lent h hs ls cs ns ds) (firstVerdict task extension h) _ e)
 
   pub refresh-found : SizedEntries cs ns ds → firstVerdict task extension h ≡ Accepted
-      → foundIf (foundBy (handleVerdict handle (lent h hs ls cs ns ds)) task handle (lent h hs ls cs ns ds)) (roomVerdict (standingOf cs))
-      ≡ foundBy (refreshVerdict task extension handle (lent h hs ls cs ns ds)) task handle (lent h hs ls cs ns ds)
+      → foundIf (foundBy false (handleVerdict handle (lent h hs ls cs ns ds)) task handle (lent h hs ls cs ns ds)) (roomVerdict (standingOf cs))
+      ≡ foundBy false (refreshVerdict task extension handle (lent h hs ls cs ns ds)) task handle (lent h hs ls cs ns ds)
   unfolding refreshVerdict tablesBy
   refresh-found sized e =
       let p = lent h hs ls cs ns ds in
-      rw (standing-of sized, ← then-assoc (taskVerdict task (h .tasks))) (tested-after task handle p (handleVerdict handle p) _ ∙ accepted-before task handle p (firstVerdict task extension h) _ e)
+      rw (standing-of sized, ← then-assoc (taskVerdict task (h .tasks))) (tested-after false task handle p (handleVerdict handle p) _ ∙ accepted-before false task handle p (firstVerdict task extension h) _ e)
 
-module _ (h : Head) {hs ls cs ns ds : List ℕ} (sized : Sized hs ls cs ns ds) (task handle : ℕ) where
+module _ (h : Head) {hs ls cs ns ds : List ℕ} (sized : Sized hs ls cs ns ds) (asks : Bool) (task handle : ℕ) where
   -- 11 and 12 by the handles
   pub verdict-at : foundVerdict handle (h .given) (placeIn handle hs) ≡ handleVerdict handle (lent h hs ls cs ns ds)
   unfolding tablesBy
   verdict-at = rw (place-of hs ls (sized .blocks .of-handles) (sized .blocks .of-lengths) handle)
 
   -- what stands at the handle's place
-  pub found-at : At (placeIn handle hs) (getD ls (placeIn handle hs) 0) (lifeIn task (placeIn handle hs) (h .tasks) (h .global) (entriesOf cs ns ds))
-      ≡ foundBy Accepted task handle (lent h hs ls cs ns ds)
+  pub found-at : At (placeIn handle hs) (getD ls (placeIn handle hs) 0) (lifeIf asks (lifeIn task (placeIn handle hs) (h .tasks) (h .global) (entriesOf cs ns ds)))
+      ≡ foundBy asks Accepted task handle (lent h hs ls cs ns ds)
   unfolding tablesBy
   found-at =
       rw (place-of hs ls (sized .blocks .of-handles) (sized .blocks .of-lengths) handle, block-at hs ls (sized .blocks .of-handles) (sized .blocks .of-lengths))

@@ -1,6 +1,8 @@
 -- What make, refresh, read and write decide, by the head and by what was found in the tables.
 use Prim.Native.Nat.{ℕ}
+use mathlib.Core.Bool.{Bool, true, false}
 use lib.ListN.{getD}
+use Rattle.ledger.specs.declared.Life.{Life}
 use Rattle.ledger.specs.declared.Verdict.{Verdict}
 use Rattle.ledger.specs.declared.Verdict.the-variants.{Accepted, Refused}
 use Rattle.record.specs.Codes.{freeBlock}
@@ -13,16 +15,21 @@ use Rattle.objects.specs.declared.Found.{Found}
 use Rattle.objects.specs.declared.Found.the-variants.{At}
 use Rattle.objects.specs.declared.Found.the-variants.{Refused as RefusedFound}
 
--- the one finding, by the verdict of the call that asks: the object's block, the length that it has there and its remaining life for the task
-abbrev pub foundBy : Verdict → ℕ → ℕ → Tables → Found
-foundBy Accepted task handle p =
+-- a remaining life where it is asked for, else no figures
+abbrev pub lifeIf : Bool → Life → Life
+lifeIf true life = life
+lifeIf false life = record { local = 0; global = 0 }
+
+-- the one finding, by the verdict of the call that asks: the object's block, the length that it has there and, where asked for, its remaining life for the task
+abbrev pub foundBy : Bool → Verdict → ℕ → ℕ → Tables → Found
+foundBy asks Accepted task handle p =
     let place = placeOf handle (p .blocks) in
-    At place (getD (p .blocks) place freeBlock .length) (lifeIn task place (p .tasks) (p .global) (p .expirations))
-foundBy (Refused r) task handle p = RefusedFound r
+    At place (getD (p .blocks) place freeBlock .length) (lifeIf asks (lifeIn task place (p .tasks) (p .global) (p .expirations)))
+foundBy asks (Refused r) task handle p = RefusedFound r
 
 -- by the tests of a call
-abbrev pub foundIn : (Tables → Verdict) → ℕ → ℕ → Tables → Found
-foundIn verdict task handle p = foundBy (verdict p) task handle p
+abbrev pub foundIn : Bool → (Tables → Verdict) → ℕ → ℕ → Tables → Found
+foundIn asks verdict task handle p = foundBy asks (verdict p) task handle p
 
 -- what was found, if one test more accepts
 abbrev pub foundIf : Found → Verdict → Found

@@ -1,12 +1,13 @@
 // Where an object is: one finding (O30), which read, write, refresh and remaining life make after the tests that go before it. The record is well-formed, or its figures would not fit.
 ghost use Prim.Native.Nat.{_<_};
-ghost use mathlib.Core.Bool.{true};
+ghost use mathlib.Core.Bool.{true, false};
 ghost use mathlib.Core.Path.{_≡_};
 ghost use Rattle.ledger.specs.Limits.{taskCount};
-ghost use Rattle.record.specs.Tables.{Sized, lent};
+ghost use Rattle.record.specs.Tables.{Sized, SizedEntries, entriesOf, blockEntries, lent};
 ghost use Rattle.record.specs.WellFormed.{isWellFormed};
+ghost use Rattle.steps.specs.Remaining.{lifeIn, LifeWithin};
 ghost use Rattle.steps.specs.Objects.{handleVerdict, readVerdict, writeVerdict, refreshVerdict};
-ghost use Rattle.objects.specs.Outcomes.{foundIn, foundIf};
+ghost use Rattle.objects.specs.Outcomes.{foundIn, foundIf, lifeIf};
 use super::Found;
 use super::refusals::and_then;
 use super::refusals::extension_verdict;
@@ -17,11 +18,35 @@ use super::refusals::task_verdict;
 use super::search::locate;
 use expirations::remaining_life;
 use expirations::standing;
+use ledger::Life;
 use ledger::Refusal;
 use ledger::Verdict;
 use record::BLOCK_COUNT;
 use record::EXPIRATION_COUNT;
 use record::Head;
+
+// The remaining life, where it is asked for.
+fn life_if<'a>(
+    h: Head,
+    clocks: &'a [u8; EXPIRATION_COUNT],
+    named: &'a [u8; EXPIRATION_COUNT],
+    dues: &'a [u32; EXPIRATION_COUNT],
+    task: u8,
+    block: usize,
+    asks: bool,
+) -> Life
+    requires { ⌜ SizedEntries (now clocks) (now named) (now dues) × (task < taskCount) × (block < blockEntries) × LifeWithin (lifeIn task block (h .tasks) (h .global) (entriesOf (now clocks) (now named) (now dues))) ⌝ }
+    ensures { λ r. ⌜ r ≡ lifeIf asks (lifeIn task block (h .tasks) (h .global) (entriesOf (now (clocks .entry)) (now (named .entry)) (now (dues .entry)))) ⌝ }
+{
+    if asks {
+        remaining_life(h, clocks, named, dues, task, block)
+    } else {
+        Life {
+            local: 0,
+            global: 0,
+        }
+    }
+}
 
 // 11, 12, or where the object is.
 fn find<'a>(
@@ -33,9 +58,10 @@ fn find<'a>(
     dues: &'a [u32; EXPIRATION_COUNT],
     task: u8,
     handle: u32,
+    asks: bool,
 ) -> Found
     requires { ⌜ Sized (now handles) (now lengths) (now clocks) (now named) (now dues) × (isWellFormed (lent h (now handles) (now lengths) (now clocks) (now named) (now dues)) ≡ true) × (task < taskCount) ⌝ }
-    ensures { λ r. ⌜ r ≡ foundIn (handleVerdict handle) task handle (lent h (now (handles .entry)) (now (lengths .entry)) (now (clocks .entry)) (now (named .entry)) (now (dues .entry))) ⌝ }
+    ensures { λ r. ⌜ r ≡ foundIn asks (handleVerdict handle) task handle (lent h (now (handles .entry)) (now (lengths .entry)) (now (clocks .entry)) (now (named .entry)) (now (dues .entry))) ⌝ }
 {
     let place = locate(handles, handle);
     match found_verdict(handle, h.given, place) {
@@ -43,7 +69,7 @@ fn find<'a>(
         Verdict::Accepted => Found::At {
             block: place,
             length: lengths[place],
-            life: remaining_life(h, clocks, named, dues, task, place),
+            life: life_if(h, clocks, named, dues, task, place, asks),
         },
     }
 }
@@ -69,7 +95,7 @@ fn found_if(found: Found, verdict: Verdict) -> Found
     }
 }
 
-// The object that is read, or whose life is asked for.
+// The object that is read, or whose life is asked for: only then are its figures worked out.
 pub fn find_for_read<'a>(
     h: Head,
     handles: &'a [u32; BLOCK_COUNT],
@@ -79,14 +105,15 @@ pub fn find_for_read<'a>(
     dues: &'a [u32; EXPIRATION_COUNT],
     task: u8,
     handle: u32,
+    asks: bool,
 ) -> Found
     requires { ⌜ Sized (now handles) (now lengths) (now clocks) (now named) (now dues) × (isWellFormed (lent h (now handles) (now lengths) (now clocks) (now named) (now dues)) ≡ true) ⌝ }
-    ensures { λ r. ⌜ r ≡ foundIn (readVerdict task handle) task handle (lent h (now (handles .entry)) (now (lengths .entry)) (now (clocks .entry)) (now (named .entry)) (now (dues .entry))) ⌝ }
+    ensures { λ r. ⌜ r ≡ foundIn asks (readVerdict task handle) task handle (lent h (now (handles .entry)) (now (lengths .entry)) (now (clocks .entry)) (now (named .entry)) (now (dues .entry))) ⌝ }
 {
     let tasks = h.tasks;
     match task_verdict(task, tasks) {
         Verdict::Refused(why) => Found::Refused(why),
-        Verdict::Accepted => find(h, handles, lengths, clocks, named, dues, task, handle),
+        Verdict::Accepted => find(h, handles, lengths, clocks, named, dues, task, handle, asks),
     }
 }
 
@@ -104,9 +131,19 @@ pub fn find_for_write<'a>(
     count: usize,
 ) -> Found
     requires { ⌜ Sized (now handles) (now lengths) (now clocks) (now named) (now dues) × (isWellFormed (lent h (now handles) (now lengths) (now clocks) (now named) (now dues)) ≡ true) ⌝ }
-    ensures { λ r. ⌜ r ≡ foundIn (writeVerdict task handle offset count) task handle (lent h (now (handles .entry)) (now (lengths .entry)) (now (clocks .entry)) (now (named .entry)) (now (dues .entry))) ⌝ }
+    ensures { λ r. ⌜ r ≡ foundIn false (writeVerdict task handle offset count) task handle (lent h (now (handles .entry)) (now (lengths .entry)) (now (clocks .entry)) (now (named .entry)) (now (dues .entry))) ⌝ }
 {
-    match find_for_read(h, handles, lengths, clocks, named, dues, task, handle) {
+    match find_for_read(
+        h,
+        handles,
+        lengths,
+        clocks,
+        named,
+        dues,
+        task,
+        handle,
+        false,
+    ) {
         Found::Refused(why) => Found::Refused(why),
         Found::At {
             block,
@@ -139,13 +176,23 @@ pub fn find_for_refresh<'a>(
     handle: u32,
 ) -> Found
     requires { ⌜ Sized (now handles) (now lengths) (now clocks) (now named) (now dues) × (isWellFormed (lent h (now handles) (now lengths) (now clocks) (now named) (now dues)) ≡ true) ⌝ }
-    ensures { λ r. ⌜ r ≡ foundIn (refreshVerdict task extension handle) task handle (lent h (now (handles .entry)) (now (lengths .entry)) (now (clocks .entry)) (now (named .entry)) (now (dues .entry))) ⌝ }
+    ensures { λ r. ⌜ r ≡ foundIn false (refreshVerdict task extension handle) task handle (lent h (now (handles .entry)) (now (lengths .entry)) (now (clocks .entry)) (now (named .entry)) (now (dues .entry))) ⌝ }
 {
     let tasks = h.tasks;
     match and_then(task_verdict(task, tasks), extension_verdict(extension)) {
         Verdict::Refused(why) => Found::Refused(why),
         Verdict::Accepted => found_if(
-            find(h, handles, lengths, clocks, named, dues, task, handle),
+            find(
+                h,
+                handles,
+                lengths,
+                clocks,
+                named,
+                dues,
+                task,
+                handle,
+                false,
+            ),
             room_verdict(standing(clocks) as usize),
         ),
     }

@@ -15,7 +15,7 @@ verdict : (c : tie.After-found-verdict)
     c .found-verdict .result ≡ handleVerdict (a .handle) (lent (a .h) (a .handles .now) (a .lengths .now) (a .clocks .now) (a .named .now) (a .dues .now))
 verdict c =
     let start = c .before .before in
-    rw (c .found-verdict .ensures, c .before .locate .ensures) (verdict-at (start .args .h) (start .pre .0) (start .args .task) (start .args .handle))
+    rw (c .found-verdict .ensures, c .before .locate .ensures) (verdict-at (start .args .h) (start .pre .0) (start .args .asks) (start .args .task) (start .args .handle))
 
 -- an accepted one's place is one of the blocks'
 listed : (c : tie.After-enum-told) → c .before .before .before .locate .result < blockEntries
@@ -41,5 +41,5 @@ find-spec =
     (λ c.
     let located = c .before .before .before .before .before in
     let start = located .before in
-    rw (← verdict (c .before .before .before .before), c .before .before .enum-told .given .1, c .remaining-life .ensures, located .locate .ensures)
-    (found-at (start .args .h) (start .pre .0) (start .args .task) (start .args .handle))))
+    rw (← verdict (c .before .before .before .before), c .before .before .enum-told .given .1, c .life-if .ensures, located .locate .ensures)
+    (found-at (start .args .h) (start .pre .0) (start .args .asks) (start .args .task) (start .args .handle))))

@@ -1,6 +1,6 @@
 -- What a read would find, by one test more.
 use Prim.Native.Nat.{ℕ, _+_}
-use mathlib.Core.Bool.{cond}
+use mathlib.Core.Bool.{cond, false}
 use mathlib.Core.Path.{_≡_, refl}
 use borrow.Author.Needs.{needs}
 use lib.Dec.{ltb}
@@ -24,7 +24,7 @@ reached end (RefusedFound r) = RefusedFound r
 reached end (At block length life) = cond (ltb length end) (RefusedFound OutsideObject) (At block length life)
 
 by-read : (v : Verdict) (task handle end : ℕ) (p : Tables)
-    → foundBy (andThen v (endVerdict handle end (p .blocks))) task handle p ≡ reached end (foundBy v task handle p)
+    → foundBy false (andThen v (endVerdict handle end (p .blocks))) task handle p ≡ reached end (foundBy false v task handle p)
 by-read Accepted task handle end p = by-test (ltb (blockOf handle (p .blocks) .length) end) (λ e. rw e) (λ e. rw e)
 by-read (Refused r) task handle end p = refl
 
@@ -32,7 +32,7 @@ by-read (Refused r) task handle end p = refl
 found : (c : tie.After-find-for-read)
     → let a = c .before .args in
     let p = lent (a .h) (a .handles .now) (a .lengths .now) (a .clocks .now) (a .named .now) (a .dues .now) in
-    foundBy (writeVerdict (a .task) (a .handle) (a .offset) (a .count) p) (a .task) (a .handle) p ≡ reached (a .offset + a .count) (c .find-for-read .result)
+    foundBy false (writeVerdict (a .task) (a .handle) (a .offset) (a .count) p) (a .task) (a .handle) p ≡ reached (a .offset + a .count) (c .find-for-read .result)
 unfolding writeVerdict
 found c =
     let a = c .before .args in
