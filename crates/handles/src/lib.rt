@@ -1,4 +1,5 @@
 // Whether two blocks in use have one handle.
+ghost use mathlib.Core.Bool.{true};
 ghost use mathlib.Core.Path.{_≡_};
 ghost use lib.ListN.{length};
 ghost use Rattle.lists.specs.Tests.{all};
@@ -49,12 +50,20 @@ fn all_few(counts: [u8; REMAINDERS]) -> bool
     few
 }
 
-// Handles given one after another have remainders of their own; others are told apart in full.
+// Handles given one after another have remainders of their own. The counts end here: what parts the handles takes their stack.
+fn few_each<'a>(handles: &'a [u32; BLOCK_COUNT], used: &'a [bool; BLOCK_COUNT]) -> bool
+    requires { ⌜ UsedIn (now handles) (now used) ⌝ }
+    ensures { λ r. ⌜ (r ≡ true → isDistinct (now (handles .entry)) ≡ true) ⌝ }
+{
+    all_few(counts(handles, used))
+}
+
+// Other handles are told apart in full.
 pub fn distinct<'a>(handles: &'a [u32; BLOCK_COUNT], used: &'a [bool; BLOCK_COUNT]) -> bool
     requires { ⌜ UsedIn (now handles) (now used) ⌝ }
     ensures { λ r. ⌜ r ≡ isDistinct (now (handles .entry)) ⌝ }
 {
-    if all_few(counts(handles, used)) {
+    if few_each(handles, used) {
         return true;
     }
     parted(handles, used)

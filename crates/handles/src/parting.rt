@@ -1,20 +1,35 @@
-// Handles told apart in full, on any bytes in as many steps: the blocks are parted by the last digits of their handles, then each part by the next digit.
+// Handles told apart in full, on any bytes in as many steps: the blocks are parted by the last bits of their handles, then each part by the digit above.
 // A part is known by a number below the count of blocks: by its last block, once a digit was looked at.
 ghost use mathlib.Core.Path.{_≡_};
-ghost use Prim.Native.Nat.{_+_, _*_, _%_};
+ghost use Prim.Native.Nat.{_<_};
 ghost use lib.Dec.{eqb};
 ghost use lib.ListN.{length};
 ghost use Rattle.lists.specs.Tables.{allFrom};
 ghost use Rattle.record.specs.WellFormed.{isDistinct};
 ghost use Rattle.record.specs.Tables.{blockEntries};
-ghost use Rattle.handles.specs.Handles.{isAloneIn, UsedIn, FirstParts, FirstRest, RestOf, keyCount, Below, Keys, Lasts, Places, Partable, Refined, Shifted};
+ghost use Rattle.handles.specs.Handles.{isAloneIn, UsedIn, FirstPart, FirstParts, keyOf, keyCount, Below, Keys, Lasts, Places, Partable, Refined};
 use record::BLOCK_COUNT;
 
-// Parts and digits that are possible.
-const KEYS: usize = BLOCK_COUNT * 16;
+// The bits of a handle that the first parts go by.
+const FIRST_BITS: u32 = 6;
 
-// The digits of a handle after those of the first parts.
-const DIGITS: usize = 7;
+// The bits of a digit: with more there are fewer rounds, over more keys.
+const DIGIT_BITS: u32 = 3;
+
+// The numbers that a digit can be.
+const RADIX: u32 = 1 << DIGIT_BITS;
+
+// Parts and digits that are possible.
+const KEYS: usize = BLOCK_COUNT * (RADIX as usize);
+
+// So many digits stand above the first bits.
+const DIGITS: u32 = 9;
+
+fn first_part(handle: u32) -> u8
+    ensures { λ r. ⌜ FirstPart handle r ⌝ }
+{
+    (handle % (1 << FIRST_BITS)) as u8
+}
 
 fn first_parts(handles: &[u32; BLOCK_COUNT]) -> [u8; BLOCK_COUNT]
     requires { ⌜ length (now handles) ≡ blockEntries ⌝ }
@@ -22,42 +37,30 @@ fn first_parts(handles: &[u32; BLOCK_COUNT]) -> [u8; BLOCK_COUNT]
 {
     let mut out = [0; BLOCK_COUNT];
     for i in 0..BLOCK_COUNT {
-        out[i] = (handles[i] % 64) as u8;
+        out[i] = first_part(handles[i]);
     }
     out
 }
 
-fn rest_of(handle: u32) -> u32
-    ensures { λ r. ⌜ RestOf handle r ⌝ }
+// A block's part with the digit above so many bits of its handle.
+fn key_of(bits: u32, part: u8, handle: u32) -> u16
+    requires { ⌜ bits < 32 ⌝ }
+    ensures { λ r. ⌜ r ≡ keyOf bits part handle ⌝ }
 {
-    handle / 64
+    (part as u16) * (RADIX as u16) + (((handle >> bits) % RADIX) as u16)
 }
 
-fn first_rest(handles: &[u32; BLOCK_COUNT]) -> [u32; BLOCK_COUNT]
-    requires { ⌜ length (now handles) ≡ blockEntries ⌝ }
-    ensures { λ r. ⌜ FirstRest (now (handles .entry)) r ⌝ }
+fn keys_of<'a>(
+    bits: u32,
+    parts: &'a [u8; BLOCK_COUNT],
+    handles: &'a [u32; BLOCK_COUNT],
+) -> [u16; BLOCK_COUNT]
+    requires { ⌜ Partable bits (now parts) (now handles) ⌝ }
+    ensures { λ r. ⌜ Keys bits (now (parts .entry)) (now (handles .entry)) r ⌝ }
 {
     let mut out = [0; BLOCK_COUNT];
     for i in 0..BLOCK_COUNT {
-        out[i] = rest_of(handles[i]);
-    }
-    out
-}
-
-// A block's part with its next digit.
-fn key_of(part: u8, rest: u32) -> u16
-    ensures { λ r. ⌜ r ≡ part * 16 + rest % 16 ⌝ }
-{
-    (part as u16) * 16 + ((rest % 16) as u16)
-}
-
-fn keys_of<'a>(parts: &'a [u8; BLOCK_COUNT], rest: &'a [u32; BLOCK_COUNT]) -> [u16; BLOCK_COUNT]
-    requires { ⌜ Partable (now parts) (now rest) ⌝ }
-    ensures { λ r. ⌜ Keys (now (parts .entry)) (now (rest .entry)) r ⌝ }
-{
-    let mut out = [0; BLOCK_COUNT];
-    for i in 0..BLOCK_COUNT {
-        out[i] = key_of(parts[i], rest[i]);
+        out[i] = key_of(bits, parts[i], handles[i]);
     }
     out
 }
@@ -93,24 +96,17 @@ fn places<'a>(keys: &'a [u16; BLOCK_COUNT], lasts: &'a [u8; KEYS]) -> [u8; BLOCK
     out
 }
 
-fn refined<'a>(parts: &'a [u8; BLOCK_COUNT], rest: &'a [u32; BLOCK_COUNT]) -> [u8; BLOCK_COUNT]
-    requires { ⌜ Partable (now parts) (now rest) ⌝ }
-    ensures { λ r. ⌜ Refined (now (parts .entry)) (now (rest .entry)) r ⌝ }
+fn refined<'a>(
+    bits: u32,
+    parts: &'a [u8; BLOCK_COUNT],
+    handles: &'a [u32; BLOCK_COUNT],
+) -> [u8; BLOCK_COUNT]
+    requires { ⌜ Partable bits (now parts) (now handles) ⌝ }
+    ensures { λ r. ⌜ Refined bits (now (parts .entry)) (now (handles .entry)) r ⌝ }
 {
-    let keys = keys_of(parts, rest);
+    let keys = keys_of(bits, parts, handles);
     let lasts = lasts(&keys);
     places(&keys, &lasts)
-}
-
-fn shifted(rest: &[u32; BLOCK_COUNT]) -> [u32; BLOCK_COUNT]
-    requires { ⌜ length (now rest) ≡ blockEntries ⌝ }
-    ensures { λ r. ⌜ Shifted (now (rest .entry)) r ⌝ }
-{
-    let mut out = [0; BLOCK_COUNT];
-    for i in 0..BLOCK_COUNT {
-        out[i] = rest[i] / 16;
-    }
-    out
 }
 
 fn is_at(part: u8, i: usize) -> bool
@@ -136,15 +132,12 @@ pub fn parted<'a>(handles: &'a [u32; BLOCK_COUNT], used: &'a [bool; BLOCK_COUNT]
     ensures { λ r. ⌜ r ≡ isDistinct (now (handles .entry)) ⌝ }
 {
     let mut parts = first_parts(handles);
-    let mut rest = first_rest(handles);
     for digit in 0..DIGITS {
-        let finer = refined(&parts, &rest);
-        let next = shifted(&rest);
+        let finer = refined(FIRST_BITS + DIGIT_BITS * digit, &parts, handles);
         if all_alone(used, &finer) {
             return true;
         }
         parts = finer;
-        rest = next;
     }
     all_alone(used, &parts)
 }
