@@ -3,7 +3,8 @@
  *
  * Each cycle every task makes a block for its reading, task 0 reads them all, and every task ticks. The readings are
  * for another task, so their expirations are global: due once every running task has ticked twice. Task 0 also keeps
- * the newest reading of the dead sensor, and refreshes it only where it would be gone at the next look.
+ * the last scan that is whole, with a reading of every sensor: it refreshes all of them by one call, and only where they
+ * would be gone at the next look.
  */
 #include <stdbool.h>
 #include <stdio.h>
@@ -18,6 +19,7 @@ enum { READER = 0, WAITER = 7, CYCLES = 10, FIRST_DEAD = 3, LAST_DEAD = 8, READI
 static ramsummer_pool pool;
 static uint8_t small[RAMSUMMER_SMALL], large[RAMSUMMER_LARGE];
 static uint32_t newest[RAMSUMMER_TASKS]; /* the newest reading of each task */
+static uint32_t whole[RAMSUMMER_TASKS];  /* the last ones that are all of one cycle */
 
 /* A pool's record and stores, as make, read and write take them. */
 #define POOL &pool, small, sizeof small, large, sizeof large
@@ -53,24 +55,27 @@ static uint8_t read_reading(uint8_t task, uint8_t cycle, unsigned *read) {
     return RAMSUMMER_DONE;
 }
 
-/* Task 0 looks at a reading once a cycle, and refreshes it where it would be gone an advance later. */
-static uint8_t keep(uint32_t handle, bool *refreshed) {
+/* Task 0 looks at the whole scan once a cycle, and refreshes it where it would be gone an advance later. Its readings
+ * live and lapse together, so that one of them tells for all. */
+static uint8_t keep(bool *refreshed) {
     uint8_t local, global;
-    uint8_t refusal = ramsummer_remaining(&pool, READER, handle, &local, &global);
+    uint8_t refusal = ramsummer_remaining(&pool, READER, whole[0], &local, &global);
     if (refusal) return refusal;
     *refreshed = global <= 1;
-    return *refreshed ? ramsummer_refresh(&pool, READER, RAMSUMMER_GLOBAL, 1, handle) : RAMSUMMER_DONE;
+    if (!*refreshed) return RAMSUMMER_DONE;
+    return ramsummer_refresh_all(&pool, READER, RAMSUMMER_GLOBAL, 1, whole, RAMSUMMER_TASKS);
 }
 
 /* One cycle of the tasks at work. Read says how many readings task 0 has read as they were written, refreshed whether
- * it has refreshed the newest one of WAITER. */
+ * it has refreshed the last whole scan. */
 static uint8_t run(uint8_t cycle, unsigned *read, bool *refreshed) {
     uint8_t refusal = RAMSUMMER_DONE, advanced, task;
     for (task = 0; task < RAMSUMMER_TASKS && !refusal; task++)
         if (at_work(task, cycle)) refusal = write_reading(task, cycle);
     for (task = 0; task < RAMSUMMER_TASKS && !refusal; task++)
         if (at_work(task, cycle)) refusal = read_reading(task, cycle, read);
-    if (!refusal) refusal = keep(newest[WAITER], refreshed);
+    if (!refusal && *read == RAMSUMMER_TASKS) memcpy(whole, newest, sizeof whole);
+    if (!refusal) refusal = keep(refreshed);
     for (task = 0; task < RAMSUMMER_TASKS && !refusal; task++)
         if (at_work(task, cycle)) refusal = ramsummer_tick(&pool, task, &advanced);
     return refusal;
@@ -91,7 +96,7 @@ static uint8_t print_cycle(uint8_t cycle, unsigned read, bool refreshed) {
     uint8_t refusal = ramsummer_report(&pool, &small_objects, &large_objects, &expirations, &given);
     if (!refusal)
         printf("cycle %2d: %u readings, global time %2u, %d blocks in use%s\n", cycle, read, (unsigned)pool.global,
-               small_objects, refreshed ? ", the last reading refreshed" : "");
+               small_objects, refreshed ? ", the last whole scan refreshed" : "");
     return refusal;
 }
 

@@ -2,7 +2,8 @@
 //!
 //! Each cycle every task makes a block for its reading, task 0 reads them all, and every task ticks. The readings are
 //! for another task, so their expirations are global: due once every running task has ticked twice. Task 0 also keeps
-//! the newest reading of the dead sensor, and refreshes it only where it would be gone at the next look.
+//! the last scan that is whole, with a reading of every sensor: it refreshes all of them by one call, and only where they
+//! would be gone at the next look.
 
 use ramsummer::{Handle, Kind, Pool, Refusal};
 use std::ops::RangeInclusive;
@@ -15,10 +16,14 @@ const CYCLES: u8 = 10;
 const DEAD: RangeInclusive<u8> = 3..=8; // the cycles in which the sensor of WAITER gives nothing
 const READINGS: usize = 4 * 16 + 6 * 15; // of all cycles
 
-/// The pool, and the newest reading of each task.
+/// A reading of each task.
+type Scan = [Handle; TASKS as usize];
+
+/// The pool, the newest reading of each task, and the last ones that are all of one cycle.
 struct Logger {
     pool: Pool,
-    newest: [Handle; TASKS as usize],
+    newest: Scan,
+    whole: Scan,
 }
 
 fn main() -> ExitCode {
@@ -34,7 +39,8 @@ fn main() -> ExitCode {
 
 /// All cycles from a fresh pool, up to the first refusal. Gives the count of readings.
 fn log(with_block: bool) -> Result<usize, Refusal> {
-    let mut logger = Logger { pool: Pool::new(), newest: [Handle::from(0); TASKS as usize] };
+    let none = [Handle::from(0); TASKS as usize];
+    let mut logger = Logger { pool: Pool::new(), newest: none, whole: none };
     for task in 0..TASKS {
         logger.pool.join(task)?;
     }
@@ -61,8 +67,8 @@ fn wait_or_go_on(pool: &mut Pool, cycle: u8) -> Result<(), Refusal> {
 }
 
 /// One cycle of the tasks at work. Gives how many readings task 0 has read as they were written, and whether it has
-/// refreshed the newest one of WAITER.
-fn run(Logger { pool, newest }: &mut Logger, cycle: u8) -> Result<(usize, bool), Refusal> {
+/// refreshed the last whole scan.
+fn run(Logger { pool, newest, whole }: &mut Logger, cycle: u8) -> Result<(usize, bool), Refusal> {
     let at_work = |task: &u8| *task != WAITER || !DEAD.contains(&cycle);
     for task in (0..TASKS).filter(at_work) {
         let handle = pool.make(task, Kind::Global, 0, 4)?;
@@ -73,18 +79,22 @@ fn run(Logger { pool, newest }: &mut Logger, cycle: u8) -> Result<(usize, bool),
     for task in (0..TASKS).filter(at_work) {
         read += usize::from(pool.read_to_vec(READER, newest[usize::from(task)])? == reading(task, cycle));
     }
-    let refreshed = keep(pool, newest[usize::from(WAITER)])?;
+    if read == newest.len() {
+        *whole = *newest;
+    }
+    let refreshed = keep(pool, whole)?;
     for task in (0..TASKS).filter(at_work) {
         pool.tick(task)?;
     }
     Ok((read, refreshed))
 }
 
-/// Task 0 looks at a reading once a cycle, and refreshes it where it would be gone an advance later.
-fn keep(pool: &mut Pool, handle: Handle) -> Result<bool, Refusal> {
-    let would_go = pool.remaining(READER, handle)?.global <= 1;
+/// Task 0 looks at the scan once a cycle, and refreshes it where it would be gone an advance later. Its readings live
+/// and lapse together, so that one of them tells for all.
+fn keep(pool: &mut Pool, scan: &Scan) -> Result<bool, Refusal> {
+    let would_go = pool.remaining(READER, scan[0])?.global <= 1;
     if would_go {
-        pool.refresh(READER, Kind::Global, 1, handle)?;
+        pool.refresh_all(READER, Kind::Global, 1, scan)?;
     }
     Ok(would_go)
 }
@@ -98,7 +108,7 @@ fn reading(task: u8, cycle: u8) -> [u8; 4] {
 
 fn print_cycle(pool: &Pool, cycle: u8, read: usize, refreshed: bool) -> Result<(), Refusal> {
     let (time, blocks) = (pool.record().global, pool.report()?.small);
-    let kept = if refreshed { ", the last reading refreshed" } else { "" };
+    let kept = if refreshed { ", the last whole scan refreshed" } else { "" };
     println!("cycle {cycle:2}: {read} readings, global time {time:2}, {blocks} blocks in use{kept}");
     Ok(())
 }

@@ -33,6 +33,7 @@ extern "C" {
 #define RAMSUMMER_BLOCKS 96        /* 64 small ones, then 32 large ones */
 #define RAMSUMMER_EXPIRATIONS 256  /* as many stand at most, in all */
 #define RAMSUMMER_MAX_EXTENSION 30 /* the longest extension of an expiration */
+#define RAMSUMMER_LARGEST_BATCH 32 /* the most objects that one call refreshes */
 
 /* By which time an expiration is due. */
 enum ramsummer_kind {
@@ -52,7 +53,7 @@ enum ramsummer_answer {
     RAMSUMMER_LENGTH_OUT_OF_RANGE = 7,  /* length 0 or above 256 */
     RAMSUMMER_HANDLES_SPENT = 8,        /* all 4,294,967,295 handles are given */
     RAMSUMMER_NO_FREE_BLOCK = 9,        /* no free block in the store for this length */
-    RAMSUMMER_NO_FREE_EXPIRATION = 10,  /* 256 expirations stand */
+    RAMSUMMER_NO_FREE_EXPIRATION = 10,  /* 256 expirations stand, or a batch would make them more */
     RAMSUMMER_HANDLE_NOT_GIVEN = 11,    /* handle 0, or above the count given */
     RAMSUMMER_OBJECT_GONE = 12,         /* the object's last expiration has passed */
     RAMSUMMER_OUTSIDE_OBJECT = 13,      /* write: offset plus count above the object's length */
@@ -62,6 +63,7 @@ enum ramsummer_answer {
     RAMSUMMER_UNKNOWN_OPERATION = 17,   /* frame: no or an unknown operation */
     RAMSUMMER_WRONG_FRAME_LENGTH = 18,  /* frame: wrong length for its operation */
     RAMSUMMER_UNKNOWN_KIND = 19,        /* kind above 1; tested before all else */
+    RAMSUMMER_BATCH_OUT_OF_RANGE = 20,  /* a batch of no object, or of more than 32 */
     RAMSUMMER_BUFFER_TOO_SHORT = 255    /* read, frame: no room for the answer */
 };
 
@@ -136,6 +138,11 @@ uint8_t ramsummer_make(ramsummer_pool *pool, uint8_t *small_store, size_t small_
 
 /* One more expiration for the object; those that it has stay. */
 uint8_t ramsummer_refresh(ramsummer_pool *pool, uint8_t task, uint8_t kind, uint8_t extension, uint32_t handle);
+
+/* A batch: one more expiration for each of count objects, 1 to RAMSUMMER_LARGEST_BATCH, or for none of them where one
+ * is refused. An object that is named twice gets two. */
+uint8_t ramsummer_refresh_all(ramsummer_pool *pool, uint8_t task, uint8_t kind, uint8_t extension,
+                              const uint32_t *handles, size_t count);
 
 /* The object's bytes go to the start of out, and count says how many; the rest of out stays. */
 uint8_t ramsummer_read(ramsummer_pool *pool, const uint8_t *small_store, size_t small_length,

@@ -16,7 +16,7 @@ static inline const char *ramsummer_text(uint8_t answer) {
     case RAMSUMMER_LENGTH_OUT_OF_RANGE: return "the length is 0 or above 256";
     case RAMSUMMER_HANDLES_SPENT: return "all handles are given";
     case RAMSUMMER_NO_FREE_BLOCK: return "no block is free in the store for this length";
-    case RAMSUMMER_NO_FREE_EXPIRATION: return "256 expirations stand, and no more may";
+    case RAMSUMMER_NO_FREE_EXPIRATION: return "256 expirations may stand, and no more";
     case RAMSUMMER_HANDLE_NOT_GIVEN: return "the handle was never given";
     case RAMSUMMER_OBJECT_GONE: return "the object is gone: its last expiration has passed";
     case RAMSUMMER_OUTSIDE_OBJECT: return "the bytes reach beyond the object's end";
@@ -26,6 +26,7 @@ static inline const char *ramsummer_text(uint8_t answer) {
     case RAMSUMMER_UNKNOWN_OPERATION: return "the frame names no known operation";
     case RAMSUMMER_WRONG_FRAME_LENGTH: return "the frame has the wrong length for its operation";
     case RAMSUMMER_UNKNOWN_KIND: return "the kind is neither local nor global";
+    case RAMSUMMER_BATCH_OUT_OF_RANGE: return "the batch has no object, or more than 32";
     case RAMSUMMER_BUFFER_TOO_SHORT: return "the buffer is too short for the answer";
     default: return "no answer of the pool";
     }

@@ -4,6 +4,7 @@ use std::fmt;
 
 /// What names an object (document 01: its number): 1 for the first one made, then one higher each time. It is never
 /// given again, so the handle of an object that is gone names no other one.
+#[repr(transparent)] // src/sys.rs passes handles to the library as its numbers.
 #[derive(Clone, Copy, Debug, PartialEq, Eq, PartialOrd, Ord, Hash)]
 pub struct Handle(u32);
 

@@ -43,6 +43,6 @@ mod sys;
 pub use answer::{Answer, Remaining, Report};
 pub use handle::Handle;
 pub use kind::Kind;
-pub use pool::{Pool, LARGE, LINE, LONGEST, SMALL};
+pub use pool::{Pool, LARGE, LARGEST_BATCH, LINE, LONGEST, SMALL};
 pub use record::{Record, TaskEntry, BLOCKS, EXPIRATIONS, RECORD, TASKS};
 pub use refusal::Refusal;

@@ -13,6 +13,9 @@ pub const LARGE: usize = 8192;
 /// The length of the longest object: room for any read.
 pub const LONGEST: usize = 256;
 
+/// The most objects that [`Pool::refresh_all`] takes.
+pub const LARGEST_BATCH: usize = 32;
+
 /// The room that [`Pool::frame`] asks for. An answer line has at most 515 bytes.
 pub const LINE: usize = 531;
 
@@ -177,6 +180,33 @@ where
     /// ```
     pub fn refresh(&mut self, task: u8, kind: Kind, extension: u8, handle: Handle) -> Result<(), Refusal> {
         sys::refresh(self.record.borrow_mut(), task, kind, extension, handle)
+    }
+
+    /// A batch: one more expiration for each of these objects, 1 to [`LARGEST_BATCH`], so that they live on together;
+    /// or for none of them, where one is refused. An object that is named twice gets two.
+    ///
+    /// ```
+    /// use ramsummer::{Handle, Kind, Pool, Refusal};
+    ///
+    /// let mut pool = Pool::new();
+    /// pool.join(0)?;
+    /// let mut scan = [Handle::from(0); 3];
+    /// for reading in &mut scan {
+    ///     *reading = pool.make(0, Kind::Local, 0, 4)?;
+    /// }
+    /// pool.refresh_all(0, Kind::Local, 1, &scan)?;
+    /// pool.tick(0)?;
+    /// assert_eq!(pool.report()?.small, 3); // they would be gone by now
+    /// pool.tick(0)?;
+    /// assert_eq!(pool.report()?.small, 0);
+    ///
+    /// let late = pool.make(0, Kind::Local, 0, 4)?;
+    /// assert_eq!(pool.refresh_all(0, Kind::Local, 1, &[late, scan[0]]), Err(Refusal::ObjectGone));
+    /// assert_eq!(pool.report()?.expirations, 1); // the late one has not got another either
+    /// # Ok::<(), Refusal>(())
+    /// ```
+    pub fn refresh_all(&mut self, task: u8, kind: Kind, extension: u8, handles: &[Handle]) -> Result<(), Refusal> {
+        sys::refresh_all(self.record.borrow_mut(), task, kind, extension, handles)
     }
 
     /// The object's bytes, copied to the start of `out`; the rest of `out` stays.

@@ -1,4 +1,4 @@
-//! Why a call was refused: the numbers of document 01, and that of a buffer too short.
+//! Why a call was refused: the numbers of documents 01 and 02, and that of a buffer too short.
 
 use std::error::Error;
 use std::fmt;
@@ -34,7 +34,7 @@ pub enum Refusal {
     HandlesSpent = 8,
     /// No free block in the store for this length.
     NoFreeBlock = 9,
-    /// 256 expirations stand.
+    /// 256 expirations stand, or a batch would make them more.
     NoFreeExpiration = 10,
     /// Handle 0, or above the count given.
     HandleNotGiven = 11,
@@ -54,13 +54,15 @@ pub enum Refusal {
     WrongFrameLength = 18,
     /// Frame: kind above 1.
     UnknownKind = 19,
-    /// Read, frame: no room for the answer in the caller's buffer. It is no refusal of document 01.
+    /// A batch of no object, or of more than [`LARGEST_BATCH`](crate::LARGEST_BATCH).
+    BatchOutOfRange = 20,
+    /// Read, frame: no room for the answer in the caller's buffer. It is no refusal of the documents.
     BufferTooShort = 255,
 }
 
 impl Refusal {
     /// All refusals, in order of number.
-    pub const ALL: [Refusal; 20] = [
+    pub const ALL: [Refusal; 21] = [
         Refusal::NoSuchTask,
         Refusal::TaskPresent,
         Refusal::TaskAbsent,
@@ -80,6 +82,7 @@ impl Refusal {
         Refusal::UnknownOperation,
         Refusal::WrongFrameLength,
         Refusal::UnknownKind,
+        Refusal::BatchOutOfRange,
         Refusal::BufferTooShort,
     ];
 
@@ -104,7 +107,7 @@ impl Refusal {
             Refusal::LengthOutOfRange => "the length is 0 or above 256",
             Refusal::HandlesSpent => "all handles are given",
             Refusal::NoFreeBlock => "no block is free in the store for this length",
-            Refusal::NoFreeExpiration => "256 expirations stand, and no more may",
+            Refusal::NoFreeExpiration => "256 expirations may stand, and no more",
             Refusal::HandleNotGiven => "the handle was never given",
             Refusal::ObjectGone => "the object is gone: its last expiration has passed",
             Refusal::OutsideObject => "the bytes reach beyond the object's end",
@@ -114,6 +117,7 @@ impl Refusal {
             Refusal::UnknownOperation => "the frame names no known operation",
             Refusal::WrongFrameLength => "the frame has the wrong length for its operation",
             Refusal::UnknownKind => "the kind is neither local nor global",
+            Refusal::BatchOutOfRange => "the batch has no object, or more than 32",
             Refusal::BufferTooShort => "the buffer is too short for the answer",
         }
     }

@@ -29,6 +29,14 @@ extern "C" {
         handle: &mut u32,
     ) -> u8;
     fn ramsummer_refresh(pool: &mut Record, task: u8, kind: u8, extension: u8, handle: u32) -> u8;
+    fn ramsummer_refresh_all(
+        pool: &mut Record,
+        task: u8,
+        kind: u8,
+        extension: u8,
+        handles: *const u32,
+        count: usize,
+    ) -> u8;
     fn ramsummer_read(
         pool: &mut Record,
         small: *const u8,
@@ -152,6 +160,20 @@ pub(crate) fn make(
 pub(crate) fn refresh(pool: &mut Record, task: u8, kind: Kind, extension: u8, handle: Handle) -> Result<(), Refusal> {
     // SAFETY: one pointer, from a reference.
     outcome(unsafe { ramsummer_refresh(pool, task, kind.number(), extension, handle.into()) })
+}
+
+pub(crate) fn refresh_all(
+    pool: &mut Record,
+    task: u8,
+    kind: Kind,
+    extension: u8,
+    handles: &[Handle],
+) -> Result<(), Refusal> {
+    // SAFETY: the record is a `&mut`, so nothing overlaps it; `handles` is only read, and comes with its own length. A
+    // handle is `repr(transparent)`, so that a slice of them is one of numbers.
+    outcome(unsafe {
+        ramsummer_refresh_all(pool, task, kind.number(), extension, handles.as_ptr().cast(), handles.len())
+    })
 }
 
 /// How many bytes of `out` the object has filled.

@@ -2,7 +2,7 @@
 //! the figures. So no argument goes astray on the way to the library. The place of a block or expiration is left open by
 //! document 01 and not compared.
 
-use ramsummer::{Handle, Kind, Pool, Refusal, Report, TaskEntry, LINE, TASKS};
+use ramsummer::{Handle, Kind, Pool, Refusal, Report, TaskEntry, LARGEST_BATCH, LINE, TASKS};
 use std::collections::BTreeSet;
 
 /// Numbers that look random and are the same in each run.
@@ -43,7 +43,7 @@ fn call(pool: &mut Pool, random: &mut Random) -> (String, String) {
     let handle = u32::from(random.byte(2)).wrapping_add(pool.record().given).wrapping_sub(random.below(12) as u32);
     let named = Handle::from(handle);
     let dated = format!("{task:02X}{:02X}{extension:02X}", kind.number());
-    match random.below(26) {
+    match random.below(29) {
         0 => (format!("01{task:02X}"), line(pool.join(task), nothing)),
         1 => (format!("02{task:02X}"), line(pool.leave(task), flag)),
         2 => (format!("03{task:02X}"), line(pool.block(task), flag)),
@@ -70,12 +70,27 @@ fn call(pool: &mut Pool, random: &mut Random) -> (String, String) {
             let figures = line(remaining, |left| format!("{:02X}{:02X}", left.local, left.global));
             (format!("0B{task:02X}{handle:08X}"), figures)
         }
+        25..=27 => {
+            let handles = batch(random, handle);
+            let named: Vec<_> = handles.iter().copied().map(Handle::from).collect();
+            let objects: String = handles.iter().map(|handle| format!("{handle:08X}")).collect();
+            (format!("0C{dated}{objects}"), line(pool.refresh_all(task, kind, extension, &named), nothing))
+        }
         _ => {
             let figures = line(pool.report(), |report| {
                 format!("{:02X}{:02X}{:04X}{:08X}", report.small, report.large, report.expirations, report.given)
             });
             ("0A".to_string(), figures)
         }
+    }
+}
+
+/// From this handle on down, a few as a rule; now and then none, or up to one too many of the same.
+fn batch(random: &mut Random, handle: u32) -> Vec<u32> {
+    match random.below(12) {
+        0 => Vec::new(),
+        1 => vec![handle; LARGEST_BATCH - 1 + random.below(3) as usize],
+        _ => (0..1 + random.below(4) as u32).map(|less| handle.wrapping_sub(less)).collect(),
     }
 }
 
@@ -96,9 +111,9 @@ fn typed_calls_and_frames_do_the_same() {
         seen.insert((frame[..2].to_string(), expected[..2].to_string()));
     }
     let done = seen.iter().filter(|(_, answer)| answer == "00").count();
-    assert_eq!(done, 11, "each operation was carried out");
+    assert_eq!(done, 12, "each operation was carried out");
     let refusals: BTreeSet<_> =
         seen.iter().map(|(_, answer)| answer.as_str()).filter(|answer| *answer != "00").collect();
-    let expected = ["01", "02", "03", "04", "05", "06", "07", "09", "0B", "0C", "0D"];
+    let expected = ["01", "02", "03", "04", "05", "06", "07", "09", "0B", "0C", "0D", "14"];
     assert!(refusals.is_superset(&expected.into()), "{refusals:?}");
 }

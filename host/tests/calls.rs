@@ -1,7 +1,8 @@
 //! Each call through the safe interface: what it answers, each of its refusals, and that a refusal changes nothing.
 
 use ramsummer::{
-    Handle, Kind, Pool, Record, Refusal, Remaining, Report, BLOCKS, EXPIRATIONS, LARGE, LONGEST, RECORD, SMALL,
+    Handle, Kind, Pool, Record, Refusal, Remaining, Report, BLOCKS, EXPIRATIONS, LARGE, LARGEST_BATCH, LONGEST, RECORD,
+    SMALL,
 };
 
 /// A pool in which task 0 runs, 1 waits and 2 is absent.
@@ -56,6 +57,65 @@ fn a_task_is_told_how_long_an_object_stands() {
     pool.tick(1).unwrap();
     assert_eq!(pool.tick(2), Ok(true));
     assert_eq!(told(&pool), [left(4, 31), left(30, 31), left(0, 31)]);
+}
+
+/// Each gets one, and one that is named twice gets two; they go together.
+#[test]
+fn objects_are_refreshed_together() {
+    let mut pool = pool();
+    let scan = [4, 40, 4].map(|length| pool.make(0, Kind::Local, 0, length).unwrap());
+    pool.refresh_all(0, Kind::Local, 2, &scan).unwrap();
+    pool.refresh_all(0, Kind::Global, 3, &[scan[1], scan[1]]).unwrap();
+    assert_eq!(pool.report(), Ok(Report { small: 2, large: 1, expirations: 8, given: 3 }));
+    let told = |pool: &Pool| scan.map(|handle| pool.remaining(0, handle).unwrap());
+    let left = |local, global| Remaining { local, global };
+    assert_eq!(told(&pool), [left(3, 0), left(3, 5), left(3, 0)]);
+    pool.tick(0).unwrap();
+    pool.tick(0).unwrap();
+    assert_eq!(told(&pool), [left(1, 0), left(1, 3), left(1, 0)]);
+    pool.tick(0).unwrap();
+    assert_eq!(pool.report(), Ok(Report { small: 0, large: 1, expirations: 2, given: 3 }));
+}
+
+/// One that is refused stands for all, wherever it is; and of several refusals 11 comes first, then 12, then 10.
+#[test]
+fn all_objects_are_refreshed_or_none() {
+    let mut pool = pool();
+    let gone = pool.make(0, Kind::Local, 0, 4).unwrap();
+    pool.tick(0).unwrap();
+    let stands = pool.make(0, Kind::Local, 30, 4).unwrap();
+    let never = Handle::from(3);
+    for _ in 0..7 {
+        for batch in [&[gone][..], &[stands, gone], &[gone, stands, stands]] {
+            refused(&mut pool, Refusal::ObjectGone, |pool| pool.refresh_all(0, Kind::Local, 1, batch));
+        }
+        for batch in [&[never][..], &[stands, never], &[gone, never], &[never, gone], &[stands, Handle::from(0)]] {
+            refused(&mut pool, Refusal::HandleNotGiven, |pool| pool.refresh_all(0, Kind::Local, 1, batch));
+        }
+        pool.refresh_all(0, Kind::Local, 30, &[stands; LARGEST_BATCH]).unwrap();
+    }
+    // 225 stand: there is room for 31.
+    let full = [stands; LARGEST_BATCH];
+    refused(&mut pool, Refusal::NoFreeExpiration, |pool| pool.refresh_all(0, Kind::Local, 1, &full));
+    pool.refresh_all(0, Kind::Local, 1, &full[1..]).unwrap();
+    refused(&mut pool, Refusal::NoFreeExpiration, |pool| pool.refresh_all(0, Kind::Local, 1, &[stands]));
+    refused(&mut pool, Refusal::ObjectGone, |pool| pool.refresh_all(0, Kind::Local, 1, &[stands, gone]));
+    refused(&mut pool, Refusal::HandleNotGiven, |pool| pool.refresh_all(0, Kind::Local, 1, &[stands, gone, never]));
+}
+
+/// After the task, before the extension and the objects; it is the library that counts them.
+#[test]
+fn the_size_of_a_batch_is_tested() {
+    let mut pool = pool();
+    let handle = pool.make(0, Kind::Local, 0, 4).unwrap();
+    for count in [0, LARGEST_BATCH + 1, 256, 100_000] {
+        for batch in [vec![handle; count], vec![Handle::from(9); count]] {
+            refused(&mut pool, Refusal::BatchOutOfRange, |pool| pool.refresh_all(0, Kind::Global, 0, &batch));
+            refused(&mut pool, Refusal::BatchOutOfRange, |pool| pool.refresh_all(0, Kind::Local, 31, &batch));
+            refused(&mut pool, Refusal::TaskWaiting, |pool| pool.refresh_all(1, Kind::Local, 31, &batch));
+        }
+    }
+    refused(&mut pool, Refusal::ExtensionTooLong, |pool| pool.refresh_all(0, Kind::Local, 31, &[Handle::from(9)]));
 }
 
 #[test]
@@ -119,6 +179,7 @@ fn tasks_are_tested() {
         refused(&mut pool, refusal, |pool| pool.tick(task));
         refused(&mut pool, refusal, |pool| pool.make(task, Kind::Local, 0, 1));
         refused(&mut pool, refusal, |pool| pool.refresh(task, Kind::Local, 0, handle));
+        refused(&mut pool, refusal, |pool| pool.refresh_all(task, Kind::Local, 0, &[handle]));
         refused(&mut pool, refusal, |pool| pool.read_to_vec(task, handle));
         refused(&mut pool, refusal, |pool| pool.write(task, handle, 0, &[1]));
         refused(&mut pool, refusal, |pool| pool.remaining(task, handle));
@@ -132,6 +193,7 @@ fn arguments_are_tested() {
     for kind in [Kind::Local, Kind::Global] {
         refused(&mut pool, Refusal::ExtensionTooLong, |pool| pool.make(0, kind, 31, 1));
         refused(&mut pool, Refusal::ExtensionTooLong, |pool| pool.refresh(0, kind, 31, handle));
+        refused(&mut pool, Refusal::ExtensionTooLong, |pool| pool.refresh_all(0, kind, 31, &[handle]));
     }
     for length in [0, 257, u16::MAX] {
         refused(&mut pool, Refusal::LengthOutOfRange, |pool| pool.make(0, Kind::Local, 0, length));
@@ -141,6 +203,7 @@ fn arguments_are_tested() {
         refused(&mut pool, Refusal::HandleNotGiven, |pool| pool.read_to_vec(0, handle));
         refused(&mut pool, Refusal::HandleNotGiven, |pool| pool.write(0, handle, 0, &[]));
         refused(&mut pool, Refusal::HandleNotGiven, |pool| pool.refresh(0, Kind::Local, 0, handle));
+        refused(&mut pool, Refusal::HandleNotGiven, |pool| pool.refresh_all(0, Kind::Local, 0, &[handle]));
         refused(&mut pool, Refusal::HandleNotGiven, |pool| pool.remaining(0, handle));
     }
     pool.write(0, handle, 4, &[]).unwrap();
@@ -188,6 +251,7 @@ fn stores_of_another_length_are_refused() {
         refused(&mut pool, Refusal::WrongStoreLength, |pool| pool.write(16, handle, 0, &[]));
         refused(&mut pool, Refusal::NoSuchTask, |pool| pool.tick(16));
         refused(&mut pool, Refusal::NoSuchTask, |pool| pool.remaining(16, handle));
+        refused(&mut pool, Refusal::NoSuchTask, |pool| pool.refresh_all(16, Kind::Local, 0, &[handle]));
     }
 }
 
@@ -207,6 +271,7 @@ fn a_damaged_record_is_refused_until_it_is_fresh() {
     refused(&mut pool, Refusal::NotWellFormed, |pool| pool.write(16, handle, 0, &[]));
     refused(&mut pool, Refusal::NotWellFormed, |pool| pool.report());
     refused(&mut pool, Refusal::NotWellFormed, |pool| pool.remaining(16, handle));
+    refused(&mut pool, Refusal::NotWellFormed, |pool| pool.refresh_all(16, Kind::Local, 0, &[]));
     assert_eq!(pool.to_string(), "the record is not well-formed");
     pool.fresh();
     assert_eq!(*pool.record(), Record::fresh());

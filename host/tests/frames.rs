@@ -45,6 +45,33 @@ fn what_remains_to_an_object() {
     }
 }
 
+/// A batch of one, of two and of one twice; and the refusals in which one object stands for all.
+#[test]
+fn objects_that_are_refreshed_together() {
+    let mut pool = Pool::new();
+    for (frame, expected) in [
+        ("0100", "00"),
+        ("060000000004", "0000000001"),
+        ("060000000004", "0000000002"),
+        ("0C00000200000001", "00"),
+        ("0C0001000000000100000002", "00"),
+        ("0C0000050000000200000002", "00"),
+        ("0A", "000200000700000002"),
+        ("0B0000000001", "000302"),
+        ("0B0000000002", "000602"),
+        ("0C0000000000000200000003", "0B"),
+        ("0C000000", "14"),
+        ("0A", "000200000700000002"),
+    ] {
+        assert_eq!(answer(&mut pool, frame), expected, "{frame}");
+    }
+    assert_eq!(answer(&mut pool, &format!("0C0000FF{}", "00000001".repeat(33))), "14");
+    assert_eq!(answer(&mut pool, &format!("0C0000FF{}", "00000001".repeat(32))), "06");
+    assert_eq!(answer(&mut pool, &format!("0C000000{}", "00000001".repeat(32))), "00");
+    assert_eq!(answer(&mut pool, &format!("0C000000{}", "00000001".repeat(100_000))), "14");
+    assert_eq!(answer(&mut pool, &format!("0C000000{}00", "00000001".repeat(100_000))), "12");
+}
+
 #[test]
 fn refused_frames_change_nothing() {
     let mut pool = Pool::new();
@@ -56,11 +83,14 @@ fn refused_frames_change_nothing() {
         ("0100\n", "10"),
         ("", "11"),
         ("00", "11"),
-        ("0C", "11"),
+        ("0D", "11"),
         ("01", "12"),
         ("0B", "12"),
         ("0B00000001", "12"),
+        ("0C0000", "12"),
+        ("0C000000000000", "12"),
         ("060002000004", "13"),
+        ("0C000200", "13"),
         ("0110", "01"),
         ("0500", "03"),
     ] {

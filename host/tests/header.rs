@@ -37,6 +37,7 @@ fn claims() -> Vec<(String, usize)> {
         ("RAMSUMMER_TASKS", ramsummer::TASKS),
         ("RAMSUMMER_BLOCKS", ramsummer::BLOCKS),
         ("RAMSUMMER_EXPIRATIONS", ramsummer::EXPIRATIONS),
+        ("RAMSUMMER_LARGEST_BATCH", ramsummer::LARGEST_BATCH),
         ("RAMSUMMER_DONE", 0),
         ("RAMSUMMER_LOCAL", Kind::Local.number().into()),
         ("RAMSUMMER_GLOBAL", Kind::Global.number().into()),
@@ -119,6 +120,6 @@ fn the_refusals_are_those_of_the_documents() {
 fn numbers_and_refusals_go_both_ways() {
     for number in 0..=255 {
         let back = Refusal::from_number(number).map(Refusal::number);
-        assert_eq!(back, matches!(number, 1..=19 | 255).then_some(number));
+        assert_eq!(back, matches!(number, 1..=20 | 255).then_some(number));
     }
 }

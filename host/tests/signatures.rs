@@ -51,6 +51,7 @@ fn source_form(parameter: &str) -> Vec<String> {
     let (_, kind) = parameter.split_once(": ").unwrap();
     match kind.replace("&'a ", "&").as_str() {
         "&[u8]" => vec!["*const u8".into(), "usize".into()],
+        "&[u32]" => vec!["*const u32".into(), "usize".into()],
         "&mut [u8]" => vec!["*mut u8".into(), "usize".into()],
         "&mut Pool" => vec!["*mut Record".into()],
         _ => rust_form(parameter),
@@ -70,7 +71,7 @@ fn source() -> Option<String> {
 
 #[test]
 fn the_header_and_the_crate_agree() {
-    assert_eq!(header().len(), 13);
+    assert_eq!(header().len(), 14);
     assert_eq!(signatures(include_str!("../src/sys.rs"), "fn", rust_form), header());
 }
 

@@ -5,13 +5,13 @@ use mathlib.Core.Bool.{true, false≢true, and-eq-true-iff}
 use mathlib.Core.List.{List, []}
 use mathlib.Core.Path.{_≡_, refl, ap, _∙_}
 use lib.ListN.{length, replicate}
-use Rattle.ledger.specs.Objects.{plain, replyTo, memoryAfter, expirationsAfter}
+use Rattle.ledger.specs.Objects.{plain, replyTo, memoryAfter, expirationsAfter, handlesOf}
 use Rattle.ledger.specs.Ledger.{Ledger}
 use Rattle.ledger.specs.Refusals.{asRefusal}
 use Rattle.ledger.specs.declared.Kind.{Kind}
 use Rattle.ledger.specs.declared.Answer.the-variants.{Done, Handle, Bytes}
 use Rattle.ledger.specs.declared.Answer.the-variants.{Refused as RefusedAnswer}
-use Rattle.ledger.specs.declared.Call.the-variants.{Make, Refresh, Read, Write}
+use Rattle.ledger.specs.declared.Call.the-variants.{Make, Refresh, Read, Write, Batch}
 use Rattle.ledger.specs.declared.Refusal.{Refusal}
 use Rattle.ledger.specs.declared.Request.the-variants.{Use}
 use Rattle.ledger.specs.declared.Verdict.the-variants.{Accepted, Refused}
@@ -22,13 +22,14 @@ use Rattle.record.specs.Pools.{isWellFormed, Reads}
 use Rattle.record.specs.declared.Pool.{Pool}
 use Rattle.record.proofs.Facts.{fit-parts}
 use Rattle.record.proofs.Exists.{every-fit-record-reads}
-use Rattle.steps.specs.Objects.{placeOf, freePlace, makeVerdict, refreshVerdict, readVerdict, writeVerdict, madePool, refreshedPool}
+use Rattle.steps.specs.Objects.{placeOf, freePlace, makeVerdict, refreshVerdict, readVerdict, writeVerdict, batchVerdict, madePool, refreshedPool, batchedPool}
 use Rattle.steps.proofs.Chosen.{make-takes}
 use Rattle.steps.proofs.Finding.{blockOf, every-object-stands}
 use Rattle.steps.proofs.StoreBytes.{made-bytes}
 use Rattle.steps.proofs.Staying.{same-stays, make-stays, refresh-stays}
-use Rattle.steps.proofs.Verdicts.{make-verdict, refresh-verdict, read-verdict, write-verdict}
+use Rattle.steps.proofs.Verdicts.{make-verdict, refresh-verdict, read-verdict, write-verdict, batch-verdict}
 use Rattle.steps.proofs.ObjectsFollow.{same-given, make-fits, make-reads, refresh-fits, refresh-reads, read-bytes, write-sizes, write-reads}
+use Rattle.steps.proofs.Batches.{batch-fits, batch-reads, batch-stays}
 use Rattle.calls.specs.Contract.{areWhole, Obeys}
 use Rattle.calls.proofs.Promises.{refused-obeys, carried-obeys}
 
@@ -54,6 +55,24 @@ module _ (p : Pool) (types : Typed (tablesOf p)) (w : isWellFormed p ≡ true) (
         (λ L reads. refresh-verdict types (fit-parts (tablesOf p) w) reads task kind extension handle [] ∙ ap asRefusal v)
         (λ L reads. refl) (λ L reads. rw left (refresh-reads w types reads task kind extension handle v))
         (rw left (refresh-fits w types (some .1) task kind extension handle v)) (rw left (refresh-stays task kind extension handle (tablesOf p))) (refl, refl)
+
+  -- batch, whatever the stores
+  module _ (task : ℕ) (kind : Kind) (extension : ℕ) (new : List ℕ) where
+    pub batch-refused : (r : Refusal) → batchVerdict task extension (handlesOf new) (tablesOf p) ≡ Refused r
+        → Obeys (Use (Batch task kind extension)) new p small large (plain (RefusedAnswer r)) p small large
+    batch-refused r v =
+        refused-obeys _ new p small large w (λ s. absurd (false≢true s)) r
+        (λ L reads. batch-verdict types (fit-parts (tablesOf p) w) reads task kind extension new ∙ ap asRefusal v)
+
+    pub batch-done : {p′ : Pool} → tablesOf p′ ≡ batchedPool task kind extension (handlesOf new) (tablesOf p)
+        → batchVerdict task extension (handlesOf new) (tablesOf p) ≡ Accepted
+        → Obeys (Use (Batch task kind extension)) new p small large (plain Done) p′ small large
+    unfolding replyTo
+    batch-done {p′} left v =
+        carried-obeys _ new p small large w (λ s. absurd (false≢true s)) (plain Done) p′ small large refl
+        (λ L reads. batch-verdict types (fit-parts (tablesOf p) w) reads task kind extension new ∙ ap asRefusal v)
+        (λ L reads. refl) (λ L reads. rw left (batch-reads w types reads task kind extension new v))
+        (rw left (batch-fits w types (some .1) task kind extension new v)) (rw left (batch-stays task kind extension (handlesOf new) (tablesOf p))) (refl, refl)
 
   -- the calls that test 14 first
   module _ (whole : areWhole small large ≡ true) where

@@ -7,12 +7,12 @@ use mathlib.Core.Path.{_≡_, refl, ap, _∙_}
 use borrow.Author.Tests.{lt-ltb}
 use Rattle.ledger.specs.Limits.{limits}
 use Rattle.ledger.proofs.Figures.{allowed}
-use Rattle.ledger.specs.Objects.{Reply, plain, memoryAfter}
+use Rattle.ledger.specs.Objects.{Reply, plain, memoryAfter, expirationsAfter}
 use Rattle.ledger.specs.Refusals.{testsOf}
 use Rattle.ledger.specs.Ledger.{Ledger, reply, next, replyToRequest, afterRequest}
 use Rattle.ledger.specs.declared.Answer.{Answer}
 use Rattle.ledger.specs.declared.Answer.the-variants.{Refused as RefusedAnswer}
-use Rattle.ledger.specs.declared.Call.the-variants.{Schedule, Make, Refresh, Read, Write}
+use Rattle.ledger.specs.declared.Call.the-variants.{Schedule, Make, Refresh, Read, Write, Batch}
 use Rattle.ledger.specs.declared.Event.{Event}
 use Rattle.ledger.specs.declared.Event.the-variants.{Join, Leave, Block, Resume, Tick}
 use Rattle.ledger.specs.declared.Kind.{Kind}
@@ -23,7 +23,7 @@ use Rattle.record.specs.Reading.{isWholeSmall, blockBytes}
 use Rattle.record.specs.declared.Pool.{Pool}
 use Rattle.objects.specs.declared.Found.{Found}
 use Rattle.objects.specs.declared.Found.the-variants.{At, Refused}
-use Rattle.calls.specs.Contract.{Obeys, Follows, Makes, Locates, Writes}
+use Rattle.calls.specs.Contract.{Obeys, FollowsWith, Follows, Makes, Locates, Writes}
 use Rattle.calls.specs.Served.{withoutBytes, Beyond, Serves}
 use Rattle.calls.specs.declared.Outcome.{Outcome}
 use Rattle.calls.proofs.Promises.{isRefusal}
@@ -36,11 +36,11 @@ pub no-bytes : (small large : List ℕ) → blockBytes small large 0 0 ≡ []
 unfolding blockBytes
 no-bytes small large = rw (lt-ltb 0 (limits .smallBlocks) (allowed .some-small)) (either (isWholeSmall small) [])
 
--- a call that does not look at the bytes beside it
-pub whatever-bytes : {request : Request} {p p′ : Pool} {small large small′ large′ : List ℕ} {y : Reply} (new : List ℕ)
-    → ((L : Ledger) → replyToRequest L request [] ≡ replyToRequest L request new)
-    → ((L : Ledger) → afterRequest L request [] ≡ afterRequest L request new)
-    → Obeys request [] p small large y p′ small′ large′ → Obeys request new p small large y p′ small′ large′
+-- a call with other bytes, which come to the same
+pub whatever-bytes : {request : Request} {old : List ℕ} {p p′ : Pool} {small large small′ large′ : List ℕ} {y : Reply} (new : List ℕ)
+    → ((L : Ledger) → replyToRequest L request old ≡ replyToRequest L request new)
+    → ((L : Ledger) → afterRequest L request old ≡ afterRequest L request new)
+    → Obeys request old p small large y p′ small′ large′ → Obeys request new p small large y p′ small′ large′
 whatever-bytes new same then o =
     record {
       unfit = o .unfit;
@@ -55,7 +55,7 @@ whatever-bytes new same then o =
 
 no-bytes-scheduled : (event : Event) (task : ℕ) (new : List ℕ) (L : Ledger)
     → (reply L (Schedule event task) [] ≡ reply L (Schedule event task) new) × (next L (Schedule event task) [] ≡ next L (Schedule event task) new)
-unfolding reply next testsOf memoryAfter
+unfolding reply next testsOf memoryAfter expirationsAfter
 no-bytes-scheduled Join task new L = (refl, refl)
 no-bytes-scheduled Leave task new L = (refl, refl)
 no-bytes-scheduled Block task new L = (refl, refl)
@@ -77,6 +77,7 @@ nothing-beyond (Use (Make task kind extension size)) new p small large why = λ 
 nothing-beyond (Use (Refresh task kind extension handle)) new p small large why = tt
 nothing-beyond (Use (Read task handle)) new p small large why = tt
 nothing-beyond (Use (Write task handle offset)) new p small large why = λ d. absurd (true≢false (ap isRefusal d))
+nothing-beyond (Use (Batch task kind extension)) new p small large why = tt
 nothing-beyond Report new p small large why = tt
 nothing-beyond (Remaining task handle) new p small large why = tt
 
@@ -95,8 +96,12 @@ module _ (new : List ℕ) (p : Pool) (small large : List ℕ) where
   pub refresh-serves : (task : ℕ) (kind : Kind) (extension handle : ℕ) (answer : Answer) (p′ : Pool)
       → Follows (Use (Refresh task kind extension handle)) p answer p′
       → Serves (Use (Refresh task kind extension handle)) new p small large (withoutBytes answer p′) small large
-  unfolding reply next testsOf memoryAfter
+  unfolding reply next testsOf memoryAfter expirationsAfter
   refresh-serves task kind extension handle answer p′ f = serves-plain tt (whatever-bytes new (λ L. refl) (λ L. refl) (f small large))
+
+  pub batch-serves : (task : ℕ) (kind : Kind) (extension : ℕ) (answer : Answer) (p′ : Pool) → FollowsWith (Use (Batch task kind extension)) new p answer p′
+      → Serves (Use (Batch task kind extension)) new p small large (withoutBytes answer p′) small large
+  batch-serves task kind extension answer p′ f = serves-plain tt (f small large)
 
   pub report-serves : (answer : Answer) → Follows Report p answer p → Serves Report new p small large (withoutBytes answer p) small large
   report-serves answer f = serves-plain tt (whatever-bytes new (λ L. refl) (λ L. refl) (f small large))
@@ -108,7 +113,7 @@ module _ (new : List ℕ) (p : Pool) (small large : List ℕ) where
   pub make-serves : (task : ℕ) (kind : Kind) (extension size : ℕ) (o : Outcome) (small′ large′ : List ℕ)
       → Makes task kind extension size p small large o small′ large′
       → Serves (Use (Make task kind extension size)) new p small large (withoutBytes (o .answer) (o .pool)) small′ large′
-  unfolding reply next testsOf memoryAfter
+  unfolding reply next testsOf memoryAfter expirationsAfter
   make-serves task kind extension size o small′ large′ m = serves-plain (m .placed) (whatever-bytes new (λ L. refl) (λ L. refl) (m .obeys))
 
   pub write-serves : (task handle offset : ℕ) (answer : Answer) (small′ large′ : List ℕ)

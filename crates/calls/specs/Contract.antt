@@ -10,7 +10,7 @@ use Rattle.ledger.specs.Ledger.{Ledger, replyToRequest, afterRequest}
 use Rattle.ledger.specs.declared.Kind.{Kind}
 use Rattle.ledger.specs.declared.Answer.{Answer}
 use Rattle.ledger.specs.declared.Answer.the-variants.{Refused, Done, Handle, Bytes}
-use Rattle.ledger.specs.declared.Call.the-variants.{Schedule, Make, Refresh, Read, Write}
+use Rattle.ledger.specs.declared.Call.the-variants.{Schedule, Make, Refresh, Read, Write, Batch}
 use Rattle.ledger.specs.declared.Life.{Life}
 use Rattle.ledger.specs.declared.Refusal.{Refusal}
 use Rattle.ledger.specs.declared.Refusal.the-variants.{WrongStoreLength, NotWellFormed}
@@ -35,6 +35,7 @@ isStored (Use (Make task kind extension size)) = true
 isStored (Use (Refresh task kind extension handle)) = false
 isStored (Use (Read task handle)) = true
 isStored (Use (Write task handle offset)) = true
+isStored (Use (Batch task kind extension)) = false
 isStored Report = false
 isStored (Remaining task handle) = false
 
@@ -58,7 +59,7 @@ pub record Refuses (why : Refusal) (p : Pool) (small large : List ℕ) (y : Repl
   pub sameSmall : small′ ≡ small
   pub sameLarge : large′ ≡ large
 
--- A call with the bytes that a write brings, on a record with two stores: its reply, and the record and stores that it leaves.
+-- A call with the bytes that a write or a batch brings, on a record with two stores: its reply, and the record and stores that it leaves.
 pub record Obeys (request : Request) (new : List ℕ) (p : Pool) (small large : List ℕ) (y : Reply) (p′ : Pool) (small′ large′ : List ℕ) : Type 0 where
   -- R34, R35: first 15, then 14
   pub unfit : isWellFormed p ≡ false → Refuses NotWellFormed p small large y p′ small′ large′
@@ -85,9 +86,13 @@ OneReply =
     → (y y₂ : Reply) (p′ p″ : Pool) (small′ small″ large′ large″ : List ℕ)
     → Obeys request new p small large y p′ small′ large′ → Obeys request new p small large y₂ p″ small″ large″ → y ≡ y₂
 
--- a call that touches no store, whatever stores stand beside the record
+-- a call that touches no store, with the bytes that it brings, whatever stores stand beside the record
+abbrev pub FollowsWith : Request → List ℕ → Pool → Answer → Pool → Type 0
+FollowsWith request new p answer p′ = (small large : List ℕ) → Obeys request new p small large (plain answer) p′ small large
+
+-- and one that brings none
 abbrev pub Follows : Request → Pool → Answer → Pool → Type 0
-Follows request p answer p′ = (small large : List ℕ) → Obeys request [] p small large (plain answer) p′ small large
+Follows request p answer p′ = FollowsWith request [] p answer p′
 
 -- O10, O11, make: the new object's block is the one part that is left open. It belonged to no standing object, and it is the one that is cleared.
 pub record Placed (p : Pool) (small large : List ℕ) (handle : ℕ) (p′ : Pool) (small′ large′ : List ℕ) (block : ℕ) : Type 0 where

@@ -3,15 +3,16 @@
 ghost use mathlib.Core.Bool.{true};
 ghost use mathlib.Core.Path.{_≡_};
 ghost use lib.ListN.{length};
-ghost use Rattle.ledger.specs.declared.Call.the-variants.{Schedule, Make, Refresh, Write};
+ghost use Rattle.ledger.specs.declared.Call.the-variants.{Schedule, Make, Refresh, Write, Batch};
 ghost use Rattle.ledger.specs.declared.Request.the-variants.{Use, Remaining};
 ghost use Rattle.record.specs.Pools.{isWellFormed};
 ghost use Rattle.record.specs.Tables.{pooled, SizedEntries, Sized, blockEntries};
-ghost use Rattle.calls.specs.Contract.{Ready, Follows, Makes, Writes};
+ghost use Rattle.calls.specs.Contract.{Ready, FollowsWith, Follows, Makes, Writes};
 ghost use Rattle.calls.specs.Engine.{refusedBy, withGiven, outcomeOf, FollowsBeside};
 use expirations::Passing;
 use expirations::end;
 use expirations::set;
+use expirations::set_all;
 use expirations::standing;
 use ledger::Answer;
 use ledger::Event;
@@ -21,6 +22,7 @@ use objects::Found;
 use objects::find_for_read;
 use objects::find_for_refresh;
 use objects::find_for_write;
+use objects::plan_batch;
 use objects::plan_make;
 use record::BLOCK_COUNT;
 use record::EXPIRATION_COUNT;
@@ -195,6 +197,45 @@ pub fn refresh<'a>(
                 head: h,
             }
         }
+    }
+}
+
+// Sets one more expiration on each object that the bytes name, or on none.
+pub fn batch<'a>(
+    h: Head,
+    handles: &'a [u32; BLOCK_COUNT],
+    lengths: &'a [u16; BLOCK_COUNT],
+    clocks: &mut [u8; EXPIRATION_COUNT],
+    named: &mut [u8; EXPIRATION_COUNT],
+    dues: &mut [u32; EXPIRATION_COUNT],
+    task: u8,
+    kind: Kind,
+    extension: u8,
+    bytes: &[u8],
+) -> Step
+    requires { ⌜ Sized (now handles) (now lengths) (now clocks) (now named) (now dues) × (isWellFormed (pooled h (now handles) (now lengths) (now clocks) (now named) (now dues)) ≡ true) ⌝ }
+    ensures { λ r. ⌜ SizedEntries (now (clocks .exit)) (now (named .exit)) (now (dues .exit)) × FollowsWith (Use (Batch task kind extension)) (now (bytes .entry)) (pooled h (now (handles .entry)) (now (lengths .entry)) (now (clocks .entry)) (now (named .entry)) (now (dues .entry))) (r .answer) (pooled (r .head) (now (handles .entry)) (now (lengths .entry)) (now (clocks .exit)) (now (named .exit)) (now (dues .exit))) ⌝ }
+{
+    let plan = plan_batch(h, handles, standing(clocks), task, extension, bytes);
+    let verdict = plan.verdict;
+    let blocks = plan.blocks;
+    let Verdict::Accepted = verdict else {
+        return refused_by(verdict, h);
+    };
+    set_all(
+        h,
+        kind,
+        task,
+        extension,
+        &blocks,
+        plan.count,
+        clocks,
+        named,
+        dues,
+    );
+    Step {
+        answer: Answer::Done,
+        head: h,
     }
 }
 

@@ -3,13 +3,13 @@ use Prim.Native.Nat.{ℕ}
 use mathlib.Core.Bool.{false}
 use mathlib.Core.List.{List}
 use mathlib.Core.Path.{_≡_, refl}
-use Rattle.ledger.specs.Objects.{memoryAfter}
+use Rattle.ledger.specs.Objects.{memoryAfter, expirationsAfter}
 use Rattle.ledger.specs.Refusals.{testsOf}
 use Rattle.ledger.specs.Ledger.{reply, next}
 use Rattle.ledger.specs.declared.Answer.{Answer}
 use Rattle.ledger.specs.declared.Answer.the-variants.{Counted}
 use Rattle.ledger.specs.declared.Call.{Call}
-use Rattle.ledger.specs.declared.Call.the-variants.{Schedule, Make, Refresh, Read, Write}
+use Rattle.ledger.specs.declared.Call.the-variants.{Schedule, Make, Refresh, Read, Write, Batch}
 use Rattle.ledger.specs.declared.Event.{Event}
 use Rattle.ledger.specs.declared.Kind.{Kind}
 use Rattle.ledger.specs.declared.Request.{Request}
@@ -25,7 +25,7 @@ use Rattle.objects.specs.Usage.{usageIn}
 use Rattle.objects.specs.declared.Found.{Found}
 use Rattle.objects.specs.declared.Found.the-variants.{At, Refused}
 use Rattle.objects.proofs.Laws.{usage-of}
-use Rattle.calls.specs.Contract.{Ready, Follows, Makes, Locates, Writes}
+use Rattle.calls.specs.Contract.{Ready, FollowsWith, Follows, Makes, Locates, Writes}
 use Rattle.calls.specs.Served.{Serves}
 use Rattle.calls.specs.Engine.{outcomeOf, FollowsBeside}
 use Rattle.dispatch.specs.Done.{withoutBytes, whereFound, givenBack}
@@ -33,7 +33,7 @@ use Rattle.calls.specs.declared.Step.{Step}
 use Rattle.dispatch.specs.declared.Done.{Done}
 use Rattle.expirations.proofs.Counting.{standing-of}
 use Rattle.calls.proofs.Reported.{report-obeys}
-use Rattle.calls.proofs.Served.{whatever-bytes, serves-plain, schedule-serves, refresh-serves, make-serves, write-serves, report-serves, life-serves}
+use Rattle.calls.proofs.Served.{whatever-bytes, serves-plain, schedule-serves, refresh-serves, batch-serves, make-serves, write-serves, report-serves, life-serves}
 use Rattle.calls.proofs.WriteLent.{read-locates}
 
 -- a read gives back where its object is
@@ -43,7 +43,7 @@ module _ (new : List ℕ) (h : Head) (hs ls cs ns ds small large : List ℕ) whe
 
   pub read-serves : (task handle : ℕ) (f : Found) → Locates task handle lentPool small large f
       → Serves (Use (Read task handle)) new lentPool small large (givenBack (whereFound f h) hs ls cs ns ds) small large
-  unfolding reply next testsOf memoryAfter
+  unfolding reply next testsOf memoryAfter expirationsAfter
   read-serves task handle (Refused why) l = serves-plain tt (whatever-bytes new (λ L. refl) (λ L. refl) (l .reads))
   read-serves task handle (At block count life) l =
       record {
@@ -83,6 +83,13 @@ module _ (new : List ℕ) {h : Head} {hs ls cs ns ds : List ℕ} (sized : Sized 
         record { blocks = sized .blocks; entries = entries },
         refresh-serves new _ small large task kind extension handle (s .answer) _ f,
       )
+
+  pub batch-arm : {task : ℕ} {kind : Kind} {extension : ℕ} → call ≡ Batch task kind extension → {s : Step} {cs′ ns′ ds′ : List ℕ}
+      → SizedEntries cs′ ns′ ds′
+      × FollowsWith (Use (Batch task kind extension)) new (pooled h hs ls cs ns ds) (s .answer) (pooled (s .head) hs ls cs′ ns′ ds′)
+      → r ≡ withoutBytes (s .answer) (s .head) → Served (Use call) new h hs ls cs ns ds small large r hs ls cs′ ns′ ds′ small large
+  batch-arm {task} {kind} {extension} is {s} (entries, f) so =
+      rw (is, so) (record { blocks = sized .blocks; entries = entries }, batch-serves new _ small large task kind extension (s .answer) _ f)
 
   pub make-arm : {task : ℕ} {kind : Kind} {extension size : ℕ} → call ≡ Make task kind extension size → {s : Step} {hs′ ls′ cs′ ns′ ds′ small′ large′ : List ℕ}
       → Sized hs′ ls′ cs′ ns′ ds′

@@ -1,10 +1,11 @@
-// The one dispatch: a call of the eleven by its request, on a head by value and lent tables and stores.
+// The one dispatch: a call of the twelve by its request, on a head by value and lent tables and stores.
 ghost use mathlib.Core.Path.{_≡_};
 ghost use Rattle.ledger.specs.declared.Request.the-variants.{Use};
 ghost use Rattle.record.specs.Tables.{pooled, Sized};
 ghost use Rattle.calls.specs.Contract.{Ready};
 ghost use Rattle.calls.specs.Served.{Serves};
 ghost use Rattle.dispatch.specs.Done.{withoutBytes, whereFound, givenBack};
+use calls::batch;
 use calls::make;
 use calls::refresh;
 use calls::remaining;
@@ -161,10 +162,31 @@ fn serve(
             ),
             h,
         ),
+        Call::Batch {
+            task,
+            kind,
+            extension,
+        } => {
+            let step = batch(
+                h,
+                handles,
+                lengths,
+                clocks,
+                named,
+                dues,
+                task,
+                kind,
+                extension,
+                bytes,
+            );
+            let answer = step.answer;
+            let head = step.head;
+            without_bytes(answer, head)
+        }
     }
 }
 
-// One call of the eleven, by its request. The bytes are those of a write; other calls leave them aside.
+// One call of the twelve, by its request. The bytes are those of a write or a batch; other calls leave them aside.
 pub fn call(
     h: Head,
     handles: &mut [u32; BLOCK_COUNT],

@@ -1,5 +1,5 @@
 -- Demand 1.
-use Prim.Native.Nat.{ℕ, _-_}
+use Prim.Native.Nat.{ℕ}
 use mathlib.Core.Bool.{Bool, true, and-eq-true-iff}
 use mathlib.Core.List.{List}
 use mathlib.Core.Option.{Option, none, some}
@@ -18,7 +18,7 @@ use Rattle.calls.specs.Served.{replyOf}
 use Rattle.calls.specs.declared.Called.{Called}
 use Rattle.text.specs.Fields.{fieldsAt}
 use Rattle.text.specs.Hex.{isWithin, isHex, bytesOf}
-use Rattle.frames.specs.Frames.{Operation, operations, operationIn, widthsOf, headSize, isSizeOf, requestOf, frameWith, frameAs, frameBy, frameIn, frameOf, payloadOf}
+use Rattle.frames.specs.Frames.{Operation, operations, operationIn, widthsOf, isSizeOf, requestOf, frameWith, frameAs, frameBy, frameIn, frameOf, payloadOf}
 use Rattle.frames.specs.declared.Frame.{Frame}
 use Rattle.execute.specs.Execution.{Performs, IsReplyTo, Demand1}
 use Rattle.execute.proofs.Showing.{shows-none}
@@ -51,7 +51,7 @@ by-request (some request) count = refl
 by-operation : (o : Option Operation) (bytes : List ℕ) → isOfFrames (frameBy o bytes) ≡ true
 unfolding frameAs
 by-operation none bytes = refl
-by-operation (some o) bytes = by-test (isSizeOf o (length bytes)) (λ e. rw e (by-request (requestOf o (fieldsAt 1 (widthsOf o) bytes)) (length bytes - headSize o))) (λ e. rw e)
+by-operation (some o) bytes = by-test (isSizeOf o (length bytes)) (λ e. rw e (by-request (requestOf o (fieldsAt 1 (widthsOf o) bytes)) _)) (λ e. rw e)
 
 of-frames : (line : List ℕ) → isOfFrames (frameOf line) ≡ true
 unfolding frameOf frameIn

@@ -42,6 +42,12 @@ halves clocks h =
     ∙ count-append isUsedClock (take halfSize clocks) (drop halfSize clocks)
     ∙ rw (take-all expirationEntries clocks (omega arith))
 
+-- the first free entry, by either
+pub free-of : {cs ns ds : List ℕ} → SizedEntries cs ns ds → freeIn cs ≡ freeSlot (entriesOf cs ns ds)
+free-of {cs} {ns} {ds} e =
+    ap freeIn (sym (clocks-of cs ns ds (e .of-clocks) (e .of-named) (e .of-dues)))
+    ∙ first-map isFree (λ (x : ExpirationEntry). x .clock) 0 (entriesOf cs ns ds)
+
 -- where fewer stand than there are entries, there is a free one
 pub free-within : {clocks named dues : List ℕ} {at : ℕ} → SizedEntries clocks named dues → standingOf clocks < expirationEntries → at ≡ freeIn clocks → at < expirationEntries
 free-within {clocks} s k e =
@@ -53,9 +59,7 @@ pub put-entry : (e : Entry) {clocks named dues : List ℕ} {at : ℕ} → SizedE
     → Sets e clocks named dues (set clocks at (e .clock)) (set named at (e .block)) (set dues at (e .due))
 put-entry e {clocks} {named} {dues} {at} s h =
     let xs = entriesOf clocks named dues in
-    let free : at ≡ freeSlot xs =
-    h ∙ ap freeIn (sym (clocks-of clocks named dues (s .of-clocks) (s .of-named) (s .of-dues))) ∙ first-map isFree (λ (x : ExpirationEntry). x .clock) 0 xs in
     record {
       sized = record { of-clocks = simp length-set (s .of-clocks); of-named = simp length-set (s .of-named); of-dues = simp length-set (s .of-dues) };
-      entries = entries-set clocks named dues at (e .clock) (e .block) (e .due) ∙ ap (λ (i : ℕ). set xs i (entryOf e)) free;
+      entries = entries-set clocks named dues at (e .clock) (e .block) (e .due) ∙ ap (λ (i : ℕ). set xs i (entryOf e)) (h ∙ free-of s);
     }

@@ -1,6 +1,7 @@
 pub mod Places
 pub mod Clocks
 pub mod Counting
+pub mod Setting
 pub mod Flags
 pub mod Tables
 pub mod Longest

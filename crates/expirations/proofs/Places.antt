@@ -1,17 +1,19 @@
 -- Laws of what is asked and changed by places.
 use Prim.Native.Nat.{ℕ, zero, suc, _+_, _≤_, _<_}
-use native.Mathlib.Nat.{add-zero}
+use native.Mathlib.Nat.{zero-add, add-zero}
 use native.Mathlib.Omega.{arith}
 use mathlib.Core.Bool.{Bool, true, false, false≢true, true≢false, _||_, or-false}
 use mathlib.Core.List.{List}
 use mathlib.Core.Path.{_≡_, refl, sym, _∙_}
 use borrow.Author.Tests.{ltb-true, ltb-false}
 use lib.Dec.{ltb}
-use lib.ListN.{length, getD, set, length-set}
+use lib.ListN.{length, getD, set, take, drop, length-set}
 use lib.Seq.{getD-set-same, getD-set-other}
 use Rattle.lists.specs.Tables.{firstFrom}
 use Rattle.lists.proofs.Cases.{by-test, refuted, or-false-parts}
-use Rattle.lists.proofs.Loops.{Scanned, first-turn}
+use Rattle.lists.proofs.First.{none-before}
+use Rattle.lists.proofs.Loops.{Scanned, scanned-start, first-turn}
+use Rattle.lists.proofs.Searches.{first-least, first-most}
 use Rattle.expirations.specs.Places.{Asked, Changed}
 
 -- what holds before a place and from there on holds everywhere
@@ -91,6 +93,17 @@ first-past p d zero i s h f = rw (add-zero i) s
 first-past p d (suc m) i s h f =
     let same : i + 1 + m ≡ i + suc m = omega arith in
     rw same at (first-past p d m (i + 1) (first-turn p d s (omega arith) (f i (omega arith) (omega arith))) (omega arith) (λ k l b. f k (omega arith) (omega arith)))
+
+module _ {ℓ} {A : Type ℓ} (p : A → Bool) where
+  -- it may begin at any place up to which none passes
+  pub first-from : (d : A) {n i : ℕ} (xs : List A) → length xs ≡ n → i ≤ firstFrom 0 p xs → Scanned (firstFrom 0 p xs) xs n i (firstFrom i p)
+  first-from d {n} {i} xs e h =
+      rw (zero-add i) at
+      (first-past p d i 0 (scanned-start (firstFrom 0 p) xs n e) (omega (arith, first-most p 0 xs)) (λ k l b. none-before p d xs k (omega arith)))
+
+  -- and none is before the place that it has come to
+  pub first-beyond : {v n i : ℕ} {xs : List A} → Scanned v xs n i (firstFrom i p) → i ≤ v
+  first-beyond {n = n} {i} {xs} s = omega (arith, s .so, first-least p i (drop i (take n xs)))
 
 module _ {ℓ} {A : Type ℓ} {d : A} {f : ℕ → A → A} where
   pub changed-none : {a b : ℕ} (xs : List A) → a ≤ b → ((k : ℕ) → a ≤ k → k < b → getD xs k d ≡ f k (getD xs k d)) → Changed d f a b xs xs

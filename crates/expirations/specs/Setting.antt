@@ -1,6 +1,6 @@
--- An expiration that a task sets.
+-- Expirations that a task sets.
 use Prim.Native.Nat.{ℕ}
-use mathlib.Core.List.{List}
+use mathlib.Core.List.{List, [], _∷_}
 use mathlib.Core.Path.{_≡_}
 use lib.ListN.{set}
 use Rattle.ledger.specs.declared.Kind.{Kind}
@@ -23,3 +23,13 @@ entryOf e = record { clock = e .clock; block = e .block; due = e .due }
 pub record Sets (e : Entry) (clocks named dues clocks′ named′ dues′ : List ℕ) : Type 0 where
   pub sized : SizedEntries clocks′ named′ dues′
   pub entries : entriesOf clocks′ named′ dues′ ≡ set (entriesOf clocks named dues) (freeSlot (entriesOf clocks named dues)) (entryOf e)
+
+-- the table after a batch: an entry on each block, one after the other, each in the first free one
+unfoldable pub setEach : (ℕ → Entry) → List ℕ → List ExpirationEntry → List ExpirationEntry
+setEach f [] xs = xs
+setEach f (block ∷ blocks) xs = setEach f blocks (set xs (freeSlot xs) (entryOf (f block)))
+
+-- The table after the entries of a batch that a task makes now.
+pub record SetsEach (tasks : List TaskEntry) (global : GlobalTime) (kind : Kind) (task extension : ℕ) (blocks clocks named dues clocks′ named′ dues′ : List ℕ) : Type 0 where
+  pub sized : SizedEntries clocks′ named′ dues′
+  pub entries : entriesOf clocks′ named′ dues′ ≡ setEach (entryFor tasks global kind task extension) blocks (entriesOf clocks named dues)

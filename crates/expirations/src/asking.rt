@@ -43,7 +43,20 @@ pub fn has_byte(column: &[u8; EXPIRATION_COUNT], byte: u8, from: usize, to: usiz
     some
 }
 
-// The first free entry: so many at a time, then one by one.
+// The first free entry, sought one by one from a place before which none is free.
+pub fn free_from(clocks: &[u8; EXPIRATION_COUNT], from: usize) -> usize
+    requires { ⌜ (length (now clocks) ≡ expirationEntries) × (from ≤ freeIn (now clocks)) ⌝ }
+    ensures { λ r. ⌜ r ≡ freeIn (now (clocks .entry)) ⌝ }
+{
+    for i in from..EXPIRATION_COUNT {
+        if clocks[i] == FREE {
+            return i;
+        }
+    }
+    EXPIRATION_COUNT
+}
+
+// The same from the beginning: so many at a time, then one by one.
 const SPAN: usize = 16;
 
 pub fn free_entry(clocks: &[u8; EXPIRATION_COUNT]) -> usize
@@ -57,12 +70,7 @@ pub fn free_entry(clocks: &[u8; EXPIRATION_COUNT]) -> usize
         }
         n = n + SPAN;
     }
-    for i in n..EXPIRATION_COUNT {
-        if clocks[i] == FREE {
-            return i;
-        }
-    }
-    EXPIRATION_COUNT
+    free_from(clocks, n)
 }
 
 // The clock of an expiration.

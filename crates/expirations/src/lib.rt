@@ -1,11 +1,11 @@
 // How expirations (01: dates) are kept: a table of entries, of which those with clock 0 are free. A call knows how many stand and how
-// long the object in a block has left, sets one on a block, and has an event end those that are over; where an entry stands is known here alone.
-ghost use Prim.Native.Nat.{_<_};
+// long the object in a block has left, sets one on a block or one on each of a batch's, and has an event end those that are over; where an entry stands is known here alone.
+ghost use Prim.Native.Nat.{_+_, _≤_, _<_};
 ghost use mathlib.Core.Path.{_≡_};
-ghost use lib.ListN.{length};
-ghost use Rattle.ledger.specs.Limits.{taskCount};
-ghost use Rattle.expirations.specs.Standing.{standingOf};
-ghost use Rattle.expirations.specs.Setting.{entryFor, Sets};
+ghost use lib.ListN.{length, take};
+ghost use Rattle.ledger.specs.Limits.{taskCount, largestBatch};
+ghost use Rattle.expirations.specs.Standing.{standingOf, freeIn};
+ghost use Rattle.expirations.specs.Setting.{entryFor, Sets, SetsEach};
 ghost use Rattle.expirations.specs.Ending.{Ends};
 ghost use Rattle.record.specs.Tables.{SizedEntries, blockEntries, expirationEntries};
 
@@ -16,9 +16,11 @@ mod remaining;
 
 use asking::HALF;
 use asking::free_entry;
+use asking::free_from;
 use asking::standing_in;
 use ending::end_due;
 use ledger::Kind;
+use ledger::LARGEST_BATCH;
 use ledger::TASK_COUNT;
 use record::BLOCK_COUNT;
 use record::EXPIRATION_COUNT;
@@ -77,6 +79,22 @@ fn entry_for(
     }
 }
 
+// An entry in all columns of the first free one, whose place is known.
+fn put(
+    e: Entry,
+    at: usize,
+    clocks: &mut [u8; EXPIRATION_COUNT],
+    named: &mut [u8; EXPIRATION_COUNT],
+    dues: &mut [u32; EXPIRATION_COUNT],
+)
+    requires { ⌜ SizedEntries (now clocks) (now named) (now dues) × (at ≡ freeIn (now clocks)) × (at < expirationEntries) ⌝ }
+    ensures { λ _. ⌜ Sets e (now (clocks .entry)) (now (named .entry)) (now (dues .entry)) (now (clocks .exit)) (now (named .exit)) (now (dues .exit)) ⌝ }
+{
+    clocks[at] = e.clock;
+    named[at] = e.block;
+    dues[at] = e.due;
+}
+
 // One expiration more, where there is a free entry.
 pub fn set(
     h: Head,
@@ -95,9 +113,38 @@ pub fn set(
     let global = h.global;
     let e = entry_for(tasks, global, kind, task, extension, block);
     let at = free_entry(clocks);
-    clocks[at] = e.clock;
-    named[at] = e.block;
-    dues[at] = e.due;
+    put(e, at, clocks, named, dues);
+}
+
+// One expiration more on each of the first `count` blocks, where there are free entries for all. The entry is made once, and each search goes on where the last one ended: one pass.
+pub fn set_all(
+    h: Head,
+    kind: Kind,
+    task: u8,
+    extension: u8,
+    blocks: &[u8; LARGEST_BATCH],
+    count: usize,
+    clocks: &mut [u8; EXPIRATION_COUNT],
+    named: &mut [u8; EXPIRATION_COUNT],
+    dues: &mut [u32; EXPIRATION_COUNT],
+)
+    requires { ⌜ SizedEntries (now clocks) (now named) (now dues) × (length (now blocks) ≡ largestBatch) × (count ≤ largestBatch) × (standingOf (now clocks) + count ≤ expirationEntries) × (task < taskCount) ⌝ }
+    ensures { λ _. ⌜ SetsEach (h .tasks) (h .global) kind task extension (take count (now (blocks .entry))) (now (clocks .entry)) (now (named .entry)) (now (dues .entry)) (now (clocks .exit)) (now (named .exit)) (now (dues .exit)) ⌝ }
+{
+    let tasks = h.tasks;
+    let global = h.global;
+    let first = entry_for(tasks, global, kind, task, extension, 0);
+    let mut from = 0;
+    for i in 0..count {
+        let e = Entry {
+            clock: first.clock,
+            block: blocks[i],
+            due: first.due,
+        };
+        let at = free_from(clocks, from);
+        put(e, at, clocks, named, dues);
+        from = at + 1;
+    }
 }
 
 // The time that an event of a task leaves: the task's local time, and whether it leaves for good; the global time, and whether that has advanced.

@@ -1,20 +1,19 @@
 -- The line of an answer as it is put into a buffer, and how long it is.
-use Prim.Native.Nat.{ℕ, _+_, _*_, _/_, _%_, _≤_, _<_}
+use Prim.Native.Nat.{ℕ, _+_, _*_, _%_, _≤_, _<_}
 use native.Mathlib.Omega.{arith}
 use mathlib.Core.Bool.{Bool, true, false, cond}
 use mathlib.Core.List.{List, [], _∷_, _++_}
 use mathlib.Core.Path.{_≡_, refl, ap}
 use mir.Val.{boolByte}
-use lib.ListN.{length, set, length-append, length-set}
-use Rattle.lists.proofs.Blocks.{overwritten-on, set-overwritten}
+use lib.ListN.{length, set, length-append}
 use Rattle.ledger.specs.declared.Answer.{Answer}
 use Rattle.ledger.specs.declared.Answer.the-variants.{Refused, Done, Advanced, Handle, Bytes, Counted, Lasts}
 use Rattle.ledger.specs.Limits.{largeSize}
 use Rattle.frames.specs.Answers.{answerHead, answerLine, longestAnswer}
 use Rattle.text.specs.Fields.{inBytes}
-use Rattle.text.specs.Hex.{digitFor, hexOf, Puts}
+use Rattle.text.specs.Hex.{hexOf, Puts}
 use Rattle.text.proofs.Digits.{length-hex, hex-append}
-use Rattle.text.proofs.Puts.{puts-one, puts-on, puts-hex}
+use Rattle.text.proofs.Puts.{puts-on, puts-store}
 
 bool-byte : (b : Bool) → boolByte b ≡ cond b 1 0 % 256
 bool-byte true = refl
@@ -52,14 +51,9 @@ module _ (answer : Answer) (bytes : List ℕ) {old first : List ℕ} {middle : �
     pub room-after-bytes : end < length old
     room-after-bytes = omega (arith, room-after-head, q .next, length-hex bytes)
 
-    pub puts-line : length second ≡ length old → Puts 0 (answerLine answer bytes) old (set second end 10) (end + 1)
-    puts-line same =
-        let head = hexOf (answerHead answer) in
-        rw line-parts
-        (puts-on
-        (puts-on p q (omega (arith, p .next, q .next, room-after-bytes)))
-        (puts-one second end 10 (omega (arith, room-after-bytes)))
-        (omega (arith, p .next, q .next, room-after-bytes, length-append head (hexOf bytes))))
+    pub puts-line : Puts 0 (answerLine answer bytes) old (set second end 10) (end + 1)
+    puts-line =
+        rw line-parts (puts-store (end + 1) 10 (puts-on p q (omega (arith, p .next, q .next, room-after-bytes))) room-after-bytes refl)
 
 -- with the bytes of any object
 pub line-within : (answer : Answer) (bytes : List ℕ) → length bytes ≤ largeSize → length (answerLine answer bytes) ≤ longestAnswer

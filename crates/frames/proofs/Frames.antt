@@ -1,11 +1,11 @@
 -- Laws of frames: 18, 19 and the request of a known operation, by the length of its line; then the operation by its number.
-use Prim.Native.Nat.{ℕ, _+_, _-_, _/_, _≤_}
+use Prim.Native.Nat.{ℕ, _-_, _/_, _≤_, _<_}
 use native.Mathlib.Omega.{arith}
-use mathlib.Core.Bool.{true, false, and-eq-true-iff}
+use mathlib.Core.Bool.{true, false, and-eq-true-iff, and-false}
 use mathlib.Core.List.{List, [], _∷_}
 use mathlib.Core.Option.{none, some}
 use mathlib.Core.Path.{_≡_, refl}
-use borrow.Author.Tests.{leb-true, ne-eqb}
+use borrow.Author.Tests.{leb-true, le-leb, lt-leb, ne-eqb}
 use lib.Dec.{leb}
 use lib.ListN.{length, List·getD-eq-default}
 use Rattle.lists.specs.Tests.{All}
@@ -13,17 +13,25 @@ use Rattle.lists.proofs.Cases.{refuted}
 use Rattle.ledger.specs.declared.Refusal.the-variants.{UnknownOperation, WrongFrameLength, UnknownKind}
 use Rattle.ledger.specs.declared.Request.{Request}
 use Rattle.text.specs.Fields.{fieldAt, fieldsAt}
-use Rattle.frames.specs.Frames.{Operation, widthsOf, headSize, mostBytes, isSizeOf, requestOf, frameAs, operations, operationNumber, operationIn, frameBy, frameIn}
+use Rattle.frames.specs.Frames.{Operation, widthsOf, headSize, bytesUpTo, tailOf, isTail, isSizeOf, handedOn, requestOf, frameAs, operations, operationNumber, operationIn, frameBy, frameIn}
 use Rattle.text.specs.Hex.{bytesOf}
 use Rattle.frames.specs.declared.Frame.{Frame}
-use Rattle.text.proofs.Digits.{within, length-bytes}
+use Rattle.text.proofs.Digits.{length-bytes}
 use Rattle.text.proofs.Fields.{field-one}
 
 -- the sizes of an operation
-pub sizes : (o : Operation) (size : ℕ) → isSizeOf o size ≡ true → (headSize o ≤ size) × (size ≤ headSize o + mostBytes o)
-sizes o size e =
-    let (low, high) = and-eq-true-iff (leb (headSize o) size) _ .0 e in
-    (leb-true (headSize o) size low, leb-true size (headSize o + mostBytes o) high)
+module _ (o : Operation) (size : ℕ) where
+  pub sizes : isSizeOf o size ≡ true → (headSize o ≤ size) × (isTail (tailOf o) (size - headSize o) ≡ true)
+  sizes e = let (low, tail) = and-eq-true-iff (leb (headSize o) size) _ .0 e in (leb-true (headSize o) size low, tail)
+
+  pub of-size : headSize o ≤ size → isTail (tailOf o) (size - headSize o) ≡ true → isSizeOf o size ≡ true
+  of-size low tail = rw (le-leb (headSize o) size low, tail)
+
+  pub too-short : size < headSize o → isSizeOf o size ≡ false
+  too-short h = rw (lt-leb (headSize o) size h)
+
+  pub wrong-tail : isTail (tailOf o) (size - headSize o) ≡ false → isSizeOf o size ≡ false
+  wrong-tail e = rw (e, and-false)
 
 module _ (o : Operation) (line : List ℕ) where
   abbrev valuesIn : List ℕ
@@ -33,26 +41,31 @@ module _ (o : Operation) (line : List ℕ) where
   unfolding frameAs
   wrong-size e = rw (length-bytes line, e)
 
+  pub unknown-kind : isSizeOf o (length line / 2) ≡ true → none ≡ requestOf o valuesIn → Frame.Refused UnknownKind ≡ frameAs o (bytesOf line)
+  unfolding frameAs
+  unknown-kind e r = rw (length-bytes line, e, ← r)
+
   pub right-size : isSizeOf o (length line / 2) ≡ true → {request : Request} {count : ℕ} → some request ≡ requestOf o valuesIn
-      → count ≡ length line / 2 - headSize o → Frame.Request request count ≡ frameAs o (bytesOf line)
+      → count ≡ handedOn (tailOf o) (length line / 2 - headSize o) → Frame.Request request count ≡ frameAs o (bytesOf line)
   unfolding frameAs
   right-size e r n = rw (length-bytes line, e, ← r, n)
 
   -- of an operation that no bytes follow
-  module _ (alone : mostBytes o ≡ 0) where
+  module _ (alone : tailOf o ≡ bytesUpTo 0) where
     pub other-size : (length line / 2 ≡ headSize o → ⊥) → Frame.Refused WrongFrameLength ≡ frameAs o (bytesOf line)
-    other-size ne = wrong-size (refuted _ (λ e. let (low, high) = sizes o (length line / 2) e in ne (omega arith)))
+    other-size ne =
+        wrong-size (refuted _ (λ e. let (low, tail) = sizes o (length line / 2) e in
+        ne (omega (arith, leb-true (length line / 2 - headSize o) 0 (rw alone at tail)))))
 
     own : length line / 2 ≡ headSize o → isSizeOf o (length line / 2) ≡ true
-    own e = within (headSize o) (headSize o + mostBytes o) (length line / 2) (omega arith) (omega arith)
+    own e = of-size o (length line / 2) (omega arith) (rw alone (le-leb (length line / 2 - headSize o) 0 (omega arith)))
 
     pub wrong-kind : length line / 2 ≡ headSize o → none ≡ requestOf o valuesIn → Frame.Refused UnknownKind ≡ frameAs o (bytesOf line)
-    unfolding frameAs
-    wrong-kind e r = rw (length-bytes line, own e, ← r)
+    wrong-kind e r = unknown-kind (own e) r
 
     pub own-size : length line / 2 ≡ headSize o → {request : Request} → some request ≡ requestOf o valuesIn
         → Frame.Request request 0 ≡ frameAs o (bytesOf line)
-    own-size e r = right-size (own e) r (omega arith)
+    own-size e r = right-size (own e) r (rw alone (omega arith))
 
 -- by the operation's number, or none
 pub by-number : (bytes : List ℕ) {byte : ℕ} (number : ℕ) → byte ≡ fieldAt 0 1 bytes → byte ≡ number

@@ -2,3 +2,5 @@ pub mod AnswerLines
 pub mod Frames
 pub mod Payloads
 pub mod RoundTrip
+pub mod HandedOn
+pub mod HandleBytes

@@ -1,79 +1,124 @@
 -- What a line shows that gives a request, and the bytes that come with it.
-use Prim.Native.Nat.{ℕ, _-_, _/_, _≤_}
+use Prim.Native.Nat.{ℕ, _+_, _-_, _/_, _≤_}
 use native.Mathlib.Nat.{zero-add}
 use native.Mathlib.Omega.{arith}
 use mathlib.Core.Bool.{true}
 use mathlib.Core.List.{List, [], _++_}
 use mathlib.Core.Option.{Option, none, some}
-use mathlib.Core.Path.{_≡_, sym}
+use mathlib.Core.Path.{_≡_, refl, sym}
+use borrow.Author.Tests.{leb-true}
 use lib.ListN.{length, getD, take, drop, length-drop}
-use lib.Seq.{length-take-le, take-all}
+use lib.Seq.{length-take-le, take-all, drop-drop}
 use Rattle.lists.specs.Blocks.{overwritten}
 use Rattle.lists.proofs.Blocks.{take-new}
 use Rattle.lists.proofs.Cases.{by-test}
+use Rattle.ledger.specs.declared.Kind.{Kind}
 use Rattle.ledger.specs.declared.Refusal.{Refusal}
 use Rattle.ledger.specs.declared.Request.{Request}
 use Rattle.ledger.specs.Limits.{largeSize}
 use Rattle.text.specs.Fields.{fieldsAt}
-use Rattle.frames.specs.Frames.{Operation, widthsOf, headSize, mostBytes, isSizeOf, requestOf, frameWith, frameAs, operations, operationIn, frameBy, frameIn, frameOf, payloadOf, Decodes, schedule, make, refresh, read, write, report, remaining}
+use Rattle.frames.specs.Frames.{Operation, schedule, make, refresh, read, write, report, remaining, batch, widthsOf, headSize, Tail, bytesUpTo, anyHandles, tailOf, isTail, mostHandleBytes, isSizeOf, handedOn, kindOf, withKind, requestOf, frameWith, frameAs, operations, operationIn, frameBy, frameIn, frameOf, lastBytes, payloadOf, Decodes, operationOf}
 use Rattle.text.specs.Hex.{isHex, bytesOf}
 use Rattle.frames.specs.declared.Frame.{Frame}
+use Rattle.frames.specs.declared.requests.KindByte.{KindByte}
+use Rattle.frames.specs.declared.requests.KindByte.the-variants.{Known, Unknown}
 use Rattle.text.proofs.Digits.{length-bytes}
 use Rattle.frames.proofs.Frames.{sizes}
 
 apart : {refusal : Refusal} {request : Request} {count : ℕ} → Frame.Refused refusal ≡ Frame.Request request count → ⊥
 apart e = let z : _≡_ {A = ℕ} 0 1 = cc in omega arith
 
-same-count : {a b : Request} {m n : ℕ} → Frame.Request a m ≡ Frame.Request b n → m ≡ n
-same-count e = cc
+-- the last bytes of a list are the last of its end, which has as many
+pub last-after : (bytes : List ℕ) (n count : ℕ) → n + count ≤ length bytes → lastBytes count bytes ≡ lastBytes count (drop n bytes)
+last-after bytes n count h =
+    let places : length bytes - count ≡ n + (length bytes - n - count) = omega arith in
+    rw (length-drop n bytes, drop-drop (length bytes - n - count) n bytes, places)
 
-most-bytes : (o : Operation) → mostBytes o ≤ largeSize
-most-bytes (schedule event) = omega arith
-most-bytes make = omega arith
-most-bytes refresh = omega arith
-most-bytes read = omega arith
-most-bytes write = omega arith
-most-bytes report = omega arith
-most-bytes remaining = omega arith
+-- what is handed on at most
+abbrev mostHanded : Tail → ℕ
+mostHanded (bytesUpTo most) = most
+mostHanded anyHandles = mostHandleBytes
 
--- a request brings at most the bytes of the largest object, and no more than its frame has
+most-handed : (o : Operation) → mostHanded (tailOf o) ≤ largeSize
+most-handed (schedule event) = omega arith
+most-handed make = omega arith
+most-handed refresh = omega arith
+most-handed read = omega arith
+most-handed write = omega arith
+most-handed report = omega arith
+most-handed remaining = omega arith
+most-handed batch = omega arith
+
+pub handed-on : (tail : Tail) (count : ℕ) → isTail tail count ≡ true → (handedOn tail count ≤ mostHanded tail) × (handedOn tail count ≤ count)
+handed-on (bytesUpTo most) count e = (leb-true count most e, omega arith)
+handed-on anyHandles count e = (omega arith, omega arith)
+
+-- the operation of a request that values make
+module _ {request : Request} where
+  with-kind : (o : Operation) (byte : KindByte) (by : Kind → Request) → ((kind : Kind) → operationOf (by kind) ≡ o)
+      → withKind byte by ≡ some request → operationOf request ≡ o
+  with-kind o (Known kind) by h e = let k = h kind in cc
+  with-kind o Unknown by h e = cc
+
+  operation-of : (o : Operation) (values : List ℕ) → requestOf o values ≡ some request → operationOf request ≡ o
+  operation-of (schedule event) values e = cc
+  operation-of make values e = with-kind make (kindOf (getD values 1 0)) _ (λ kind. refl) e
+  operation-of refresh values e = with-kind refresh (kindOf (getD values 1 0)) _ (λ kind. refl) e
+  operation-of read values e = cc
+  operation-of write values e = cc
+  operation-of report values e = cc
+  operation-of remaining values e = cc
+  operation-of batch values e = with-kind batch (kindOf (getD values 1 0)) _ (λ kind. refl) e
+
+-- what the size of a frame shows that gives a request: the bytes after its fields may follow, and so many of them are handed on
+record Brought (size : ℕ) (o : Operation) (count : ℕ) : Type 0 where
+  head : headSize o ≤ size
+  tail : isTail (tailOf o) (size - headSize o) ≡ true
+  handed : handedOn (tailOf o) (size - headSize o) ≡ count
+
 module _ (bytes : List ℕ) {request : Request} {count : ℕ} where
-  counted-with : (r : Option Request) (n : ℕ) → frameWith r n ≡ Frame.Request request count → n ≡ count
-  counted-with none n e = absurd (apart e)
-  counted-with (some r) n e = same-count e
+  brought-with : (r : Option Request) (n : ℕ) → frameWith r n ≡ Frame.Request request count → (r ≡ some request) × (n ≡ count)
+  brought-with none n e = absurd (apart e)
+  brought-with (some r) n e = (cc, cc)
 
-  counted-as : (o : Operation) → frameAs o bytes ≡ Frame.Request request count → (count ≤ largeSize) × (count ≤ length bytes)
+  brought-as : (o : Operation) → frameAs o bytes ≡ Frame.Request request count → Brought (length bytes) (operationOf request) count
   unfolding frameAs
-  counted-as o e =
+  brought-as o e =
+      let values = fieldsAt 1 (widthsOf o) bytes in
       by-test (isSizeOf o (length bytes))
-      (λ s. let (low, high) = sizes o (length bytes) s in
-      let n = counted-with (requestOf o (fieldsAt 1 (widthsOf o) bytes)) (length bytes - headSize o) (rw s at e) in
-      (omega (arith, most-bytes o), omega arith))
+      (λ s. let (low, tail) = sizes o (length bytes) s in
+      let (r, n) = brought-with (requestOf o values) (handedOn (tailOf o) (length bytes - headSize o)) (rw s at e) in
+      rw (operation-of o values r) (record { head = low; tail = tail; handed = n }))
       (λ s. absurd (apart (rw s at e)))
 
-  counted-by : (o : Option Operation) → frameBy o bytes ≡ Frame.Request request count → (count ≤ largeSize) × (count ≤ length bytes)
-  counted-by none e = absurd (apart e)
-  counted-by (some o) e = counted-as o e
+  brought-by : (o : Option Operation) → frameBy o bytes ≡ Frame.Request request count → Brought (length bytes) (operationOf request) count
+  brought-by none e = absurd (apart e)
+  brought-by (some o) e = brought-as o e
 
--- what a line shows that gives a request
-pub record Requested (line : List ℕ) (count : ℕ) : Type 0 where
+-- what a line shows that gives a request: it brings at most the bytes of the largest object, and no more than follow its fields
+pub record Requested (line : List ℕ) (o : Operation) (count : ℕ) : Type 0 where
   pub hex : isHex line ≡ true
+  pub handed : handedOn (tailOf o) (length line / 2 - headSize o) ≡ count
   pub most : count ≤ largeSize
-  pub within : count ≤ length line / 2
+  pub within : headSize o + count ≤ length line / 2
   pub payload : payloadOf line ≡ drop (length line / 2 - count) (bytesOf line)
   pub counted : length (payloadOf line) ≡ count
 
-pub requested : (line : List ℕ) {request : Request} {count : ℕ} → frameOf line ≡ Frame.Request request count → Requested line count
+pub requested : (line : List ℕ) {request : Request} {count : ℕ} → frameOf line ≡ Frame.Request request count
+    → Requested line (operationOf request) count
 unfolding frameOf frameIn payloadOf
 requested line {request} {count} e =
+    let o = operationOf request in
     by-test (isHex line)
-    (λ h. let (most, within) = counted-by (bytesOf line) (operationIn operations (getD (bytesOf line) 0 0)) (rw h at e) in
+    (λ h. let b = rw length-bytes at (brought-by (bytesOf line) (operationIn operations (getD (bytesOf line) 0 0)) (rw h at e)) in
+    let (most, few) = handed-on (tailOf o) (length line / 2 - headSize o) (b .tail) in
     record {
       hex = h;
-      most = most;
-      within = rw length-bytes at within;
+      handed = b .handed;
+      most = omega (arith, most-handed o, b .handed);
+      within = omega (arith, b .head, b .handed);
       payload = rw (e, length-bytes line);
-      counted = rw e (simp length-drop (omega arith));
+      counted = rw e (simp (length-drop, length-bytes) (omega (arith, b .handed)));
     })
     (λ h. absurd (apart (rw h at e)))
 

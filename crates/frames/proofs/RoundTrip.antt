@@ -1,5 +1,5 @@
 -- The round trip: the line of a request and its bytes gives the request and its bytes back.
-use Prim.Native.Nat.{ℕ, _+_, _-_, _≤_, _<_}
+use Prim.Native.Nat.{ℕ, _+_, _-_, _<_}
 use native.Mathlib.Omega.{arith}
 use mathlib.Core.Bool.{true}
 use mathlib.Core.List.{List, [], _∷_, _++_}
@@ -9,17 +9,19 @@ use lib.ListN.{length, length-append}
 use lib.Seq.{drop-at}
 use Rattle.lists.specs.Tests.{All}
 use Rattle.lists.proofs.All.{all-append}
-use Rattle.ledger.specs.declared.Call.the-variants.{Schedule, Make, Refresh, Read, Write}
+use Rattle.ledger.specs.declared.Call.the-variants.{Schedule, Make, Refresh, Read, Write, Batch}
 use Rattle.ledger.specs.declared.Event.the-variants.{Join, Leave, Block, Resume, Tick}
 use Rattle.ledger.specs.declared.Kind.the-variants.{Local, Global}
 use Rattle.ledger.specs.declared.Request.{Request}
 use Rattle.ledger.specs.declared.Request.the-variants.{Use, Report, Remaining}
 use Rattle.text.specs.Fields.{inFields, FitFields}
-use Rattle.frames.specs.Frames.{Operation, schedule, make, refresh, read, write, report, remaining, operations, operationNumber, operationIn, widthsOf, headSize, mostBytes, requestOf, frameAs, frameBy, frameIn, frameOf, payloadOf, operationOf, valuesOf, lineOf, RoundTrip}
+use Rattle.frames.specs.Frames.{Operation, schedule, make, refresh, read, write, report, remaining, batch, operations, operationNumber, operationIn, widthsOf, headSize, tailOf, isTail, handedOn, requestOf, frameAs, frameBy, frameIn, frameOf, lastBytes, payloadOf, operationOf, valuesOf, lineOf, RoundTrip}
 use Rattle.text.specs.Hex.{isHex, bytesOf}
 use Rattle.frames.specs.declared.Frame.{Frame}
-use Rattle.text.proofs.Digits.{within, hex-hex, bytes-hex}
+use Rattle.text.proofs.Digits.{hex-hex, bytes-hex}
 use Rattle.text.proofs.Fields.{fields-in, fields-below, length-in-fields}
+use Rattle.frames.proofs.Frames.{of-size}
+use Rattle.frames.proofs.Payloads.{last-after, handed-on}
 
 -- an operation is found by its number, which is a byte
 found : (o : Operation) → (operationIn operations (operationNumber o) ≡ some o) × (operationNumber o < 256)
@@ -34,6 +36,7 @@ found read = (refl, omega arith)
 found write = (refl, omega arith)
 found report = (refl, omega arith)
 found remaining = (refl, omega arith)
+found batch = (refl, omega arith)
 
 -- its fields' values make the request
 same-request : (request : Request) → requestOf (operationOf request) (valuesOf request) ≡ some request
@@ -44,11 +47,13 @@ same-request (Use (Refresh task Local extension handle)) = refl
 same-request (Use (Refresh task Global extension handle)) = refl
 same-request (Use (Read task handle)) = refl
 same-request (Use (Write task handle offset)) = refl
+same-request (Use (Batch task Local extension)) = refl
+same-request (Use (Batch task Global extension)) = refl
 same-request Report = refl
 same-request (Remaining task handle) = refl
 
 module _ (request : Request) (bytes : List ℕ) (fit : FitFields (widthsOf (operationOf request)) (valuesOf request))
-    (below : All (λ (b : ℕ). b < 256) bytes) (most : length bytes ≤ mostBytes (operationOf request)) where
+    (below : All (λ (b : ℕ). b < 256) bytes) (follow : isTail (tailOf (operationOf request)) (length bytes) ≡ true) where
   abbrev o : Operation
   o = operationOf request
 
@@ -61,13 +66,16 @@ module _ (request : Request) (bytes : List ℕ) (fit : FitFields (widthsOf (oper
   size : length (head ++ bytes) ≡ headSize o + length bytes
   size = rw (length-append, head-size)
 
-  framed : frameAs o (head ++ bytes) ≡ Frame.Request request (length bytes)
+  abbrev count : ℕ
+  count = handedOn (tailOf o) (length bytes)
+
+  framed : frameAs o (head ++ bytes) ≡ Frame.Request request count
   unfolding frameAs
   framed =
-      let right = within (headSize o) (headSize o + mostBytes o) (length (head ++ bytes)) (omega (arith, size)) (omega (arith, size)) in
-      let count : length (head ++ bytes) - headSize o ≡ length bytes = omega (arith, size) in
+      let rest : length (head ++ bytes) - headSize o ≡ length bytes = omega (arith, size) in
+      let right = of-size o (length (head ++ bytes)) (omega (arith, size)) (rw rest follow) in
       let values = fields-in (operationNumber o ∷ []) bytes (widthsOf o) (valuesOf request) fit in
-      rw (right, values, same-request request, count)
+      rw (right, values, same-request request, rest)
 
   bytes-below : All (λ (b : ℕ). b < 256) (head ++ bytes)
   bytes-below = (found o .1, all-append _ (inFields (widthsOf o) (valuesOf request)) bytes (fields-below (widthsOf o) (valuesOf request)) below)
@@ -80,13 +88,15 @@ module _ (request : Request) (bytes : List ℕ) (fit : FitFields (widthsOf (oper
   unfolding lineOf
   spelled = bytes-hex (head ++ bytes) bytes-below
 
-  frame-back : frameOf (lineOf request bytes) ≡ Frame.Request request (length bytes)
+  frame-back : frameOf (lineOf request bytes) ≡ Frame.Request request count
   unfolding frameOf frameIn
   frame-back = rw (hex, spelled) (ap (λ (x : Option Operation). frameBy x (head ++ bytes)) (found o .0) ∙ framed)
 
-  bytes-back : payloadOf (lineOf request bytes) ≡ bytes
+  bytes-back : payloadOf (lineOf request bytes) ≡ lastBytes count bytes
   unfolding payloadOf
-  bytes-back = rw (frame-back, spelled) (drop-at head bytes (length (head ++ bytes) - length bytes) (omega (arith, size, head-size)))
+  bytes-back =
+      let few = handed-on (tailOf o) (length bytes) follow .1 in
+      rw (frame-back, spelled, last-after (head ++ bytes) (headSize o) count (omega (arith, size)), drop-at head bytes (headSize o) head-size)
 
 pub round-trip : RoundTrip
-round-trip request bytes fit below most = (frame-back request bytes fit below most, bytes-back request bytes fit below most)
+round-trip request bytes fit below follow = (frame-back request bytes fit below follow, bytes-back request bytes fit below follow)

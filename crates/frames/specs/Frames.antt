@@ -1,19 +1,19 @@
 -- The rules F: the request or the refusal that a line gives, and the line of a request.
-use Prim.Native.Nat.{ℕ, _+_, _-_, _≤_, _<_}
-use mathlib.Core.Bool.{Bool, cond}
+use Prim.Native.Nat.{ℕ, _+_, _-_, _*_, _%_, _<_, min}
+use mathlib.Core.Bool.{Bool, true, cond, _&&_}
 use mathlib.Core.List.{List, [], _∷_, _++_}
 use mathlib.Core.Option.{Option, none, some}
 use mathlib.Core.Path.{_≡_}
-use lib.Dec.{eqb}
+use lib.Dec.{eqb, leb}
 use lib.ListN.{length, getD, drop}
 use Rattle.text.specs.Fields.{fieldsAt, inFields, total, FitFields}
-use Rattle.text.specs.Hex.{isWithin, isHex, bytesOf, hexOf}
+use Rattle.text.specs.Hex.{isHex, bytesOf, hexOf}
 use Rattle.lists.specs.Blocks.{overwritten}
 use Rattle.lists.specs.Tests.{All}
 use Rattle.frames.specs.declared.Frame.{Frame}
 use Rattle.frames.specs.declared.requests.KindByte.{KindByte}
 use Rattle.frames.specs.declared.requests.KindByte.the-variants.{Known, Unknown}
-use Rattle.ledger.specs.declared.Call.the-variants.{Schedule, Make, Refresh, Read, Write}
+use Rattle.ledger.specs.declared.Call.the-variants.{Schedule, Make, Refresh, Read, Write, Batch}
 use Rattle.ledger.specs.declared.Event.{Event}
 use Rattle.ledger.specs.declared.Event.the-variants.{Join, Leave, Block, Resume, Tick}
 use Rattle.ledger.specs.declared.Kind.{Kind}
@@ -21,12 +21,12 @@ use Rattle.ledger.specs.declared.Kind.the-variants.{Local, Global}
 use Rattle.ledger.specs.declared.Refusal.the-variants.{NotHexadecimal, UnknownOperation, WrongFrameLength, UnknownKind}
 use Rattle.ledger.specs.declared.Request.{Request}
 use Rattle.ledger.specs.declared.Request.the-variants.{Use, Report, Remaining}
-use Rattle.ledger.specs.Limits.{largeSize}
+use Rattle.ledger.specs.Limits.{largeSize, largestBatch}
 
--- the eleven operations; five of them are the events of a task
+-- the twelve operations; five of them are the events of a task
 pub data Operation : Type 0 where
   schedule : Event → Operation
-  make refresh read write report remaining : Operation
+  make refresh read write report remaining batch : Operation
 
 abbrev pub operationNumber : Operation → ℕ
 operationNumber (schedule Join) = 1
@@ -40,10 +40,11 @@ operationNumber read = 8
 operationNumber write = 9
 operationNumber report = 10
 operationNumber remaining = 11
+operationNumber batch = 12
 
 abbrev pub operations : List Operation
 operations =
-    schedule Join ∷ schedule Leave ∷ schedule Block ∷ schedule Resume ∷ schedule Tick ∷ make ∷ refresh ∷ read ∷ write ∷ report ∷ remaining ∷ []
+    schedule Join ∷ schedule Leave ∷ schedule Block ∷ schedule Resume ∷ schedule Tick ∷ make ∷ refresh ∷ read ∷ write ∷ report ∷ remaining ∷ batch ∷ []
 
 -- the one of these with a number, or none
 abbrev pub operationIn : List Operation → ℕ → Option Operation
@@ -66,24 +67,55 @@ widthsOf write = 1 ∷ 4 ∷ 1 ∷ []
 widthsOf report = []
 -- F11: task, handle
 widthsOf remaining = 1 ∷ 4 ∷ []
-
--- F9: how many bytes may follow the fields
-abbrev pub mostBytes : Operation → ℕ
-mostBytes (schedule event) = 0
-mostBytes make = 0
-mostBytes refresh = 0
-mostBytes read = 0
-mostBytes write = largeSize
-mostBytes report = 0
-mostBytes remaining = 0
+-- F12: task, kind, extension
+widthsOf batch = 1 ∷ 1 ∷ 1 ∷ []
 
 -- operation and fields
 abbrev pub headSize : Operation → ℕ
 headSize o = 1 + total (widthsOf o)
 
+-- what may follow the fields: bytes up to a count, or any count of handles
+pub data Tail : Type 0 where
+  bytesUpTo : ℕ → Tail
+  anyHandles : Tail
+
+abbrev pub tailOf : Operation → Tail
+tailOf (schedule event) = bytesUpTo 0
+tailOf make = bytesUpTo 0
+tailOf refresh = bytesUpTo 0
+tailOf read = bytesUpTo 0
+-- F9: the bytes to write
+tailOf write = bytesUpTo largeSize
+tailOf report = bytesUpTo 0
+tailOf remaining = bytesUpTo 0
+-- F12: the handles of the objects
+tailOf batch = anyHandles
+
+-- F12: the bytes of a handle
+abbrev pub handleWidth : ℕ
+handleWidth = 4
+
+-- whether so many bytes may follow
+abbrev pub isTail : Tail → ℕ → Bool
+isTail (bytesUpTo most) count = leb count most
+isTail anyHandles count = eqb (count % handleWidth) 0
+
 -- R18 where this fails
 abbrev pub isSizeOf : Operation → ℕ → Bool
-isSizeOf o size = isWithin (headSize o) (headSize o + mostBytes o) size
+isSizeOf o size = leb (headSize o) size && isTail (tailOf o) (size - headSize o)
+
+-- one handle more than a batch may have: enough for R20
+abbrev pub mostHandles : ℕ
+mostHandles = largestBatch + 1
+
+-- F12: and their bytes
+abbrev pub mostHandleBytes : ℕ
+mostHandleBytes = handleWidth * mostHandles
+
+-- how many of the bytes that follow are handed on: all, but of a batch no more than are enough
+abbrev pub handedOn : Tail → ℕ → ℕ
+handedOn (bytesUpTo most) count = count
+handedOn anyHandles count = min count mostHandleBytes
 
 -- F21: a kind by its byte; R19 where it is unknown
 abbrev pub kindOf : ℕ → KindByte
@@ -104,16 +136,17 @@ requestOf read values = some (Use (Read (getD values 0 0) (getD values 1 0)))
 requestOf write values = some (Use (Write (getD values 0 0) (getD values 1 0) (getD values 2 0)))
 requestOf report values = some Report
 requestOf remaining values = some (Remaining (getD values 0 0) (getD values 1 0))
+requestOf batch values = withKind (kindOf (getD values 1 0)) (λ (kind : Kind). Use (Batch (getD values 0 0) kind (getD values 2 0)))
 
 abbrev pub frameWith : Option Request → ℕ → Frame
 frameWith none count = Frame.Refused UnknownKind
 frameWith (some request) count = Frame.Request request count
 
--- R33: a frame of a known operation: 18, then 19; the bytes after the fields come with the request
+-- R33: a frame of a known operation: 18, then 19; the bytes that are handed on come with the request
 unfoldable pub frameAs : Operation → List ℕ → Frame
 frameAs o bytes =
     cond (isSizeOf o (length bytes))
-    (frameWith (requestOf o (fieldsAt 1 (widthsOf o) bytes)) (length bytes - headSize o))
+    (frameWith (requestOf o (fieldsAt 1 (widthsOf o) bytes)) (handedOn (tailOf o) (length bytes - headSize o)))
     (Frame.Refused WrongFrameLength)
 
 -- R17 before these
@@ -129,9 +162,13 @@ frameIn bytes = frameBy (operationIn operations (getD bytes 0 0)) bytes
 unfoldable pub frameOf : List ℕ → Frame
 frameOf line = cond (isHex line) (frameIn (bytesOf line)) (Frame.Refused NotHexadecimal)
 
+-- the last so many of a list
+abbrev pub lastBytes : ℕ → List ℕ → List ℕ
+lastBytes count bytes = drop (length bytes - count) bytes
+
 -- the bytes that come with a request are the last of its frame
 abbrev pub lastOf : Frame → List ℕ → List ℕ
-lastOf (Frame.Request request count) bytes = drop (length bytes - count) bytes
+lastOf (Frame.Request request count) bytes = lastBytes count bytes
 lastOf (Frame.Refused refusal) bytes = []
 
 unfoldable pub payloadOf : List ℕ → List ℕ
@@ -149,6 +186,7 @@ operationOf (Use (Make task kind extension length)) = make
 operationOf (Use (Refresh task kind extension handle)) = refresh
 operationOf (Use (Read task handle)) = read
 operationOf (Use (Write task handle offset)) = write
+operationOf (Use (Batch task kind extension)) = batch
 operationOf Report = report
 operationOf (Remaining task handle) = remaining
 
@@ -162,6 +200,7 @@ valuesOf (Use (Make task kind extension length)) = task ∷ kindNumber kind ∷ 
 valuesOf (Use (Refresh task kind extension handle)) = task ∷ kindNumber kind ∷ extension ∷ handle ∷ []
 valuesOf (Use (Read task handle)) = task ∷ handle ∷ []
 valuesOf (Use (Write task handle offset)) = task ∷ handle ∷ offset ∷ []
+valuesOf (Use (Batch task kind extension)) = task ∷ kindNumber kind ∷ extension ∷ []
 valuesOf Report = []
 valuesOf (Remaining task handle) = task ∷ handle ∷ []
 
@@ -171,9 +210,11 @@ lineOf request bytes =
     let o = operationOf request in
     hexOf (operationNumber o ∷ inFields (widthsOf o) (valuesOf request) ++ bytes)
 
--- The round trip: from its line a request comes back with its bytes, where its values fit their fields and it brings no more bytes than it may.
+-- The round trip: from its line a request comes back with those of its bytes that are handed on, where its values fit their fields and so many
+-- bytes may follow them.
 abbrev pub RoundTrip : Type 0
 RoundTrip =
-    (request : Request) (bytes : List ℕ) → FitFields (widthsOf (operationOf request)) (valuesOf request)
-    → All (λ (b : ℕ). b < 256) bytes → length bytes ≤ mostBytes (operationOf request)
-    → (frameOf (lineOf request bytes) ≡ Frame.Request request (length bytes)) × (payloadOf (lineOf request bytes) ≡ bytes)
+    (request : Request) (bytes : List ℕ) → let o = operationOf request in
+    let count = handedOn (tailOf o) (length bytes) in
+    FitFields (widthsOf o) (valuesOf request) → All (λ (b : ℕ). b < 256) bytes → isTail (tailOf o) (length bytes) ≡ true
+    → (frameOf (lineOf request bytes) ≡ Frame.Request request count) × (payloadOf (lineOf request bytes) ≡ lastBytes count bytes)

@@ -1,2 +1,4 @@
 pub mod Frames
+pub mod HandedOn
+pub mod HandleBytes
 pub mod Answers

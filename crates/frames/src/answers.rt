@@ -1,4 +1,5 @@
 // The line of an answer.
+use super::words::word;
 use ledger::Answer;
 use ledger::Life;
 use ledger::Usage;
@@ -12,18 +13,6 @@ ghost use Rattle.frames.specs.Answers.{answerHead, answerLine};
 ghost use Rattle.text.specs.Fields.{inBytes};
 ghost use Rattle.text.specs.Hex.{hexOf, Puts};
 ghost use Rattle.ledger.specs.declared.Answer.the-variants.{Counted, Lasts};
-
-// A number in four bytes, high byte first.
-fn word(value: u32) -> [u8; 4]
-    ensures { λ r. ⌜ r ≡ inBytes 4 value ⌝ }
-{
-    [
-        (value / 16777216 % 256) as u8,
-        (value / 65536 % 256) as u8,
-        (value / 256 % 256) as u8,
-        (value % 256) as u8,
-    ]
-}
 
 // A number in four bytes as digits at a place of a buffer; the place after them.
 fn put_word(out: &mut [u8], at: usize, value: u32) -> usize

@@ -4,6 +4,7 @@ use ledger::Request;
 
 mod answers;
 mod requests;
+mod words;
 
 pub use answers::WIDEST_HEAD;
 pub use answers::encode_answer;
@@ -11,6 +12,9 @@ pub use requests::KindByte;
 pub use requests::MOST_BYTES;
 pub use requests::decode;
 pub use requests::kind_of;
+pub use words::Handed;
+pub use words::MOST_HANDLE_BYTES;
+pub use words::handle_bytes;
 
 // What a line gives: a request and the count of the bytes that come with it, or a refusal. An enum holds no array, so the bytes stand beside it.
 pub enum Frame {

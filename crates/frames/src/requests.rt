@@ -1,5 +1,8 @@
 // The frame of a line. The fields of an operation stand at fixed places, and its number at place 0.
 use super::Frame;
+use super::words::HANDLE_WIDTH;
+use super::words::MOST_HANDLE_BYTES;
+use super::words::capped;
 use ledger::Call;
 use ledger::Event;
 use ledger::Kind;
@@ -16,7 +19,7 @@ ghost use mathlib.Core.Bool.{true};
 ghost use mathlib.Core.Path.{_≡_};
 ghost use lib.ListN.{length};
 ghost use Rattle.ledger.specs.Limits.{largeSize};
-ghost use Rattle.frames.specs.Frames.{Decodes, kindOf, frameAs, frameIn, frameOf, schedule, make, refresh, read, write, report, remaining};
+ghost use Rattle.frames.specs.Frames.{Decodes, kindOf, frameAs, frameIn, frameOf, schedule, make, refresh, read, write, report, remaining, batch};
 ghost use Rattle.text.specs.Hex.{isHex, bytesOf};
 
 // F21: the kind that a byte names.
@@ -166,6 +169,36 @@ fn remaining(line: &[u8]) -> Frame
     Frame::Request(Request::Remaining { task, handle }, 0)
 }
 
+// F12: operation, task, kind and extension; then the handles.
+const BATCH_HEAD: usize = 4;
+
+fn batch(line: &[u8]) -> Frame
+    requires { ⌜ isHex (now line) ≡ true ⌝ }
+    ensures { λ r. ⌜ r ≡ frameAs batch (bytesOf (now (line .entry))) ⌝ }
+{
+    let size = line.len() / 2;
+    if size < BATCH_HEAD {
+        return Frame::Refused(Refusal::WrongFrameLength);
+    }
+    let count = size - BATCH_HEAD;
+    if count % HANDLE_WIDTH != 0 {
+        return Frame::Refused(Refusal::WrongFrameLength);
+    }
+    let KindByte::Known(kind) = kind_of(byte_at(line, 2)) else {
+        return Frame::Refused(Refusal::UnknownKind);
+    };
+    let task = byte_at(line, 1);
+    let extension = byte_at(line, 3);
+    Frame::Request(
+        Request::Use(Call::Batch {
+            task,
+            kind,
+            extension,
+        }),
+        capped(count, MOST_HANDLE_BYTES),
+    )
+}
+
 // By the operation's number; R17 where there is none.
 fn frame_in(line: &[u8]) -> Frame
     requires { ⌜ isHex (now line) ≡ true ⌝ }
@@ -186,6 +219,7 @@ fn frame_in(line: &[u8]) -> Frame
         9 => write(line),
         10 => report(line),
         11 => remaining(line),
+        12 => batch(line),
         _ => Frame::Refused(Refusal::UnknownOperation),
     }
 }

@@ -8,7 +8,7 @@ ghost use Rattle.ledger.specs.declared.Request.the-variants.{Use, Report, Remai
 ghost use Rattle.record.specs.Reading.{freshPool};
 ghost use Rattle.frames.specs.Frames.{kindOf};
 ghost use Rattle.numbered.specs.Told.{buffered};
-ghost use Rattle.numbered.specs.Entries.{Does, MakesBy, RefreshesBy, WritesTo, CopiesOut, Carries};
+ghost use Rattle.numbered.specs.Entries.{Does, MakesBy, RefreshesBy, RefreshesAllBy, WritesTo, CopiesOut, Carries};
 use record::Pool;
 
 #[no_mangle]
@@ -94,6 +94,22 @@ pub extern "C" fn ramsummer_refresh(
     ensures { λ r. ⌜ RefreshesBy (kindOf kind) task extension handle (now (p .entry)) r (now (p .exit)) ⌝ }
 {
     let r = numbered::refresh(*p, task, kind, extension, handle);
+    *p = r.pool;
+    r.number
+}
+
+// All these objects, or none.
+#[no_mangle]
+pub extern "C" fn ramsummer_refresh_all(
+    p: &mut Pool,
+    task: u8,
+    kind: u8,
+    extension: u8,
+    handles: &[u32],
+) -> u8
+    ensures { λ r. ⌜ RefreshesAllBy (kindOf kind) task extension (now (handles .entry)) (now (p .entry)) r (now (p .exit)) ⌝ }
+{
+    let r = numbered::refresh_all(*p, task, kind, extension, handles);
     *p = r.pool;
     r.number
 }

@@ -9,13 +9,14 @@ use mathlib.Core.Path.{_≡_, refl, sym, ap, _∙_}
 use borrow.Author.Tests.{not-false, eqb-true}
 use lib.Dec.{eqb}
 use Rattle.lists.specs.Columns.{_⊛_}
-use Rattle.lists.specs.Tests.{filter, All}
-use Rattle.lists.proofs.Cases.{by-test, not-leb, or-second}
-use Rattle.lists.proofs.All.{all-every, all-imp, all-append, all-map}
+use Rattle.lists.specs.Tests.{all, filter, All}
+use Rattle.lists.proofs.Cases.{by-test, not-leb, not-ltb, or-second, or-right}
+use Rattle.lists.proofs.Counts.{not-any-not}
+use Rattle.lists.proofs.All.{all-every, all-imp, all-append, all-map, all-widened}
 use Rattle.lists.proofs.Filters.{filter-map-filter, filter-filter, filter-filter-append, any-filter}
 use Rattle.ledger.specs.Tasks.{Clocks, isTested}
-use Rattle.ledger.specs.Expirations.{Expiration, lasting, isLive, isOf, isSetBy}
-use Rattle.ledger.specs.Objects.{Object, Memory, Reply, freshMemory, objectAt, written, stands, standing, replyTo, memoryAfter, expirationsAfter}
+use Rattle.ledger.specs.Expirations.{DueTime, Expiration, lasting, isLive, isOf, isSetBy, setOnEach}
+use Rattle.ledger.specs.Objects.{Object, Memory, Reply, freshMemory, objectAt, written, stands, standing, replyTo, memoryAfter, expirationsAfter, handlesOf}
 use Rattle.ledger.specs.Refusals.{testsOf}
 use Rattle.ledger.specs.Ledger.{settled, fresh, verdictOn, replyBy, afterBy, reply, next, replies}
 use Rattle.ledger.specs.Heap.{heapVerdictOn, heapReply, heapNext, heapReplies, bookNext, isInTimeAndBounds, isLeftAside, allInTimeAndBounds, Used, sent, Demand3}
@@ -23,7 +24,7 @@ use Rattle.ledger.specs.declared.Refusal.{Refusal}
 use Rattle.ledger.specs.declared.Answer.{Answer}
 use Rattle.ledger.specs.declared.Answer.the-variants.{Refused, Done, Advanced, Handle, Bytes, Counted, Lasts}
 use Rattle.ledger.specs.declared.Call.{Call}
-use Rattle.ledger.specs.declared.Call.the-variants.{Schedule, Make, Refresh, Read, Write}
+use Rattle.ledger.specs.declared.Call.the-variants.{Schedule, Make, Refresh, Read, Write, Batch}
 use Rattle.ledger.specs.declared.Event.{Event}
 use Rattle.ledger.specs.declared.Event.the-variants.{Join, Leave, Block, Resume, Tick}
 use Rattle.ledger.proofs.Verdicts.{isOwn, isOwnVerdict, isClear, isOrdered, Agree, Compared, alike, apart, compared, heap-not-own}
@@ -54,6 +55,7 @@ ordered (Make task kind extension size) new = refl
 ordered (Refresh task kind extension handle) new = refl
 ordered (Read task handle) new = refl
 ordered (Write task handle offset) new = refl
+ordered (Batch task kind extension) new = refl
 
 -- the shared tests come out the same of ledger and heap: but for 13, they look at no object
 agreed : (m : Memory) (xs : List Expiration) (call : Call) (new : List ℕ) → Agree (swept xs m) xs m (testsOf call new)
@@ -68,10 +70,11 @@ agreed m xs (Refresh task kind extension handle) new = (refl, (refl, (refl, (ref
 agreed m xs (Read task handle) new = (refl, (refl, (refl, (refl, λ g. tt))))
 agreed m xs (Write task handle offset) new =
     (refl, (refl, (refl, (refl, λ g. (rw (at-standing xs handle (m .objects) (not-false _ g)), tt)))))
+agreed m xs (Batch task kind extension) new = (refl, (refl, (refl, (refl, (refl, (refl, λ g e. tt))))))
 
 -- no test of the pool's own holds exactly when the book finds the use in time and in bounds
 clear : (m : Memory) (xs : List Expiration) (call : Call) (new : List ℕ)
-    → isClear (swept xs m) xs (testsOf call new) ≡ isInTimeAndBounds m xs call
+    → isClear (swept xs m) xs (testsOf call new) ≡ isInTimeAndBounds m xs call new
 unfolding testsOf isInTimeAndBounds
 clear m xs (Schedule Join task) new = refl
 clear m xs (Schedule Leave task) new = refl
@@ -82,16 +85,18 @@ clear m xs (Make task kind extension size) new = simp (not-leb, and-true)
 clear m xs (Refresh task kind extension handle) new = simp (Bool·not-not, not-leb, and-true)
 clear m xs (Read task handle) new = simp (Bool·not-not, and-true)
 clear m xs (Write task handle offset) new = simp (Bool·not-not, and-true)
+clear m xs (Batch task kind extension) new = rw (not-any-not (stands xs) (handlesOf new)) (simp (not-ltb, and-true))
 
 -- what a call answers depends on nothing that is swept away
-same-reply : (m : Memory) (xs : List Expiration) (call : Call) → isInTimeAndBounds m xs call ≡ true
+same-reply : (m : Memory) (xs : List Expiration) (call : Call) (new : List ℕ) → isInTimeAndBounds m xs call new ≡ true
     → replyTo call (swept xs m) ≡ replyTo call m
 unfolding replyTo isInTimeAndBounds
-same-reply m xs (Schedule event task) e = refl
-same-reply m xs (Make task kind extension size) e = refl
-same-reply m xs (Refresh task kind extension handle) e = refl
-same-reply m xs (Read task handle) e = rw (at-standing xs handle (m .objects) e)
-same-reply m xs (Write task handle offset) e = refl
+same-reply m xs (Schedule event task) new e = refl
+same-reply m xs (Make task kind extension size) new e = refl
+same-reply m xs (Refresh task kind extension handle) new e = refl
+same-reply m xs (Read task handle) new e = rw (at-standing xs handle (m .objects) e)
+same-reply m xs (Write task handle offset) new e = refl
+same-reply m xs (Batch task kind extension) new e = refl
 
 -- the handles of the heap's objects are given
 Numbered : Memory → Type 0
@@ -109,6 +114,15 @@ lasting-stands Block task clocks xs handle s = any-filter _ _ xs s
 lasting-stands Resume task clocks xs handle s = s
 lasting-stands Tick task clocks xs handle s = any-filter _ _ xs s
 
+-- nor does a batch set one where none stands
+each-stands : (due : DueTime) (handles : List ℕ) (xs : List Expiration) → all (stands xs) handles ≡ true → (handle : ℕ)
+    → stands (setOnEach due handles xs) handle ≡ true → stands xs handle ≡ true
+unfolding setOnEach
+each-stands due [] xs e handle s = s
+each-stands due (h ∷ hs) xs e handle s =
+    let (here, rest) = and-eq-true-iff (stands xs h) (all (stands xs) hs) .0 e in
+    or-second (eqb h handle) (λ a. rw (sym (eqb-true h handle a)) here) (each-stands due hs _ (all-widened (stands xs) _ (λ n t. or-right (eqb h n) t) hs rest) handle s)
+
 -- a sweep changes nothing before one that leaves no more
 swept-twice : (xs ys : List Expiration) (os : List Object)
     → All (λ (o : Object). stands ys (o .handle) ≡ true → stands xs (o .handle) ≡ true) os
@@ -116,9 +130,9 @@ swept-twice : (xs ys : List Expiration) (os : List Object)
 swept-twice xs ys os h = filter-filter _ _ os h
 
 -- what the ledger sweeps away, the call's own sweep would have taken
-same-sweep : (m : Memory) (xs : List Expiration) (call : Call) (new : List ℕ) → Numbered m → isInTimeAndBounds m xs call ≡ true
-    → settled (memoryAfter call new (swept xs m)) (expirationsAfter call (swept xs m) xs)
-    ≡ settled (memoryAfter call new m) (expirationsAfter call m xs)
+same-sweep : (m : Memory) (xs : List Expiration) (call : Call) (new : List ℕ) → Numbered m → isInTimeAndBounds m xs call new ≡ true
+    → settled (memoryAfter call new (swept xs m)) (expirationsAfter call new (swept xs m) xs)
+    ≡ settled (memoryAfter call new m) (expirationsAfter call new m xs)
 unfolding memoryAfter expirationsAfter isInTimeAndBounds Numbered written
 same-sweep m xs (Schedule event task) new k e =
     rw (swept-twice xs _ (m .objects) (all-every _ (λ o. lasting-stands event task _ xs (o .handle)) (m .objects)))
@@ -130,11 +144,14 @@ same-sweep m xs (Make task kind extension size) new k e =
 same-sweep m xs (Refresh task kind extension handle) new k e =
     let s : stands xs handle ≡ true = and-eq-true-iff _ _ .0 e .0 in
     rw
-    (swept-twice xs (expirationsAfter (Refresh task kind extension handle) m xs) (m .objects)
+    (swept-twice xs (expirationsAfter (Refresh task kind extension handle) new m xs) (m .objects)
     (all-every _ (λ (o : Object). or-second (eqb handle (o .handle)) (λ a. rw (sym (eqb-true handle (o .handle) a)) s)) (m .objects)))
 same-sweep m xs (Read task handle) new k e = rw (swept-twice xs xs (m .objects) (all-every _ (λ o s. s) (m .objects)))
 same-sweep m xs (Write task handle offset) new k e =
     rw (filter-map-filter _ _ (written handle offset new) (m .objects) (all-every _ (λ o s. s) (m .objects)))
+same-sweep m xs (Batch task kind extension) new k e =
+    let stand : all (stands xs) (handlesOf new) ≡ true = and-eq-true-iff _ _ .0 e .0 in
+    rw (swept-twice xs _ (m .objects) (all-every _ (λ (o : Object). each-stands _ (handlesOf new) xs stand (o .handle)) (m .objects)))
 
 -- the heap's handles stay given
 numbered-after : (m : Memory) (call : Call) (new : List ℕ) → Numbered m → Numbered (memoryAfter call new m)
@@ -145,6 +162,7 @@ numbered-after m (Make task kind extension size) new k =
 numbered-after m (Refresh task kind extension handle) new k = k
 numbered-after m (Read task handle) new k = k
 numbered-after m (Write task handle offset) new k = all-map _ (written handle offset new) (m .objects) k
+numbered-after m (Batch task kind extension) new k = k
 
 numbered : (m : Memory) (call : Call) (new : List ℕ) → Numbered m → Numbered (heapNext m call new)
 unfolding heapNext
@@ -172,6 +190,7 @@ own-reply none (Make task kind extension size) m = refl
 own-reply none (Refresh task kind extension handle) m = refl
 own-reply none (Read task handle) m = refl
 own-reply none (Write task handle offset) m = refl
+own-reply none (Batch task kind extension) m = refl
 
 -- A refusal of the pool's own is no answer of the heap's, and is not told alike where what is told shows it.
 module _ {X : Type 0} (tell : Reply → X) (isOwnTold : X → Bool)
@@ -187,7 +206,7 @@ module _ {X : Type 0} (tell : Reply → X) (isOwnTold : X → Bool)
 -- One call: ledger and heap answer alike and stay together, or the use was out of time or bounds and the ledger gives a refusal of its own.
 module _ (m : Memory) (xs : List Expiration) (call : Call) (new : List ℕ) where
   isFine : Bool
-  isFine = isLeftAside (heapVerdictOn m call new) || isInTimeAndBounds m xs call
+  isFine = isLeftAside (heapVerdictOn m call new) || isInTimeAndBounds m xs call new
 
   data Step : Type 0 where
     together : isFine ≡ true → reply (settled m xs) call new ≡ heapReply m call new
@@ -198,14 +217,14 @@ module _ (m : Memory) (xs : List Expiration) (call : Call) (new : List ℕ) wher
   unfolding isFine reply next heapReply heapNext bookNext
   step k = by (compared (swept xs m) xs m (testsOf call new) (ordered call new) (agreed m xs call new))
     where
-      by-reply : (v : Option Refusal) → (isLeftAside v || isInTimeAndBounds m xs call) ≡ true
+      by-reply : (v : Option Refusal) → (isLeftAside v || isInTimeAndBounds m xs call new) ≡ true
           → replyBy v (replyTo call (swept xs m)) ≡ replyBy v (replyTo call m)
-      by-reply none f = same-reply m xs call f
+      by-reply none f = same-reply m xs call new f
       by-reply (some r) f = refl
 
-      by-next : (v : Option Refusal) → (isLeftAside v || isInTimeAndBounds m xs call) ≡ true
-          → afterBy v (settled (memoryAfter call new (swept xs m)) (expirationsAfter call (swept xs m) xs)) (settled m xs)
-          ≡ settled (afterBy v (memoryAfter call new m) m) (afterBy v (expirationsAfter call m xs) xs)
+      by-next : (v : Option Refusal) → (isLeftAside v || isInTimeAndBounds m xs call new) ≡ true
+          → afterBy v (settled (memoryAfter call new (swept xs m)) (expirationsAfter call new (swept xs m) xs)) (settled m xs)
+          ≡ settled (afterBy v (memoryAfter call new m) m) (afterBy v (expirationsAfter call new m xs) xs)
       by-next none f = same-sweep m xs call new k f
       by-next (some r) f = refl
 

@@ -7,8 +7,8 @@ use Rattle.lists.specs.Tests.{all}
 use Rattle.lists.proofs.Tests.{both, sameBy, sameBy→eq, all→All}
 use Rattle.ledger.specs.Limits.{counterRange, limits, lastHandle}
 use Rattle.ledger.specs.Tasks.{freshClocks, moved, allTicked, tasksAfter, advances, clocksAfter}
-use Rattle.ledger.specs.Expirations.{dueAfter, remaining, lasting}
-use Rattle.ledger.specs.Objects.{freshMemory, objectAt, written, replyTo, memoryAfter, expirationsAfter, usage}
+use Rattle.ledger.specs.Expirations.{dueAfter, remaining, lasting, setOnEach}
+use Rattle.ledger.specs.Objects.{freshMemory, objectAt, written, replyTo, memoryAfter, expirationsAfter, handlesOf, usage}
 use Rattle.ledger.specs.Refusals.{testsOf, verdict}
 use Rattle.ledger.specs.Remaining.{remainingLife}
 use Rattle.ledger.specs.Ledger.{fresh, reply, next, replies, afterAll}
@@ -32,7 +32,7 @@ passing-holds row t =
 -- the checker runs all calls of both tables
 all-pass : T (all passes edges) × T (all passes moreEdges)
 unfolding passes edges moreEdges fresh reply next replies afterAll testsOf verdict
-    freshMemory objectAt written overwritten replyTo memoryAfter expirationsAfter usage dueAfter remaining remainingLife lasting
+    freshMemory objectAt written overwritten replyTo memoryAfter expirationsAfter handlesOf setOnEach usage dueAfter remaining remainingLife lasting
     freshClocks moved allTicked tasksAfter advances clocksAfter
     limits lastHandle counterRange
 all-pass = (tt, tt)

@@ -1,28 +1,28 @@
 -- Every ledger from fresh on keeps what `Kept` says.
 use Prim.Native.Nat.{ℕ, _+_, zero-le}
-use mathlib.Core.Bool.{or-true}
+use mathlib.Core.Bool.{true, or-true}
 use mathlib.Core.List.{List, [], _∷_}
 use mathlib.Core.Option.{Option, none, some}
 use mathlib.Core.Path.{_≡_, refl}
-use borrow.Author.Tests.{not-false, eqb-true, eq-eqb}
-use Rattle.lists.proofs.All.{all-filter, all-replicate, found}
+use borrow.Author.Tests.{not-false, leb-false, ltb-false, eqb-true, eq-eqb}
+use Rattle.lists.proofs.All.{all-imp, all-filter, all-replicate, found, none→All}
 use Rattle.lists.proofs.Counts.{any-append, any-map}
 use Rattle.ledger.specs.Limits.{taskCount}
 use Rattle.ledger.specs.Tasks.{freshClocks, allTicked}
 use Rattle.ledger.specs.Expirations.{Expiration, isOf}
-use Rattle.ledger.specs.Objects.{Object, Memory, freshMemory, stands, written, memoryAfter, expirationsAfter}
+use Rattle.ledger.specs.Objects.{Object, Memory, freshMemory, stands, written, memoryAfter, expirationsAfter, handlesOf}
 use Rattle.ledger.specs.Refusals.{testsOf}
 use Rattle.ledger.specs.Ledger.{Ledger, Sent, fresh, settled, afterBy, verdictOn, next, afterRequest, afterAll}
 use Rattle.ledger.specs.Kept.{TaskKept, ClocksKept, ObjectsKept, ExpirationsKept, Kept}
 use Rattle.ledger.specs.declared.Call.{Call}
-use Rattle.ledger.specs.declared.Call.the-variants.{Schedule, Make, Refresh, Read, Write}
+use Rattle.ledger.specs.declared.Call.the-variants.{Schedule, Make, Refresh, Read, Write, Batch}
 use Rattle.ledger.specs.declared.Refusal.{Refusal}
 use Rattle.ledger.specs.declared.Request.{Request}
 use Rattle.ledger.specs.declared.Request.the-variants.{Use, Report, Remaining}
 use Rattle.ledger.proofs.Passed.{Passed, passed}
 use Rattle.ledger.proofs.KeptTasks.{absent-kept, clocks-after}
 use Rattle.ledger.proofs.KeptObjects.{objects-settled, objects-made, objects-written}
-use Rattle.ledger.proofs.KeptExpirations.{expirations-after, reowned, expirations-settled, expirations-set}
+use Rattle.ledger.proofs.KeptExpirations.{isListed, expirations-after, reowned, expirations-settled, expirations-set, expirations-set-each}
 
 pub kept-fresh : Kept fresh
 unfolding fresh freshMemory freshClocks allTicked
@@ -45,9 +45,14 @@ kept-settled {m} {xs} c o x =
       standing = all-filter (λ (o : Object). stands xs (o .handle)) (λ o e k. e) (m .objects) (o .each);
     }
 
+-- an object that stands is one of the ledger's
+owned-by : (m : Memory) (xs : List Expiration) → Kept (record { memory = m; expirations = xs }) → (handle : ℕ) → stands xs handle ≡ true
+    → isListed handle (m .objects) ≡ true
+owned-by m xs k handle s = found (isOf handle) (λ x e h. rw (eqb-true (x .handle) handle e) at (h .owned)) xs s (k .expirations .each)
+
 -- a call that is carried out
 kept-carried : (m : Memory) (xs : List Expiration) (call : Call) (new : List ℕ) → Passed m xs call new
-    → Kept (record { memory = m; expirations = xs }) → Kept (settled (memoryAfter call new m) (expirationsAfter call m xs))
+    → Kept (record { memory = m; expirations = xs }) → Kept (settled (memoryAfter call new m) (expirationsAfter call new m xs))
 unfolding testsOf memoryAfter expirationsAfter written
 kept-carried m xs (Schedule event task) new c k =
     kept-settled (clocks-after m xs new task event c (k .clocks)) (k .objects)
@@ -55,20 +60,25 @@ kept-carried m xs (Schedule event task) new c k =
 kept-carried m xs (Make task kind extension size) new c k =
     let (exists, (present, (active, (short, (range, (spent, (block, (room, end)))))))) = c in
     kept-settled (k .clocks) (objects-made size range spent block (k .objects))
-    (expirations-set task kind extension (m .given + 1) present short room
+    (expirations-set task kind extension (m .given + 1) present short (leb-false _ _ room)
     (rw (any-append, eq-eqb (m .given + 1) (m .given + 1) refl, or-true))
     (reowned (λ x e o. rw (any-append, o)) (k .expirations)))
 kept-carried m xs (Refresh task kind extension handle) new c k =
     let (exists, (present, (active, (short, (given, (gone, (room, end))))))) = c in
     kept-settled (k .clocks) (k .objects)
-    (expirations-set task kind extension handle present short room
-    (found (isOf handle) (λ x e h. rw (eqb-true (x .handle) handle e) at (h .owned)) xs (not-false _ gone) (k .expirations .each))
+    (expirations-set task kind extension handle present short (leb-false _ _ room)
+    (owned-by m xs k handle (not-false _ gone))
     (k .expirations))
 kept-carried m xs (Read task handle) new c k = kept-settled (k .clocks) (k .objects) (k .expirations)
 kept-carried m xs (Write task handle offset) new c k =
     let (exists, (present, (active, (given, (gone, (outside, end)))))) = c in
     kept-settled (k .clocks) (objects-written handle offset new outside (k .objects))
     (reowned (λ x e o. rw any-map o) (k .expirations))
+kept-carried m xs (Batch task kind extension) new c k =
+    let (exists, (present, (active, (range, (short, (given, (gone, (room, end)))))))) = c in
+    kept-settled (k .clocks) (k .objects)
+    (expirations-set-each task kind extension present short (handlesOf new) xs (ltb-false _ _ room)
+    (all-imp (λ h e. owned-by m xs k h (not-false _ e)) (handlesOf new) (none→All _ (handlesOf new) gone)) (k .expirations))
 
 pub kept-request : (L : Ledger) → Kept L → (request : Request) (new : List ℕ) → Kept (afterRequest L request new)
 unfolding next
@@ -77,7 +87,7 @@ kept-request L k (Remaining task handle) new = k
 kept-request L k (Use call) new = by (verdictOn L call new) refl
   where
     by : (v : Option Refusal) → verdictOn L call new ≡ v
-        → Kept (afterBy v (settled (memoryAfter call new (L .memory)) (expirationsAfter call (L .memory) (L .expirations))) L)
+        → Kept (afterBy v (settled (memoryAfter call new (L .memory)) (expirationsAfter call new (L .memory) (L .expirations))) L)
     by none e = kept-carried (L .memory) (L .expirations) call new (passed (L .memory) (L .expirations) (testsOf call new) e) k
     by (some r) e = k
 

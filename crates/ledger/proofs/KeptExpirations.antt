@@ -1,20 +1,20 @@
 -- The expirations stay as `ExpirationsKept` says when clocks move, when one is set, and when the objects change.
-use Prim.Native.Nat.{ℕ, _+_, _-_, _≤_}
+use Prim.Native.Nat.{ℕ, _+_, _-_, _≤_, _<_}
 use native.Mathlib.Nat.{le-trans}
 use native.Mathlib.Omega.{arith}
 use mathlib.Core.Bool.{Bool, true, false, true≢false, not}
-use mathlib.Core.List.{List, _∷_}
+use mathlib.Core.List.{List, [], _∷_}
 use mathlib.Core.Path.{_≡_, refl, sym, _∙_}
-use borrow.Author.Tests.{ltb-true, ltb-false, leb-false, eqb-true, eq-eqb, not-true, not-false}
-use lib.Dec.{leb, ltb}
+use borrow.Author.Tests.{ltb-true, ltb-false, eqb-true, eq-eqb, not-true, not-false}
+use lib.Dec.{eqb, ltb}
 use lib.ListN.{length, getD, List·getD-map}
-use Rattle.lists.specs.Tests.{filter, All}
+use Rattle.lists.specs.Tests.{any, filter, All}
 use Rattle.lists.proofs.Cases.{by-test}
 use Rattle.lists.proofs.All.{all-imp, all-both, all-filter, all-any, at-set}
 use Rattle.lists.proofs.Counts.{any-left, length-filter}
 use Rattle.ledger.specs.Limits.{limits}
 use Rattle.ledger.specs.Tasks.{Task, Clocks, taskAt, absentTask, isAbsent, isTested, moved, unticked, tasksAfter, advances, clocksAfter}
-use Rattle.ledger.specs.Expirations.{DueTime, byLocal, byGlobal, Expiration, dueAfter, remaining, isLive, isSetBy, isOf, lasting}
+use Rattle.ledger.specs.Expirations.{DueTime, byLocal, byGlobal, Expiration, dueAfter, remaining, isLive, isSetBy, isOf, lasting, setOnEach}
 use Rattle.ledger.specs.Objects.{Object, Memory, stands, standing}
 use Rattle.ledger.specs.Refusals.{testsOf}
 use Rattle.ledger.specs.Kept.{Within, isOwned, ExpirationKept, ExpirationsKept}
@@ -132,9 +132,25 @@ new-due clocks task extension Global present h = omega arith
 
 pub expirations-set : {clocks : Clocks} {os : List Object} {xs : List Expiration} (task : ℕ) (kind : Kind) (extension handle : ℕ)
     → isAbsent (taskAt clocks task .state) ≡ false → ltb (limits .extension) extension ≡ false
-    → leb (limits .expirations) (length xs) ≡ false
+    → length xs < limits .expirations
     → isOwned os (record { handle = handle; due = dueAfter clocks task kind extension }) ≡ true → ExpirationsKept clocks os xs
     → ExpirationsKept clocks os (record { handle = handle; due = dueAfter clocks task kind extension } ∷ xs)
 expirations-set {clocks} task kind extension handle present short room owned k =
     let (ahead, within) = new-due clocks task extension kind present (ltb-false _ _ short) in
-    record { each = (record { owned = owned; ahead = ahead; within = within }, k .each); room = leb-false _ _ room }
+    record { each = (record { owned = owned; ahead = ahead; within = within }, k .each); room = room }
+
+-- an object of the list has this handle: it owns what is set on the handle
+abbrev pub isListed : ℕ → List Object → Bool
+isListed handle os = any (λ (o : Object). eqb handle (o .handle)) os
+
+-- and on each object of a batch, where there is room for all
+pub expirations-set-each : {clocks : Clocks} {os : List Object} (task : ℕ) (kind : Kind) (extension : ℕ)
+    → isAbsent (taskAt clocks task .state) ≡ false → ltb (limits .extension) extension ≡ false
+    → (handles : List ℕ) (xs : List Expiration) → length xs + length handles ≤ limits .expirations
+    → All (λ (handle : ℕ). isListed handle os ≡ true) handles
+    → ExpirationsKept clocks os xs → ExpirationsKept clocks os (setOnEach (dueAfter clocks task kind extension) handles xs)
+unfolding setOnEach
+expirations-set-each task kind extension present short [] xs room owned k = k
+expirations-set-each task kind extension present short (h ∷ hs) xs room (owned, rest) k =
+    expirations-set-each task kind extension present short hs _ (omega (arith, room)) rest
+    (expirations-set task kind extension h present short (omega (arith, room)) owned k)

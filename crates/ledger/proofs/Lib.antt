@@ -8,3 +8,5 @@ pub mod KeptObjects
 pub mod KeptExpirations
 pub mod Kept
 pub mod Remaining
+pub mod Batches
+pub mod LongBatches

@@ -1,7 +1,7 @@
 -- The rules E: expirations (01: dates), local (01: own) and global (01: common), when they are due and what ends them.
 use Prim.Native.Nat.{ℕ, _+_, _-_}
 use mathlib.Core.Bool.{Bool, false, not}
-use mathlib.Core.List.{List}
+use mathlib.Core.List.{List, [], _∷_}
 use lib.Dec.{eqb, ltb}
 use Rattle.lists.specs.Tests.{filter}
 use Rattle.ledger.specs.Tasks.{Clocks, taskAt}
@@ -49,3 +49,8 @@ lasting Tick task clocks xs = filter (isLive clocks) xs
 -- the expiration is one of the object with this handle
 abbrev pub isOf : ℕ → Expiration → Bool
 isOf handle x = eqb (x .handle) handle
+
+-- E18: one more expiration on each of these objects, one after the other: an object that is named twice gets two
+unfoldable pub setOnEach : DueTime → List ℕ → List Expiration → List Expiration
+setOnEach due [] xs = xs
+setOnEach due (handle ∷ handles) xs = setOnEach due handles (record { handle = handle; due = due } ∷ xs)

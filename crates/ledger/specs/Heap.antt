@@ -1,21 +1,22 @@
 -- The rules H: the unbounded heap (01: endless heap), the expiration book (01: date book), use in time and in bounds, and demand 3.
-use Prim.Native.Nat.{ℕ}
+use Prim.Native.Nat.{ℕ, _+_}
 use mathlib.Core.Bool.{Bool, true, false, not, _&&_, _||_}
 use mathlib.Core.List.{List, [], _∷_, map}
 use mathlib.Core.Logic.{_↔_}
 use mathlib.Core.Option.{Option, none, some}
 use mathlib.Core.Path.{_≡_}
-use lib.Dec.{eqb, ltb}
+use lib.Dec.{eqb, leb, ltb}
 use lib.ListN.{length}
+use Rattle.lists.specs.Tests.{all}
 use Rattle.ledger.specs.Numbers.{numberOf}
 use Rattle.ledger.specs.Limits.{limits, blocksFor}
 use Rattle.ledger.specs.Expirations.{Expiration}
-use Rattle.ledger.specs.Objects.{Memory, Reply, freshMemory, stands, standing, inStoreOf, replyTo, memoryAfter, expirationsAfter}
+use Rattle.ledger.specs.Objects.{Memory, Reply, freshMemory, stands, standing, inStoreOf, replyTo, memoryAfter, expirationsAfter, handlesOf}
 use Rattle.ledger.specs.Refusals.{testsOf, heapVerdict}
 use Rattle.ledger.specs.Ledger.{Sent, fresh, replies, replyBy, afterBy}
 use Rattle.ledger.specs.declared.Request.the-variants.{Use}
 use Rattle.ledger.specs.declared.Call.{Call}
-use Rattle.ledger.specs.declared.Call.the-variants.{Schedule, Make, Refresh, Read, Write}
+use Rattle.ledger.specs.declared.Call.the-variants.{Schedule, Make, Refresh, Read, Write, Batch}
 use Rattle.ledger.specs.declared.Refusal.{Refusal}
 
 -- H3: the heap is a memory that never takes an object back.
@@ -28,7 +29,7 @@ heapReply m call new = replyBy (heapVerdictOn m call new) (replyTo call m)
 unfoldable pub heapNext : Memory → Call → List ℕ → Memory
 heapNext m call new = afterBy (heapVerdictOn m call new) (memoryAfter call new m) m
 
--- one of the nine calls on its way
+-- one of the ten calls on its way
 pub record Used : Type 0 where
   pub call : Call
   pub bytes : List ℕ
@@ -40,17 +41,20 @@ heapReplies m (u ∷ us) = heapReply m (u .call) (u .bytes) ∷ heapReplies (hea
 -- H7: the book is the expirations standing by the heap's clocks; the lengths that it has are the heap's.
 -- H6: what the heap refuses leaves the book as it is
 unfoldable pub bookNext : Memory → List Expiration → Call → List ℕ → List Expiration
-bookNext m book call new = afterBy (heapVerdictOn m call new) (expirationsAfter call m book) book
+bookNext m book call new = afterBy (heapVerdictOn m call new) (expirationsAfter call new m book) book
 
--- H9 to H13: what a use asks of the book when the call comes: its object stands, and a block and an expiration are free
-unfoldable pub isInTimeAndBounds : Memory → List Expiration → Call → Bool
-isInTimeAndBounds m book (Schedule event task) = true
-isInTimeAndBounds m book (Make task kind extension size) =
+-- H9 to H13, H22: what a use asks of the book when the call comes: its objects stand, and a block and expirations are free
+unfoldable pub isInTimeAndBounds : Memory → List Expiration → Call → List ℕ → Bool
+isInTimeAndBounds m book (Schedule event task) new = true
+isInTimeAndBounds m book (Make task kind extension size) new =
     ltb (inStoreOf size (standing book (m .objects))) (blocksFor size) && ltb (length book) (limits .expirations)
-isInTimeAndBounds m book (Refresh task kind extension handle) =
+isInTimeAndBounds m book (Refresh task kind extension handle) new =
     stands book handle && ltb (length book) (limits .expirations)
-isInTimeAndBounds m book (Read task handle) = stands book handle
-isInTimeAndBounds m book (Write task handle offset) = stands book handle
+isInTimeAndBounds m book (Read task handle) new = stands book handle
+isInTimeAndBounds m book (Write task handle offset) new = stands book handle
+isInTimeAndBounds m book (Batch task kind extension) new =
+    let handles = handlesOf new in
+    all (stands book) handles && leb (length book + length handles) (limits .expirations)
 
 -- H14, H15: a call that the heap refuses is left aside, but not a write that runs past its object
 abbrev pub isLeftAside : Option Refusal → Bool
@@ -61,14 +65,14 @@ isLeftAside (some r) = not (eqb (numberOf r) 13)
 unfoldable pub allInTimeAndBounds : Memory → List Expiration → List Used → Bool
 allInTimeAndBounds m book [] = true
 allInTimeAndBounds m book (u ∷ us) =
-    (isLeftAside (heapVerdictOn m (u .call) (u .bytes)) || isInTimeAndBounds m book (u .call))
+    (isLeftAside (heapVerdictOn m (u .call) (u .bytes)) || isInTimeAndBounds m book (u .call) (u .bytes))
     && allInTimeAndBounds (heapNext m (u .call) (u .bytes)) (bookNext m book (u .call) (u .bytes)) us
 
 -- the same call as the ledger gets it
 abbrev pub sent : Used → Sent
 sent u = record { request = Use (u .call); bytes = u .bytes }
 
--- Demand 3: for every list of the nine calls, ledger and heap answer alike exactly when all use was in time and in bounds.
+-- Demand 3: for every list of the ten calls, ledger and heap answer alike exactly when all use was in time and in bounds.
 abbrev pub Demand3 : Type 0
 Demand3 =
     (us : List Used) → (replies fresh (map sent us) ≡ heapReplies freshMemory us) ↔ (allInTimeAndBounds freshMemory [] us ≡ true)

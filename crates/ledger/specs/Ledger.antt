@@ -48,10 +48,10 @@ reply L call new = replyBy (verdictOn L call new) (replyTo call (L .memory))
 unfoldable pub next : Ledger → Call → List ℕ → Ledger
 next L call new =
     afterBy (verdictOn L call new)
-    (settled (memoryAfter call new (L .memory)) (expirationsAfter call (L .memory) (L .expirations)))
+    (settled (memoryAfter call new (L .memory)) (expirationsAfter call new (L .memory) (L .expirations)))
     L
 
--- all eleven calls: report answers its figures (O24), and remaining life makes the tests of a read (R46); neither changes anything (O25)
+-- all twelve calls: report answers its figures (O24), and remaining life makes the tests of a read (R46); neither changes anything (O25)
 abbrev pub replyToRequest : Ledger → Request → List ℕ → Reply
 replyToRequest L (Use call) new = reply L call new
 replyToRequest L Report new = plain (Counted (usage (L .memory) (L .expirations)))
@@ -63,7 +63,7 @@ afterRequest L (Use call) new = next L call new
 afterRequest L Report new = L
 afterRequest L (Remaining task handle) new = L
 
--- a call on its way: a write brings its bytes
+-- a call on its way: a write brings its bytes, a batch its handles
 pub record Sent : Type 0 where
   pub request : Request
   pub bytes : List ℕ

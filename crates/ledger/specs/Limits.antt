@@ -29,6 +29,10 @@ smallSize = 32
 abbrev pub largeSize : ℕ
 largeSize = 256
 
+-- R20: the most objects of a batch
+abbrev pub largestBatch : ℕ
+largestBatch = 32
+
 -- O15: the largest handle
 unfoldable pub lastHandle : ℕ
 lastHandle = 4294967295

@@ -1,8 +1,9 @@
--- Rules of document 01 that none of the thirteen edges tries, in rows of the same kind: writing, leaving, waiting, the last handle, remaining life, and refusals 1 to 6, 8 and 11.
+-- Rules of documents 01 and 02 that none of the thirteen edges tries, in rows of the same kind: writing, leaving, waiting, the last handle, remaining life, batches, and refusals 1 to 6, 8, 11 and 20.
 use mathlib.Core.List.{List, [], _∷_}
+use lib.ListN.{replicate}
 use Rattle.lists.specs.Tests.{All}
 use Rattle.ledger.specs.Ledger.{fresh}
-use Rattle.ledger.specs.Rows.{join, leave, block, resume, tick, make, refresh, read, write, report, remaining, refused, done, standsStill, advanced, handle, contents, zeros, figures, lasts, _⇒_, _⨾_, Row, _runs_clockReads_, RowHolds, lateStart}
+use Rattle.ledger.specs.Rows.{join, leave, block, resume, tick, make, refresh, read, write, batch, report, remaining, refused, done, standsStill, advanced, handle, contents, zeros, figures, lasts, _⇒_, _⨾_, Row, _runs_clockReads_, RowHolds, lateStart}
 use Rattle.ledger.specs.declared.Kind.the-variants.{Local, Global}
 
 unfoldable pub moreEdges : List Row
@@ -84,6 +85,40 @@ moreEdges =
     tick 0 ⇒ advanced ⨾
     remaining 0 1 ⇒ refused 12
     clockReads 1 ∷
+    -- A batch: each object gets its date, one that is named twice gets two. 20 comes before 6; one object that was never made gives 11 before another that is gone gives 12; and
+    -- then no object gets any.
+    fresh runs
+    join 0 ⇒ done ⨾
+    make 0 Local 0 4 ⇒ handle 1 ⨾
+    make 0 Local 30 4 ⇒ handle 2 ⨾
+    batch 0 Local 1 (1 ∷ 2 ∷ 2 ∷ []) ⇒ done ⨾
+    report ⇒ figures 2 0 5 2 ⨾
+    remaining 0 1 ⇒ lasts 2 0 ⨾
+    batch 0 Local 31 [] ⇒ refused 20 ⨾
+    batch 0 Local 31 (1 ∷ []) ⇒ refused 6 ⨾
+    tick 0 ⇒ advanced ⨾
+    tick 0 ⇒ advanced ⨾
+    batch 0 Local 0 (2 ∷ 1 ∷ []) ⇒ refused 12 ⨾
+    batch 0 Local 0 (1 ∷ 2 ∷ 3 ∷ []) ⇒ refused 11 ⨾
+    report ⇒ figures 1 0 1 2
+    clockReads 2 ∷
+    -- At most 32 objects, and room for all of them together.
+    fresh runs
+    join 0 ⇒ done ⨾
+    make 0 Local 30 4 ⇒ handle 1 ⨾
+    batch 0 Local 0 (replicate 33 1) ⇒ refused 20 ⨾
+    batch 0 Local 0 (replicate 32 1) ⇒ done ⨾
+    batch 0 Local 0 (replicate 32 1) ⇒ done ⨾
+    batch 0 Local 0 (replicate 32 1) ⇒ done ⨾
+    batch 0 Local 0 (replicate 32 1) ⇒ done ⨾
+    batch 0 Local 0 (replicate 32 1) ⇒ done ⨾
+    batch 0 Local 0 (replicate 32 1) ⇒ done ⨾
+    batch 0 Local 0 (replicate 32 1) ⇒ done ⨾
+    batch 0 Local 0 (replicate 32 1) ⇒ refused 10 ⨾
+    report ⇒ figures 1 0 225 1 ⨾
+    batch 0 Local 0 (replicate 31 1) ⇒ done ⨾
+    report ⇒ figures 1 0 256 1
+    clockReads 0 ∷
     -- The last handle is given, and then 8. Its object stands.
     lateStart 0 4294967294 runs
     make 0 Local 30 4 ⇒ handle 4294967295 ⨾

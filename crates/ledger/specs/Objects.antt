@@ -1,5 +1,5 @@
 -- The rules O: objects, and what each call answers and changes once it is carried out.
-use Prim.Native.Nat.{ℕ, _+_}
+use Prim.Native.Nat.{ℕ, _+_, _*_}
 use mathlib.Core.Bool.{Bool, cond, not}
 use mathlib.Core.List.{List, [], _∷_, _++_, map}
 use lib.Dec.{eqb}
@@ -8,12 +8,12 @@ use Rattle.lists.specs.Blocks.{overwritten}
 use Rattle.lists.specs.Tests.{any, filter, count}
 use Rattle.ledger.specs.Limits.{isSmall}
 use Rattle.ledger.specs.Tasks.{Clocks, freshClocks, isTested, advances, clocksAfter}
-use Rattle.ledger.specs.Expirations.{Expiration, isOf, dueAfter, lasting}
+use Rattle.ledger.specs.Expirations.{Expiration, isOf, dueAfter, lasting, setOnEach}
 use Rattle.ledger.specs.declared.Usage.{Usage}
 use Rattle.ledger.specs.declared.Answer.{Answer}
 use Rattle.ledger.specs.declared.Answer.the-variants.{Done, Advanced, Handle, Bytes}
 use Rattle.ledger.specs.declared.Call.{Call}
-use Rattle.ledger.specs.declared.Call.the-variants.{Schedule, Make, Refresh, Read, Write}
+use Rattle.ledger.specs.declared.Call.the-variants.{Schedule, Make, Refresh, Read, Write, Batch}
 
 -- O1: an object; its handle is 01's number
 pub record Object : Type 0 where
@@ -58,6 +58,14 @@ written handle offset new o =
       bytes = cond (eqb (o .handle) handle) (overwritten offset new old) old;
     }
 
+-- O31: the handles of a batch stand in its bytes, four to a handle, the high one first
+unfoldable pub handlesOf : List ℕ → List ℕ
+handlesOf [] = []
+handlesOf (a ∷ []) = []
+handlesOf (a ∷ b ∷ []) = []
+handlesOf (a ∷ b ∷ c ∷ []) = []
+handlesOf (a ∷ b ∷ c ∷ d ∷ bytes) = (256 * (256 * (256 * a + b) + c) + d) ∷ handlesOf bytes
+
 -- O2: some expiration is of the object with this handle
 abbrev pub stands : List Expiration → ℕ → Bool
 stands xs handle = any (isOf handle) xs
@@ -76,15 +84,16 @@ largeOnes os = count (λ (o : Object). not (isSmall (o .size))) os
 abbrev pub inStoreOf : ℕ → List Object → ℕ
 inStoreOf size os = cond (isSmall size) (smallOnes os) (largeOnes os)
 
--- O26, O27: what each of the nine calls answers when it is carried out
+-- O26, O27: what each of the ten calls answers when it is carried out
 unfoldable pub replyTo : Call → Memory → Reply
 replyTo (Schedule event task) m = plain (cond (isTested event) (Advanced (advances event task (m .clocks))) Done)
 replyTo (Make task kind extension size) m = plain (Handle (m .given + 1))
 replyTo (Refresh task kind extension handle) m = plain Done
 replyTo (Read task handle) m = record { answer = Bytes; bytes = objectAt handle (m .objects) .bytes }
 replyTo (Write task handle offset) m = plain Done
+replyTo (Batch task kind extension) m = plain Done
 
--- O14, O20, O25: what it makes of tasks, times, handles given and bytes; the list is that of a write
+-- O14, O20, O25: what it makes of tasks, times, handles given and bytes; the list is that of a write or a batch
 unfoldable pub memoryAfter : Call → List ℕ → Memory → Memory
 memoryAfter (Schedule event task) new m =
     record { clocks = clocksAfter event task (m .clocks); given = m .given; objects = m .objects }
@@ -94,16 +103,18 @@ memoryAfter (Refresh task kind extension handle) new m = m
 memoryAfter (Read task handle) new m = m
 memoryAfter (Write task handle offset) new m =
     record { clocks = m .clocks; given = m .given; objects = map (written handle offset new) (m .objects) }
+memoryAfter (Batch task kind extension) new m = m
 
--- E12, O13, O17: and what it makes of the expirations: make and refresh set one, and only events end any
-unfoldable pub expirationsAfter : Call → Memory → List Expiration → List Expiration
-expirationsAfter (Schedule event task) m xs = lasting event task (clocksAfter event task (m .clocks)) xs
-expirationsAfter (Make task kind extension size) m xs =
+-- E12, O13, O17, O32: and what it makes of the expirations: make and refresh set one, a batch one for each handle, and only events end any
+unfoldable pub expirationsAfter : Call → List ℕ → Memory → List Expiration → List Expiration
+expirationsAfter (Schedule event task) new m xs = lasting event task (clocksAfter event task (m .clocks)) xs
+expirationsAfter (Make task kind extension size) new m xs =
     record { handle = m .given + 1; due = dueAfter (m .clocks) task kind extension } ∷ xs
-expirationsAfter (Refresh task kind extension handle) m xs =
+expirationsAfter (Refresh task kind extension handle) new m xs =
     record { handle = handle; due = dueAfter (m .clocks) task kind extension } ∷ xs
-expirationsAfter (Read task handle) m xs = xs
-expirationsAfter (Write task handle offset) m xs = xs
+expirationsAfter (Read task handle) new m xs = xs
+expirationsAfter (Write task handle offset) new m xs = xs
+expirationsAfter (Batch task kind extension) new m xs = setOnEach (dueAfter (m .clocks) task kind extension) (handlesOf new) xs
 
 -- O24: what report counts
 unfoldable pub usage : Memory → List Expiration → Usage

@@ -5,17 +5,18 @@ use mathlib.Core.List.{List, [], _∷_}
 use mathlib.Core.Option.{Option, none, some}
 use lib.Dec.{eqb, leb, ltb}
 use lib.ListN.{length}
-use Rattle.ledger.specs.Limits.{limits, taskCount, largeSize, lastHandle, blocksFor}
+use Rattle.lists.specs.Tests.{any}
+use Rattle.ledger.specs.Limits.{limits, taskCount, largeSize, largestBatch, lastHandle, blocksFor}
 use Rattle.ledger.specs.Tasks.{taskAt, isAbsent, isRunning, isWaiting}
 use Rattle.ledger.specs.Expirations.{Expiration}
-use Rattle.ledger.specs.Objects.{Memory, objectAt, stands, inStoreOf}
+use Rattle.ledger.specs.Objects.{Memory, objectAt, stands, inStoreOf, handlesOf}
 use Rattle.ledger.specs.declared.Event.the-variants.{Join, Leave, Block, Resume, Tick}
 use Rattle.ledger.specs.declared.Call.{Call}
-use Rattle.ledger.specs.declared.Call.the-variants.{Schedule, Make, Refresh, Read, Write}
+use Rattle.ledger.specs.declared.Call.the-variants.{Schedule, Make, Refresh, Read, Write, Batch}
 use Rattle.ledger.specs.declared.Verdict.{Verdict}
 use Rattle.ledger.specs.declared.Verdict.the-variants.{Accepted, Refused}
 use Rattle.ledger.specs.declared.Refusal.{Refusal}
-use Rattle.ledger.specs.declared.Refusal.the-variants.{NoSuchTask, TaskPresent, TaskAbsent, TaskWaiting, TaskRunning, ExtensionTooLong, LengthOutOfRange, HandlesSpent, NoFreeBlock, NoFreeExpiration, HandleNotGiven, ObjectGone, OutsideObject}
+use Rattle.ledger.specs.declared.Refusal.the-variants.{NoSuchTask, TaskPresent, TaskAbsent, TaskWaiting, TaskRunning, ExtensionTooLong, LengthOutOfRange, HandlesSpent, NoFreeBlock, NoFreeExpiration, HandleNotGiven, ObjectGone, OutsideObject, BatchOutOfRange}
 
 -- A test refuses a call where it holds. The unbounded heap makes those that look at the memory alone; the others are the pool's own.
 pub data Test : Type 0 where
@@ -63,8 +64,11 @@ abbrev pub noFreeExpiration : Test
 noFreeExpiration = own NoFreeExpiration (λ (m : Memory) (xs : List Expiration). leb (limits .expirations) (length xs))
 
 -- R11: the handle was not given
+abbrev pub isNotGiven : Memory → ℕ → Bool
+isNotGiven m handle = eqb handle 0 || ltb (m .given) handle
+
 abbrev pub handleNotGiven : ℕ → Test
-handleNotGiven handle = shared HandleNotGiven (λ (m : Memory). eqb handle 0 || ltb (m .given) handle)
+handleNotGiven handle = shared HandleNotGiven (λ (m : Memory). isNotGiven m handle)
 
 -- R12: the object does not stand
 abbrev pub objectGone : ℕ → Test
@@ -75,7 +79,22 @@ abbrev pub outsideObject : ℕ → ℕ → ℕ → Test
 outsideObject handle offset count =
     shared OutsideObject (λ (m : Memory). ltb (objectAt handle (m .objects) .size) (offset + count))
 
--- R36 to R43: each call's tests in their order; the list is the bytes of a write
+-- R20: a batch has no object, or too many
+abbrev pub batchOutOfRange : ℕ → Test
+batchOutOfRange count = shared BatchOutOfRange (λ (m : Memory). eqb count 0 || ltb largestBatch count)
+
+-- R11, R12 for a batch: some handle of it was not given, some object of it does not stand
+abbrev pub someNotGiven : List ℕ → Test
+someNotGiven handles = shared HandleNotGiven (λ (m : Memory). any (isNotGiven m) handles)
+
+abbrev pub someGone : List ℕ → Test
+someGone handles = own ObjectGone (λ (m : Memory) (xs : List Expiration). any (λ (handle : ℕ). not (stands xs handle)) handles)
+
+-- R10 for a batch: there is no room for so many expirations more
+abbrev pub noRoomFor : ℕ → Test
+noRoomFor count = own NoFreeExpiration (λ (m : Memory) (xs : List Expiration). ltb (limits .expirations) (length xs + count))
+
+-- R36 to R43, R47: each call's tests in their order; the list is the bytes of a write or a batch
 unfoldable pub testsOf : Call → List ℕ → List Test
 testsOf (Schedule Join task) new = noSuchTask task ∷ taskPresent task ∷ []
 testsOf (Schedule Leave task) new = noSuchTask task ∷ taskAbsent task ∷ []
@@ -93,6 +112,10 @@ testsOf (Read task handle) new =
 testsOf (Write task handle offset) new =
     noSuchTask task ∷ taskAbsent task ∷ taskWaiting task ∷ handleNotGiven handle ∷ objectGone handle
     ∷ outsideObject handle offset (length new) ∷ []
+testsOf (Batch task kind extension) new =
+    let handles = handlesOf new in
+    noSuchTask task ∷ taskAbsent task ∷ taskWaiting task ∷ batchOutOfRange (length handles) ∷ extensionTooLong extension
+    ∷ someNotGiven handles ∷ someGone handles ∷ noRoomFor (length handles) ∷ []
 
 -- R32: the pool's verdict, by the first test that holds
 unfoldable pub verdict : Memory → List Expiration → List Test → Option Refusal

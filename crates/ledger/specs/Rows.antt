@@ -14,10 +14,10 @@ use Rattle.ledger.specs.declared.Kind.{Kind}
 use Rattle.ledger.specs.declared.Kind.the-variants.{Local}
 use Rattle.ledger.specs.declared.Event.the-variants.{Join, Leave, Block, Resume, Tick}
 use Rattle.ledger.specs.declared.Call.{Call}
-use Rattle.ledger.specs.declared.Call.the-variants.{Schedule, Make, Refresh, Read, Write}
+use Rattle.ledger.specs.declared.Call.the-variants.{Schedule, Make, Refresh, Read, Write, Batch}
 use Rattle.ledger.specs.declared.Request.the-variants.{Use, Report, Remaining}
 
--- The calls, by their names in 01 and with its arguments in its order. Only a write brings bytes.
+-- The calls, by their names in 01 and with its arguments in its order. Only a write brings bytes, and a batch its handles.
 abbrev pub send : Call → List ℕ → Sent
 send call new = record { request = Use call; bytes = new }
 
@@ -47,6 +47,14 @@ read task handle = send (Read task handle) []
 
 abbrev pub write : ℕ → ℕ → ℕ → List ℕ → Sent
 write task handle offset new = send (Write task handle offset) new
+
+-- the bytes of handles below 256
+abbrev pub inWords : List ℕ → List ℕ
+inWords [] = []
+inWords (handle ∷ handles) = 0 ∷ 0 ∷ 0 ∷ handle ∷ inWords handles
+
+abbrev pub batch : ℕ → Kind → ℕ → List ℕ → Sent
+batch task kind extension handles = send (Batch task kind extension) (inWords handles)
 
 abbrev pub report : Sent
 report = record { request = Report; bytes = [] }

@@ -29,6 +29,9 @@ pub const SMALL_SIZE: u32 = 32;
 
 pub const LARGE_SIZE: u32 = 256;
 
+// R20: the most objects that one batch refreshes.
+pub const LARGEST_BATCH: usize = 32;
+
 // T2: the state of a task.
 pub enum State {
     Absent,
@@ -51,7 +54,7 @@ pub enum Event {
     Tick,
 }
 
-// The nine calls that are compared with the unbounded heap. The bytes of a write stand beside it.
+// The ten calls that are compared with the unbounded heap. The bytes of a write and the handles of a batch stand beside it.
 pub enum Call {
     Schedule {
         event: Event,
@@ -78,9 +81,14 @@ pub enum Call {
         handle: u32,
         offset: u8,
     },
+    Batch {
+        task: u8,
+        kind: Kind,
+        extension: u8,
+    },
 }
 
-// All eleven calls.
+// All twelve calls.
 pub enum Request {
     Use(Call),
     Report,
@@ -101,7 +109,7 @@ pub struct Life {
     pub global: u8,
 }
 
-// R1 to R19, in the order of their numbers: 1 to 15 of a call, 16 to 19 of a frame.
+// R1 to R20, in the order of their numbers: 16 to 19 are of a frame, the others of a call.
 pub enum Refusal {
     NoSuchTask,
     TaskPresent,
@@ -122,6 +130,7 @@ pub enum Refusal {
     UnknownOperation,
     WrongFrameLength,
     UnknownKind,
+    BatchOutOfRange,
 }
 
 // Whether a call is carried out.
@@ -165,6 +174,7 @@ pub fn number_of(refusal: Refusal) -> u8
         Refusal::UnknownOperation => 17,
         Refusal::WrongFrameLength => 18,
         Refusal::UnknownKind => 19,
+        Refusal::BatchOutOfRange => 20,
     }
 }
 

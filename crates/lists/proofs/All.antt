@@ -67,6 +67,11 @@ module _ {ℓ} {A : Type ℓ} where
   all-true p [] e = tt
   all-true p (x ∷ xs) e = let (h, hs) = and-eq-true-iff (p x) (all p xs) .0 e in (h, all-true p xs hs)
 
+  -- what passes a test passes a wider one
+  pub all-widened : (p q : A → Bool) → ((x : A) → p x ≡ true → q x ≡ true) → (xs : List A) → all p xs ≡ true → all q xs ≡ true
+  all-widened p q f [] e = refl
+  all-widened p q f (x ∷ xs) e = let (h, hs) = and-eq-true-iff (p x) (all p xs) .0 e in rw (f x h, all-widened p q f xs hs)
+
   -- what a filter leaves passes
   pub all-left : (p : A → Bool) (xs : List A) → All (λ (x : A). p x ≡ true) (filter p xs)
   all-left p xs = all-filter p (λ x e h. e) xs (all-every (λ (x : A). Unit) (λ x. tt) xs)

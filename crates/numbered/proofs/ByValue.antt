@@ -3,11 +3,11 @@ use Prim.Native.Nat.{ℕ}
 use mathlib.Core.Bool.{Bool, true, false, not}
 use mathlib.Core.List.{List}
 use mathlib.Core.Path.{_≡_, refl, sym, _∙_}
-use borrow.Author.Tests.{not-true, not-false}
+use lib.ListN.{take}
 use Rattle.ledger.specs.Objects.{plain}
 use Rattle.ledger.specs.declared.Answer.{Answer}
 use Rattle.ledger.specs.declared.Answer.the-variants.{Refused, Counted}
-use Rattle.ledger.specs.declared.Call.the-variants.{Read}
+use Rattle.ledger.specs.declared.Call.the-variants.{Read, Batch}
 use Rattle.ledger.specs.declared.Kind.{Kind}
 use Rattle.ledger.specs.declared.Refusal.the-variants.{NotWellFormed}
 use Rattle.ledger.specs.declared.Request.{Request}
@@ -25,41 +25,19 @@ use Rattle.objects.specs.Outcomes.{foundIn}
 use Rattle.objects.specs.Usage.{usageIn}
 use Rattle.objects.specs.declared.Found.{Found}
 use Rattle.objects.proofs.Laws.{usage-of}
-use Rattle.calls.specs.Contract.{Ready, Obeys, Follows, Makes, Locates, Writes}
+use Rattle.calls.specs.Contract.{Ready, FollowsWith, Follows, Makes, Locates, Writes}
 use Rattle.calls.specs.Engine.{outcomeOf, FollowsBeside}
 use Rattle.calls.specs.declared.Step.{Step}
-use Rattle.calls.proofs.Promises.{unfit-obeys}
 use Rattle.calls.proofs.Reported.{report-obeys}
+use Rattle.calls.proofs.Served.{whatever-bytes}
 use Rattle.calls.proofs.WriteLent.{read-locates}
-use Rattle.pool.proofs.ByValue.{fits-by-value}
-
--- 15, by the test of the columns
-module _ (p : Pool) {h : Head} (e : h ≡ headOf p) {fit : Bool} (f : fit ≡ WellFormed.isWellFormed (lent h (p .handles) (p .lengths) (p .clocks) (p .named) (p .dues))) where
-  pub unfit-by-value : {request : Request} {new : List ℕ} → not fit ≡ true → (small large : List ℕ) → Obeys request new p small large (plain (Refused NotWellFormed)) p small large
-  unfit-by-value refused small large = unfit-obeys _ _ _ small large (sym (fits-by-value p e f) ∙ not-true fit refused)
-
-  pub fit-by-value : not fit ≡ false → isWellFormed p ≡ true
-  fit-by-value passed = sym (fits-by-value p e f) ∙ not-false fit passed
-
-  pub columns-fit : not fit ≡ false → isWellFormed (pooled h (p .handles) (p .lengths) (p .clocks) (p .named) (p .dues)) ≡ true
-  columns-fit passed = rw e (fit-by-value passed)
-
--- an event on lent columns: 15,
-module _ {h : Head} {hs ls cs ns ds : List ℕ} (sized : Sized hs ls cs ns ds) {fit : Bool} (f : fit ≡ WellFormed.isWellFormed (lent h hs ls cs ns ds)) {request : Request} where
-  pub unfit-lent : not fit ≡ true → Sized hs ls cs ns ds × Follows request (pooled h hs ls cs ns ds) (Refused NotWellFormed) (pooled h hs ls cs ns ds)
-  unfit-lent refused = (sized, unfit-by-value (pooled h hs ls cs ns ds) refl f refused)
-
-  -- or the event itself
-  pub fit-lent : not fit ≡ false → {answer : Answer} {h′ : Head} {hs′ cs′ ns′ ds′ : List ℕ} → FollowsBeside request h hs cs ns ds answer h′ hs′ cs′ ns′ ds′
-      → Sized hs′ ls cs′ ns′ ds′ × Follows request (pooled h hs ls cs ns ds) answer (pooled h′ hs′ ls cs′ ns′ ds′)
-  fit-lent passed done = (
-    record { blocks = record { of-handles = done .handlesSize; of-lengths = sized .blocks .of-lengths }; entries = done .sized },
-    done .follows ls (sized .blocks .of-lengths) (fit-by-value (pooled h hs ls cs ns ds) refl f passed),
-  )
+use Rattle.frames.specs.HandleBytes.{handleBytes, HandsOn}
+use Rattle.frames.specs.declared.words.Handed.{Handed}
+use Rattle.frames.proofs.HandleBytes.{handles-enough}
 
 module _ (p : Pool) {h : Head} (e : h ≡ headOf p) where
-  pub follows-by-value : {request : Request} {answer : Answer} {p′ : Pool} → Follows request (pooled h (p .handles) (p .lengths) (p .clocks) (p .named) (p .dues)) answer p′
-      → Follows request p answer p′
+  pub follows-by-value : {request : Request} {new : List ℕ} {answer : Answer} {p′ : Pool} → FollowsWith request new (pooled h (p .handles) (p .lengths) (p .clocks) (p .named) (p .dues)) answer p′
+      → FollowsWith request new p answer p′
   follows-by-value f = rw e at f
 
   -- remaining life leaves the columns
@@ -91,3 +69,10 @@ unfolding tablesOf
 reported-by-value p sized w small large =
     rw (standing-of (sized .entries), usage-of (p .handles) (p .lengths) (sized .blocks .of-handles) (sized .blocks .of-lengths) (headOf p) (entriesOf (p .clocks) (p .named) (p .dues)))
     (report-obeys p w small large)
+
+-- a batch with the host's handles as bytes, of which no more are handed on than are enough
+pub handles-sent : {task : ℕ} {kind : Kind} {extension : ℕ} {handles : List ℕ} {r : Handed} → HandsOn handles r → {p p′ : Pool} {answer : Answer}
+    → FollowsWith (Use (Batch task kind extension)) (take (r .count) (r .bytes)) p answer p′
+    → FollowsWith (Use (Batch task kind extension)) (handleBytes handles) p answer p′
+handles-sent on f small large =
+    whatever-bytes _ (λ L. handles-enough L _ _ _ _ _ (on .front) .0) (λ L. handles-enough L _ _ _ _ _ (on .front) .1) (f small large)

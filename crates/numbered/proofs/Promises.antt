@@ -17,7 +17,7 @@ use Rattle.ledger.specs.Objects.{Reply, plain, replyTo}
 use Rattle.ledger.specs.Ledger.{Ledger}
 use Rattle.ledger.specs.declared.Answer.{Answer}
 use Rattle.ledger.specs.declared.Answer.the-variants.{Refused, Done, Bytes, Counted, Lasts}
-use Rattle.ledger.specs.declared.Call.the-variants.{Schedule, Make, Refresh, Write}
+use Rattle.ledger.specs.declared.Call.the-variants.{Schedule, Make, Refresh, Write, Batch}
 use Rattle.ledger.specs.declared.Event.{Event}
 use Rattle.ledger.specs.declared.Kind.{Kind}
 use Rattle.ledger.specs.declared.Life.{Life}
@@ -30,9 +30,9 @@ use Rattle.record.specs.Reading.{Typed}
 use Rattle.record.specs.Tables.{headOf, tablesOf, pooled}
 use Rattle.record.specs.declared.Head.{Head}
 use Rattle.record.specs.declared.Pool.{Pool}
-use Rattle.calls.specs.Contract.{Obeys, Follows, Makes, Writes, ReadsBack, ReadsTo}
+use Rattle.calls.specs.Contract.{Obeys, FollowsWith, Follows, Makes, Writes, ReadsBack, ReadsTo}
 use Rattle.numbered.specs.Told.{tooShort, lent, buffered, withNumber, numbersOf, toldBy, advanceOr, handleOr}
-use Rattle.numbered.specs.Entries.{Does, MakesOne, WritesTo, CopiesOut}
+use Rattle.numbered.specs.Entries.{DoesWith, Does, MakesOne, WritesTo, CopiesOut}
 use Rattle.numbered.specs.declared.Numbered.{Numbered}
 use Rattle.numbered.proofs.ByValue.{follows-by-value}
 use Rattle.numbered.proofs.Replies.{carriedOut, by-reply, refusal-in, above-0}
@@ -50,8 +50,8 @@ told : (answer : Answer) {number : ℕ} {numbers numbers′ : List ℕ} → numb
 unfolding overwritten
 told answer n t = rw (n, t .now)
 
-pub does : {request : Request} {p p′ : Pool} (answer : Answer) {r : Numbered} {numbers numbers′ : List ℕ}
-    → Follows request p answer p′ → Tells answer numbers numbers′ → Gave answer p′ r → Does request p numbers (r .number) (r .pool) numbers′
+pub does : {request : Request} {new : List ℕ} {p p′ : Pool} (answer : Answer) {r : Numbered} {numbers numbers′ : List ℕ}
+    → FollowsWith request new p answer p′ → Tells answer numbers numbers′ → Gave answer p′ r → DoesWith request new p numbers (r .number) (r .pool) numbers′
 does answer f t e = record { answer = answer; follows = rw (e .1) f; told = told answer (e .0) t }
 
 -- report and remaining life leave the record
@@ -119,7 +119,7 @@ module _ {p : Pool} (types : Typed (tablesOf p)) {answer : Answer} {p′ : Pool}
       by-reply types (f [] []) (λ why e. tells-by (λ (a : Answer). numbers) (answered e) refl)
       (λ L e. absurd (miss (0 ∷ 1 ∷ 2 ∷ 3 ∷ 4 ∷ 5 ∷ []) 6 tt (rw (answered e) at k)))
 
-  -- join, resume, refresh and write tell none
+  -- join, resume, refresh, batch and write tell none
   silent : {request : Request} {new small large small′ large′ : List ℕ} → Obeys request new p small large (plain answer) p′ small′ large′
       → ((L : Ledger) → carriedOut request L .answer ≡ Done) → Tells answer [] []
   unfolding overwritten
@@ -133,6 +133,10 @@ module _ {p : Pool} (types : Typed (tablesOf p)) {answer : Answer} {p′ : Pool}
   pub silent-refresh : {task : ℕ} {kind : Kind} {extension handle : ℕ} → Follows (Use (Refresh task kind extension handle)) p answer p′ → Tells answer [] []
   unfolding replyTo
   silent-refresh f = silent (f [] []) (λ L. refl)
+
+  pub silent-batch : {task : ℕ} {kind : Kind} {extension : ℕ} {new : List ℕ} → FollowsWith (Use (Batch task kind extension)) new p answer p′ → Tells answer [] []
+  unfolding replyTo
+  silent-batch f = silent (f [] []) (λ L. refl)
 
   pub silent-write : {task handle offset : ℕ} {new small large small′ large′ : List ℕ}
       → Obeys (Use (Write task handle offset)) new p small large (plain answer) p′ small′ large′ → Tells answer [] []

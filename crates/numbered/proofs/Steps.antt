@@ -14,7 +14,7 @@ use Rattle.ledger.specs.Numbers.{numberOf, answerNumber}
 use Rattle.ledger.specs.Objects.{Reply, plain}
 use Rattle.ledger.specs.declared.Answer.{Answer}
 use Rattle.ledger.specs.declared.Answer.the-variants.{Refused}
-use Rattle.ledger.specs.declared.Call.the-variants.{Make, Refresh}
+use Rattle.ledger.specs.declared.Call.the-variants.{Make, Refresh, Batch}
 use Rattle.ledger.specs.declared.Kind.{Kind}
 use Rattle.ledger.specs.declared.Refusal.the-variants.{UnknownKind}
 use Rattle.ledger.specs.declared.Request.{Request}
@@ -24,12 +24,13 @@ use Rattle.calls.specs.Contract.{Obeys}
 use Rattle.text.specs.Hex.{Puts}
 use Rattle.frames.specs.Answers.{answerLine, longestAnswer}
 use Rattle.frames.specs.Frames.{withKind}
+use Rattle.frames.specs.HandleBytes.{handleBytes}
 use Rattle.frames.specs.declared.requests.KindByte.{KindByte}
 use Rattle.frames.specs.declared.requests.KindByte.the-variants.{Known, Unknown}
 use Rattle.execute.specs.Execution.{Answered}
 use Rattle.execute.proofs.Demand1.{demand-1}
 use Rattle.numbered.specs.Told.{tooShort, lent, buffered, Told, withNumber, toldBy, toldAsLine}
-use Rattle.numbered.specs.Entries.{MakesBy, RefreshesBy, Carries}
+use Rattle.numbered.specs.Entries.{MakesBy, RefreshesBy, RefreshesAllBy, Carries}
 use Rattle.numbered.proofs.Replies.{refusal-in}
 use Rattle.numbered.specs.Steps.{entry, line, Gives, EachGives}
 
@@ -49,9 +50,9 @@ module _ {request : Request} {bytes : List ℕ} {p : Pool} {small large : List �
       }
 
 -- a kind that is none
-unknown : {p p′ : Pool} {small large small′ large′ numbers numbers′ : List ℕ} {number : ℕ}
+unknown : {bytes : List ℕ} {p p′ : Pool} {small large small′ large′ numbers numbers′ : List ℕ} {number : ℕ}
     → number ≡ numberOf UnknownKind → p′ ≡ p → small′ ≡ small → large′ ≡ large → numbers′ ≡ numbers
-    → Gives (entry none []) (lent numbers) p small large (withNumber number (lent numbers′)) p′ small′ large′
+    → Gives (entry none bytes) (lent numbers) p small large (withNumber number (lent numbers′)) p′ small′ large′
 unfolding overwritten
 unknown n a b c d =
     record {
@@ -71,6 +72,12 @@ refresh-gives : (kind : KindByte) (task extension handle : ℕ) (p : Pool) (numb
     → Gives (entry (withKind kind (λ (k : Kind). Use (Refresh task k extension handle))) []) (lent []) p small large (withNumber number (lent [])) p′ small large
 refresh-gives (Known kind) task extension handle p number p′ small large d = called (d .answer) (d .follows small large) (d .told)
 refresh-gives Unknown task extension handle p number p′ small large (n, a) = unknown n a refl refl refl
+
+batch-gives : (kind : KindByte) (task extension : ℕ) (handles : List ℕ) (p : Pool) (number : ℕ) (p′ : Pool) (small large : List ℕ)
+    → RefreshesAllBy kind task extension handles p number p′
+    → Gives (entry (withKind kind (λ (k : Kind). Use (Batch task k extension))) (handleBytes handles)) (lent []) p small large (withNumber number (lent [])) p′ small large
+batch-gives (Known kind) task extension handles p number p′ small large d = called (d .answer) (d .follows small large) (d .told)
+batch-gives Unknown task extension handles p number p′ small large (n, a) = unknown n a refl refl refl
 
 as-line : (y : Reply) (old : ℕ) {number new : ℕ} {out out′ : List ℕ} → number ≡ answerNumber (y .answer)
     → Puts 0 (answerLine (y .answer) (y .bytes)) out out′ new → withNumber number (buffered new out′) ≡ toldAsLine y (buffered old out)
@@ -102,9 +109,10 @@ line-gives text p small large out old number p′ small′ large′ out′ new c
 pub each-gives : EachGives
 each-gives =
     record {
-      does = λ request p numbers number p′ numbers′ small large d. called (d .answer) (d .follows small large) (d .told);
+      does = λ request new p numbers number p′ numbers′ small large d. called (d .answer) (d .follows small large) (d .told);
       makes = make-gives;
       refreshes = refresh-gives;
+      refreshesAll = batch-gives;
       writes = λ task handle offset bytes p small large number small′ large′ w. called (w .answer) (w .writes .obeys) (w .told);
       copies =
           λ task handle p small large loans number loans′ r.

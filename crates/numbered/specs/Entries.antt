@@ -6,7 +6,7 @@ use lib.ListN.{length}
 use Rattle.ledger.specs.Numbers.{numberOf}
 use Rattle.ledger.specs.Objects.{plain}
 use Rattle.ledger.specs.declared.Answer.{Answer}
-use Rattle.ledger.specs.declared.Call.the-variants.{Refresh}
+use Rattle.ledger.specs.declared.Call.the-variants.{Refresh, Batch}
 use Rattle.ledger.specs.declared.Kind.{Kind}
 use Rattle.ledger.specs.declared.Refusal.the-variants.{UnknownKind}
 use Rattle.ledger.specs.declared.Request.{Request}
@@ -14,16 +14,22 @@ use Rattle.ledger.specs.declared.Request.the-variants.{Use}
 use Rattle.record.specs.declared.Pool.{Pool}
 use Rattle.calls.specs.Contract as Contract
 use Rattle.frames.specs.Answers.{longestAnswer}
+use Rattle.frames.specs.HandleBytes.{handleBytes}
 use Rattle.frames.specs.declared.requests.KindByte.{KindByte}
 use Rattle.frames.specs.declared.requests.KindByte.the-variants.{Known, Unknown}
 use Rattle.execute.specs.Execution.{Executes}
 use Rattle.numbered.specs.Told.{tooShort, Loans, lent, withNumber, toldBy}
 
--- a call that touches no store: join, leave, block, resume, tick, report, remaining life, and a refresh of a known kind; with the numbers that it is lent
-pub record Does (request : Request) (p : Pool) (numbers : List ℕ) (number : ℕ) (p′ : Pool) (numbers′ : List ℕ) : Type 0 where
+-- a call that touches no store: join, leave, block, resume, tick, report, remaining life, and a refresh or batch of a known kind; with the bytes that it brings and the
+-- numbers that it is lent
+pub record DoesWith (request : Request) (new : List ℕ) (p : Pool) (numbers : List ℕ) (number : ℕ) (p′ : Pool) (numbers′ : List ℕ) : Type 0 where
   pub answer : Answer
-  pub follows : Contract.Follows request p answer p′
+  pub follows : Contract.FollowsWith request new p answer p′
   pub told : withNumber number (lent numbers′) ≡ toldBy (plain answer) (lent numbers)
+
+-- all but batch bring none
+abbrev pub Does : Request → Pool → List ℕ → ℕ → Pool → List ℕ → Type 0
+Does request p numbers number p′ numbers′ = DoesWith request [] p numbers number p′ numbers′
 
 -- make of a known kind
 pub record MakesOne (task : ℕ) (kind : Kind) (extension size : ℕ) (p : Pool) (small large numbers : List ℕ) (number : ℕ) (p′ : Pool) (small′ large′ numbers′ : List ℕ) : Type 0 where
@@ -54,6 +60,10 @@ MakesBy Unknown task extension size p small large numbers number p′ small′ l
 abbrev pub RefreshesBy : KindByte → ℕ → ℕ → ℕ → Pool → ℕ → Pool → Type 0
 RefreshesBy (Known kind) task extension handle p number p′ = Does (Use (Refresh task kind extension handle)) p [] number p′ []
 RefreshesBy Unknown task extension handle p number p′ = (number ≡ numberOf UnknownKind) × (p′ ≡ p)
+
+abbrev pub RefreshesAllBy : KindByte → ℕ → ℕ → List ℕ → Pool → ℕ → Pool → Type 0
+RefreshesAllBy (Known kind) task extension handles p number p′ = DoesWith (Use (Batch task kind extension)) (handleBytes handles) p [] number p′ []
+RefreshesAllBy Unknown task extension handles p number p′ = (number ≡ numberOf UnknownKind) × (p′ ≡ p)
 
 -- A line carried out, with its answer's line in the host's buffer; a buffer too short is told before the line is looked at.
 pub record Carries (line : List ℕ) (p : Pool) (small large out : List ℕ) (old : ℕ) (number : ℕ) (p′ : Pool) (small′ large′ out′ : List ℕ) (new : ℕ) : Type 0 where

@@ -8,20 +8,21 @@ use mathlib.Core.Path.{_≡_}
 use lib.Dec.{leb}
 use lib.ListN.{length}
 use Rattle.ledger.specs.Objects.{Reply}
-use Rattle.ledger.specs.declared.Call.the-variants.{Make, Refresh, Read, Write}
+use Rattle.ledger.specs.declared.Call.the-variants.{Make, Refresh, Read, Write, Batch}
 use Rattle.ledger.specs.declared.Kind.{Kind}
 use Rattle.ledger.specs.declared.Request.{Request}
 use Rattle.ledger.specs.declared.Request.the-variants.{Use}
 use Rattle.record.specs.declared.Pool.{Pool}
 use Rattle.frames.specs.Answers.{longestAnswer}
 use Rattle.frames.specs.Frames.{frameOf, payloadOf, frameWith, withKind}
+use Rattle.frames.specs.HandleBytes.{handleBytes}
 use Rattle.frames.specs.declared.Frame.{Frame}
 use Rattle.frames.specs.declared.requests.KindByte.{KindByte}
 use Rattle.execute.specs.Execution.{IsReplyTo}
 use Rattle.numbered.specs.Told.{tooShort, Loans, lent, buffered, Told, withNumber, toldBy, toldAsLine}
-use Rattle.numbered.specs.Entries.{Does, MakesBy, RefreshesBy, WritesTo, CopiesOut, Carries}
+use Rattle.numbered.specs.Entries.{DoesWith, MakesBy, RefreshesBy, RefreshesAllBy, WritesTo, CopiesOut, Carries}
 
--- a call by its own entry, with the bytes of a write, or no call where its kind is none; or a line
+-- a call by its own entry, with the bytes of a write or a batch, or no call where its kind is none; or a line
 pub data Asked : Type 0 where
   entry : Option Request → List ℕ → Asked
   line : List ℕ → Asked
@@ -52,15 +53,18 @@ pub record Gives (asked : Asked) (loans : Loans) (p : Pool) (small large : List 
 
 -- Each entry's promise gives that; of one that touches no store, whatever stores stand beside the record.
 pub record EachGives : Type 0 where
-  pub does : (request : Request) (p : Pool) (numbers : List ℕ) (number : ℕ) (p′ : Pool) (numbers′ small large : List ℕ)
-      → Does request p numbers number p′ numbers′
-      → Gives (entry (some request) []) (lent numbers) p small large (withNumber number (lent numbers′)) p′ small large
+  pub does : (request : Request) (new : List ℕ) (p : Pool) (numbers : List ℕ) (number : ℕ) (p′ : Pool) (numbers′ small large : List ℕ)
+      → DoesWith request new p numbers number p′ numbers′
+      → Gives (entry (some request) new) (lent numbers) p small large (withNumber number (lent numbers′)) p′ small large
   pub makes : (kind : KindByte) (task extension size : ℕ) (p : Pool) (small large numbers : List ℕ) (number : ℕ) (p′ : Pool) (small′ large′ numbers′ : List ℕ)
       → MakesBy kind task extension size p small large numbers number p′ small′ large′ numbers′
       → Gives (entry (withKind kind (λ (k : Kind). Use (Make task k extension size))) []) (lent numbers) p small large (withNumber number (lent numbers′)) p′ small′ large′
   pub refreshes : (kind : KindByte) (task extension handle : ℕ) (p : Pool) (number : ℕ) (p′ : Pool) (small large : List ℕ)
       → RefreshesBy kind task extension handle p number p′
       → Gives (entry (withKind kind (λ (k : Kind). Use (Refresh task k extension handle))) []) (lent []) p small large (withNumber number (lent [])) p′ small large
+  pub refreshesAll : (kind : KindByte) (task extension : ℕ) (handles : List ℕ) (p : Pool) (number : ℕ) (p′ : Pool) (small large : List ℕ)
+      → RefreshesAllBy kind task extension handles p number p′
+      → Gives (entry (withKind kind (λ (k : Kind). Use (Batch task k extension))) (handleBytes handles)) (lent []) p small large (withNumber number (lent [])) p′ small large
   pub writes : (task handle offset : ℕ) (bytes : List ℕ) (p : Pool) (small large : List ℕ) (number : ℕ) (small′ large′ : List ℕ)
       → WritesTo task handle offset bytes p small large number small′ large′
       → Gives (entry (some (Use (Write task handle offset))) bytes) (lent []) p small large (withNumber number (lent [])) p small′ large′

@@ -1,19 +1,17 @@
-// Make and refresh of a known kind, each on the columns that it takes out of the record and puts together again.
+// Make, refresh and batch of a known kind, each on the columns that it takes out of the record and puts together again.
 ghost use mathlib.Core.List.{[], _∷_};
 ghost use mathlib.Core.Path.{_≡_};
-ghost use Rattle.ledger.specs.declared.Call.the-variants.{Refresh};
+ghost use Rattle.ledger.specs.declared.Call.the-variants.{Refresh, Batch};
 ghost use Rattle.ledger.specs.declared.Request.the-variants.{Use};
+ghost use Rattle.frames.specs.HandleBytes.{handleBytes};
 ghost use Rattle.numbered.specs.Told.{handleOr};
-ghost use Rattle.numbered.specs.Entries.{Does, MakesOne};
+ghost use Rattle.numbered.specs.Entries.{Does, DoesWith, MakesOne};
 use super::Numbered;
 use super::put_together;
-use super::refused;
-use calls;
-use fitness::is_well_formed;
+use checked;
+use frames::handle_bytes;
 use ledger::Answer;
 use ledger::Kind;
-use ledger::Refusal;
-use pool::lengths::are_whole;
 use record::Pool;
 use record::head_of;
 
@@ -32,7 +30,6 @@ fn handle_or(old: u32, answer: Answer) -> u32
     }
 }
 
-// A make of a known kind.
 pub fn make_one(
     p: Pool,
     small: &mut [u8],
@@ -51,13 +48,7 @@ pub fn make_one(
     let mut clocks = p.clocks;
     let mut named = p.named;
     let mut dues = p.dues;
-    if !is_well_formed(h, &handles, &lengths, &clocks, &named, &dues) {
-        return refused(Refusal::NotWellFormed, p);
-    }
-    if !are_whole(small.len(), large.len()) {
-        return refused(Refusal::WrongStoreLength, p);
-    }
-    let step = calls::make(
+    let step = checked::make(
         h,
         &mut handles,
         &mut lengths,
@@ -77,7 +68,6 @@ pub fn make_one(
     put_together(answer, head, handles, lengths, clocks, named, dues)
 }
 
-// A refresh of a known kind.
 pub fn refresh_one(p: Pool, task: u8, kind: Kind, extension: u8, handle: u32) -> Numbered
     ensures { λ r. ⌜ Does (Use (Refresh task kind extension handle)) p [] (r .number) (r .pool) [] ⌝ }
 {
@@ -87,10 +77,7 @@ pub fn refresh_one(p: Pool, task: u8, kind: Kind, extension: u8, handle: u32) ->
     let mut clocks = p.clocks;
     let mut named = p.named;
     let mut dues = p.dues;
-    if !is_well_formed(h, &handles, &lengths, &clocks, &named, &dues) {
-        return refused(Refusal::NotWellFormed, p);
-    }
-    let step = calls::refresh(
+    let step = checked::refresh(
         h,
         &handles,
         &lengths,
@@ -101,6 +88,36 @@ pub fn refresh_one(p: Pool, task: u8, kind: Kind, extension: u8, handle: u32) ->
         kind,
         extension,
         handle,
+    );
+    let answer = step.answer;
+    let head = step.head;
+    put_together(answer, head, handles, lengths, clocks, named, dues)
+}
+
+// The host's handles go on as bytes, which is what a batch brings.
+pub fn refresh_each(p: Pool, task: u8, kind: Kind, extension: u8, objects: &[u32]) -> Numbered
+    ensures { λ r. ⌜ DoesWith (Use (Batch task kind extension)) (handleBytes (now (objects .entry))) p [] (r .number) (r .pool) [] ⌝ }
+{
+    let handed = handle_bytes(objects);
+    let bytes = handed.bytes;
+    let count = handed.count;
+    let h = head_of(p);
+    let handles = p.handles;
+    let lengths = p.lengths;
+    let mut clocks = p.clocks;
+    let mut named = p.named;
+    let mut dues = p.dues;
+    let step = checked::batch(
+        h,
+        &handles,
+        &lengths,
+        &mut clocks,
+        &mut named,
+        &mut dues,
+        task,
+        kind,
+        extension,
+        &bytes[..count],
     );
     let answer = step.answer;
     let head = step.head;

@@ -10,15 +10,15 @@ ghost use Rattle.record.specs.Reading.{freshPool};
 ghost use Rattle.record.specs.Tables.{pooled};
 ghost use Rattle.frames.specs.Frames.{kindOf};
 ghost use Rattle.numbered.specs.Told.{buffered};
-ghost use Rattle.numbered.specs.Entries.{Does, MakesBy, RefreshesBy, WritesTo, CopiesOut, Carries};
+ghost use Rattle.numbered.specs.Entries.{Does, MakesBy, RefreshesBy, RefreshesAllBy, WritesTo, CopiesOut, Carries};
 
-mod events;
+mod advancing;
 mod kinds;
 mod reading;
 
+use advancing::advance_or;
 use calls;
-use events::advance_or;
-use events::schedule;
+use checked::schedule;
 use execute::LONGEST_ANSWER;
 use execute::execute;
 use expirations::standing;
@@ -26,6 +26,7 @@ use fitness::is_well_formed;
 use frames::KindByte;
 use frames::kind_of;
 use kinds::make_one;
+use kinds::refresh_each;
 use kinds::refresh_one;
 use ledger::Answer;
 use ledger::Event;
@@ -250,6 +251,15 @@ pub fn refresh(p: Pool, task: u8, kind: u8, extension: u8, handle: u32) -> Numbe
         return refused(Refusal::UnknownKind, p);
     };
     refresh_one(p, task, known, extension, handle)
+}
+
+pub fn refresh_all(p: Pool, task: u8, kind: u8, extension: u8, objects: &[u32]) -> Numbered
+    ensures { λ r. ⌜ RefreshesAllBy (kindOf kind) task extension (now (objects .entry)) p (r .number) (r .pool) ⌝ }
+{
+    let KindByte::Known(known) = kind_of(kind) else {
+        return refused(Refusal::UnknownKind, p);
+    };
+    refresh_each(p, task, known, extension, objects)
 }
 
 // That part copied out.

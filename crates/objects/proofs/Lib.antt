@@ -1,3 +1,4 @@
 pub mod Searching
 pub mod Laws
 pub mod Outcomes
+pub mod Batches

@@ -1,14 +1,17 @@
-// What make, refresh, read and write decide, on a head by value and the tables of blocks and expirations that they read.
+// What make, refresh, read, write and batch decide, on a head by value and the tables of blocks and expirations that they read.
+mod batch;
 mod decide;
 mod finding;
 mod refusals;
 mod report;
 mod search;
 
+pub use batch::plan_batch;
 pub use decide::plan_make;
 pub use finding::find_for_read;
 pub use finding::find_for_refresh;
 pub use finding::find_for_write;
+use ledger::LARGEST_BATCH;
 use ledger::Life;
 use ledger::Refusal;
 use ledger::Verdict;
@@ -18,6 +21,13 @@ pub use report::usage;
 pub struct Plan {
     pub verdict: Verdict,
     pub place: usize,
+}
+
+// The verdict of a batch, and the blocks of as many objects as it has; the others say nothing.
+pub struct BatchPlan {
+    pub verdict: Verdict,
+    pub blocks: [u8; LARGEST_BATCH],
+    pub count: usize,
 }
 
 // Where the object of a read, a write or a refresh is, and its remaining life for the task that calls.

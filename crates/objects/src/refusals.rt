@@ -2,9 +2,11 @@
 ghost use Prim.Native.Nat.{_+_};
 ghost use lib.Dec.{ltb};
 ghost use mathlib.Core.Path.{_≡_};
-ghost use Rattle.steps.specs.Objects.{andThen, refuseIf, byState, taskVerdict, extensionVerdict, foundVerdict, roomVerdict, makeVerdictBy};
+ghost use Rattle.steps.specs.Objects.{andThen, refuseIf, byState, taskVerdict, extensionVerdict, isUngiven, foundVerdict, roomVerdict, makeVerdictBy};
+ghost use Rattle.objects.specs.Batches.{batchCallVerdict, batchObjectsVerdict};
 use super::search::end_for;
 use ledger::LARGE_SIZE;
+use ledger::LARGEST_BATCH;
 use ledger::LIMITS;
 use ledger::Refusal;
 use ledger::State;
@@ -66,12 +68,19 @@ pub fn extension_verdict(extension: u8) -> Verdict
     )
 }
 
+// 11
+pub fn is_ungiven(given: u32, handle: u32) -> bool
+    ensures { λ r. ⌜ r ≡ isUngiven given handle ⌝ }
+{
+    (handle == 0) | (given < handle)
+}
+
 // 11, 12
 pub fn found_verdict(handle: u32, given: u32, place: usize) -> Verdict
     ensures { λ r. ⌜ r ≡ foundVerdict handle given place ⌝ }
 {
     and_then(
-        refuse_if((handle == 0) | (given < handle), Refusal::HandleNotGiven),
+        refuse_if(is_ungiven(given, handle), Refusal::HandleNotGiven),
         refuse_if(BLOCK_COUNT <= place, Refusal::ObjectGone),
     )
 }
@@ -112,6 +121,40 @@ pub fn make_verdict(
                     ),
                 ),
             ),
+        ),
+    )
+}
+
+// R47, the tests that look at no object: 1, 3, 4, 20, 6
+pub fn batch_call_verdict(
+    task: u8,
+    extension: u8,
+    tasks: [TaskEntry; TASK_COUNT],
+    count: usize,
+) -> Verdict
+    ensures { λ r. ⌜ r ≡ batchCallVerdict task extension tasks count ⌝ }
+{
+    and_then(
+        task_verdict(task, tasks),
+        and_then(
+            refuse_if(
+                (count == 0) | (LARGEST_BATCH < count),
+                Refusal::BatchOutOfRange,
+            ),
+            extension_verdict(extension),
+        ),
+    )
+}
+
+// and those after them: 11, 12, 10, where so many expirations would stand
+pub fn batch_objects_verdict(ungiven: bool, gone: bool, after: usize) -> Verdict
+    ensures { λ r. ⌜ r ≡ batchObjectsVerdict ungiven gone after ⌝ }
+{
+    and_then(
+        refuse_if(ungiven, Refusal::HandleNotGiven),
+        and_then(
+            refuse_if(gone, Refusal::ObjectGone),
+            refuse_if(LIMITS.expirations < after, Refusal::NoFreeExpiration),
         ),
     )
 }

@@ -2,14 +2,21 @@
 ghost use mathlib.Core.Path.{_≡_};
 ghost use Rattle.ledger.specs.declared.Answer.the-variants.{Refused as RefusedAnswer};
 ghost use Rattle.calls.specs.Contract.{isStored};
-ghost use Rattle.calls.specs.Served.{withoutBytes, Serves};
+ghost use Rattle.record.specs.Tables.{pooled, Sized};
+ghost use Rattle.calls.specs.Served.{Serves};
+ghost use Rattle.dispatch.specs.Done.{withoutBytes, givenBack};
 use calls::Called;
+use dispatch;
+use dispatch::Done;
 use fitness::is_well_formed;
 use ledger::Answer;
 use ledger::Call;
 use ledger::Refusal;
 use ledger::Request;
 use pool::lengths::are_whole;
+use record::BLOCK_COUNT;
+use record::EXPIRATION_COUNT;
+use record::Head;
 use record::Pool;
 use record::head_of;
 
@@ -38,6 +45,11 @@ fn is_stored(request: Request) -> bool
                 handle: _,
                 offset: _,
             } => true,
+            Call::Batch {
+                task: _,
+                kind: _,
+                extension: _,
+            } => false,
         },
         Request::Report => false,
         Request::Remaining { task: _, handle: _ } => false,
@@ -45,18 +57,54 @@ fn is_stored(request: Request) -> bool
 }
 
 // A request that is refused before its own tests.
-fn refused(why: Refusal, p: Pool) -> Called
-    ensures { λ r. ⌜ r ≡ withoutBytes (RefusedAnswer why) p ⌝ }
+fn refused(why: Refusal, h: Head) -> Done
+    ensures { λ r. ⌜ r ≡ withoutBytes (RefusedAnswer why) h ⌝ }
 {
-    Called {
+    Done {
         answer: Answer::Refused(why),
-        pool: p,
+        head: h,
         block: 0,
         length: 0,
     }
 }
 
-// One call of the eleven, by its request. The bytes are those of a write; other calls leave them aside.
+// On lent columns: who lends them never looks at the record again.
+fn call_lent(
+    h: Head,
+    handles: &mut [u32; BLOCK_COUNT],
+    lengths: &mut [u16; BLOCK_COUNT],
+    clocks: &mut [u8; EXPIRATION_COUNT],
+    named: &mut [u8; EXPIRATION_COUNT],
+    dues: &mut [u32; EXPIRATION_COUNT],
+    small: &mut [u8],
+    large: &mut [u8],
+    request: Request,
+    bytes: &[u8],
+) -> Done
+    requires { ⌜ Sized (now handles) (now lengths) (now clocks) (now named) (now dues) ⌝ }
+    ensures { λ r. ⌜ Sized (now (handles .exit)) (now (lengths .exit)) (now (clocks .exit)) (now (named .exit)) (now (dues .exit)) × Serves request (now (bytes .entry)) (pooled h (now (handles .entry)) (now (lengths .entry)) (now (clocks .entry)) (now (named .entry)) (now (dues .entry))) (now (small .entry)) (now (large .entry)) (givenBack r (now (handles .exit)) (now (lengths .exit)) (now (clocks .exit)) (now (named .exit)) (now (dues .exit))) (now (small .exit)) (now (large .exit)) ⌝ }
+{
+    if !is_well_formed(h, handles, lengths, clocks, named, dues) {
+        return refused(Refusal::NotWellFormed, h);
+    }
+    if is_stored(request) & !are_whole(small.len(), large.len()) {
+        return refused(Refusal::WrongStoreLength, h);
+    }
+    dispatch::call(
+        h,
+        handles,
+        lengths,
+        clocks,
+        named,
+        dues,
+        small,
+        large,
+        request,
+        bytes,
+    )
+}
+
+// One call of the twelve, by its request. The bytes are those of a write or a batch; other calls leave them aside.
 pub fn call(p: Pool, small: &mut [u8], large: &mut [u8], request: Request, bytes: &[u8]) -> Called
     ensures { λ r. ⌜ Serves request (now (bytes .entry)) p (now (small .entry)) (now (large .entry)) r (now (small .exit)) (now (large .exit)) ⌝ }
 {
@@ -66,13 +114,7 @@ pub fn call(p: Pool, small: &mut [u8], large: &mut [u8], request: Request, bytes
     let mut clocks = p.clocks;
     let mut named = p.named;
     let mut dues = p.dues;
-    if !is_well_formed(h, &handles, &lengths, &clocks, &named, &dues) {
-        return refused(Refusal::NotWellFormed, p);
-    }
-    if is_stored(request) & !are_whole(small.len(), large.len()) {
-        return refused(Refusal::WrongStoreLength, p);
-    }
-    let done = dispatch::call(
+    let done = call_lent(
         h,
         &mut handles,
         &mut lengths,

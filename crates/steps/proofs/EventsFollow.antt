@@ -62,7 +62,7 @@ reads-with p small large L fit reads entries time blocks xs clocks ys same alike
 -- the ledger after an event that it carries out
 abbrev after : Event → ℕ → Ledger → Ledger
 after event task L =
-    settled (memoryAfter (Schedule event task) [] (L .memory)) (expirationsAfter (Schedule event task) (L .memory) (L .expirations))
+    settled (memoryAfter (Schedule event task) [] (L .memory)) (expirationsAfter (Schedule event task) [] (L .memory) (L .expirations))
 
 module _ (event : Event) (task : ℕ) (p : Tables) (small large : List ℕ) (L : Ledger) (fit : Fit p) (reads : Reads p small large L)
     (accepted : verdictOf event (stateOf (getD (p .tasks) task absentEntry .state)) ≡ Accepted) where

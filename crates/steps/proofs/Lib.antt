@@ -22,3 +22,4 @@ pub mod Chosen
 pub mod ObjectsFollow
 pub mod ObjectTypes
 pub mod Staying
+pub mod Batches

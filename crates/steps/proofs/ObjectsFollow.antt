@@ -38,7 +38,7 @@ use Rattle.steps.proofs.ReadWritten.{in-place, written-sizes, written-r
 
 -- the ledger after a call that it carries out
 abbrev pub carried : Call → List ℕ → Ledger → Ledger
-carried call new L = settled (memoryAfter call new (L .memory)) (expirationsAfter call (L .memory) (L .expirations))
+carried call new L = settled (memoryAfter call new (L .memory)) (expirationsAfter call new (L .memory) (L .expirations))
 
 -- answer and next ledger by the record's verdict
 pub by-verdict : (L : Ledger) (call : Call) (new : List ℕ) (v : Verdict) → verdictOn L call new ≡ asRefusal v

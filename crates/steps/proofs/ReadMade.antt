@@ -43,7 +43,7 @@ abbrev Stands : List Expiration → Object → Type 0
 Stands ys o = stands ys (o .handle) ≡ true
 
 -- objects that all stand do with one expiration more
-standing-more : (y : Expiration) (ys : List Expiration) (os : List Object) → standing ys os ≡ os → standing (y ∷ ys) os ≡ os
+pub standing-more : (y : Expiration) (ys : List Expiration) (os : List Object) → standing ys os ≡ os → standing (y ∷ ys) os ≡ os
 standing-more y ys os all =
     filter-all _ os (all-imp {P = Stands ys} (λ o s. or-right (isOf (o .handle) y) s) os (rw all at (all-left (λ (o : Object). stands ys (o .handle)) os)))
 
@@ -88,7 +88,7 @@ module _ (p : Tables) (small large : List ℕ) (L : Ledger) (fit : Fit p) (types
   pub refreshed-reads : (handle : ℕ) → handleAt (p .blocks) place ≡ handle
       → (let call = Refresh task kind extension handle in
       Reads (withEntry slot (entryFor kind task extension place p) p) small large
-      (settled (memoryAfter call [] (L .memory)) (expirationsAfter call (L .memory) (L .expirations))))
+      (settled (memoryAfter call [] (L .memory)) (expirationsAfter call [] (L .memory) (L .expirations))))
   unfolding recordView viewOf memoryAfter expirationsAfter
   refreshed-reads handle named =
       let y = newExpiration (L .memory .clocks) kind task extension handle in
@@ -165,7 +165,7 @@ module _ (p : Tables) (small large small′ large′ : List ℕ) (L : Ledger) (f
 
   pub made-reads : (let call = Make task kind extension size in
       Reads (withEntry slot (entryFor kind task extension place p) (withObject place size p)) small′ large′
-      (settled (memoryAfter call [] (L .memory)) (expirationsAfter call (L .memory) (L .expirations))))
+      (settled (memoryAfter call [] (L .memory)) (expirationsAfter call [] (L .memory) (L .expirations))))
   unfolding recordView viewOf memoryAfter expirationsAfter
   made-reads =
       let handle = L .memory .given + 1 in

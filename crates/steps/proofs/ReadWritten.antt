@@ -113,7 +113,7 @@ module _ (p : Tables) (small large : List ℕ) (L : Ledger) (fit : Fit p) (types
   pub written-reads : (task : ℕ)
       → let call = Write task (handleAt (p .blocks) block) offset in
       Reads p (smallAfter block offset new small) (largeAfter block offset new large)
-      (settled (memoryAfter call new (L .memory)) (expirationsAfter call (L .memory) (L .expirations)))
+      (settled (memoryAfter call new (L .memory)) (expirationsAfter call new (L .memory) (L .expirations)))
   unfolding recordView viewOf memoryAfter expirationsAfter
   written-reads task =
       let os = L .memory .objects in

@@ -1,4 +1,4 @@
--- Make, refresh, read and write are refused by the record just where the ledger refuses them, with the same refusal.
+-- Make, refresh, read, write and batch are refused by the record just where the ledger refuses them, with the same refusal.
 use Prim.Native.Nat.{ℕ, _+_}
 use mathlib.Core.Bool.{Bool, false, cond, not, _||_}
 use mathlib.Core.List.{List, [], _∷_}
@@ -7,15 +7,18 @@ use mathlib.Core.Path.{_≡_, refl, sym, ap, _∙_}
 use borrow.Author.Tests.{not-false}
 use lib.Dec.{eqb, leb, ltb}
 use lib.ListN.{length}
+use Rattle.lists.specs.Tests.{any}
+use Rattle.lists.proofs.All.{all-imp, none→All}
 use Rattle.lists.proofs.Cases.{by-test, or-false-parts}
+use Rattle.lists.proofs.Counts.{any-same}
 use Rattle.ledger.specs.Limits.{limits, lastHandle}
 use Rattle.ledger.specs.Tasks.{isAbsent, isWaiting}
 use Rattle.ledger.specs.Expirations.{Expiration}
-use Rattle.ledger.specs.Objects.{Memory, objectAt, stands}
+use Rattle.ledger.specs.Objects.{Memory, objectAt, stands, handlesOf}
 use Rattle.ledger.specs.Refusals.{Test, shared, own, noSuchTask, taskAbsent, taskWaiting, handleNotGiven, objectGone, testsOf, verdict, asRefusal}
 use Rattle.ledger.specs.Compared.{viewOf}
 use Rattle.ledger.specs.Ledger.{Ledger, verdictOn}
-use Rattle.ledger.specs.declared.Call.the-variants.{Make, Refresh, Read, Write}
+use Rattle.ledger.specs.declared.Call.the-variants.{Make, Refresh, Read, Write, Batch}
 use Rattle.ledger.specs.declared.Kind.{Kind}
 use Rattle.ledger.specs.declared.State.{State}
 use Rattle.ledger.specs.declared.State.the-variants.{Absent, Running, Waiting}
@@ -24,10 +27,10 @@ use Rattle.ledger.specs.declared.Refusal.the-variants.{TaskAbsent, TaskWaiting}
 use Rattle.ledger.specs.declared.Verdict.{Verdict}
 use Rattle.ledger.specs.declared.Verdict.the-variants.{Accepted, Refused}
 use Rattle.record.specs.Reading.{recordView, Typed, Reads}
-use Rattle.record.specs.Tables.{Tables, blockEntries}
+use Rattle.record.specs.Tables.{Tables}
 use Rattle.record.proofs.Facts.{Fit}
 use Rattle.steps.proofs.ReadTasks.{state-alike}
-use Rattle.steps.specs.Objects.{placeOf, andThen, refuseIf, byState, taskVerdict, handleVerdict, makeVerdict, refreshVerdict, readVerdict, writeVerdict}
+use Rattle.steps.specs.Objects.{andThen, refuseIf, byState, isUngiven, isMissing, taskVerdict, handleVerdict, makeVerdict, refreshVerdict, readVerdict, writeVerdict, batchVerdict}
 use Rattle.steps.proofs.Finding.{blockOf, gone-alike, found}
 use Rattle.steps.proofs.Rooms.{block-room, entries-alike}
 
@@ -41,13 +44,6 @@ by-state : (s : State) → byState s ≡ andThen (refuseIf (isAbsent s) TaskAbse
 by-state Absent = refl
 by-state Running = refl
 by-state Waiting = refl
-
--- 11 and 12 as the record tests them
-abbrev isUngiven : ℕ → Tables → Bool
-isUngiven handle p = eqb handle 0 || ltb (p .given) handle
-
-abbrev isGone : ℕ → Tables → Bool
-isGone handle p = leb blockEntries (placeOf handle (p .blocks))
 
 -- a test's refusal, and whether the test holds
 abbrev refusalOf : Test → Refusal
@@ -94,22 +90,22 @@ module _ {p : Tables} {small large : List ℕ} {L : Ledger} (typed : Typed p) (f
 
   module _ (handle : ℕ) where
     -- 11
-    given-test : (eqb handle 0 || ltb (L .memory .given) handle) ≡ isUngiven handle p
+    given-test : (eqb handle 0 || ltb (L .memory .given) handle) ≡ isUngiven (p .given) handle
     given-test = rw given-alike
 
     -- 12, of a handle that was given
-    gone-test : isUngiven handle p ≡ false → not (stands (L .expirations) handle) ≡ isGone handle p
+    gone-test : isUngiven (p .given) handle ≡ false → not (stands (L .expirations) handle) ≡ isMissing (p .blocks) handle
     gone-test given = sym (gone-alike fit reads handle (or-false-parts _ _ given .0) typed)
 
     -- 13, of a handle whose object is not gone
-    size-test : isUngiven handle p ≡ false → isGone handle p ≡ false → (end : ℕ)
+    size-test : isUngiven (p .given) handle ≡ false → isMissing (p .blocks) handle ≡ false → (end : ℕ)
         → ltb (objectAt handle (L .memory .objects) .size) end ≡ ltb (blockOf handle (p .blocks) .length) end
     size-test given stays end =
         rw (found fit reads handle (or-false-parts _ _ given .0) (not-false _ (gone-test given ∙ stays)) .size)
 
     -- 11, 12, and what follows
     handle-tests : {ts : List Test} {v : Verdict}
-        → (isUngiven handle p ≡ false → isGone handle p ≡ false → Agree (L .memory) (L .expirations) ts v)
+        → (isUngiven (p .given) handle ≡ false → isMissing (p .blocks) handle ≡ false → Agree (L .memory) (L .expirations) ts v)
         → Agree (L .memory) (L .expirations) (handleNotGiven handle ∷ objectGone handle ∷ ts) (andThen (handleVerdict handle p) v)
     handle-tests h = rw then-assoc (test-alike given-test (λ given. test-alike (gone-test given) (h given)))
 
@@ -139,3 +135,20 @@ module _ {p : Tables} {small large : List ℕ} {L : Ledger} (typed : Typed p) (f
   write-verdict task handle offset new =
       rw (then-assoc (taskVerdict task (p .tasks)) (handleVerdict handle p))
       (task-tests task (handle-tests handle (λ given stays. last-alike (size-test handle given stays (offset + length new)))) .so)
+
+  -- 12, of handles that were all given
+  some-gone : (handles : List ℕ) → any (isUngiven (p .given)) handles ≡ false
+      → any (λ (handle : ℕ). not (stands (L .expirations) handle)) handles ≡ any (isMissing (p .blocks)) handles
+  some-gone handles given = any-same _ _ handles (all-imp gone-test handles (none→All _ handles given))
+
+  pub batch-verdict : (task : ℕ) (kind : Kind) (extension : ℕ) (new : List ℕ)
+      → verdictOn L (Batch task kind extension) new ≡ asRefusal (batchVerdict task extension (handlesOf new) p)
+  unfolding testsOf batchVerdict
+  batch-verdict task kind extension new =
+      let handles = handlesOf new in
+      task-tests task
+      (test-alike refl
+      (λ e. test-alike refl
+      (λ e. test-alike (ap (λ (n : ℕ). any (isUngiven n) handles) given-alike)
+      (λ given. test-alike (some-gone handles given)
+      (λ e. last-alike (ap (λ (n : ℕ). ltb (limits .expirations) (n + length handles)) (entries-alike fit reads))))))) .so

@@ -1,18 +1,18 @@
--- What make, refresh, read and write test and change of a record, as functions of its entries.
+-- What make, refresh, read, write and batch test and change of a record, as functions of its entries.
 use Prim.Native.Nat.{ℕ, _+_, _%_}
 use mathlib.Core.Bool.{Bool, cond, not, _||_}
-use mathlib.Core.List.{List}
+use mathlib.Core.List.{List, [], _∷_}
 use lib.Dec.{eqb, leb, ltb}
-use lib.ListN.{getD, set, take, drop}
-use Rattle.lists.specs.Tests.{count}
+use lib.ListN.{length, getD, set, take, drop}
+use Rattle.lists.specs.Tests.{any, count}
 use Rattle.lists.specs.Tables.{firstFrom}
-use Rattle.ledger.specs.Limits.{limits, taskCount, largeSize, lastHandle, counterRange, isSmall}
+use Rattle.ledger.specs.Limits.{limits, taskCount, largeSize, largestBatch, lastHandle, counterRange, isSmall}
 use Rattle.ledger.specs.declared.Kind.{Kind}
 use Rattle.ledger.specs.declared.Kind.the-variants.{Local, Global}
 use Rattle.ledger.specs.declared.State.{State}
 use Rattle.ledger.specs.declared.State.the-variants.{Absent, Running, Waiting}
 use Rattle.ledger.specs.declared.Refusal.{Refusal}
-use Rattle.ledger.specs.declared.Refusal.the-variants.{NoSuchTask, TaskAbsent, TaskWaiting, ExtensionTooLong, LengthOutOfRange, HandlesSpent, NoFreeBlock, NoFreeExpiration, HandleNotGiven, ObjectGone, OutsideObject}
+use Rattle.ledger.specs.declared.Refusal.the-variants.{NoSuchTask, TaskAbsent, TaskWaiting, ExtensionTooLong, LengthOutOfRange, HandlesSpent, NoFreeBlock, NoFreeExpiration, HandleNotGiven, ObjectGone, OutsideObject, BatchOutOfRange}
 use Rattle.ledger.specs.declared.Verdict.{Verdict}
 use Rattle.ledger.specs.declared.Verdict.the-variants.{Accepted, Refused}
 use Rattle.stores.specs.Places.{blockCount}
@@ -87,9 +87,12 @@ abbrev pub extensionVerdict : ℕ → Verdict
 extensionVerdict extension = refuseIf (ltb (limits .extension) extension) ExtensionTooLong
 
 -- 11, 12, by the handles given and the place that was found
+abbrev pub isUngiven : ℕ → ℕ → Bool
+isUngiven given handle = eqb handle 0 || ltb given handle
+
 abbrev pub foundVerdict : ℕ → ℕ → ℕ → Verdict
 foundVerdict handle given place =
-    andThen (refuseIf (eqb handle 0 || ltb given handle) HandleNotGiven) (refuseIf (leb blockEntries place) ObjectGone)
+    andThen (refuseIf (isUngiven given handle) HandleNotGiven) (refuseIf (leb blockEntries place) ObjectGone)
 
 abbrev pub handleVerdict : ℕ → Tables → Verdict
 handleVerdict handle p = foundVerdict handle (p .given) (placeOf handle (p .blocks))
@@ -125,6 +128,28 @@ endVerdict handle end blocks = refuseIf (ltb (getD blocks (placeOf handle blocks
 
 unfoldable pub writeVerdict : ℕ → ℕ → ℕ → ℕ → Tables → Verdict
 writeVerdict task handle offset count p = andThen (readVerdict task handle p) (endVerdict handle (offset + count) (p .blocks))
+
+-- R47: the tests of a batch, by the handles given, which objects are gone and how many expirations stand
+abbrev pub batchVerdictBy : ℕ → ℕ → List ℕ → List TaskEntry → ℕ → (ℕ → Bool) → ℕ → Verdict
+batchVerdictBy task extension handles tasks given isGone standing =
+    andThen (taskVerdict task tasks)
+    (andThen (refuseIf (eqb (length handles) 0 || ltb largestBatch (length handles)) BatchOutOfRange)
+    (andThen (extensionVerdict extension)
+    (andThen (refuseIf (any (isUngiven given) handles) HandleNotGiven)
+    (andThen (refuseIf (any isGone handles) ObjectGone)
+    (refuseIf (ltb (limits .expirations) (standing + length handles)) NoFreeExpiration)))))
+
+-- an object has no block
+abbrev pub isMissing : List BlockEntry → ℕ → Bool
+isMissing blocks handle = leb blockEntries (placeOf handle blocks)
+
+-- the same by the handles alone
+abbrev pub isMissingIn : List ℕ → ℕ → Bool
+isMissingIn handles handle = leb blockEntries (placeIn handle handles)
+
+unfoldable pub batchVerdict : ℕ → ℕ → List ℕ → Tables → Verdict
+batchVerdict task extension handles p =
+    batchVerdictBy task extension handles (p .tasks) (p .given) (isMissing (p .blocks)) (standingIn (p .expirations))
 
 -- the entry of an expiration that a task sets on a block: due by E4 and E5, by counters that wrap (T8)
 abbrev pub entryBy : Kind → ℕ → ℕ → ℕ → List TaskEntry → GlobalTime → ExpirationEntry
@@ -162,3 +187,9 @@ madePool task kind extension size p =
 unfoldable pub refreshedPool : ℕ → Kind → ℕ → ℕ → Tables → Tables
 refreshedPool task kind extension handle p =
     withEntry (freeSlot (p .expirations)) (entryFor kind task extension (placeOf handle (p .blocks)) p) p
+
+-- and after a batch, object by object
+unfoldable pub batchedPool : ℕ → Kind → ℕ → List ℕ → Tables → Tables
+batchedPool task kind extension [] p = p
+batchedPool task kind extension (handle ∷ handles) p =
+    batchedPool task kind extension handles (refreshedPool task kind extension handle p)

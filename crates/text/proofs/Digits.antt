@@ -15,13 +15,10 @@ use Rattle.text.specs.Fields.{fieldAt}
 use Rattle.text.proofs.Fields.{field-one}
 use Rattle.text.specs.Hex.{isWithin, digitOf, isDigit, isHex, bytesOf, digitFor, hexOf, Spells}
 
-pub within : (low high n : ℕ) → low ≤ n → n < high + 1 → isWithin low high n ≡ true
+within : (low high n : ℕ) → low ≤ n → n < high + 1 → isWithin low high n ≡ true
 within low high n h k = rw (le-leb low n h, le-leb n high (omega arith))
 
-pub under : (low high n : ℕ) → n < low → isWithin low high n ≡ false
-under low high n h = rw (lt-leb low n h)
-
-pub over : (low high n : ℕ) → high + 1 ≤ n → isWithin low high n ≡ false
+over : (low high n : ℕ) → high + 1 ≤ n → isWithin low high n ≡ false
 over low high n h = rw (lt-leb n high (omega arith), and-false)
 
 -- the bounds of a range that a number is in

@@ -3,8 +3,8 @@ use Prim.Native.Nat.{ℕ, _+_, _*_, _/_, _%_, _≤_, _<_}
 use native.Mathlib.Omega.{arith}
 use mathlib.Core.List.{List, [], _∷_, _++_}
 use mathlib.Core.Path.{_≡_}
-use lib.ListN.{length, set, length-append, length-set}
-use Rattle.lists.proofs.Blocks.{overwritten-on, set-overwritten}
+use lib.ListN.{length, set, length-append}
+use Rattle.lists.proofs.Blocks.{length-overwritten, overwritten-on, set-overwritten}
 use Rattle.text.specs.Hex.{digitFor, hexOf, Puts}
 use Rattle.text.proofs.Digits.{length-hex, hex-append}
 
@@ -19,14 +19,26 @@ puts-on {at} {a = a} {b} {old} p q h =
 pub puts-one : (xs : List ℕ) (i v : ℕ) → i < length xs → Puts i (v ∷ []) xs (set xs i v) (i + 1)
 puts-one xs i v h = record { bytes = set-overwritten xs i v h; next = omega arith }
 
+-- one more, stored at the place after them
+pub puts-store : {at i : ℕ} {new old after : List ℕ} (end v : ℕ) → Puts at new old after i → i < length old → end ≡ i + 1
+    → Puts at (new ++ (v ∷ [])) old (set after i v) end
+puts-store {at} {i} {new} {old} {after} end v p h e =
+    let size : length after ≡ length old = rw (p .bytes) (length-overwritten at new old (omega (arith, p .next))) in
+    rw e (puts-on p (puts-one after i v (omega arith)) (omega (arith, p .next)))
+
 -- a byte's two digits, one after the other
 pub puts-byte : (xs : List ℕ) (at b : ℕ) → at + 2 ≤ length xs
     → Puts at (hexOf (b ∷ [])) xs (set (set xs at (digitFor (b / 16))) (at + 1) (digitFor (b % 16))) (at + 2)
 puts-byte xs at b h =
-    let high = digitFor (b / 16) in
-    let p = puts-one xs at high (omega arith) in
-    let q = puts-one (set xs at high) (at + 1) (digitFor (b % 16)) (rw length-set (omega arith)) in
-    record { bytes = puts-on p q (omega arith) .bytes; next = omega arith }
+    puts-store (at + 2) (digitFor (b % 16)) (puts-one xs at (digitFor (b / 16)) (omega arith)) (omega arith) (omega arith)
+
+-- four bytes
+pub puts-four : (xs : List ℕ) (at a b c d : ℕ) → at + 4 ≤ length xs
+    → Puts at (a ∷ b ∷ c ∷ d ∷ []) xs (set (set (set (set xs at a) (at + 1) b) (at + 2) c) (at + 3) d) (at + 4)
+puts-four xs at a b c d h =
+    let two = puts-store (at + 2) b (puts-one xs at a (omega arith)) (omega arith) (omega arith) in
+    let three = puts-store (at + 3) c two (omega arith) (omega arith) in
+    puts-store (at + 4) d three (omega arith) (omega arith)
 
 -- bytes after bytes
 pub puts-hex : {at middle end : ℕ} {old between after : List ℕ} (xs ys : List ℕ) → Puts at (hexOf xs) old between middle

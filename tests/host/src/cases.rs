@@ -1,16 +1,16 @@
 //! What is measured: each call on records where few and many expirations stand, accepted and refused, and on those whose
 //! handles make the fit test work most.
 
-use plain::limits::SMALL_SIZE;
+use plain::limits::{EXPIRATIONS, LARGEST_BATCH, SMALL_SIZE};
 use plain::record::{GLOBAL, LOCAL, RUNNING, WAITING};
-use reference::call::{Call, Kind};
+use reference::call::{packed, Call, Handles, Kind};
 use reference::frame::encode;
 
 use crate::desk::{action, Action, Arguments, Entry, Subject};
 use crate::memory::Memory;
 use crate::samples::{renumber, standing, Numbering, NUMBERINGS};
 
-/// How many expirations stand. Where a call sets one more, 255 stand for 256.
+/// How many expirations stand. Where a call sets one more, 255 stand for 256, and where it sets 32, 224.
 pub const STANDING: [usize; 4] = [0, 64, 128, 256];
 
 /// The tasks that run and set expirations. The next one waits, and the one after it is absent.
@@ -102,9 +102,23 @@ fn calls_on_objects(expirations: usize) -> Vec<Case> {
             case("remaining", Entry::Remaining, expirations, with(small, 0)),
             all_on_one(case("remaining, all on the object", Entry::Remaining, expirations, with(1, 0))),
             all_on_one(case("read 32, all on the object", Entry::Read, expirations, with(1, 32))),
+            case("batch of 1", Entry::Batch, expirations, naming(expirations, 1)),
+            case(BATCH, Entry::Batch, expirations, naming(expirations, LARGEST_BATCH)),
+            case(ONE_BY_ONE, Entry::OneByOne, expirations, naming(expirations, LARGEST_BATCH)),
         ]);
     }
     cases
+}
+
+/// A scan refreshed by one call, and the same by as many.
+pub const BATCH: &str = "batch of 32";
+pub const ONE_BY_ONE: &str = "32 refreshes";
+
+/// So many objects, from all over the blocks.
+fn naming(expirations: usize, count: usize) -> Arguments {
+    let (small, large) = objects(expirations);
+    let handles = (0..count).map(|place| 1 + (place * (small + large) / count) as u32).collect();
+    Arguments { handles, extension: 9, ..Arguments::default() }
 }
 
 /// The case on a record with no other object.
@@ -123,6 +137,10 @@ fn frames(expirations: usize) -> Vec<Case> {
         cases.push(frame("frame: read 256", Call::Read { task: 0, handle }));
         cases.push(frame("frame: remaining", Call::Remaining { task: 0, handle }));
         cases.push(frame("frame: write 256", Call::Write { task: 0, handle, offset: 0, bytes: &[7; 256] }));
+        let handles = packed(&naming(expirations, LARGEST_BATCH).handles);
+        let batch = Call::Batch { task: 0, kind: Kind::Local, extension: 9, handles: Handles(&handles) };
+        let memory = sample(expirations.min(EXPIRATIONS - LARGEST_BATCH));
+        cases.push(Case { memory, ..frame("frame: batch of 32", batch) });
     }
     cases
 }
@@ -149,8 +167,12 @@ fn refusals(expirations: usize) -> Vec<Case> {
 }
 
 fn case(name: &'static str, entry: Entry, expirations: usize, arguments: Arguments) -> Case {
-    let sets = matches!(entry, Entry::Make | Entry::Refresh);
-    let memory = sample(if sets { expirations.min(255) } else { expirations });
+    let sets = match entry {
+        Entry::Make | Entry::Refresh => 1,
+        Entry::Batch | Entry::OneByOne => arguments.handles.len(),
+        _ => 0,
+    };
+    let memory = sample(expirations.min(EXPIRATIONS - sets));
     Case { name, entry, expirations, numbering: None, memory, arguments, answer: 0 }
 }
 

@@ -35,6 +35,7 @@ pub struct Arguments {
     pub extension: u8,
     pub size: u16,
     pub handle: u32,
+    pub handles: Vec<u32>,
     pub bytes: Vec<u8>,
     pub line: Vec<u8>,
 }
@@ -67,13 +68,17 @@ pub enum Entry {
     Write,
     Report,
     Remaining,
+    Batch,
+    /// As many refreshes as a batch would make: no entry of its own.
+    OneByOne,
     Frame,
     /// The test of well-formedness and nothing else, of the plain pool alone.
     Fit,
 }
 
 impl Entry {
-    pub const ALL: [Entry; 13] = [
+    /// The entries, and the fit test.
+    pub const ALL: [Entry; 14] = [
         Entry::Join,
         Entry::Leave,
         Entry::Block,
@@ -85,6 +90,7 @@ impl Entry {
         Entry::Write,
         Entry::Report,
         Entry::Remaining,
+        Entry::Batch,
         Entry::Frame,
         Entry::Fit,
     ];
@@ -144,6 +150,11 @@ fn entry_of<E: Entries>(entry: Entry) -> Action {
             let (local, global) = &mut desk.left;
             E::remaining(&mut desk.memory.pool, with.task, with.handle, local, global)
         },
+        Entry::Batch => |desk, with| E::refresh_all(&mut desk.memory.pool, with.task, 0, with.extension, &with.handles),
+        Entry::OneByOne => |desk, with| {
+            let refresh = |handle: &u32| E::refresh(&mut desk.memory.pool, with.task, 0, with.extension, *handle);
+            with.handles.iter().map(refresh).max().unwrap_or(0)
+        },
         Entry::Frame => |desk, with| {
             let Memory { pool, small, large } = &mut desk.memory;
             E::frame(pool, small, large, &with.line, &mut desk.out, &mut desk.count)
@@ -184,6 +195,14 @@ fn work_of(entry: Entry) -> Option<Action> {
         Entry::Remaining => |desk, with| {
             let left = work::remaining(&desk.memory.pool, with.task, with.handle);
             number(left.map(|work::Lifetime { local, global }| desk.left = (local, global)))
+        },
+        Entry::Batch => {
+            |desk, with| number(work::refresh_all(&mut desk.memory.pool, (with.task, 0, with.extension), &with.handles))
+        }
+        Entry::OneByOne => |desk, with| {
+            let with_all = (with.task, 0, with.extension);
+            let refresh = |handle: &u32| number(work::refresh(&mut desk.memory.pool, with_all, *handle));
+            with.handles.iter().map(refresh).max().unwrap_or(0)
         },
         Entry::Frame | Entry::Fit => return None,
     })

@@ -23,6 +23,7 @@ pub trait Entries {
         handle: &mut u32,
     ) -> u8;
     fn refresh(pool: &mut Pool, task: u8, kind: u8, extension: u8, handle: u32) -> u8;
+    fn refresh_all(pool: &mut Pool, task: u8, kind: u8, extension: u8, handles: &[u32]) -> u8;
     fn read(
         pool: &mut Pool,
         small: &[u8],
@@ -99,6 +100,11 @@ impl Entries for Plain {
     #[inline]
     fn refresh(pool: &mut Pool, task: u8, kind: u8, extension: u8, handle: u32) -> u8 {
         calls::refresh(pool, task, kind, extension, handle)
+    }
+
+    #[inline]
+    fn refresh_all(pool: &mut Pool, task: u8, kind: u8, extension: u8, handles: &[u32]) -> u8 {
+        calls::refresh_all(pool, task, kind, extension, handles)
     }
 
     #[inline]

@@ -104,6 +104,10 @@ impl<E: Entries> Host<E> {
             Call::Write { task, handle, offset, bytes } => E::write(pool, small, large, task, handle, offset, bytes),
             Call::Report => E::report(pool, &mut out.small, &mut out.large, &mut out.expirations, &mut out.given),
             Call::Remaining { task, handle } => E::remaining(pool, task, handle, &mut out.local, &mut out.global),
+            Call::Batch { task, kind, extension, handles } => {
+                let handles: Vec<_> = handles.iter().collect();
+                E::refresh_all(pool, task, code(kind), extension, &handles)
+            }
         }
     }
 
@@ -134,7 +138,8 @@ impl<E: Entries> Host<E> {
     fn accepted(&self, call: &Call) -> Accepted<'_> {
         let out = &self.out;
         match call {
-            Call::Join { .. } | Call::Resume { .. } | Call::Refresh { .. } | Call::Write { .. } => Accepted::Done,
+            Call::Join { .. } | Call::Resume { .. } | Call::Refresh { .. } => Accepted::Done,
+            Call::Write { .. } | Call::Batch { .. } => Accepted::Done,
             Call::Leave { .. } | Call::Block { .. } | Call::Tick { .. } => {
                 assert!(out.advanced <= 1, "{call:?} tells 0 or 1");
                 Accepted::Advanced(out.advanced == 1)

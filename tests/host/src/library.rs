@@ -1,4 +1,4 @@
-//! The linked library: its C interface, and safe entries over it. A slice goes as its first byte and its length.
+//! The linked library: its C interface, and safe entries over it. A slice goes as its first value and its length.
 
 use plain::record::Pool;
 
@@ -28,6 +28,14 @@ extern "C" {
         handle: *mut u32,
     ) -> u8;
     fn ramsummer_refresh(pool: *mut Pool, task: u8, kind: u8, extension: u8, handle: u32) -> u8;
+    fn ramsummer_refresh_all(
+        pool: *mut Pool,
+        task: u8,
+        kind: u8,
+        extension: u8,
+        handles: *const u32,
+        count: usize,
+    ) -> u8;
     fn ramsummer_read(
         pool: *mut Pool,
         small: *const u8,
@@ -120,6 +128,11 @@ impl Entries for Library {
     #[inline]
     fn refresh(pool: &mut Pool, task: u8, kind: u8, extension: u8, handle: u32) -> u8 {
         unsafe { ramsummer_refresh(pool, task, kind, extension, handle) }
+    }
+
+    #[inline]
+    fn refresh_all(pool: &mut Pool, task: u8, kind: u8, extension: u8, handles: &[u32]) -> u8 {
+        unsafe { ramsummer_refresh_all(pool, task, kind, extension, handles.as_ptr(), handles.len()) }
     }
 
     #[inline]

@@ -10,7 +10,7 @@ use host_tests::samples::{after, full};
 use plain::fit::is_well_formed;
 use plain::limits::{BLOCKS, EXPIRATIONS, TASKS};
 use plain::record::{Pool, ABSENT, FREE, GLOBAL, LOCAL, RECORD, RUNNING};
-use reference::call::{Accepted, Call, Figures, Kind, Lifetime};
+use reference::call::{packed, Accepted, Call, Figures, Handles, Kind, Lifetime};
 use reference::generate::Profile;
 use reference::random::Random;
 
@@ -60,7 +60,7 @@ struct Pair {
     library: Host<Library>,
     plain: Host<Plain>,
     whole: Memory,
-    calls: [Call<'static>; 5],
+    calls: [Call<'static>; 6],
     fit: usize,
     unfit: usize,
 }
@@ -70,6 +70,9 @@ impl Pair {
         let running = whole.pool.tasks.iter().position(|task| task.state == RUNNING);
         let task = running.unwrap_or(0) as u8;
         let handle = whole.pool.handles.into_iter().max().unwrap_or(0);
+        let busiest = busiest(&whole.pool, task);
+        // For as long as the test runs.
+        let handles = Handles(packed(&[handle, busiest, handle]).leak());
         Pair {
             library: Host::new(whole.clone()),
             plain: Host::new(whole.clone()),
@@ -77,8 +80,9 @@ impl Pair {
                 Call::Report,
                 Call::Tick { task },
                 Call::Read { task, handle },
-                Call::Remaining { task, handle: busiest(&whole.pool, task) },
+                Call::Remaining { task, handle: busiest },
                 Call::Make { task, kind: Kind::Local, extension: 30, length: 40 },
+                Call::Batch { task, kind: Kind::Global, extension: 30, handles },
             ],
             whole,
             fit: 0,
@@ -140,7 +144,7 @@ fn overwrite_each_byte(whole: Memory) {
     for offset in 0..RECORD {
         let held = bytes_mut(&mut pair.whole.pool)[offset];
         for value in 0..=255 {
-            let turn = 1 + (offset + usize::from(value)) % 4;
+            let turn = 1 + (offset + usize::from(value)) % 5;
             pair.examine(&[calls[0], calls[turn]], |pool| bytes_mut(pool)[offset] = value);
         }
         bytes_mut(&mut pair.library.memory.pool)[offset] = held;
@@ -171,12 +175,12 @@ fn one_byte_of_a_late_record() {
 
 /// Tasks of every state.
 fn mixed() -> Memory {
-    after(Profile::Everyday, 15, 900)
+    after(Profile::Everyday, 31, 900)
 }
 
 /// All clocks put forward to the end of 32 bits, and what goes by them.
 fn late() -> Memory {
-    let mut memory = after(Profile::Everyday, 16, 1_300);
+    let mut memory = after(Profile::Everyday, 33, 900);
     let ahead = (u32::MAX - 7).wrapping_sub(memory.pool.global);
     memory.pool.global = memory.pool.global.wrapping_add(ahead);
     for task in memory.pool.tasks.iter_mut().filter(|task| task.state != ABSENT) {
@@ -192,9 +196,9 @@ fn late() -> Memory {
 /// What stands in them, what remains to the object that is asked for, and what the calls are told.
 #[test]
 fn undamaged_records() {
-    let mixed = (mixed(), (27, 9, 51), (22, 10), [0; 5]);
-    let late = (late(), (42, 16, 82), (2, 29), [0; 5]);
-    let full = (full(256), (64, 32, 256), (0, 28), [0, 0, 0, 0, 9]);
+    let mixed = (mixed(), (23, 13, 84), (13, 20), [0; 6]);
+    let late = (late(), (33, 14, 83), (14, 31), [0; 6]);
+    let full = (full(256), (64, 32, 256), (0, 28), [0, 0, 0, 0, 9, 10]);
     for (whole, standing, (local, global), expected) in [mixed, late, full] {
         let Figures { small, large, expirations, .. } = figures(&whole.pool);
         assert_eq!((small, large, expirations), standing);

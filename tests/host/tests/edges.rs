@@ -93,7 +93,7 @@ fn a_record_that_is_not_well_formed_is_15_before_14() {
         assert_eq!(make(&mut memory, stores, 0, 0), 15);
         assert_eq!(read(&mut memory, stores, 0), 15);
         assert_eq!(write(&mut memory, stores, 0), 15);
-        for line in [&b"060000030004"[..], b"080000000001", b"09000000000100AA", b"0A", b"0B0000000001"] {
+        for line in [&b"060000030004"[..], b"080000000001", b"09000000000100AA", b"0A", b"0B0000000001", b"0C000000"] {
             assert_eq!(frame(&mut memory, stores, line, ANSWER_ROOM), (15, b"0F\n".to_vec()));
         }
     }
@@ -114,6 +114,8 @@ fn calls_that_touch_no_store_do_not_look() {
         assert_eq!(told(b"0B0000000001"), (0, b"00050C\n".to_vec()));
         // One of the ten expirations left with its setter, and one is new.
         assert_eq!(told(b"0A"), (0, b"000302000A00000005\n".to_vec()));
+        assert_eq!(told(b"0C000103000000010000000500000001"), (0, b"00\n".to_vec()));
+        assert_eq!(told(b"0A"), (0, b"000302000D00000005\n".to_vec()));
     }
 }
 
@@ -125,11 +127,44 @@ fn an_unknown_kind_is_19_before_all_else() {
                 assert_eq!(make(&mut memory, stores, task, kind), 19);
                 let before = memory.clone();
                 assert_eq!(Library::refresh(&mut memory.pool, task, kind, 31, 0), 19);
+                for handles in [&[][..], &[1], &[0; 33]] {
+                    assert_eq!(Library::refresh_all(&mut memory.pool, task, kind, 31, handles), 19);
+                }
                 assert!(memory == before);
             }
         }
     }
-    assert_eq!(frame(&mut damaged(), (1, 1), b"061002030004", ANSWER_ROOM), (19, b"13\n".to_vec()));
+    for line in [&b"061002030004"[..], b"071002FF00000000", b"0C1002FF"] {
+        assert_eq!(frame(&mut damaged(), (1, 1), line, ANSWER_ROOM), (19, b"13\n".to_vec()));
+    }
+}
+
+/// Whatever the list is, a pointer and a count of any size among them.
+#[test]
+fn a_batch_of_any_size() {
+    for task in [0, 16] {
+        for count in [0, 1, 32, 33, 34, 63, 64, 65, 255, 256, 257, 65_536, 1_000_000] {
+            let handles = vec![1; count];
+            let mut memory = standing(16, (3, 2), 10);
+            let before = memory.clone();
+            let number = Library::refresh_all(&mut memory.pool, task, 0, 30, &handles);
+            assert_eq!(
+                number,
+                if task > 15 {
+                    1
+                } else if (1..=32).contains(&count) {
+                    0
+                } else {
+                    20
+                },
+                "{count}"
+            );
+            assert!((memory == before) == (number != 0), "{count}");
+            let mut memory = damaged();
+            assert_eq!(Library::refresh_all(&mut memory.pool, task, 1, 31, &handles), 15, "{count}");
+            assert!(memory == damaged(), "{count}");
+        }
+    }
 }
 
 #[test]
@@ -192,12 +227,16 @@ fn lines_of_any_length() {
         assert_eq!(told(&with(b"09")), if count == 263 { 11 } else { 18 });
         assert_eq!(told(&with(b"0A")), 18);
         assert_eq!(told(&with(b"0B")), 18);
-        assert_eq!(told(&with(b"0C")), 17);
+        // A batch may have as many objects as fill the line.
+        assert_eq!(told(&with(b"0C")), if count % 4 == 0 { 20 } else { 18 });
+        assert_eq!(told(&with(b"0D")), 17);
         assert_eq!(told(&digits), 17);
         assert_eq!(told(&digits[1..]), 16);
-        let mut other = with(b"09");
-        *other.last_mut().unwrap() = b'a';
-        assert_eq!(told(&other), 16);
+        for operation in [b"09", b"0C"] {
+            let mut other = with(operation);
+            *other.last_mut().unwrap() = b'a';
+            assert_eq!(told(&other), 16);
+        }
     }
 }
 

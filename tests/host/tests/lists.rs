@@ -9,7 +9,7 @@ use host_tests::host::{Host, Told};
 use host_tests::library::Library;
 use host_tests::memory::Memory;
 use host_tests::reading::{of_ledger, of_record, Ahead};
-use reference::call::{Call, Model};
+use reference::call::{Call, Handles, Model};
 use reference::frame::{decode, encode_answer};
 use reference::generate::{script_of, Profile, PROFILES};
 use reference::indexed;
@@ -124,6 +124,10 @@ impl Company {
                 let across = is_due_across(&self.plain.memory.pool, handle);
                 self.census.remaining_across += usize::from(across);
             }
+            Call::Batch { handles, .. } if accepted => {
+                let across = handles.iter().any(|handle| is_due_across(&self.plain.memory.pool, handle));
+                self.census.batches_across += usize::from(across);
+            }
             _ => {}
         }
         if accepted {
@@ -161,11 +165,14 @@ fn run_lists(seeds: std::ops::Range<u64>, late: bool) -> Census {
 
 fn check_all_met(census: &Census) {
     assert!(census.accepted.iter().all(|&count| count > 1_000));
-    for number in (1..=7).chain(9..=13).chain(16..=19) {
+    for number in (1..=7).chain(9..=13).chain(16..=20) {
         assert!(census.refused[number] > 500, "{number}");
     }
     for number in [1, 3, 4, 11, 12] {
-        assert!(census.remaining_refused[number] > 100, "remaining, {number}");
+        assert!(census.refused_by[10][number] > 100, "remaining, {number}");
+    }
+    for number in [1, 3, 4, 20, 6, 11, 12, 10] {
+        assert!(census.refused_by[11][number] > 100, "batch, {number}");
     }
     assert_eq!(census.most, (64, 32, 256));
     assert!(census.advances > 10_000 && census.frames > 100_000);
@@ -182,14 +189,15 @@ fn of_fresh_records() {
 fn of_records_whose_counters_go_round() {
     let census = run_lists(1_000..1_105, true);
     check_all_met(&census);
-    assert!(census.clock_wraps > 100 && census.global_wraps > 20 && census.remaining_across > 1_000);
+    assert!(census.clock_wraps > 100 && census.global_wraps > 20);
+    assert!(census.remaining_across > 1_000 && census.batches_across > 1_000);
     assert!(census.calls + census.frames > 1_000_000);
 }
 
 /// Near the last handle the ledgers, which start at 0, cannot follow; library and plain pool give the same answers.
 #[test]
 fn of_records_with_nearly_all_handles_given() {
-    let mut refused = [0; 20];
+    let mut refused = [0; 21];
     for seed in 0..20 {
         let mut random = Random::new(seed);
         let mut memory = Memory::fresh(&mut random);
@@ -200,7 +208,8 @@ fn of_records_with_nearly_all_handles_given() {
         let mut room = vec![0; script.len()];
         for line in lines(&script) {
             let Ok(call) = decode(line, &mut room) else { continue };
-            let call = with_handle_after(given, call);
+            let mut handles = Vec::new();
+            let call = with_handle_after(given, call, &mut handles);
             let told = library.call(&call);
             assert_eq!(told, plain.call(&call), "{call:?}");
             refused[usize::from(told.err().unwrap_or(0))] += 1;
@@ -210,8 +219,8 @@ fn of_records_with_nearly_all_handles_given() {
     assert!(refused[8] > 100 && refused[11] > 100 && refused[12] > 100, "{refused:?}");
 }
 
-/// The call on a handle so much further on.
-fn with_handle_after(given: u32, call: Call) -> Call {
+/// The call on a handle so much further on. Those of a batch need room.
+fn with_handle_after<'a>(given: u32, call: Call<'a>, room: &'a mut Vec<[u8; 4]>) -> Call<'a> {
     let later = |handle: u32| if handle == 0 { 0 } else { handle.saturating_add(given) };
     match call {
         Call::Refresh { task, kind, extension, handle } => {
@@ -220,6 +229,10 @@ fn with_handle_after(given: u32, call: Call) -> Call {
         Call::Read { task, handle } => Call::Read { task, handle: later(handle) },
         Call::Write { task, handle, offset, bytes } => Call::Write { task, handle: later(handle), offset, bytes },
         Call::Remaining { task, handle } => Call::Remaining { task, handle: later(handle) },
+        Call::Batch { task, kind, extension, handles } => {
+            room.extend(handles.iter().map(|handle| later(handle).to_be_bytes()));
+            Call::Batch { task, kind, extension, handles: Handles(room) }
+        }
         other => other,
     }
 }

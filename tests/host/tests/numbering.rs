@@ -10,7 +10,7 @@ use host_tests::samples::{full, mixed_blocks, renumber, Numbering, NUMBERINGS};
 use plain::fit::is_well_formed;
 use plain::limits::{LARGE_SIZE, SMALL_BLOCKS, SMALL_SIZE};
 use plain::work;
-use reference::call::{Call, Kind};
+use reference::call::{packed, Call, Handles, Kind};
 use reference::random::Random;
 
 const LOCAL: u8 = 0;
@@ -84,6 +84,16 @@ fn the_library_and_the_plain_pool_agree() {
         compare(&whole, &Call::Report, None);
         compare(&whole, &Call::Tick { task: 1 }, None);
         compare(&whole, &Call::Make { task: 1, kind: Kind::Local, extension: 0, length: 9 }, Some(9));
+        // The objects of each third block, with room for an expiration on each of them.
+        let mut room = full(224);
+        renumber(&mut room, numbering);
+        let named: Vec<_> = room.pool.handles.iter().copied().step_by(3).collect();
+        let gone = [&named[..31], &[named[0] + 1_000]].concat();
+        for (handles, refusal) in [(&named, None), (&gone, Some(if room.pool.given > gone[31] { 12 } else { 11 }))] {
+            let handles = packed(handles);
+            let batch = Call::Batch { task: 1, kind: Kind::Local, extension: 3, handles: Handles(&handles) };
+            compare(&room, &batch, refusal);
+        }
         for (one, other) in [(0, 95), (95, 0), (40, 41), (17, 64)] {
             let mut damaged = whole.clone();
             damaged.pool.handles[one] = damaged.pool.handles[other];

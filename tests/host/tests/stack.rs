@@ -11,8 +11,9 @@ const KB: usize = 1024;
 /// What each call may take. The line and the answer of a frame are its caller's, and not in it.
 const fn limit(entry: Entry) -> usize {
     match entry {
-        Entry::Frame => 16 * KB,
-        _ => 15 * KB,
+        Entry::Frame => 10 * KB,
+        Entry::Leave | Entry::Block | Entry::Tick => 8 * KB + KB / 4,
+        _ => 8 * KB,
     }
 }
 

@@ -3,7 +3,7 @@
 //! work. A refusal changes nothing.
 
 use crate::fit::is_well_formed;
-use crate::frames::{answer, decode, Reply, Request, LONGEST_FRAME};
+use crate::frames::{answer, decode, Reply, Request, LONGEST_FRAME, MOST_NAMED};
 use crate::record::{Pool, FRESH};
 use crate::refusals::{ACCEPTED, NOT_WELL_FORMED, SHORT_BUFFER, UNKNOWN_KIND};
 use crate::work;
@@ -79,6 +79,16 @@ pub fn refresh(pool: &mut Pool, task: u8, kind: u8, extension: u8, handle: u32) 
         return NOT_WELL_FORMED;
     }
     number_of(work::refresh(pool, (task, kind, extension), handle))
+}
+
+pub fn refresh_all(pool: &mut Pool, task: u8, kind: u8, extension: u8, handles: &[u32]) -> u8 {
+    if kind > 1 {
+        return UNKNOWN_KIND;
+    }
+    if !is_well_formed(pool) {
+        return NOT_WELL_FORMED;
+    }
+    number_of(work::refresh_all(pool, (task, kind, extension), handles))
 }
 
 pub fn read(pool: &Pool, small: &[u8], large: &[u8], task: u8, handle: u32, out: &mut [u8], count: &mut usize) -> u8 {
@@ -164,6 +174,13 @@ fn carry_out<'a>(pool: &mut Pool, small: &'a mut [u8], large: &'a mut [u8], requ
         }
         Request::Report => Ok(Reply::Report(work::report(pool))),
         Request::Remaining(task, handle) => work::remaining(pool, task, handle).map(Reply::Remaining),
+        Request::Batch(task, kind, extension, objects) => {
+            let mut handles = [0; MOST_NAMED];
+            for (handle, &bytes) in handles.iter_mut().zip(objects) {
+                *handle = u32::from_be_bytes(bytes);
+            }
+            work::refresh_all(pool, (task, kind, extension), &handles[..objects.len()]).map(|()| Reply::Done)
+        }
     }
 }
 

@@ -3,10 +3,14 @@
 use crate::refusals::{ACCEPTED, NOT_HEXADECIMAL, UNKNOWN_KIND, UNKNOWN_OPERATION, WRONG_FRAME_LENGTH};
 use crate::work::{Figures, Lifetime};
 
-/// The bytes of the longest frame, a write of 256.
+/// The bytes of the longest frame but for a batch, a write of 256.
 pub const LONGEST_FRAME: usize = 7 + 256;
 
-/// Task first, then kind, extension and length or handle; a write has handle, offset and bytes.
+/// The objects of a batch that are read. They are more than it may have, so that one with too many shows as that.
+pub const MOST_NAMED: usize = (LONGEST_FRAME + 1 - 4) / 4;
+
+/// Task first, then kind, extension and length or handle; a write has handle, offset and bytes, and a batch the bytes of
+/// its first handles.
 #[derive(Clone, Copy, Debug, PartialEq, Eq)]
 pub enum Request<'a> {
     Join(u8),
@@ -20,6 +24,7 @@ pub enum Request<'a> {
     Write(u8, u32, u8, &'a [u8]),
     Report,
     Remaining(u8, u32),
+    Batch(u8, u8, u8, &'a [[u8; 4]]),
 }
 
 /// What an accepted call gives back.
@@ -56,7 +61,11 @@ pub fn decode<'a>(line: &[u8], room: &'a mut [u8; LONGEST_FRAME + 1]) -> Result<
         }
         (10, &[]) => Ok(Request::Report),
         (11, &[task, h3, h2, h1, h0]) => Ok(Request::Remaining(task, u32::from_be_bytes([h3, h2, h1, h0]))),
-        (1..=11, _) => Err(WRONG_FRAME_LENGTH),
+        // The whole line counts, also where it is longer than the room.
+        (12, &[task, kind, extension, ref objects @ ..]) if line.len().is_multiple_of(8) => {
+            Ok(Request::Batch(task, known(kind)?, extension, objects.as_chunks().0))
+        }
+        (1..=12, _) => Err(WRONG_FRAME_LENGTH),
         _ => Err(UNKNOWN_OPERATION),
     }
 }

@@ -1,5 +1,7 @@
 //! Calls and answers: what goes into the pool and what comes back.
 
+use std::fmt;
+
 /// Which time an expiration goes by: its setter's local time (the paper: own) or the global time (common).
 #[derive(Clone, Copy, Debug, PartialEq, Eq)]
 pub enum Kind {
@@ -7,7 +9,34 @@ pub enum Kind {
     Global,
 }
 
-/// One of the scope paper's ten calls; or `Remaining`, order 1, which asks how long an object has left.
+/// The handles of a batch, where they stand in its frame: four bytes each, the high one first.
+#[derive(Clone, Copy, PartialEq, Eq)]
+pub struct Handles<'a>(pub &'a [[u8; 4]]);
+
+impl<'a> Handles<'a> {
+    pub fn count(self) -> usize {
+        self.0.len()
+    }
+
+    pub fn iter(self) -> impl Iterator<Item = u32> + 'a {
+        self.0.iter().map(|&bytes| u32::from_be_bytes(bytes))
+    }
+}
+
+/// As numbers.
+impl fmt::Debug for Handles<'_> {
+    fn fmt(&self, f: &mut fmt::Formatter<'_>) -> fmt::Result {
+        f.debug_list().entries(self.iter()).finish()
+    }
+}
+
+/// Handles as a frame has them.
+pub fn packed(handles: &[u32]) -> Vec<[u8; 4]> {
+    handles.iter().map(|handle| handle.to_be_bytes()).collect()
+}
+
+/// One of the scope paper's ten calls; or `Remaining`, order 1, which asks how long an object has left; or `Batch`,
+/// order 2, which refreshes several objects, all or none.
 #[derive(Clone, Copy, Debug, PartialEq, Eq)]
 pub enum Call<'a> {
     Join { task: u8 },
@@ -21,10 +50,11 @@ pub enum Call<'a> {
     Write { task: u8, handle: u32, offset: u8, bytes: &'a [u8] },
     Report,
     Remaining { task: u8, handle: u32 },
+    Batch { task: u8, kind: Kind, extension: u8, handles: Handles<'a> },
 }
 
 impl Call<'_> {
-    /// The call's place among the eleven, in the order of their operations, from 0.
+    /// The call's place among the twelve, in the order of their operations, from 0.
     pub fn place(&self) -> usize {
         match self {
             Call::Join { .. } => 0,
@@ -38,6 +68,7 @@ impl Call<'_> {
             Call::Write { .. } => 8,
             Call::Report => 9,
             Call::Remaining { .. } => 10,
+            Call::Batch { .. } => 11,
         }
     }
 
@@ -68,6 +99,7 @@ pub enum Refusal {
     UnknownOperation = 17,
     WrongFrameLength = 18,
     KindAbove1 = 19,
+    BatchOutOfRange = 20,
 }
 
 /// What an accepted call gives back.
@@ -100,6 +132,7 @@ pub trait Model {
     fn write(&mut self, task: u8, handle: u32, offset: u8, bytes: &[u8]) -> Answer<'static>;
     fn report(&self) -> Answer<'static>;
     fn remaining(&self, task: u8, handle: u32) -> Answer<'static>;
+    fn batch(&mut self, task: u8, kind: Kind, extension: u8, handles: Handles) -> Answer<'static>;
 
     /// Does the call and answers it.
     fn call(&mut self, call: &Call) -> Answer<'_> {
@@ -115,6 +148,7 @@ pub trait Model {
             Call::Write { task, handle, offset, bytes } => self.write(task, handle, offset, bytes),
             Call::Report => self.report(),
             Call::Remaining { task, handle } => self.remaining(task, handle),
+            Call::Batch { task, kind, extension, handles } => self.batch(task, kind, extension, handles),
         }
     }
 }

@@ -5,7 +5,7 @@ use crate::random::Random;
 
 type Fault = fn(&mut Vec<u8>, &mut Random);
 
-const FAULTS: [Fault; 14] = [
+const FAULTS: [Fault; 15] = [
     drop_digit,
     add_digit,
     lower_case,
@@ -19,6 +19,7 @@ const FAULTS: [Fault; 14] = [
     bad_kind,
     bad_kind_and_length,
     long_write,
+    broken_batch,
     long_line,
 ];
 
@@ -41,7 +42,7 @@ pub fn noise(random: &mut Random) -> Vec<u8> {
         return bytes;
     }
     let mut line = Vec::new();
-    hex(&[random.below(13) as u8], &mut line);
+    hex(&[random.below(14) as u8], &mut line);
     hex(&bytes, &mut line);
     line
 }
@@ -77,7 +78,7 @@ fn no_operation(line: &mut Vec<u8>, _: &mut Random) {
 }
 
 fn unknown_operation(line: &mut Vec<u8>, random: &mut Random) {
-    let operation = random.pick(&[0x00, 0x0C, 0x0D, 0x10, 0x60, 0x7F, 0x80, 0xA0, 0xFF]);
+    let operation = random.pick(&[0x00, 0x0D, 0x0E, 0x10, 0x60, 0x7F, 0x80, 0xA0, 0xFF]);
     put(line, 0, operation);
 }
 
@@ -93,9 +94,9 @@ fn add_byte(line: &mut Vec<u8>, random: &mut Random) {
     hex(&[random.byte()], line);
 }
 
-/// The third byte of a make or refresh is its kind.
+/// The third byte of a make, a refresh or a batch is its kind.
 fn bad_kind(line: &mut Vec<u8>, random: &mut Random) {
-    if !line.starts_with(b"06") && !line.starts_with(b"07") {
+    if ![b"06", b"07", b"0C"].iter().any(|&operation| line.starts_with(operation)) {
         *line = b"060000000004".to_vec();
     }
     let kind = random.pick(&[0x02, 0x03, 0x10, 0x80, 0xFF]);
@@ -113,6 +114,17 @@ fn long_write(line: &mut Vec<u8>, random: &mut Random) {
     let mut bytes = vec![0; 257 + random.below(3)];
     random.fill(&mut bytes);
     hex(&bytes, line);
+}
+
+/// A batch that breaks off within a handle, or before the first, some of them longer than any other frame.
+fn broken_batch(line: &mut Vec<u8>, random: &mut Random) {
+    let most = random.pick(&[1, 33, 300]);
+    *line = b"0C000003".to_vec();
+    for _ in 0..random.below(most) {
+        line.extend(b"00000001");
+    }
+    let bytes = random.pick(&[1, 2, 3]);
+    line.truncate(line.len() - 2 * bytes);
 }
 
 fn long_line(line: &mut Vec<u8>, random: &mut Random) {

@@ -1,10 +1,10 @@
 //! A script being written: lines, calls and arguments, led by a ledger that follows what is written.
 
-use crate::call::{Call, Kind, Model, Refusal};
+use crate::call::{packed, Call, Handles, Kind, Model, Refusal};
 use crate::damage::{damage, noise};
 use crate::frame::{decode, encode};
 use crate::ledger::Ledger;
-use crate::limits::{Store, TASKS};
+use crate::limits::{Store, LARGEST_BATCH, MOST_EXPIRATIONS, TASKS};
 use crate::random::Random;
 use crate::tasks::Tasks;
 
@@ -55,6 +55,7 @@ impl Draft {
         let task = self.random.below(3) as u8;
         let handle = self.handle();
         let bytes = [self.random.byte()];
+        let handles = vec![handle.to_be_bytes(); self.random.below(4)];
         let call = self.random.pick(&[
             Call::Tick { task },
             Call::Make { task, kind: Kind::Local, extension: 3, length: 10 },
@@ -63,6 +64,7 @@ impl Draft {
             Call::Write { task, handle, offset: 0, bytes: &bytes },
             Call::Report,
             Call::Remaining { task, handle },
+            Call::Batch { task, kind: Kind::Global, extension: 3, handles: Handles(&handles) },
         ]);
         let mut line = Vec::new();
         encode(&call, &mut line);
@@ -85,7 +87,8 @@ impl Draft {
         match self.random.below(100) {
             0..=24 => self.tick(),
             25..=39 => self.make(),
-            40..=50 => self.refresh(),
+            40..=47 => self.refresh(),
+            48..=50 => self.batch(),
             51..=62 => self.read(),
             63..=75 => self.write(),
             76..=79 => self.remaining(),
@@ -136,6 +139,23 @@ impl Draft {
         self.call(&Call::Refresh { task, kind, extension, handle });
     }
 
+    /// A few objects that stand, or some that may not.
+    pub fn batch(&mut self) {
+        let (task, kind, extension) = (self.task(), self.kind(), self.extension());
+        let count = match self.random.below(12) {
+            0 => self.random.pick(&[0, LARGEST_BATCH, LARGEST_BATCH + 1]),
+            _ => 1 + self.random.below(8),
+        };
+        let any = self.random.one_in(3);
+        let handles = if any { (0..count).map(|_| self.handle()).collect() } else { self.standing_handles(count) };
+        self.batch_by(task, kind, extension, &handles);
+    }
+
+    fn batch_by(&mut self, task: u8, kind: Kind, extension: u8, handles: &[u32]) {
+        let handles = packed(handles);
+        self.call(&Call::Batch { task, kind, extension, handles: Handles(&handles) });
+    }
+
     fn read(&mut self) {
         let (task, handle) = (self.task(), self.handle());
         self.call(&Call::Read { task, handle });
@@ -176,11 +196,12 @@ impl Draft {
         self.call(&Call::Write { task, handle, offset, bytes });
     }
 
-    /// A refresh, read or write.
+    /// A refresh, of one object or several, a read or a write.
     pub fn any_use(&mut self) {
-        match self.random.below(4) {
+        match self.random.below(5) {
             0 => self.refresh(),
-            1 => self.read(),
+            1 => self.batch(),
+            2 => self.read(),
             _ => self.write(),
         }
     }
@@ -209,17 +230,19 @@ impl Draft {
         let handle = self.random.pick(&[1, newest, strange]);
         let offset = self.random.pick(&[0, 1, 31, 32, 33, 255]);
         let count = self.random.pick(&[0, 1, 31, 32, 33, 255, 256, 257]);
-        match self.random.below(13) {
+        let times = self.random.pick(&[0, 1, 2, LARGEST_BATCH, LARGEST_BATCH + 1]);
+        match self.random.below(15) {
             0 => self.call(&Call::Join { task }),
             1 => self.call(&Call::Leave { task }),
             2 => self.call(&Call::Block { task }),
             3 => self.call(&Call::Resume { task }),
             4 => self.call(&Call::Tick { task }),
-            5 | 6 => self.call(&Call::Make { task, kind, extension, length }),
-            7 => self.call(&Call::Refresh { task, kind, extension, handle }),
-            8 => self.call(&Call::Read { task, handle }),
-            9 | 10 => self.write_at(task, handle, offset, count),
-            11 => self.call(&Call::Remaining { task, handle }),
+            5..=7 => self.call(&Call::Make { task, kind, extension, length }),
+            8 => self.call(&Call::Refresh { task, kind, extension, handle }),
+            9 => self.call(&Call::Read { task, handle }),
+            10 | 11 => self.write_at(task, handle, offset, count),
+            12 => self.call(&Call::Remaining { task, handle }),
+            13 => self.batch_by(task, kind, extension, &vec![handle; times]),
             _ => self.call(&Call::Report),
         }
     }
@@ -273,6 +296,45 @@ impl Draft {
     pub fn refresh_by(&mut self, tasks: usize, extension: u8, handle: u32) {
         let (task, kind) = (self.random.below(tasks) as u8, self.kind());
         self.call(&Call::Refresh { task, kind, extension, handle });
+    }
+
+    /// The handles of so many new objects, of either store, as far as they are made.
+    pub fn scan(&mut self, count: usize, extension: u8) -> Vec<u32> {
+        let mut scan = Vec::new();
+        for _ in 0..count {
+            let store = self.random.pick(&[Store::Small, Store::Small, Store::Large]);
+            scan.extend(self.make_in(store, extension));
+        }
+        scan
+    }
+
+    /// A running task refreshes them all.
+    pub fn batch_now(&mut self, extension: u8, handles: &[u32]) {
+        let (task, kind) = (self.runner(), self.kind());
+        self.batch_by(task, kind, extension, handles);
+    }
+
+    /// So many objects that stand, some of them more than once if they are few.
+    pub fn batch_standing(&mut self, count: usize, extension: u8) {
+        let handles = self.standing_handles(count);
+        self.batch_now(extension, &handles);
+    }
+
+    /// So many objects that stand, and in the places of some of them others that are gone, were never given or are
+    /// there twice.
+    pub fn batch_mixed(&mut self, count: usize, extension: u8) {
+        let mut handles = self.standing_handles(count);
+        for _ in 0..(1 + self.random.below(3)).min(count) {
+            let (gone, strange, again) = (self.gone_handle(), self.strange_handle(), self.random.pick(&handles));
+            let place = self.random.below(count);
+            handles[place] = self.random.pick(&[gone, strange, again]);
+        }
+        self.batch_now(extension, &handles);
+    }
+
+    /// How many expirations more there is room for.
+    pub fn room(&self) -> usize {
+        MOST_EXPIRATIONS - usize::from(self.ledger.figures().expirations)
     }
 
     pub fn read_now(&mut self, handle: u32) {
@@ -357,6 +419,17 @@ impl Draft {
     fn strange_handle(&mut self) -> u32 {
         let given = self.ledger.figures().given;
         self.random.pick(&[0, given + 1, given << 8, given | 0x0001_0000, given | 0x0100_0000, u32::MAX])
+    }
+
+    /// One that was given and is gone, if a few guesses find it; else 0.
+    fn gone_handle(&mut self) -> u32 {
+        let guesses: [u32; 8] = std::array::from_fn(|_| self.recent_handle(u32::MAX));
+        guesses.into_iter().find(|&handle| self.ledger.length(handle).is_none()).unwrap_or(0)
+    }
+
+    /// So many standing ones, in any order; 0 where none stands.
+    fn standing_handles(&mut self, count: usize) -> Vec<u32> {
+        (0..count).map(|_| self.standing_handle().unwrap_or(0)).collect()
     }
 
     fn standing_handle(&mut self) -> Option<u32> {

@@ -1,6 +1,6 @@
 //! Frames: lines of hexadecimal to calls, calls and answers to lines.
 
-use crate::call::{Accepted, Answer, Call, Figures, Kind, Lifetime, Refusal};
+use crate::call::{Accepted, Answer, Call, Figures, Handles, Kind, Lifetime, Refusal};
 
 const JOIN: u8 = 0x01;
 const LEAVE: u8 = 0x02;
@@ -13,6 +13,7 @@ const READ: u8 = 0x08;
 const WRITE: u8 = 0x09;
 const REPORT: u8 = 0x0A;
 const REMAINING: u8 = 0x0B;
+const BATCH: u8 = 0x0C;
 
 /// The most bytes that one write brings.
 const MOST_WRITTEN: usize = 256;
@@ -22,8 +23,8 @@ const DIGITS: &[u8; 16] = b"0123456789ABCDEF";
 /// The value of each character that is a digit; above 15 where it is none.
 const VALUES: [u8; 256] = values();
 
-/// The call in a line without its LF, or refusal 16, 17, 18 or 19. A write's bytes stay in `room`,
-/// which has at least half the line's length.
+/// The call in a line without its LF, or refusal 16, 17, 18 or 19. A write's bytes and a batch's handles stay in
+/// `room`, which has at least half the line's length.
 pub fn decode<'a>(line: &[u8], room: &'a mut [u8]) -> Result<Call<'a>, Refusal> {
     let frame = unhex(line, room)?;
     let (&operation, fields) = frame.split_first().ok_or(Refusal::UnknownOperation)?;
@@ -39,6 +40,7 @@ pub fn decode<'a>(line: &[u8], room: &'a mut [u8]) -> Result<Call<'a>, Refusal> 
         WRITE => write(fields),
         REPORT => report(fields),
         REMAINING => remaining(fields),
+        BATCH => batch(fields),
         _ => Err(Refusal::UnknownOperation),
     }
 }
@@ -79,6 +81,13 @@ fn report(fields: &[u8]) -> Result<Call<'_>, Refusal> {
 fn remaining(fields: &[u8]) -> Result<Call<'_>, Refusal> {
     let &[task, h3, h2, h1, h0] = fields else { return Err(Refusal::WrongFrameLength) };
     Ok(Call::Remaining { task, handle: u32::from_be_bytes([h3, h2, h1, h0]) })
+}
+
+/// However many objects: whether they are too many is for the call to tell.
+fn batch(fields: &[u8]) -> Result<Call<'_>, Refusal> {
+    let &[task, kind, extension, ref objects @ ..] = fields else { return Err(Refusal::WrongFrameLength) };
+    let (handles, []) = objects.as_chunks() else { return Err(Refusal::WrongFrameLength) };
+    Ok(Call::Batch { task, kind: kind_of(kind)?, extension, handles: Handles(handles) })
 }
 
 fn kind_of(kind: u8) -> Result<Kind, Refusal> {
@@ -138,6 +147,10 @@ pub fn encode(call: &Call, line: &mut Vec<u8>) {
         Call::Remaining { task, handle } => {
             hex(&[REMAINING, task], line);
             hex(&handle.to_be_bytes(), line);
+        }
+        Call::Batch { task, kind, extension, handles } => {
+            hex(&[BATCH, task, kind as u8, extension], line);
+            hex(handles.0.as_flattened(), line);
         }
     }
     line.push(b'\n');

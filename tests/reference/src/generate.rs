@@ -2,7 +2,7 @@
 
 use crate::call::Call;
 use crate::draft::Draft;
-use crate::limits::{Store, LONGEST, LONGEST_EXTENSION, MOST_EXPIRATIONS, TASKS};
+use crate::limits::{Store, LARGEST_BATCH, LONGEST, LONGEST_EXTENSION, MOST_EXPIRATIONS, TASKS};
 use crate::random::Random;
 use crate::script::LIMIT;
 
@@ -27,6 +27,8 @@ pub enum Profile {
     Reading,
     /// Expirations of several tasks on one object, and how long it stands for each of them.
     Remaining,
+    /// Objects refreshed together: of all sizes, with some that do not stand, and up to all 256 expirations.
+    Batch,
     /// Arguments at the ends of their ranges.
     Edges,
     /// Damaged lines among good ones.
@@ -35,7 +37,7 @@ pub enum Profile {
     Noise,
 }
 
-pub const PROFILES: [Profile; 12] = [
+pub const PROFILES: [Profile; 13] = [
     Profile::Everyday,
     Profile::Crowd,
     Profile::SmallFlood,
@@ -45,6 +47,7 @@ pub const PROFILES: [Profile; 12] = [
     Profile::Reuse,
     Profile::Reading,
     Profile::Remaining,
+    Profile::Batch,
     Profile::Edges,
     Profile::Damage,
     Profile::Noise,
@@ -98,6 +101,7 @@ fn phase(draft: &mut Draft, profile: Profile) {
         Profile::Reuse => reuse(draft),
         Profile::Reading => reading(draft),
         Profile::Remaining => remaining(draft),
+        Profile::Batch => batch(draft),
         Profile::Edges => edges(draft),
         Profile::Damage => damage(draft),
         Profile::Noise => noise(draft),
@@ -193,6 +197,8 @@ fn expiration_flood(draft: &mut Draft) {
         draft.refresh_standing(0);
         draft.refresh_standing(LONGEST_EXTENSION);
     }
+    draft.round();
+    batch_at_the_brim(draft);
 }
 
 fn lapse(draft: &mut Draft) {
@@ -254,6 +260,60 @@ fn remaining(draft: &mut Draft) {
         draft.round();
         draft.remaining_to_each(tasks, handle);
     }
+}
+
+/// A scan is refreshed by one call, with other batches in between, until it is gone.
+fn batch(draft: &mut Draft) {
+    let tasks = 1 + draft.random.below(3);
+    draft.gather(tasks);
+    let extension = draft.random.pick(&[0, 1, 4, LONGEST_EXTENSION]);
+    let size = draft.random.pick(&[1, 2, 7, LARGEST_BATCH - 1, LARGEST_BATCH]);
+    let scan = draft.scan(size, extension);
+    for _ in 0..1 + draft.random.below(3) {
+        draft.round();
+        draft.batch_now(extension, &scan);
+        draft.batch_mixed(size, extension);
+        draft.batch();
+    }
+    if draft.random.one_in(2) {
+        batch_of_no_form(draft);
+    } else {
+        batch_to_the_brim(draft);
+    }
+    for _ in 0..extension + 2 {
+        draft.round();
+    }
+    draft.batch_now(extension, &scan);
+}
+
+/// No object or too many, up to more than any other frame has, and too long an extension.
+fn batch_of_no_form(draft: &mut Draft) {
+    for _ in 0..5 {
+        let far = 200 + draft.random.below(600);
+        let count = draft.random.pick(&[0, 9, LARGEST_BATCH + 1, 66, far]);
+        let extension = draft.random.pick(&[LONGEST_EXTENSION, LONGEST_EXTENSION + 1]);
+        draft.batch_mixed(count, extension);
+    }
+}
+
+/// Up to the last expiration that there is room for, and past it.
+fn batch_to_the_brim(draft: &mut Draft) {
+    for _ in 0..MOST_EXPIRATIONS / LARGEST_BATCH {
+        draft.batch_standing(LARGEST_BATCH, LONGEST_EXTENSION);
+    }
+    batch_at_the_brim(draft);
+}
+
+/// One more than there is room for, as many as there is room for, and some more.
+fn batch_at_the_brim(draft: &mut Draft) {
+    let room = draft.room();
+    draft.batch_mixed(room + 2, 0);
+    draft.batch_standing(room + 1, 0);
+    draft.batch_standing(room, 0);
+    draft.batch_standing(1, 0);
+    draft.batch_mixed(2, 0);
+    draft.batch_mixed(5, 0);
+    draft.call(&Call::Report);
 }
 
 fn edges(draft: &mut Draft) {

@@ -3,10 +3,10 @@
 
 use std::collections::BTreeMap;
 
-use crate::call::{Accepted, Answer, Call, Kind, Model, Refusal};
+use crate::call::{Accepted, Answer, Call, Handles, Kind, Model, Refusal};
 use crate::expiration::{remaining, Expiration, Remaining};
 use crate::ledger::Ledger;
-use crate::limits::{check_extension, Store, MOST_EXPIRATIONS};
+use crate::limits::{check_batch, check_extension, Store, MOST_EXPIRATIONS};
 use crate::tasks::Tasks;
 
 /// Objects for ever, and no refusal 9, 10 or 12 (H3, H5). `ends[h - 1]..ends[h]` is the part of `bytes` that handle h names.
@@ -88,6 +88,17 @@ impl Model for Heap {
     fn remaining(&self, _: u8, _: u32) -> Answer<'static> {
         Ok(Accepted::Done)
     }
+
+    /// Order 2: 1, 3, 4, 20, 6, 11, and like a refresh it changes nothing.
+    fn batch(&mut self, task: u8, _: Kind, extension: u8, handles: Handles) -> Answer<'static> {
+        self.tasks.check_running(task)?;
+        check_batch(handles.count())?;
+        check_extension(extension)?;
+        for handle in handles.iter() {
+            self.check_given(handle)?;
+        }
+        Ok(Accepted::Done)
+    }
 }
 
 impl Heap {
@@ -119,11 +130,15 @@ struct Entry {
 
 impl Book {
     /// H9 to H13: whether a call that the heap does not refuse, or refuses with 13, is a use out of time or
-    /// bounds. Asked before the book follows the call.
+    /// bounds. Asked before the book follows the call. Order 2: all objects of a batch stand, and there is room
+    /// for an expiration on each.
     fn is_out(&self, call: &Call) -> bool {
         match *call {
-            Call::Make { length, .. } => self.is_store_full(length) || self.is_full(),
-            Call::Refresh { handle, .. } => self.is_gone(handle) || self.is_full(),
+            Call::Make { length, .. } => self.is_store_full(length) || !self.has_room(1),
+            Call::Refresh { handle, .. } => self.is_gone(handle) || !self.has_room(1),
+            Call::Batch { handles, .. } => {
+                handles.iter().any(|handle| self.is_gone(handle)) || !self.has_room(handles.count())
+            }
             Call::Read { handle, .. } | Call::Write { handle, .. } => self.is_gone(handle),
             _ => false,
         }
@@ -139,11 +154,17 @@ impl Book {
                 self.objects.insert(handle, Entry { length, expirations });
             }
             Call::Refresh { task, kind, extension, handle } => {
-                let expiration = Expiration::set(tasks, task, kind, extension);
-                self.objects.entry(handle).and_modify(|entry| entry.expirations.push(expiration));
+                self.set(handle, Expiration::set(tasks, task, kind, extension));
+            }
+            Call::Batch { task, kind, extension, handles } => {
+                handles.iter().for_each(|handle| self.set(handle, Expiration::set(tasks, task, kind, extension)));
             }
             _ => {}
         }
+    }
+
+    fn set(&mut self, handle: u32, expiration: Expiration) {
+        self.objects.entry(handle).and_modify(|entry| entry.expirations.push(expiration));
     }
 
     /// Keeps these expirations, and the objects that still have one.
@@ -158,9 +179,10 @@ impl Book {
         !self.objects.contains_key(&handle)
     }
 
-    fn is_full(&self) -> bool {
+    /// Room for so many expirations more.
+    fn has_room(&self, more: usize) -> bool {
         let expirations: usize = self.objects.values().map(|entry| entry.expirations.len()).sum();
-        expirations >= MOST_EXPIRATIONS
+        expirations + more <= MOST_EXPIRATIONS
     }
 
     fn is_store_full(&self, length: u16) -> bool {

@@ -1,6 +1,6 @@
 //! Tests of both ledgers at clocks and counts that no script lives to see.
 
-use crate::call::{Accepted, Call, Kind, Lifetime, Model, Refusal};
+use crate::call::{packed, Accepted, Call, Handles, Kind, Lifetime, Model, Refusal};
 use crate::limits::Store;
 use crate::{indexed, ledger};
 
@@ -37,6 +37,10 @@ fn after_the_highest_handle_all_are_given<L: LateStart>() {
     assert_eq!(ledger.call(&MAKE), Ok(Accepted::Handle(u32::MAX)));
     assert_eq!(ledger.call(&MAKE), Err(Refusal::AllHandlesGiven));
     assert_eq!(ledger.read(0, u32::MAX), Ok(Accepted::Bytes(&[0; 4])));
+    let (given, last) = (packed(&[u32::MAX - 1, u32::MAX]), packed(&[u32::MAX; 2]));
+    assert_eq!(ledger.batch(0, Kind::Local, 1, Handles(&given)), Err(Refusal::ObjectGone));
+    assert_eq!(ledger.batch(0, Kind::Local, 1, Handles(&last)), Ok(Accepted::Done));
+    assert_eq!(ledger.remaining(0, u32::MAX), Ok(Accepted::Remaining(Lifetime { local: 2, global: 0 })));
 }
 
 fn all_handles_given_is_told_after_a_bad_length_and_before_a_full_store<L: LateStart>() {

@@ -1,9 +1,9 @@
 //! The ledger, as the scope paper says it. A number such as O3 is a rule's in docs/RULES.md. Nothing here is
 //! arranged for speed: what a rule asks of the objects is looked up among all of them.
 
-use crate::call::{Accepted, Answer, Figures, Kind, Lifetime, Model, Refusal};
+use crate::call::{Accepted, Answer, Figures, Handles, Kind, Lifetime, Model, Refusal};
 use crate::expiration::{remaining, Expiration, Remaining};
-use crate::limits::{check_extension, Store, MOST_EXPIRATIONS};
+use crate::limits::{check_batch, check_extension, Store, MOST_EXPIRATIONS};
 use crate::tasks::Tasks;
 
 #[derive(Clone, Debug)]
@@ -75,7 +75,7 @@ impl Model for Ledger {
         let store = Store::holding(length)?;
         self.check_handles()?;
         self.check_blocks(store)?;
-        self.check_expirations()?;
+        self.check_expirations(1)?;
         // One above the last, so that the new object is the last in order.
         self.given += 1;
         self.objects.push(Object {
@@ -91,7 +91,7 @@ impl Model for Ledger {
         self.tasks.check_running(task)?;
         check_extension(extension)?;
         let place = self.check_standing(handle)?;
-        self.check_expirations()?;
+        self.check_expirations(1)?;
         let expiration = Expiration::set(&self.tasks, task, kind, extension);
         self.objects[place].expirations.push(expiration);
         Ok(Accepted::Done)
@@ -135,6 +135,22 @@ impl Model for Ledger {
             }
         }
         Ok(Accepted::Remaining(most))
+    }
+
+    /// Order 2: 1, 3, 4, 20, 6; 11 if any object would give it, else 12 if any would, else 10 if there is no room for
+    /// all. Then one expiration more for each, so that an object named twice gets two.
+    fn batch(&mut self, task: u8, kind: Kind, extension: u8, handles: Handles) -> Answer<'static> {
+        self.tasks.check_running(task)?;
+        check_batch(handles.count())?;
+        check_extension(extension)?;
+        handles.iter().try_for_each(|handle| self.check_given(handle))?;
+        let places = handles.iter().map(|handle| self.check_standing(handle)).collect::<Result<Vec<_>, _>>()?;
+        self.check_expirations(handles.count())?;
+        for place in places {
+            let expiration = Expiration::set(&self.tasks, task, kind, extension);
+            self.objects[place].expirations.push(expiration);
+        }
+        Ok(Accepted::Done)
     }
 }
 
@@ -209,19 +225,25 @@ impl Ledger {
         Ok(())
     }
 
-    /// 10, by E14.
-    fn check_expirations(&self) -> Result<(), Refusal> {
-        if self.expirations() == MOST_EXPIRATIONS {
+    /// 10, by E14: no room for so many more.
+    fn check_expirations(&self, more: usize) -> Result<(), Refusal> {
+        if self.expirations() + more > MOST_EXPIRATIONS {
             return Err(Refusal::ExpirationsFull);
+        }
+        Ok(())
+    }
+
+    /// 11.
+    fn check_given(&self, handle: u32) -> Result<(), Refusal> {
+        if handle == 0 || handle > self.given {
+            return Err(Refusal::HandleNotGiven);
         }
         Ok(())
     }
 
     /// 11, 12, else its place in the list.
     fn check_standing(&self, handle: u32) -> Result<usize, Refusal> {
-        if handle == 0 || handle > self.given {
-            return Err(Refusal::HandleNotGiven);
-        }
+        self.check_given(handle)?;
         self.find(handle).ok_or(Refusal::ObjectGone)
     }
 

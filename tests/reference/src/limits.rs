@@ -1,4 +1,4 @@
-//! The fixed limits of the pool, and the refusals that need nothing else: 6 and 7.
+//! The fixed limits of the pool, and the refusals that need nothing else: 6, 7 and 20.
 
 use crate::call::Refusal;
 
@@ -8,6 +8,7 @@ pub const MOST_EXPIRATIONS: usize = 256;
 pub const LONGEST_SMALL: u16 = 32;
 const SHORTEST_LARGE: u16 = LONGEST_SMALL + 1;
 pub const LONGEST: u16 = 256;
+pub const LARGEST_BATCH: usize = 32;
 
 #[derive(Clone, Copy, Debug, PartialEq, Eq, PartialOrd, Ord)]
 pub enum Store {
@@ -36,6 +37,14 @@ impl Store {
 pub fn check_extension(extension: u8) -> Result<(), Refusal> {
     if extension > LONGEST_EXTENSION {
         return Err(Refusal::ExtensionAbove30);
+    }
+    Ok(())
+}
+
+/// How many objects one batch may name.
+pub fn check_batch(count: usize) -> Result<(), Refusal> {
+    if count == 0 || count > LARGEST_BATCH {
+        return Err(Refusal::BatchOutOfRange);
     }
     Ok(())
 }

@@ -2,7 +2,7 @@
 
 mod census;
 
-use census::{remaining, Census, OPERATIONS};
+use census::{batch, remaining, Census, OPERATIONS};
 use reference::generate::{script, script_of, Profile, PROFILES};
 use reference::script::LIMIT;
 
@@ -11,7 +11,7 @@ const HANDLES_SPENT: usize = 8;
 
 #[test]
 fn all_is_met() {
-    let census = Census::of((1..=300).map(script).filter(|script| script.len() <= LIMIT));
+    let census = Census::of((1..=400).map(script).filter(|script| script.len() <= LIMIT));
     census.print();
     for (place, (name, tests)) in OPERATIONS.iter().enumerate() {
         assert!(census.accepted[place] >= 100, "{name}");
@@ -22,6 +22,9 @@ fn all_is_met() {
     assert!(census.refused[16].min(census.refused[17]) >= 100);
     for ((name, _), count) in remaining::SITUATIONS.iter().zip(census.remaining) {
         assert!(count >= 50, "remaining, {name}");
+    }
+    for ((name, _), count) in batch::SITUATIONS.iter().zip(census.batch) {
+        assert!(count >= 50, "batch, {name}");
     }
     assert_eq!((census.most_small, census.most_large, census.most_expirations), (64, 32, 256));
     assert_eq!(census.most_running, 16);
@@ -66,11 +69,12 @@ fn each_profile_meets_its_own() {
             Profile::Reuse => census.accepted[8] > 1_000 && census.accepted[7] > 1_000,
             Profile::Reading => census.longest_output > 800_000,
             Profile::Remaining => census.remaining.iter().all(|&count| count > 20),
+            Profile::Batch => census.batch.iter().all(|&count| count > 5) && census.accepted[11] > 500,
             Profile::Edges => least(&[1, 3, 6, 7, 11, 13]) > 100 && census.empty_writes.min(census.whole_writes) > 10,
             Profile::Damage => least(&[16, 17, 18, 19]) > 100,
             Profile::Noise => least(&[16, 17, 18]) > 100,
         };
-        assert!(met, "{profile:?} {:?} {:?}", census.accepted, census.refused);
+        assert!(met, "{profile:?} {:?} {:?} {:?}", census.accepted, census.refused, census.batch);
     }
 }
 

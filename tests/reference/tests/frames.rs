@@ -1,14 +1,18 @@
 //! Frames: calls go to their lines and back, and bad lines are refused in order.
 
-use reference::call::{Accepted, Answer, Call, Figures, Kind, Lifetime, Refusal};
+use reference::call::{packed, Accepted, Answer, Call, Figures, Handles, Kind, Lifetime, Refusal};
 use reference::frame::{decode, encode, encode_answer};
 use reference::random::Random;
 
-fn random_call<'a>(random: &mut Random, bytes: &'a [u8; 256]) -> Call<'a> {
+/// The longest frame here, a batch of 100.
+const ROOM: usize = 4 + 4 * 100;
+
+fn random_call<'a>(random: &mut Random, bytes: &'a [u8; 256], objects: &'a [[u8; 4]; 100]) -> Call<'a> {
     let (task, extension, offset) = (random.byte(), random.byte(), random.byte());
     let kind = random.pick(&[Kind::Local, Kind::Global]);
     let (handle, length) = (random.number() as u32, random.number() as u16);
     let bytes = &bytes[random.below(257)..];
+    let handles = Handles(&objects[random.below(101)..]);
     random.pick(&[
         Call::Join { task },
         Call::Leave { task },
@@ -21,6 +25,7 @@ fn random_call<'a>(random: &mut Random, bytes: &'a [u8; 256]) -> Call<'a> {
         Call::Write { task, handle, offset, bytes },
         Call::Report,
         Call::Remaining { task, handle },
+        Call::Batch { task, kind, extension, handles },
     ])
 }
 
@@ -28,24 +33,25 @@ fn random_call<'a>(random: &mut Random, bytes: &'a [u8; 256]) -> Call<'a> {
 fn round_trip() {
     let mut random = Random::new(1);
     for _ in 0..20_000 {
-        let mut bytes = [0; 256];
+        let (mut bytes, mut objects) = ([0; 256], [[0; 4]; 100]);
         random.fill(&mut bytes);
-        let call = random_call(&mut random, &bytes);
-        let (mut line, mut room) = (Vec::new(), [0; 263]);
+        random.fill(objects.as_flattened_mut());
+        let call = random_call(&mut random, &bytes, &objects);
+        let (mut line, mut room) = (Vec::new(), [0; ROOM]);
         encode(&call, &mut line);
         assert_eq!(line.pop(), Some(b'\n'));
         assert_eq!(decode(&line, &mut room), Ok(call));
     }
 }
 
-/// One byte less or more is no frame, but for a write's bytes.
+/// One byte less or more is no frame, but for a write's bytes; nor is a batch with part of a handle.
 #[test]
 fn other_lengths() {
     let mut random = Random::new(2);
     for _ in 0..20_000 {
         let bytes = [random.byte(); 256];
-        let call = random_call(&mut random, &bytes);
-        let (mut line, mut room) = (Vec::new(), [0; 264]);
+        let call = random_call(&mut random, &bytes, &[[0; 4]; 100]);
+        let (mut line, mut room) = (Vec::new(), [0; ROOM + 1]);
         encode(&call, &mut line);
         line.pop();
         let shorter = decode(&line[..line.len() - 2], &mut room).err();
@@ -91,9 +97,9 @@ const REFUSED: &[(&[u8], u8)] = &[
     (b"060002000004G0", 16),
     (b"", 17),
     (b"00", 17),
-    (b"0C", 17),
+    (b"0D", 17),
     (b"FF", 17),
-    (b"0C00", 17),
+    (b"0D00", 17),
     (b"FF0000", 17),
     (b"01", 18),
     (b"06", 18),
@@ -109,9 +115,21 @@ const REFUSED: &[(&[u8], u8)] = &[
     (b"0B00", 18),
     (b"0B00000001", 18),
     (b"0B000000000100", 18),
+    (b"0C", 18),
+    (b"0C00", 18),
+    (b"0C0000", 18),
+    (b"0C0002", 18),
+    (b"0C00000000", 18),
+    (b"0C0002000000", 18),
+    (b"0C000200000001", 18),
+    (b"0C0000000000000100", 18),
+    (b"0C000000000000010000000G", 16),
     (b"060002000004", 19),
     (b"06FF80FF9C40", 19),
     (b"0700FF0000000001", 19),
+    (b"0C000200", 19),
+    (b"0CFF02FF", 19),
+    (b"0C00FF0000000001", 19),
 ];
 
 /// No fault of the frame: the call decides.
@@ -122,6 +140,29 @@ fn arguments_out_of_range_are_calls() {
     assert_eq!(decode(b"06FF01FF9C40", &mut room), Ok(make));
     assert_eq!(decode(b"080000000000", &mut room), Ok(Call::Read { task: 0, handle: 0 }));
     assert_eq!(decode(b"0BFFFFFFFFFE", &mut room), Ok(Call::Remaining { task: 255, handle: u32::MAX - 1 }));
+    let handles = packed(&[0, u32::MAX - 1, 0x0102_0304]);
+    let batch = Call::Batch { task: 255, kind: Kind::Global, extension: 255, handles: Handles(&handles) };
+    assert_eq!(decode(b"0CFF01FF00000000FFFFFFFE01020304", &mut room), Ok(batch));
+}
+
+/// Any count of objects is a frame, none too, however long the line.
+#[test]
+fn batches_of_any_size() {
+    for count in [0, 1, 31, 32, 33, 65, 66, 8_191, 100_000] {
+        let handles: Vec<_> = (0..count).map(|number: u32| (number << 12 | 7).to_be_bytes()).collect();
+        let call = Call::Batch { task: 0, kind: Kind::Local, extension: 0, handles: Handles(&handles) };
+        let mut line = Vec::new();
+        encode(&call, &mut line);
+        line.pop();
+        let mut room = vec![0; line.len()];
+        assert_eq!(decode(&line, &mut room), Ok(call));
+        for more in [&b"00"[..], b"0000", b"000000"] {
+            let refusal = decode(&[&line, more].concat(), &mut room);
+            assert_eq!(refusal, Err(Refusal::WrongFrameLength), "{count}");
+        }
+        line[5] = b'2';
+        assert_eq!(decode(&line, &mut room), Err(Refusal::KindAbove1), "{count}");
+    }
 }
 
 #[test]
@@ -137,7 +178,7 @@ fn every_character() {
 #[test]
 fn answers() {
     let figures = Figures { small: 64, large: 32, expirations: 256, given: 0x0102_0304 };
-    let rows: [(Answer, &[u8]); 8] = [
+    let rows: [(Answer, &[u8]); 9] = [
         (Ok(Accepted::Done), b"00\n"),
         (Ok(Accepted::Advanced(false)), b"0000\n"),
         (Ok(Accepted::Advanced(true)), b"0001\n"),
@@ -146,6 +187,7 @@ fn answers() {
         (Ok(Accepted::Report(figures)), b"004020010001020304\n"),
         (Ok(Accepted::Remaining(Lifetime { local: 31, global: 32 })), b"001F20\n"),
         (Err(Refusal::KindAbove1), b"13\n"),
+        (Err(Refusal::BatchOutOfRange), b"14\n"),
     ];
     for (answer, expected) in rows {
         let mut line = Vec::new();

@@ -3,7 +3,7 @@
 
 mod plan;
 
-use plan::{random_kind, some_bytes, List, Plan};
+use plan::{kept, random_kind, some_bytes, List, Plan};
 use reference::call::{Accepted, Call, Kind, Model, Refusal};
 use reference::heap::{first_difference, first_use_out, Heap, Judge};
 use reference::ledger::Ledger;
@@ -26,7 +26,7 @@ fn random_call(random: &mut Random, given: usize, haste: usize) -> Call<'static>
     let kind = random_kind(random);
     let extension = random.pick(&[0, 1, 2, 5, 29, 30, 30, 31]);
     let handle = random.below(given + 2) as u32;
-    match random.below(20) {
+    match random.below(22) {
         0 | 1 => Call::Join { task },
         2 => Call::Leave { task },
         3 => Call::Block { task },
@@ -34,6 +34,11 @@ fn random_call(random: &mut Random, given: usize, haste: usize) -> Call<'static>
         6..=8 => Call::Make { task, kind, extension, length: random.pick(&[0, 1, 8, 32, 33, 256, 257]) },
         9..=11 => Call::Refresh { task, kind, extension, handle },
         12..=15 => Call::Read { task, handle },
+        16 | 17 => {
+            let count = random.pick(&[0, 1, 2, 3, 32, 33]);
+            let handles: Vec<_> = (0..count).map(|_| random.below(given + 2) as u32).collect();
+            Call::Batch { task, kind, extension, handles: kept(&handles) }
+        }
         _ => {
             let count = random.below(10);
             Call::Write { task, handle, offset: random.below(34) as u8, bytes: some_bytes(random, count) }
@@ -130,6 +135,10 @@ fn the_heap_keeps_for_ever() {
     assert_eq!(heap.call(&Call::Read { task, handle }), Ok(Accepted::Bytes(&[0, 7, 0])));
     assert_eq!(heap.call(&Call::Read { task, handle: 2 }), Ok(Accepted::Bytes(&[0; 3])));
     assert_eq!(heap.call(&Call::Read { task, handle: 301 }), Err(Refusal::HandleNotGiven));
+    let batch = |handles| Call::Batch { task, kind: Kind::Local, extension: 30, handles };
+    assert_eq!(heap.call(&batch(kept(&[1, 300, 1]))), Ok(Accepted::Done));
+    assert_eq!(heap.call(&batch(kept(&[1, 301]))), Err(Refusal::HandleNotGiven));
+    assert_eq!(heap.call(&batch(kept(&[1; 33]))), Err(Refusal::BatchOutOfRange));
 }
 
 /// Reports and the remaining life: they are no use.
@@ -140,6 +149,30 @@ fn what_is_not_compared_may_ask_for_a_gone_object() {
     let (ask, read) = (Call::Remaining { task, handle }, Call::Read { task, handle });
     let list = [Call::Join { task }, ask, make, ask, Call::Tick { task }, ask, Call::Report, read];
     assert_eq!(check(&list), Some(list.len() - 1));
+}
+
+/// All its objects must stand, and with room for an expiration on each. What the heap refuses is left aside, however
+/// its objects stand: 20, and 11 of any of them.
+#[test]
+fn a_batch_is_a_use() {
+    let task = 0;
+    let make = |extension| Call::Make { task, kind: Kind::Local, extension, length: 4 };
+    let batch = |handles: &[u32]| Call::Batch { task, kind: Kind::Local, extension: 30, handles: kept(handles) };
+    // Object 1 is gone, object 2 stands.
+    let list = |last: Call<'static>| [Call::Join { task }, make(0), Call::Tick { task }, make(30), last];
+    for in_time in [&[2][..], &[2, 2], &[2; 32], &[], &[1; 33], &[1, 3], &[3, 1], &[0], &[2, 1, 0]] {
+        assert_eq!(check(&list(batch(in_time))), None, "{in_time:?}");
+    }
+    for out in [&[1][..], &[1; 32], &[2, 1], &[1, 2]] {
+        assert_eq!(check(&list(batch(out))), Some(4), "{out:?}");
+    }
+    // 225 stand, and then 256.
+    let mut full = list(batch(&[2; 32])).to_vec();
+    full.extend([batch(&[2; 32]); 6]);
+    assert_eq!(check(&[&full[..], &[batch(&[2; 31])]].concat()), None);
+    assert_eq!(check(&[&full[..], &[batch(&[2; 32])]].concat()), Some(11));
+    assert_eq!(check(&[&full[..], &[batch(&[2; 31]), batch(&[2])]].concat()), Some(12));
+    assert_eq!(check(&[&full[..], &[batch(&[2; 31]), batch(&[2; 33]), batch(&[2, 3])]].concat()), None);
 }
 
 #[test]

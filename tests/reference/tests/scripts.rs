@@ -37,6 +37,17 @@ fn the_longest_line() {
     assert_eq!(run(&vec![b'0'; LIMIT + 1]), b"script too long\n");
 }
 
+/// As many objects as a script can name at once, and a byte of one more.
+#[test]
+fn the_largest_batch() {
+    let joined = |batch: &[u8]| [b"0100\n", batch].concat();
+    let batch = [b"0C000000".to_vec(), b"00000001".repeat(8_190)].concat();
+    assert_eq!(joined(&batch).len(), LIMIT - 3);
+    assert_eq!(run(&joined(&batch)), b"00\n14\n");
+    assert_eq!(run(&joined(&[&batch[..], b"00"].concat())), b"00\n12\n");
+    assert_eq!(run(&batch), b"03\n");
+}
+
 /// As far as a clock gets in one script.
 #[test]
 fn the_most_ticks() {

@@ -4,7 +4,7 @@ use borrow.Author.Needs.{needs}
 use Rattle.ledger.specs.declared.Request.the-variants.{Use}
 use Rattle.record.proofs.Types.{head-typed}
 use Rattle.calls.proofs.Lent.{lent-fits}
-use Rattle.dispatch.proofs.Arms.{ready-for, schedule-arm, refresh-arm, make-arm, read-arm, write-arm}
+use Rattle.dispatch.proofs.Arms.{ready-for, schedule-arm, refresh-arm, make-arm, read-arm, write-arm, batch-arm}
 use Rattle.dispatch.proofs.serve.Statement.{statement}
 use Rattle.dispatch.proofs.serve.Tie as tie
 
@@ -61,6 +61,17 @@ returns-5 c =
     let s = start (told .before .before) in
     write-arm _ (s .pre .0) (s .pre .1) (told .call5 .given .1) (written .write .ensures) (c .without-bytes4 .ensures)
 
+batch-requires : tie.Need-batch-requires
+batch-requires c κs =
+    let s = start (c .before .before .before .before .before .before .before .before) in
+    (s .pre .0, s .pre .1 .fit)
+
+returns-6 : tie.Need-returns-6
+returns-6 c =
+    let told = c .before .before .before .before .before .before .before .before .before in
+    let s = start (told .before .before) in
+    batch-arm _ (s .pre .0) (s .pre .1) (told .call6 .given .1) (c .before .before .batch .ensures) (c .without-bytes5 .ensures)
+
 pub serve-spec : {M : Type 1} → statement M
 serve-spec =
     tie.close
@@ -80,6 +91,9 @@ serve-spec =
     (λ c. search needs)
     write-requires
     (λ c κs. search needs)
+    (λ c. search needs)
+    batch-requires
+    (λ c κs. search needs)
     returns
     (λ c. search needs)
     (λ c. search needs)
@@ -88,4 +102,5 @@ serve-spec =
     returns-4
     (λ c. search needs)
     (λ c. search needs)
-    returns-5)
+    returns-5
+    returns-6)

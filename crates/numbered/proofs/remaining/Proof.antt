@@ -1,7 +1,8 @@
 -- 15, or the life that is found, in two figures.
 use borrow.Author.Needs.{needs}
 use Rattle.pool.proofs.Sizes.{columns-sized}
-use Rattle.numbered.proofs.ByValue.{unfit-by-value, columns-fit, stays-by-value}
+use Rattle.checked.proofs.Tested.{unfit-by-value, columns-fit}
+use Rattle.numbered.proofs.ByValue.{stays-by-value}
 use Rattle.numbered.proofs.Replies.{typed}
 use Rattle.numbered.proofs.Promises.{reports, tells-none, no-life, tells-life}
 use Rattle.numbered.proofs.remaining.Statement.{statement}

@@ -2,7 +2,8 @@
 use mathlib.Core.Path.{refl}
 use borrow.Author.Needs.{needs}
 use Rattle.pool.proofs.Sizes.{columns-sized}
-use Rattle.numbered.proofs.ByValue.{unfit-by-value, fit-by-value, reported-by-value}
+use Rattle.checked.proofs.Tested.{unfit-by-value, fit-by-value}
+use Rattle.numbered.proofs.ByValue.{reported-by-value}
 use Rattle.numbered.proofs.Promises.{reports, tells-none, tells-usage}
 use Rattle.numbered.proofs.report.Statement.{statement}
 use Rattle.numbered.proofs.report.Tie as tie

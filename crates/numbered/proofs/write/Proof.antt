@@ -8,7 +8,8 @@ use Rattle.calls.proofs.Promises.{ready, wrong-obeys}
 use Rattle.calls.proofs.Meets.{refused-writes}
 use Rattle.pool.proofs.ByValue.{fits-by-value, ready-by-value}
 use Rattle.pool.proofs.Sizes.{columns-sized}
-use Rattle.numbered.proofs.ByValue.{unfit-by-value, written-by-value}
+use Rattle.checked.proofs.Tested.{unfit-by-value}
+use Rattle.numbered.proofs.ByValue.{written-by-value}
 use Rattle.numbered.proofs.Replies.{typed}
 use Rattle.numbered.proofs.Promises.{writes, tells-none, silent-write}
 use Rattle.numbered.proofs.write.Statement.{statement}

@@ -5,32 +5,36 @@ use plain::limits::EXPIRATIONS;
 use plain::record::{Pool, FREE, GLOBAL, LOCAL};
 use reference::call::{Accepted, Answer, Call};
 
+/// The operations, and the refusals by number, 0 to 20.
+const OPERATIONS: usize = 12;
+const NUMBERS: usize = 21;
+
 #[derive(Default)]
 pub struct Census {
     pub calls: usize,
     pub frames: usize,
-    pub accepted: [usize; 11],
-    pub refused: [usize; 20],
-    /// Of those, the refusals of remaining.
-    pub remaining_refused: [usize; 20],
+    pub accepted: [usize; OPERATIONS],
+    /// By operation and number, and by number, those of frames too.
+    pub refused_by: [[usize; NUMBERS]; OPERATIONS],
+    pub refused: [usize; NUMBERS],
     pub advances: usize,
     pub clock_wraps: usize,
     pub global_wraps: usize,
-    /// Accepted calls of remaining for an object whose expirations are due after a counter has gone round.
+    /// Accepted calls of remaining, and batches, for an object whose expirations are due after a counter has gone round.
     pub remaining_across: usize,
+    pub batches_across: usize,
     pub most: (u8, u8, u16),
 }
 
 impl Census {
     pub fn note(&mut self, call: &Call, answer: Answer) {
         self.note_refusal(answer);
-        match (call, answer) {
-            (_, Ok(accepted)) => {
+        match answer {
+            Ok(accepted) => {
                 self.accepted[call.place()] += 1;
                 self.advances += usize::from(accepted == Accepted::Advanced(true));
             }
-            (Call::Remaining { .. }, Err(refusal)) => self.remaining_refused[refusal as usize] += 1,
-            _ => {}
+            Err(refusal) => self.refused_by[call.place()][refusal as usize] += 1,
         }
     }
 
@@ -51,11 +55,13 @@ impl Census {
         self.frames += other.frames;
         self.accepted.iter_mut().zip(other.accepted).for_each(|(sum, count)| *sum += count);
         self.refused.iter_mut().zip(other.refused).for_each(|(sum, count)| *sum += count);
-        self.remaining_refused.iter_mut().zip(other.remaining_refused).for_each(|(sum, count)| *sum += count);
+        let (sums, counts) = (self.refused_by.as_flattened_mut(), other.refused_by.as_flattened());
+        sums.iter_mut().zip(counts).for_each(|(sum, count)| *sum += count);
         self.advances += other.advances;
         self.clock_wraps += other.clock_wraps;
         self.global_wraps += other.global_wraps;
         self.remaining_across += other.remaining_across;
+        self.batches_across += other.batches_across;
         let (small, large, expirations) = self.most;
         self.most = (small.max(other.most.0), large.max(other.most.1), expirations.max(other.most.2));
     }
@@ -64,9 +70,10 @@ impl Census {
         println!("calls {}, frames {}, advances {}", self.calls, self.frames, self.advances);
         println!("accepted {:?}", self.accepted);
         println!("refused, by number, {:?}", self.refused);
-        println!("of remaining {:?}", self.remaining_refused);
+        println!("of remaining {:?}", self.refused_by[10]);
+        println!("of batches {:?}", self.refused_by[11]);
         println!("wraps of clocks {}, of global time {}", self.clock_wraps, self.global_wraps);
-        println!("remaining asked across them {}", self.remaining_across);
+        println!("remaining asked across them {}, batches {}", self.remaining_across, self.batches_across);
         println!("most small, large, expirations {:?}", self.most);
     }
 }

@@ -4,5 +4,5 @@
 mod objects;
 mod tasks;
 
-pub use objects::{make, read, refresh, remaining, report, write, Figures, Lifetime};
+pub use objects::{make, read, refresh, refresh_all, remaining, report, write, Figures, Lifetime};
 pub use tasks::{block, join, leave, resume, tick};

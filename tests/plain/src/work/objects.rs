@@ -3,13 +3,13 @@
 use core::ops::Range;
 
 use crate::limits::{
-    BLOCKS, GLOBAL_EXTRA, LARGE_SIZE, LARGE_STORE, LOCAL_EXTRA, LONGEST_EXTENSION, SMALL_BLOCKS, SMALL_SIZE,
-    SMALL_STORE,
+    BLOCKS, EXPIRATIONS, GLOBAL_EXTRA, LARGEST_BATCH, LARGE_SIZE, LARGE_STORE, LOCAL_EXTRA, LONGEST_EXTENSION,
+    SMALL_BLOCKS, SMALL_SIZE, SMALL_STORE,
 };
 use crate::record::{Pool, ABSENT, FREE, GLOBAL, GROUP, LOCAL, WAITING};
 use crate::refusals::{
-    EXTENSION_TOO_LONG, HANDLES_SPENT, HANDLE_NOT_GIVEN, LENGTH_OUT_OF_RANGE, NO_FREE_BLOCK, NO_FREE_EXPIRATION,
-    NO_SUCH_TASK, OBJECT_GONE, OUTSIDE_OBJECT, TASK_ABSENT, TASK_WAITING, WRONG_STORE_LENGTH,
+    BATCH_OUT_OF_RANGE, EXTENSION_TOO_LONG, HANDLES_SPENT, HANDLE_NOT_GIVEN, LENGTH_OUT_OF_RANGE, NO_FREE_BLOCK,
+    NO_FREE_EXPIRATION, NO_SUCH_TASK, OBJECT_GONE, OUTSIDE_OBJECT, TASK_ABSENT, TASK_WAITING, WRONG_STORE_LENGTH,
 };
 
 const SHORTEST_LARGE: usize = SMALL_SIZE + 1;
@@ -59,6 +59,25 @@ pub fn refresh(pool: &mut Pool, (task, kind, extension): (u8, u8, u8), handle: u
     check_extension(extension)?;
     let block = find(pool, handle)?;
     set(pool, clock, (task, kind, extension), block)
+}
+
+/// Refreshes all of these objects or none; one that is named twice, twice.
+pub fn refresh_all(pool: &mut Pool, (task, kind, extension): (u8, u8, u8), handles: &[u32]) -> Result<(), u8> {
+    let clock = running(pool, task)?;
+    let count = handles.len();
+    if count == 0 || count > LARGEST_BATCH {
+        return Err(BATCH_OUT_OF_RANGE);
+    }
+    check_extension(extension)?;
+    let (mut blocks, mut entries) = ([0; LARGEST_BATCH], [0; LARGEST_BATCH]);
+    find_all(pool, handles, &mut blocks)?;
+    find_free(&pool.clocks, &mut entries[..count])?;
+    let (goes_by, due) = due_after(pool, clock, (task, kind, extension));
+    for (&entry, &block) in entries[..count].iter().zip(&blocks) {
+        let entry = usize::from(entry);
+        (pool.clocks[entry], pool.named[entry], pool.dues[entry]) = (goes_by, block, due);
+    }
+    Ok(())
 }
 
 /// The object's bytes, where they lie.
@@ -168,17 +187,59 @@ fn find(pool: &Pool, handle: u32) -> Result<usize, u8> {
     place_of(handle, &pool.handles).ok_or(OBJECT_GONE)
 }
 
+/// 11 if one of the handles was not given, 12 if one of the objects is gone, else their blocks. A table tells the block of
+/// a handle by its last byte; where it has another one, all are asked.
+fn find_all(pool: &Pool, handles: &[u32], blocks: &mut [u8; LARGEST_BATCH]) -> Result<(), u8> {
+    if handles.iter().fold(false, |some, &handle| some | (handle == 0) | (handle > pool.given)) {
+        return Err(HANDLE_NOT_GIVEN);
+    }
+    let mut likely = [0; 256];
+    for (block, &handle) in (0..).zip(&pool.handles) {
+        likely[usize::from(handle as u8)] = block;
+    }
+    for (block, &handle) in blocks.iter_mut().zip(handles) {
+        *block = likely[usize::from(handle as u8)];
+        if pool.handles[usize::from(*block)] != handle {
+            *block = place_of(handle, &pool.handles).ok_or(OBJECT_GONE)? as u8;
+        }
+    }
+    Ok(())
+}
+
+/// The first free entries, as many as are asked for, or 10. Groups without one are passed over.
+fn find_free(clocks: &[u8; EXPIRATIONS], entries: &mut [u8]) -> Result<(), u8> {
+    let mut places = entries.iter_mut();
+    for (group, clocks) in clocks.as_chunks::<GROUP>().0.iter().enumerate() {
+        if !clocks.iter().fold(false, |has, &clock| has | (clock == FREE)) {
+            continue;
+        }
+        for (i, _) in clocks.iter().enumerate().filter(|(_, &clock)| clock == FREE) {
+            let Some(place) = places.next() else { return Ok(()) };
+            *place = (group * GROUP + i) as u8;
+        }
+    }
+    if places.len() > 0 {
+        return Err(NO_FREE_EXPIRATION);
+    }
+    Ok(())
+}
+
 // Changes and places.
 
 /// Sets an expiration on the object of a block, in the first free entry, or 10.
-fn set(pool: &mut Pool, clock: u32, (task, kind, extension): (u8, u8, u8), block: usize) -> Result<(), u8> {
+fn set(pool: &mut Pool, clock: u32, with: (u8, u8, u8), block: usize) -> Result<(), u8> {
     let entry = place_of(FREE, &pool.clocks).ok_or(NO_FREE_EXPIRATION)?;
-    (pool.clocks[entry], pool.dues[entry]) = match kind {
-        0 => (LOCAL + task, clock.wrapping_add(u32::from(extension) + LOCAL_EXTRA)),
-        _ => (GLOBAL, pool.global.wrapping_add(u32::from(extension) + GLOBAL_EXTRA)),
-    };
+    (pool.clocks[entry], pool.dues[entry]) = due_after(pool, clock, with);
     pool.named[entry] = block as u8;
     Ok(())
+}
+
+/// The clock that an expiration goes by that is set now, and when it is due.
+fn due_after(pool: &Pool, clock: u32, (task, kind, extension): (u8, u8, u8)) -> (u8, u32) {
+    match kind {
+        0 => (LOCAL + task, clock.wrapping_add(u32::from(extension) + LOCAL_EXTRA)),
+        _ => (GLOBAL, pool.global.wrapping_add(u32::from(extension) + GLOBAL_EXTRA)),
+    }
 }
 
 /// Where an entry stands first. A group of them is asked at once, and then the group that has it one by one. Each table

@@ -1,12 +1,12 @@
-//! The pool's rules and refusals 1 to 13, by schedules and slots.
+//! The pool's rules and refusals 1 to 13 and 20, by schedules and slots.
 
 use super::objects::Objects;
 use super::schedule::Schedule;
 use super::tasks::Tasks;
-use crate::call::{Accepted, Answer, Figures, Kind, Lifetime, Model, Refusal};
+use crate::call::{Accepted, Answer, Figures, Handles, Kind, Lifetime, Model, Refusal};
 use crate::expiration::Remaining;
 use crate::ledger::Standing;
-use crate::limits::{check_extension, Store, MOST_EXPIRATIONS, TASKS};
+use crate::limits::{check_batch, check_extension, Store, LARGEST_BATCH, MOST_EXPIRATIONS, TASKS};
 use crate::tasks::Task;
 
 #[derive(Clone, Debug)]
@@ -114,6 +114,32 @@ impl Model for Ledger {
             local: self.local[usize::from(task)].longest(slot, self.tasks.clock(task)),
             global: self.global.longest(slot, self.tasks.global()),
         }))
+    }
+
+    /// The slots are found in one pass: an object that is gone waits for one that was never given.
+    fn batch(&mut self, task: u8, kind: Kind, extension: u8, handles: Handles) -> Answer<'static> {
+        self.tasks.check_running(task)?;
+        check_batch(handles.count())?;
+        check_extension(extension)?;
+        let (mut slots, mut gone) = ([0; LARGEST_BATCH], false);
+        let slots = &mut slots[..handles.count()];
+        for (slot, handle) in slots.iter_mut().zip(handles.iter()) {
+            match self.check_standing(handle) {
+                Ok(found) => *slot = found,
+                Err(Refusal::ObjectGone) => gone = true,
+                Err(refusal) => return Err(refusal),
+            }
+        }
+        if gone {
+            return Err(Refusal::ObjectGone);
+        }
+        if slots.len() > MOST_EXPIRATIONS - self.objects.expirations() {
+            return Err(Refusal::ExpirationsFull);
+        }
+        for &slot in slots.iter() {
+            self.set_expiration(slot, task, kind, extension);
+        }
+        Ok(Accepted::Done)
     }
 }
 

@@ -1,5 +1,6 @@
 //! How often the scripts of the generator meet what.
 
+pub mod batch;
 pub mod remaining;
 
 use reference::call::{Accepted, Answer, Call, Model, Refusal};
@@ -9,7 +10,7 @@ use reference::script::{lines, run};
 
 /// Each operation and the refusals that its frames and calls may give, in the order of the tests. The ledger gives neither
 /// 14 nor 15.
-pub const OPERATIONS: [(&str, &[usize]); 11] = [
+pub const OPERATIONS: [(&str, &[usize]); 12] = [
     ("join", &[18, 1, 2]),
     ("leave", &[18, 1, 3]),
     ("block", &[18, 1, 3, 4]),
@@ -21,15 +22,19 @@ pub const OPERATIONS: [(&str, &[usize]); 11] = [
     ("write", &[18, 1, 3, 4, 11, 12, 13]),
     ("report", &[18]),
     ("remaining", &[18, 1, 3, 4, 11, 12]),
+    ("batch", &[18, 19, 1, 3, 4, 20, 6, 11, 12, 10]),
 ];
+
+/// The refusals are 1 to 20.
+const NUMBERS: usize = 21;
 
 #[derive(Default)]
 pub struct Census {
     pub accepted: [usize; OPERATIONS.len()],
     /// By operation and number.
-    pub refused_by: [[usize; 20]; OPERATIONS.len()],
+    pub refused_by: [[usize; NUMBERS]; OPERATIONS.len()],
     /// By number.
-    pub refused: [usize; 20],
+    pub refused: [usize; NUMBERS],
     pub advances: usize,
     pub most_small: u8,
     pub most_large: u8,
@@ -39,6 +44,7 @@ pub struct Census {
     pub whole_writes: usize,
     pub longest_output: usize,
     pub remaining: [usize; remaining::SITUATIONS.len()],
+    pub batch: [usize; batch::SITUATIONS.len()],
 }
 
 impl Census {
@@ -55,6 +61,7 @@ impl Census {
             match decode(line, &mut room) {
                 Err(refusal) => self.note_frame(line, refusal),
                 Ok(call) => {
+                    batch::note(&mut self.batch, &call, &ledger);
                     let answer = ledger.call(&call);
                     self.note(&call, answer);
                     self.note_state(&ledger);
@@ -113,6 +120,9 @@ impl Census {
         println!("longest output: {}", self.longest_output);
         for ((name, _), count) in remaining::SITUATIONS.iter().zip(self.remaining) {
             println!("remaining, {name}: {count}");
+        }
+        for ((name, _), count) in batch::SITUATIONS.iter().zip(self.batch) {
+            println!("batch, {name}: {count}");
         }
     }
 }

@@ -4,7 +4,7 @@
 
 use std::ops::RangeInclusive;
 
-use reference::call::{Call, Kind};
+use reference::call::{packed, Call, Handles, Kind};
 use reference::random::Random;
 
 pub type List = Vec<Call<'static>>;
@@ -25,6 +25,11 @@ const fn bytes() -> [u8; 257] {
 pub fn some_bytes(random: &mut Random, count: usize) -> &'static [u8] {
     let start = random.below(BYTES.len() - count);
     &BYTES[start..start + count]
+}
+
+/// Handles that a list has for as long as the test runs.
+pub fn kept(handles: &[u32]) -> Handles<'static> {
+    Handles(packed(handles).leak())
 }
 
 pub fn random_kind(random: &mut Random) -> Kind {
@@ -76,12 +81,13 @@ impl Plan {
     }
 
     fn step(&mut self) {
-        match self.random.below(12) {
+        match self.random.below(13) {
             0..=2 => self.make(),
             3 | 4 => self.refresh(),
             5 | 6 => self.read(),
             7 | 8 => self.write(),
             9 => self.block_and_resume(),
+            10 => self.batch(),
             _ => self.left_aside(),
         }
     }
@@ -144,6 +150,28 @@ impl Plan {
         self.expirations.push(last);
     }
 
+    /// Some objects that stand, one or the other of them named twice.
+    fn batch(&mut self) {
+        let (task, kind) = (self.task(), random_kind(&mut self.random));
+        let extension = self.random.below(31) as u8;
+        let count = 1 + self.random.below(32);
+        let places: Vec<_> = (0..count).filter_map(|_| self.any_standing()).collect();
+        if !places.is_empty() && self.expirations.len() + count <= 256 {
+            self.batch_now(&places, task, kind, extension);
+        }
+    }
+
+    fn batch_now(&mut self, places: &[usize], task: u8, kind: Kind, extension: u8) {
+        let last = self.last(kind, extension);
+        for &place in places {
+            let object = &mut self.objects[place];
+            object.last = object.last.max(last);
+            self.expirations.push(last);
+        }
+        let handles: Vec<_> = places.iter().map(|&place| self.objects[place].handle).collect();
+        self.list.push(Call::Batch { task, kind, extension, handles: kept(&handles) });
+    }
+
     fn read(&mut self) {
         let task = self.task();
         if let Some(place) = self.any_standing() {
@@ -173,6 +201,9 @@ impl Plan {
     fn left_aside(&mut self) {
         let (task, kind) = (self.task(), Kind::Local);
         let handle = self.random.pick(&[0, self.given + 1, u32::MAX]);
+        // Gone or not, other objects of a batch do not count beside a handle that was never given.
+        let any = 1 + self.random.below(self.given.max(1) as usize) as u32;
+        let (first, later) = (kept(&[handle, any]), kept(&[any, any, handle]));
         let call = self.random.pick(&[
             Call::Tick { task: 16 },
             Call::Join { task },
@@ -182,17 +213,23 @@ impl Plan {
             Call::Refresh { task, kind, extension: 30, handle },
             Call::Read { task, handle },
             Call::Write { task, handle, offset: 255, bytes: &BYTES },
+            Call::Batch { task, kind, extension: 30, handles: first },
+            Call::Batch { task, kind, extension: 30, handles: later },
+            Call::Batch { task, kind, extension: 31, handles: kept(&[any]) },
+            Call::Batch { task, kind, extension: 30, handles: kept(&[]) },
+            Call::Batch { task, kind, extension: 30, handles: kept(&[any; 33]) },
         ]);
         self.list.push(call);
     }
 
     /// One use out of time or bounds; the index it has in the list.
     pub fn go_out(&mut self) -> usize {
-        match self.random.below(4) {
+        match self.random.below(5) {
             0 => self.use_gone(),
             1 => self.one_block_more(1..=32, 64),
             2 => self.one_block_more(33..=256, 32),
-            _ => self.one_expiration_more(),
+            3 => self.one_expiration_more(),
+            _ => self.batch_without_room(),
         }
         self.list.len() - 1
     }
@@ -207,7 +244,11 @@ impl Plan {
             self.end_round();
         }
         let handle = self.objects[place].handle;
+        self.make_now(task, kind, extension, 4);
         let call = self.random.pick(&[
+            Call::Batch { task, kind, extension, handles: kept(&[handle]) },
+            Call::Batch { task, kind, extension, handles: kept(&[handle, self.given]) },
+            Call::Batch { task, kind, extension, handles: kept(&[self.given, self.given, handle]) },
             Call::Read { task, handle },
             Call::Refresh { task, kind, extension, handle },
             Call::Write { task, handle, offset: 4, bytes: &[] },
@@ -226,19 +267,37 @@ impl Plan {
     }
 
     fn one_expiration_more(&mut self) {
-        self.make_room();
-        self.make_now(0, Kind::Local, 30, 1);
-        let place = self.objects.len() - 1;
-        while self.expirations.len() < 256 {
-            let kind = random_kind(&mut self.random);
-            self.refresh_now(place, 0, kind, 7);
-        }
-        let handle = self.objects[place].handle;
+        let handle = self.fill_up_to(256);
         let call = self.random.pick(&[
             Call::Refresh { task: 0, kind: Kind::Local, extension: 0, handle },
             Call::Make { task: 0, kind: Kind::Local, extension: 0, length: 1 },
+            Call::Batch { task: 0, kind: Kind::Local, extension: 0, handles: kept(&[handle]) },
         ]);
         self.list.push(call);
+    }
+
+    /// One object more than there is room for.
+    fn batch_without_room(&mut self) {
+        let count = 1 + self.random.below(32);
+        let handle = self.fill_up_to(256 - (count - 1));
+        let handles = kept(&vec![handle; count]);
+        self.list.push(Call::Batch { task: 0, kind: Kind::Local, extension: 0, handles });
+    }
+
+    /// Has so many expirations stand, all on one object; its handle.
+    fn fill_up_to(&mut self, expirations: usize) -> u32 {
+        self.make_room();
+        self.make_now(0, Kind::Local, 30, 1);
+        let place = self.objects.len() - 1;
+        while self.expirations.len() < expirations {
+            let kind = random_kind(&mut self.random);
+            if self.expirations.len() + 32 <= expirations && self.random.one_in(4) {
+                self.batch_now(&[place; 32], 0, kind, 7);
+            } else {
+                self.refresh_now(place, 0, kind, 7);
+            }
+        }
+        self.objects[place].handle
     }
 
     /// Lets everything lapse.

@@ -5,6 +5,21 @@ use reference::script::{run, run_on};
 
 pub type Row = (usize, &'static str, &'static str);
 
+/// A handle thirty-two times, as a batch names it.
+#[allow(unused_macros)] // Not every test that has rows has batches.
+macro_rules! thirty_two {
+    ($handle:literal) => {
+        concat!(eight!($handle), eight!($handle), eight!($handle), eight!($handle))
+    };
+}
+
+#[allow(unused_macros)]
+macro_rules! eight {
+    ($handle:literal) => {
+        concat!($handle, $handle, $handle, $handle, $handle, $handle, $handle, $handle)
+    };
+}
+
 /// Stands for every accepted answer.
 pub const ACCEPTED: &str = "accepted";
 

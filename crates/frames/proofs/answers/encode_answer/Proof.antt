@@ -29,7 +29,6 @@ returns c =
     let head = c .before .before .before .before .before .before in
     let start = head .before .before .before .before in
     puts-line (start .args .answer) (start .args .bytes .now) (start .pre) (head .put-head .ensures) (c .before .before .put-hex .ensures)
-    (search needs)
 
 pub encode-answer-spec : {M : Type 1} → statement M
 encode-answer-spec =

@@ -6,7 +6,8 @@ use Rattle.calls.proofs.Promises.{ready, wrong-obeys}
 use Rattle.calls.proofs.Meets.{refused-locates}
 use Rattle.pool.proofs.ByValue.{fits-by-value}
 use Rattle.pool.proofs.Sizes.{head-typed, columns-sized}
-use Rattle.numbered.proofs.ByValue.{unfit-by-value, located-by-value}
+use Rattle.checked.proofs.Tested.{unfit-by-value}
+use Rattle.numbered.proofs.ByValue.{located-by-value}
 use Rattle.numbered.proofs.reading.locate.Statement.{statement}
 use Rattle.numbered.proofs.reading.locate.Tie as tie
 

@@ -10,4 +10,5 @@ found-verdict-spec =
     (λ c κs. search needs)
     (λ c κs. search needs)
     (λ c κs. search needs)
-    (λ c. rw (c .and-then .ensures, c .before .refuse-if2 .ensures, c .before .before .refuse-if .ensures)))
+    (λ c κs. search needs)
+    (λ c. rw (c .and-then .ensures, c .before .refuse-if2 .ensures, c .before .before .refuse-if .ensures, c .before .before .before .is-ungiven .ensures)))

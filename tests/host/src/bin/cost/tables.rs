@@ -1,9 +1,10 @@
 //! The tables.
 
-use host_tests::cases::{self, Case, STANDING};
+use host_tests::cases::{self, Case, BATCH, ONE_BY_ONE, STANDING};
 use host_tests::desk::{Entry, Subject};
 use host_tests::samples::{Numbering, NUMBERINGS};
 use host_tests::stack;
+use plain::limits::{EXPIRATIONS, LARGEST_BATCH};
 
 use crate::callgrind::Count;
 use crate::malloc;
@@ -17,10 +18,12 @@ const LIMIT: f64 = 1.2;
 /// Prints all, and says whether no call takes more than [`LIMIT`] times the plain pool's instructions.
 pub fn print(counts: &Measures<Count>, times: &Measures<f64>) -> bool {
     let cases = cases::all();
-    println!("## Each call, {MOST} expirations standing (255 where the call sets one)\n");
+    println!("## Each call, {MOST} expirations standing (255 where the call sets one, 224 where it sets 32)\n");
     calls(&cases, counts, times);
     println!("\n## Growth: instructions with so many expirations standing\n");
     growth(&cases, counts);
+    println!("\n## A scan of 32 objects: refreshed one by one, and by one batch\n");
+    scans(&cases, counts, times);
     println!("\n## Where the instructions go, {MOST} expirations standing\n");
     parts(&cases, counts);
     println!("\n## Functions of the library in one tick, {MOST} expirations standing\n");
@@ -40,7 +43,10 @@ pub fn print(counts: &Measures<Count>, times: &Measures<f64>) -> bool {
 /// The highest ratio of library to plain with all expirations standing, of the cases of a kind that are not refused with
 /// 15; and whether it is within the limit.
 fn worst(cases: &[Case], counts: &Measures<Count>, what: &str, of: impl Fn(&Case) -> bool) -> bool {
-    let fit = cases.iter().enumerate().filter(|(_, case)| of(case) && case.expirations == MOST && case.answer != 15);
+    let fit = cases
+        .iter()
+        .enumerate()
+        .filter(|(_, case)| of(case) && case.entry != Entry::OneByOne && case.expirations == MOST && case.answer != 15);
     let ratios = fit.filter_map(|(place, case)| match totals(&counts.cases[place]) {
         [Some(library), Some(plain), _] => Some((library / plain, case)),
         _ => None,
@@ -51,9 +57,10 @@ fn worst(cases: &[Case], counts: &Measures<Count>, what: &str, of: impl Fn(&Case
     ratio <= LIMIT
 }
 
-/// The cases with the most expirations and the handles that a short list of calls gives, with their places.
+/// The cases of one call with the most expirations and the handles that a short list of calls gives, with their places.
 fn usual(cases: &[Case]) -> impl Iterator<Item = (usize, &Case)> {
-    cases.iter().enumerate().filter(|(_, case)| case.expirations == MOST && case.numbering.is_none())
+    let is_usual = |case: &Case| case.expirations == MOST && case.numbering.is_none() && case.entry != Entry::OneByOne;
+    cases.iter().enumerate().filter(move |(_, case)| is_usual(case))
 }
 
 fn usual_place(cases: &[Case], of: impl Fn(&Case) -> bool) -> Option<usize> {
@@ -107,6 +114,30 @@ fn growth(cases: &[Case], counts: &Measures<Count>) {
         let plain = at.map(|[_, plain, _]| number(plain) + " | ").concat();
         let ratios = at.map(|[library, plain, _]| ratio(library, plain) + " | ").concat();
         println!("| {} | {library}{plain}{ratios}", case.name);
+    }
+}
+
+/// What one call saves: both ways with so many expirations standing before, and how the second is to the first.
+fn scans(cases: &[Case], counts: &Measures<Count>, times: &Measures<f64>) {
+    let heads = "one by one | batch | batch/one by one |";
+    println!("| standing | what | library: {heads} plain: {heads} plain, work alone: {heads}");
+    println!("|---:|---{}|", "|---:".repeat(9));
+    for standing in STANDING.into_iter().filter(|&standing| standing > 0) {
+        let place = |name: &str| {
+            let is_one = |case: &Case| case.name == name && case.expirations == standing;
+            cases.iter().position(is_one).expect("a case")
+        };
+        let (singly, batch) = (place(ONE_BY_ONE), place(BATCH));
+        let row = |what: &str, singly: [Option<f64>; 3], batch: [Option<f64>; 3]| {
+            let cells = (0..3).map(|subject| {
+                let (singly, batch) = (singly[subject], batch[subject]);
+                format!("{} | {} | {} | ", number(singly), number(batch), ratio(batch, singly))
+            });
+            let before = standing.min(EXPIRATIONS - LARGEST_BATCH);
+            println!("| {before} | {what} | {}", cells.collect::<String>());
+        };
+        row("instructions", totals(&counts.cases[singly]), totals(&counts.cases[batch]));
+        row("ns", times.cases[singly], times.cases[batch]);
     }
 }
 

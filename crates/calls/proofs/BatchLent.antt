@@ -1,0 +1,85 @@
+-- Batch on lent tables, by what was planned: refused or carried out.
+use Prim.Native.Nat.{ℕ, _+_, _≤_, _<_}
+use native.Mathlib.Omega.{arith}
+use mathlib.Core.Bool.{Bool, true}
+use mathlib.Core.List.{List, map}
+use mathlib.Core.Path.{_≡_, refl, sym, ap, fun-ext, _∙_}
+use lib.Dec.{leb}
+use lib.ListN.{length, take}
+use Rattle.ledger.specs.Limits.{limits, taskCount, largestBatch}
+use Rattle.ledger.specs.Objects.{handlesOf}
+use Rattle.ledger.proofs.Figures.{allowed}
+use Rattle.ledger.specs.declared.Answer.the-variants.{Done}
+use Rattle.ledger.specs.declared.Answer.the-variants.{Refused as RefusedAnswer}
+use Rattle.ledger.specs.declared.Call.the-variants.{Batch}
+use Rattle.ledger.specs.declared.Kind.{Kind}
+use Rattle.ledger.specs.declared.Refusal.{Refusal}
+use Rattle.ledger.specs.declared.Request.the-variants.{Use}
+use Rattle.ledger.specs.declared.Verdict.the-variants.{Accepted, Refused}
+use Rattle.record.specs.Pools.{isWellFormed}
+use Rattle.record.specs.Reading.{HeadTyped, Typed}
+use Rattle.record.specs.Tables.{Tables, Sized, blocksOf, entriesOf, tablesBy, tablesOf, pooled, blockEntries, expirationEntries}
+use Rattle.record.specs.declared.Head.{Head}
+use Rattle.steps.specs.Objects.{placeOf, placeIn, isMissing, isMissingIn, standingIn, batchVerdictBy, batchVerdict, batchedPool}
+use Rattle.steps.proofs.Batches.{Renewable, batch-takes}
+use Rattle.steps.proofs.Chosen.{task-known}
+use Rattle.objects.specs.Batches.{PlansBatch}
+use Rattle.objects.specs.declared.BatchPlan.{BatchPlan}
+use Rattle.objects.proofs.Laws.{place-of}
+use Rattle.expirations.specs.Setting.{SetsEach}
+use Rattle.expirations.specs.Standing.{standingOf}
+use Rattle.expirations.proofs.Counting.{standing-of}
+use Rattle.expirations.proofs.Setting.{batched-set}
+use Rattle.calls.specs.Contract.{FollowsWith}
+use Rattle.calls.proofs.Lent.{lent-typed}
+use Rattle.calls.proofs.Outcomes.{batch-refused, batch-done}
+
+module _ {h : Head} {hs ls cs ns ds : List ℕ} (types : HeadTyped h) (sized : Sized hs ls cs ns ds) (task : ℕ) (kind : Kind) (extension : ℕ) (new : List ℕ)
+    (plan : BatchPlan) (so : PlansBatch task extension (handlesOf new) h hs (standingOf cs) plan) where
+  of-entries : Typed (tablesOf (pooled h hs ls cs ns ds))
+  of-entries = lent-typed h hs ls cs ns ds types (sized .blocks) (sized .entries)
+
+  -- places by the handles are those of the blocks
+  places : (handle : ℕ) → placeOf handle (blocksOf hs ls) ≡ placeIn handle hs
+  places handle = sym (place-of hs ls (sized .blocks .of-handles) (sized .blocks .of-lengths) handle)
+
+  -- the plan's verdict is the record's
+  missing : isMissing (blocksOf hs ls) ≡ isMissingIn hs
+  missing = fun-ext (λ (handle : ℕ). ap (leb blockEntries) (places handle))
+
+  verdict-of : batchVerdict task extension (handlesOf new) (tablesOf (pooled h hs ls cs ns ds)) ≡ plan .verdict
+  unfolding batchVerdict tablesOf tablesBy
+  verdict-of =
+      ap (λ (gone : ℕ → Bool). batchVerdictBy task extension (handlesOf new) (h .tasks) (h .given) gone (standingIn (entriesOf cs ns ds))) missing
+      ∙ rw (so .verdict, standing-of (sized .entries))
+
+  pub batch-kept : isWellFormed (pooled h hs ls cs ns ds) ≡ true → {why : Refusal} → plan .verdict ≡ Refused why
+      → FollowsWith (Use (Batch task kind extension)) new (pooled h hs ls cs ns ds) (RefusedAnswer why) (pooled h hs ls cs ns ds)
+  batch-kept w e small large = batch-refused _ of-entries w small large task kind extension new _ (verdict-of ∙ e)
+
+  module _ (v : plan .verdict ≡ Accepted) where
+    renewable : Renewable task extension (handlesOf new) (tablesOf (pooled h hs ls cs ns ds))
+    renewable = batch-takes task extension (handlesOf new) _ (verdict-of ∙ v)
+
+    -- the blocks of the plan are those of the objects
+    blocks-of : take (plan .count) (plan .blocks) ≡ map (λ (handle : ℕ). placeOf handle (blocksOf hs ls)) (handlesOf new)
+    blocks-of = ap (λ (n : ℕ). take n (plan .blocks)) (so .count) ∙ so .blocks v ∙ ap (λ (f : ℕ → ℕ). map f (handlesOf new)) (fun-ext (λ (handle : ℕ). sym (places handle)))
+
+    left : {cs′ ns′ ds′ : List ℕ} → SetsEach (h .tasks) (h .global) kind task extension (take (plan .count) (plan .blocks)) cs ns ds cs′ ns′ ds′
+        → tablesOf (pooled h hs ls cs′ ns′ ds′) ≡ batchedPool task kind extension (handlesOf new) (tablesOf (pooled h hs ls cs ns ds))
+    unfolding tablesOf tablesBy
+    left sets = rw (batched-set task kind extension (handlesOf new), sets .entries, blocks-of)
+
+    -- what the setting asks
+    pub batch-may-set : (plan .count ≤ largestBatch) × (standingOf cs + plan .count ≤ expirationEntries) × (task < taskCount)
+    unfolding tablesOf tablesBy
+    batch-may-set = (
+      rw (so .count) (renewable .few),
+      omega (arith, so .count, renewable .room, standing-of (sized .entries), allowed .most-expirations),
+      task-known task (h .tasks) (renewable .task-ok),
+    )
+
+    pub batch-set : isWellFormed (pooled h hs ls cs ns ds) ≡ true → {cs′ ns′ ds′ : List ℕ}
+        → SetsEach (h .tasks) (h .global) kind task extension (take (plan .count) (plan .blocks)) cs ns ds cs′ ns′ ds′
+        → FollowsWith (Use (Batch task kind extension)) new (pooled h hs ls cs ns ds) Done (pooled h hs ls cs′ ns′ ds′)
+    batch-set w sets small large = batch-done _ of-entries w small large task kind extension new (left sets) (verdict-of ∙ v)

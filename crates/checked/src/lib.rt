@@ -1,0 +1,156 @@
+// The calls that change the record, on lent columns: 15 first, then 14 where a store is touched, and then the call itself. Who lends them never looks at the record again.
+ghost use mathlib.Core.Path.{_≡_};
+ghost use Rattle.ledger.specs.declared.Call.the-variants.{Schedule, Refresh, Batch};
+ghost use Rattle.ledger.specs.declared.Request.the-variants.{Use};
+ghost use Rattle.record.specs.Tables.{pooled, Sized, SizedEntries};
+ghost use Rattle.calls.specs.Contract.{FollowsWith, Follows, Makes};
+ghost use Rattle.calls.specs.Engine.{outcomeOf};
+use calls;
+use calls::Step;
+use fitness::is_well_formed;
+use ledger::Answer;
+use ledger::Event;
+use ledger::Kind;
+use ledger::Refusal;
+use pool::lengths::are_whole;
+use record::BLOCK_COUNT;
+use record::EXPIRATION_COUNT;
+use record::Head;
+
+// Join, leave, block, resume and tick.
+pub fn schedule<'a>(
+    h: Head,
+    handles: &mut [u32; BLOCK_COUNT],
+    lengths: &'a [u16; BLOCK_COUNT],
+    clocks: &mut [u8; EXPIRATION_COUNT],
+    named: &'a [u8; EXPIRATION_COUNT],
+    dues: &'a [u32; EXPIRATION_COUNT],
+    event: Event,
+    task: u8,
+) -> Step
+    requires { ⌜ Sized (now handles) (now lengths) (now clocks) (now named) (now dues) ⌝ }
+    ensures { λ r. ⌜ Sized (now (handles .exit)) (now (lengths .entry)) (now (clocks .exit)) (now (named .entry)) (now (dues .entry)) × Follows (Use (Schedule event task)) (pooled h (now (handles .entry)) (now (lengths .entry)) (now (clocks .entry)) (now (named .entry)) (now (dues .entry))) (r .answer) (pooled (r .head) (now (handles .exit)) (now (lengths .entry)) (now (clocks .exit)) (now (named .entry)) (now (dues .entry))) ⌝ }
+{
+    if !is_well_formed(h, handles, lengths, clocks, named, dues) {
+        return Step {
+            answer: Answer::Refused(Refusal::NotWellFormed),
+            head: h,
+        };
+    }
+    calls::schedule(h, handles, clocks, named, dues, event, task)
+}
+
+pub fn make(
+    h: Head,
+    handles: &mut [u32; BLOCK_COUNT],
+    lengths: &mut [u16; BLOCK_COUNT],
+    clocks: &mut [u8; EXPIRATION_COUNT],
+    named: &mut [u8; EXPIRATION_COUNT],
+    dues: &mut [u32; EXPIRATION_COUNT],
+    small: &mut [u8],
+    large: &mut [u8],
+    task: u8,
+    kind: Kind,
+    extension: u8,
+    size: u16,
+) -> Step
+    requires { ⌜ Sized (now handles) (now lengths) (now clocks) (now named) (now dues) ⌝ }
+    ensures { λ r. ⌜ Sized (now (handles .exit)) (now (lengths .exit)) (now (clocks .exit)) (now (named .exit)) (now (dues .exit)) × Makes task kind extension size (pooled h (now (handles .entry)) (now (lengths .entry)) (now (clocks .entry)) (now (named .entry)) (now (dues .entry))) (now (small .entry)) (now (large .entry)) (outcomeOf r (now (handles .exit)) (now (lengths .exit)) (now (clocks .exit)) (now (named .exit)) (now (dues .exit))) (now (small .exit)) (now (large .exit)) ⌝ }
+{
+    if !is_well_formed(h, handles, lengths, clocks, named, dues) {
+        return Step {
+            answer: Answer::Refused(Refusal::NotWellFormed),
+            head: h,
+        };
+    }
+    if !are_whole(small.len(), large.len()) {
+        return Step {
+            answer: Answer::Refused(Refusal::WrongStoreLength),
+            head: h,
+        };
+    }
+    calls::make(
+        h,
+        handles,
+        lengths,
+        clocks,
+        named,
+        dues,
+        small,
+        large,
+        task,
+        kind,
+        extension,
+        size,
+    )
+}
+
+pub fn refresh<'a>(
+    h: Head,
+    handles: &'a [u32; BLOCK_COUNT],
+    lengths: &'a [u16; BLOCK_COUNT],
+    clocks: &mut [u8; EXPIRATION_COUNT],
+    named: &mut [u8; EXPIRATION_COUNT],
+    dues: &mut [u32; EXPIRATION_COUNT],
+    task: u8,
+    kind: Kind,
+    extension: u8,
+    handle: u32,
+) -> Step
+    requires { ⌜ Sized (now handles) (now lengths) (now clocks) (now named) (now dues) ⌝ }
+    ensures { λ r. ⌜ SizedEntries (now (clocks .exit)) (now (named .exit)) (now (dues .exit)) × Follows (Use (Refresh task kind extension handle)) (pooled h (now (handles .entry)) (now (lengths .entry)) (now (clocks .entry)) (now (named .entry)) (now (dues .entry))) (r .answer) (pooled (r .head) (now (handles .entry)) (now (lengths .entry)) (now (clocks .exit)) (now (named .exit)) (now (dues .exit))) ⌝ }
+{
+    if !is_well_formed(h, handles, lengths, clocks, named, dues) {
+        return Step {
+            answer: Answer::Refused(Refusal::NotWellFormed),
+            head: h,
+        };
+    }
+    calls::refresh(
+        h,
+        handles,
+        lengths,
+        clocks,
+        named,
+        dues,
+        task,
+        kind,
+        extension,
+        handle,
+    )
+}
+
+pub fn batch<'a>(
+    h: Head,
+    handles: &'a [u32; BLOCK_COUNT],
+    lengths: &'a [u16; BLOCK_COUNT],
+    clocks: &mut [u8; EXPIRATION_COUNT],
+    named: &mut [u8; EXPIRATION_COUNT],
+    dues: &mut [u32; EXPIRATION_COUNT],
+    task: u8,
+    kind: Kind,
+    extension: u8,
+    bytes: &[u8],
+) -> Step
+    requires { ⌜ Sized (now handles) (now lengths) (now clocks) (now named) (now dues) ⌝ }
+    ensures { λ r. ⌜ SizedEntries (now (clocks .exit)) (now (named .exit)) (now (dues .exit)) × FollowsWith (Use (Batch task kind extension)) (now (bytes .entry)) (pooled h (now (handles .entry)) (now (lengths .entry)) (now (clocks .entry)) (now (named .entry)) (now (dues .entry))) (r .answer) (pooled (r .head) (now (handles .entry)) (now (lengths .entry)) (now (clocks .exit)) (now (named .exit)) (now (dues .exit))) ⌝ }
+{
+    if !is_well_formed(h, handles, lengths, clocks, named, dues) {
+        return Step {
+            answer: Answer::Refused(Refusal::NotWellFormed),
+            head: h,
+        };
+    }
+    calls::batch(
+        h,
+        handles,
+        lengths,
+        clocks,
+        named,
+        dues,
+        task,
+        kind,
+        extension,
+        bytes,
+    )
+}
