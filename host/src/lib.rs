@@ -33,6 +33,7 @@
 
 mod answer;
 mod handle;
+pub mod image;
 mod kind;
 mod pool;
 mod record;
