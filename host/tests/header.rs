@@ -94,7 +94,7 @@ fn the_headers_have_the_numbers_and_sentences_of_this_crate() {
 
 #[test]
 fn the_headers_compile_as_c_and_as_cpp() {
-    let source = written("include.c", "#include \"ramsummer_text.h\"\n");
+    let source = written("include.c", "#include \"ramsummer_image.h\"\n#include \"ramsummer_text.h\"\n");
     for (language, standard) in [("c", "c99"), ("c", "c11"), ("c++", "c++98"), ("c++", "c++11"), ("c++", "c++17")] {
         let standard = format!("-std={standard}");
         let options = ["-Wall", "-Wextra", "-Werror", "-pedantic", "-fsyntax-only", "-x", language, &standard];

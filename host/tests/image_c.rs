@@ -1,0 +1,125 @@
+//! include/ramsummer_image.h writes the images that this crate reads, and the other way round, byte for byte.
+
+use ramsummer::image::{restore, save, save_with_stores, Fault, RECORD_ALONE, VERSION, WITH_STORES};
+use ramsummer::{Record, LARGE, RECORD, SMALL};
+use std::fs::{self, File};
+use std::path::{Path, PathBuf};
+use std::process::Command;
+
+/// Numbers that look random and are the same in each run.
+struct Random(u64);
+
+impl Random {
+    fn byte(&mut self) -> u8 {
+        self.0 = self.0.wrapping_mul(6_364_136_223_846_793_005).wrapping_add(1_442_695_040_888_963_407);
+        (self.0 >> 33) as u8
+    }
+
+    fn bytes<const N: usize>(&mut self) -> [u8; N] {
+        std::array::from_fn(|_| self.byte())
+    }
+}
+
+fn host() -> &'static Path {
+    Path::new(env!("CARGO_MANIFEST_DIR"))
+}
+
+fn scratch(name: &str) -> PathBuf {
+    Path::new(env!("CARGO_TARGET_TMPDIR")).join(name)
+}
+
+/// The program of this source, or none where there is no compiler.
+fn built(name: &str, source: &Path) -> Option<PathBuf> {
+    let binary = scratch(name);
+    let mut cc = Command::new("cc");
+    cc.args(["-std=c99", "-Wall", "-Wextra", "-Wconversion", "-Werror", "-pedantic", "-O1", "-I"]);
+    let Ok(said) = cc.arg(host().join("include")).arg(source).arg("-o").arg(&binary).output() else {
+        eprintln!("cc is not here: the images in C were left out");
+        return None;
+    };
+    assert!(said.status.success(), "{}", String::from_utf8_lossy(&said.stderr));
+    Some(binary)
+}
+
+/// What tests/image.c says to this input.
+fn told(name: &str, input: &[u8], arguments: &[&str]) -> Option<Vec<u8>> {
+    let binary = built(name, &host().join("tests/image.c"))?;
+    let file = scratch(&format!("{name}.in"));
+    fs::write(&file, input).unwrap();
+    let output = Command::new(binary).args(arguments).stdin(File::open(file).unwrap()).output().unwrap();
+    assert!(output.status.success());
+    Some(output.stdout)
+}
+
+fn alone(record: &Record) -> [u8; RECORD_ALONE] {
+    let mut image = [0; RECORD_ALONE];
+    save(record, &mut image).unwrap();
+    image
+}
+
+/// Records of any bytes: every field has every kind of value, and none is where another belongs.
+#[test]
+fn what_rust_saves_c_restores_and_the_other_way_round() {
+    let mut random = Random(3);
+    let (mut input, mut expected) = (Vec::new(), Vec::new());
+    for _ in 0..100 {
+        let bytes: [u8; RECORD] = random.bytes();
+        let (small, large): ([u8; SMALL], [u8; LARGE]) = (random.bytes(), random.bytes());
+        let record = Record::from_bytes(&bytes);
+        let mut whole = [0; WITH_STORES];
+        save_with_stores(&record, &small, &large, &mut whole).unwrap();
+        input.extend([&alone(&record)[..], &whole].concat());
+        // C has the record's bytes in the order of this machine, as `from_bytes` takes them.
+        expected.extend([&bytes[..], &alone(&record), &bytes, &small, &large, &whole].concat());
+    }
+    let Some(told) = told("image_both_ways", &input, &[]) else { return };
+    assert!(told == expected);
+}
+
+#[test]
+fn both_tell_the_same_faults() {
+    let mut image = alone(&Record::from_bytes(&Random(4).bytes()));
+    let Some(told) = told("image_faults", &image, &["faults"]) else { return };
+    let (flips, rest) = told.split_at(8 * RECORD_ALONE);
+    for (bit, &fault) in flips.iter().enumerate() {
+        image[bit / 8] ^= 1 << (bit % 8);
+        assert_eq!(restore(&image).err().map(Fault::number), Some(fault), "bit {bit}");
+        image[bit / 8] ^= 1 << (bit % 8);
+    }
+    let (cuts, rest) = rest.split_at(WITH_STORES + 1);
+    let whole = |length: usize| if length < RECORD_ALONE { Fault::TooShort.number() } else { 0 };
+    assert!(cuts.iter().enumerate().all(|(length, &fault)| fault == whole(length)));
+    let expected = [Fault::Length, Fault::StoreLength, Fault::TooShort, Fault::TooShort, Fault::StoreLength];
+    assert_eq!(rest, expected.map(Fault::number));
+}
+
+/// `TooShort` as the header has it: `RAMSUMMER_FAULT_TOO_SHORT`.
+fn c_name(fault: Fault) -> String {
+    format!("{fault:?}").chars().fold("RAMSUMMER_FAULT".into(), |text, letter| match letter {
+        'A'..='Z' => text + "_" + &letter.to_string(),
+        _ => text + &letter.to_uppercase().to_string(),
+    })
+}
+
+#[test]
+fn the_header_has_the_numbers_and_sentences_of_this_crate() {
+    let names = Fault::ALL.map(c_name);
+    let mut values = vec![("RAMSUMMER_IMAGE_RECORD_ALONE", RECORD_ALONE), ("RAMSUMMER_IMAGE_WITH_STORES", WITH_STORES)];
+    values.extend([("RAMSUMMER_IMAGE_VERSION", VERSION as usize), ("RAMSUMMER_FAULT_NONE", 0)]);
+    values.extend(names.iter().map(String::as_str).zip(Fault::ALL.map(|fault| fault.number().into())));
+    values.push(("ramsummer_image_crc32((const uint8_t *)\"123456789\", 9)", 0xCBF4_3926));
+    let mut text = "#include <stdio.h>\n#include \"ramsummer_image.h\"\nint main(void) {\n".to_string();
+    for (expression, _) in &values {
+        text += &format!("printf(\"%zu\\n\", (size_t)({expression}));\n");
+    }
+    for fault in Fault::ALL {
+        text += &format!("puts(ramsummer_image_text({}));\n", fault.number());
+    }
+    let source = scratch("image_header.c");
+    fs::write(&source, text + "return 0;\n}\n").unwrap();
+    let Some(binary) = built("image_header", &source) else { return };
+    let printed = String::from_utf8(Command::new(binary).output().unwrap().stdout).unwrap();
+    let values = values.iter().map(|(_, value)| value.to_string());
+    let expected: Vec<String> = values.chain(Fault::ALL.map(|fault| fault.to_string())).collect();
+    assert_eq!(printed.lines().collect::<Vec<_>>(), expected);
+}
