@@ -1,0 +1,126 @@
+/*
+ * A logger is restarted: one of two saved images is damaged, the tasks come back and find themselves joined; and then a
+ * record comes back without its stores. docs/RESTART.md is the recipe; examples/restart.rs is the same in Rust.
+ */
+#include <stdio.h>
+#include <string.h>
+
+#include "ramsummer.h"
+#include "ramsummer_image.h"
+#include "ramsummer_text.h"
+
+enum { LENGTH = 7, EXTENSION = 3 };
+
+static ramsummer_pool pool;
+static uint8_t small[RAMSUMMER_SMALL], large[RAMSUMMER_LARGE];
+#define POOL &pool, small, sizeof small, large, sizeof large
+
+/* What outlives the restart. The tasks' handles are kept with the images, of the same moment: the record does not say
+ * whose an object is. */
+static struct {
+    uint8_t images[2][RAMSUMMER_IMAGE_WITH_STORES];
+    uint8_t record[RAMSUMMER_IMAGE_RECORD_ALONE];
+    uint32_t level, rain, battery;
+} kept;
+
+static uint8_t print_figures(const char *before) {
+    uint8_t small_objects, large_objects;
+    uint16_t expirations;
+    uint32_t given;
+    uint8_t refusal = ramsummer_report(&pool, &small_objects, &large_objects, &expirations, &given);
+    if (refusal) return refusal;
+    printf("%s: global time %u, small %d, large %d, expirations %d, given %u\n", before, (unsigned)pool.global,
+           small_objects, large_objects, expirations, (unsigned)given);
+    return RAMSUMMER_DONE;
+}
+
+static uint8_t reading(uint8_t task, uint8_t kind, const char *text, uint32_t *handle) {
+    uint8_t refusal = ramsummer_make(POOL, task, kind, EXTENSION, LENGTH, handle);
+    return refusal ? refusal : ramsummer_write(POOL, task, *handle, 0, (const uint8_t *)text, LENGTH);
+}
+
+/* Before the restart: three readings, a tick of each task, and two images. */
+static uint8_t run(void) {
+    uint8_t advanced, refusal = ramsummer_fresh(&pool);
+    if (!refusal) refusal = ramsummer_join(&pool, 0);
+    if (!refusal) refusal = ramsummer_join(&pool, 1);
+    if (!refusal) refusal = reading(0, RAMSUMMER_LOCAL, "12.50 m", &kept.level);
+    if (!refusal) refusal = reading(1, RAMSUMMER_LOCAL, "0.40 mm", &kept.rain);
+    if (!refusal) refusal = reading(1, RAMSUMMER_GLOBAL, "13.20 V", &kept.battery);
+    if (!refusal) refusal = ramsummer_tick(&pool, 0, &advanced);
+    if (!refusal) refusal = ramsummer_tick(&pool, 1, &advanced);
+    if (refusal) return refusal;
+    ramsummer_image_save_with_stores(POOL, kept.images[0], sizeof kept.images[0]);
+    ramsummer_image_save_with_stores(POOL, kept.images[1], sizeof kept.images[1]);
+    ramsummer_image_save(&pool, kept.record, sizeof kept.record);
+    return print_figures("saved");
+}
+
+/* The pool of the first image that is whole, or a fresh one. */
+static uint8_t come_back(void) {
+    int place;
+    for (place = 0; place < 2; place++) {
+        uint8_t fault = ramsummer_image_restore_with_stores(POOL, kept.images[place], sizeof kept.images[place]);
+        if (!fault) return print_figures(place == 0 ? "image 0" : "image 1");
+        printf("image %d: %s\n", place, ramsummer_image_text(fault));
+    }
+    return ramsummer_fresh(&pool);
+}
+
+/* The reading's letters, and how long it stands without a refresh. */
+static uint8_t look(uint8_t task, uint32_t handle, char text[LENGTH + 1], uint8_t *local, uint8_t *global) {
+    size_t count;
+    uint8_t refusal = ramsummer_read(POOL, task, handle, (uint8_t *)text, LENGTH, &count);
+    if (refusal) return refusal;
+    text[LENGTH] = 0;
+    return ramsummer_remaining(&pool, task, handle, local, global);
+}
+
+/* Task 0 has its handle still, and goes on where its clock stands. */
+static uint8_t go_on(void) {
+    char text[LENGTH + 1];
+    uint8_t local, global, refusal = ramsummer_join(&pool, 0);
+    printf("task 0 joins: refused with %d, %s\n", refusal, ramsummer_text(refusal));
+    refusal = look(0, kept.level, text, &local, &global);
+    if (!refusal) printf("task 0 goes on: %s, for %d ticks more\n", text, local);
+    return refusal;
+}
+
+/* Task 1 starts anew: what it set by its own clock goes, what it set by global time stays. */
+static uint8_t start_anew(void) {
+    char text[LENGTH + 1];
+    uint8_t advanced, local, global, gone, refusal = ramsummer_leave(&pool, 1, &advanced);
+    if (!refusal) refusal = ramsummer_join(&pool, 1);
+    if (refusal) return refusal;
+    gone = look(1, kept.rain, text, &local, &global);
+    printf("task 1 leaves and joins: its rain is refused with %d, %s\n", gone, ramsummer_text(gone));
+    refusal = look(1, kept.battery, text, &local, &global);
+    if (!refusal) printf("task 1 has %s still, for %d advances more\n", text, global);
+    return refusal;
+}
+
+/* The record is back and the stores are not: each object stands with wrong bytes, until time has passed over it. */
+static uint8_t lose_stores(void) {
+    char text[LENGTH + 1];
+    uint8_t advanced, local, global, task, ticks, refusal;
+    if (ramsummer_image_restore(&pool, kept.record, sizeof kept.record)) return RAMSUMMER_NOT_WELL_FORMED;
+    memset(small, 0, sizeof small);
+    memset(large, 0, sizeof large);
+    refusal = look(1, kept.battery, text, &local, &global);
+    if (refusal) return refusal;
+    printf("stores lost: the battery's first byte is %d, and no call tells\n", text[0]);
+    for (task = 0; task < RAMSUMMER_TASKS; task++) ramsummer_leave(&pool, task, &advanced); /* 3 where it was absent */
+    refusal = ramsummer_join(&pool, 0);
+    for (ticks = 0; ticks < 32 && !refusal; ticks++) refusal = ramsummer_tick(&pool, 0, &advanced);
+    return refusal ? refusal : print_figures("all have left, one joins and ticks 32 times");
+}
+
+int main(void) {
+    uint8_t refusal = run();
+    kept.images[0][1000] ^= 0x10; /* while the power is off */
+    if (!refusal) refusal = come_back();
+    if (!refusal) refusal = go_on();
+    if (!refusal) refusal = start_anew();
+    if (!refusal) refusal = lose_stores();
+    return refusal;
+}

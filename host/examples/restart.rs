@@ -1,0 +1,107 @@
+//! A logger is restarted: one of two saved images is damaged, the tasks come back and find themselves joined; and then
+//! a record comes back without its stores. docs/RESTART.md is the recipe; examples/restart.c is the same in C.
+
+use ramsummer::{image, Handle, Kind, Pool, Refusal};
+
+/// What outlives the restart. The tasks' handles are kept with the images, of the same moment: the record does not say
+/// whose an object is.
+struct Kept {
+    images: [[u8; image::WITH_STORES]; 2],
+    record: [u8; image::RECORD_ALONE],
+    level: Handle,
+    rain: Handle,
+    battery: Handle,
+}
+
+fn main() -> Result<(), Refusal> {
+    let mut kept = run()?;
+    kept.images[0][1000] ^= 0x10; // while the power is off
+    let mut pool = come_back(&kept);
+    go_on(&mut pool, &kept)?;
+    start_anew(&mut pool, &kept)?;
+    lose_stores(&kept)
+}
+
+/// Before the restart: three readings, a tick of each task, and two images.
+fn run() -> Result<Kept, Refusal> {
+    let mut pool = Pool::new();
+    pool.join(0)?;
+    pool.join(1)?;
+    let level = reading(&mut pool, 0, Kind::Local, b"12.50 m")?;
+    let rain = reading(&mut pool, 1, Kind::Local, b"0.40 mm")?;
+    let battery = reading(&mut pool, 1, Kind::Global, b"13.20 V")?;
+    pool.tick(0)?;
+    pool.tick(1)?;
+    let mut images = [[0; image::WITH_STORES]; 2];
+    for room in &mut images {
+        image::save_with_stores(pool.record(), pool.small(), pool.large(), room).expect("there is room");
+    }
+    let mut record = [0; image::RECORD_ALONE];
+    image::save(pool.record(), &mut record).expect("there is room");
+    println!("saved: {pool}");
+    Ok(Kept { images, record, level, rain, battery })
+}
+
+fn reading(pool: &mut Pool, task: u8, kind: Kind, text: &[u8; 7]) -> Result<Handle, Refusal> {
+    let handle = pool.make(task, kind, 3, 7)?;
+    pool.write(task, handle, 0, text)?;
+    Ok(handle)
+}
+
+/// The pool of the first image that is whole, or a fresh one.
+fn come_back(kept: &Kept) -> Pool {
+    let (mut small, mut large) = (vec![0; ramsummer::SMALL], vec![0; ramsummer::LARGE]);
+    for (place, image) in kept.images.iter().enumerate() {
+        match image::restore_with_stores(image, &mut small, &mut large) {
+            Err(fault) => println!("image {place}: {fault}"),
+            Ok(record) => {
+                let pool = Pool::over(record.into(), small.into(), large.into());
+                println!("image {place}: {pool}");
+                return pool;
+            }
+        }
+    }
+    Pool::new()
+}
+
+/// Task 0 has its handle still, and goes on where its clock stands.
+fn go_on(pool: &mut Pool, kept: &Kept) -> Result<(), Refusal> {
+    if let Err(refusal) = pool.join(0) {
+        println!("task 0 joins: refused with {}, {refusal}", refusal.number());
+    }
+    let left = pool.remaining(0, kept.level)?.local;
+    println!("task 0 goes on: {}, for {left} ticks more", text(&pool.read_to_vec(0, kept.level)?));
+    Ok(())
+}
+
+/// Task 1 starts anew: what it set by its own clock goes, what it set by global time stays.
+fn start_anew(pool: &mut Pool, kept: &Kept) -> Result<(), Refusal> {
+    pool.leave(1)?;
+    pool.join(1)?;
+    if let Err(refusal) = pool.read_to_vec(1, kept.rain) {
+        println!("task 1 leaves and joins: its rain is refused with {}, {refusal}", refusal.number());
+    }
+    let left = pool.remaining(1, kept.battery)?.global;
+    println!("task 1 has {} still, for {left} advances more", text(&pool.read_to_vec(1, kept.battery)?));
+    Ok(())
+}
+
+/// The record is back and the stores are not: each object stands with wrong bytes, until time has passed over it.
+fn lose_stores(kept: &Kept) -> Result<(), Refusal> {
+    let record = image::restore(&kept.record).expect("the image is whole");
+    let mut pool = Pool::over(record, [0; ramsummer::SMALL], [0; ramsummer::LARGE]);
+    println!("stores lost: the battery's first byte is {}, and no call tells", pool.read_to_vec(1, kept.battery)?[0]);
+    for task in 0..16 {
+        let _ = pool.leave(task); // 3 where it was absent
+    }
+    pool.join(0)?;
+    for _ in 0..32 {
+        pool.tick(0)?;
+    }
+    println!("all have left, one joins and ticks 32 times: {pool}");
+    Ok(())
+}
+
+fn text(bytes: &[u8]) -> &str {
+    std::str::from_utf8(bytes).expect("a reading is letters and digits")
+}
