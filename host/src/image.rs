@@ -11,8 +11,8 @@
 //! | 2,048 and 8,192 | the small store and the large one, where the image has them |
 //! | 4 | CRC-32 of all bytes before it |
 //!
-//! include/ramsummer_image.h is the same in C. Nothing here is proved, and nothing needs to be believed of it by the
-//! library: what comes back is a record that the first call tests, as it does any other.
+//! include/ramsummer_image.h is the same in C. Nothing here is proved, and the library does not rely on it: what comes
+//! back is a record that the first call tests, as it does any other.
 //!
 //! ```
 //! use ramsummer::{image, Pool};

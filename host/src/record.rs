@@ -83,7 +83,8 @@ impl Record {
         }
     }
 
-    /// The record as its bytes, to be kept where it outlives a restart.
+    /// The record as its bytes, in the order of this machine. To keep it over a restart, [`image`](crate::image) has a
+    /// sum too.
     ///
     /// ```
     /// use ramsummer::{Pool, Record};

@@ -1,23 +1,19 @@
 //! include/ramsummer_image.h writes the images that this crate reads, and the other way round, byte for byte.
 
+use lives::Random;
 use ramsummer::image::{restore, save, save_with_stores, Fault, RECORD_ALONE, VERSION, WITH_STORES};
 use ramsummer::{Record, LARGE, RECORD, SMALL};
 use std::fs::{self, File};
 use std::path::{Path, PathBuf};
 use std::process::Command;
 
-/// Numbers that look random and are the same in each run.
-struct Random(u64);
+mod lives;
 
-impl Random {
-    fn byte(&mut self) -> u8 {
-        self.0 = self.0.wrapping_mul(6_364_136_223_846_793_005).wrapping_add(1_442_695_040_888_963_407);
-        (self.0 >> 33) as u8
-    }
-
-    fn bytes<const N: usize>(&mut self) -> [u8; N] {
-        std::array::from_fn(|_| self.byte())
-    }
+/// So many bytes of chance.
+fn bytes<const N: usize>(random: &mut Random) -> [u8; N] {
+    let mut bytes = [0; N];
+    random.fill(&mut bytes);
+    bytes
 }
 
 fn host() -> &'static Path {
@@ -51,9 +47,9 @@ fn told(name: &str, input: &[u8], arguments: &[&str]) -> Option<Vec<u8>> {
     Some(output.stdout)
 }
 
-fn alone(record: &Record) -> [u8; RECORD_ALONE] {
+fn alone(record: &[u8; RECORD]) -> [u8; RECORD_ALONE] {
     let mut image = [0; RECORD_ALONE];
-    save(record, &mut image).unwrap();
+    save(&Record::from_bytes(record), &mut image).unwrap();
     image
 }
 
@@ -63,14 +59,13 @@ fn what_rust_saves_c_restores_and_the_other_way_round() {
     let mut random = Random(3);
     let (mut input, mut expected) = (Vec::new(), Vec::new());
     for _ in 0..100 {
-        let bytes: [u8; RECORD] = random.bytes();
-        let (small, large): ([u8; SMALL], [u8; LARGE]) = (random.bytes(), random.bytes());
-        let record = Record::from_bytes(&bytes);
-        let mut whole = [0; WITH_STORES];
-        save_with_stores(&record, &small, &large, &mut whole).unwrap();
-        input.extend([&alone(&record)[..], &whole].concat());
+        let record: [u8; RECORD] = bytes(&mut random);
+        let (small, large): ([u8; SMALL], [u8; LARGE]) = (bytes(&mut random), bytes(&mut random));
+        let (alone, mut whole) = (alone(&record), [0; WITH_STORES]);
+        save_with_stores(&Record::from_bytes(&record), &small, &large, &mut whole).unwrap();
+        input.extend([&alone[..], &whole].concat());
         // C has the record's bytes in the order of this machine, as `from_bytes` takes them.
-        expected.extend([&bytes[..], &alone(&record), &bytes, &small, &large, &whole].concat());
+        expected.extend([&record[..], &alone, &record, &small, &large, &whole].concat());
     }
     let Some(told) = told("image_both_ways", &input, &[]) else { return };
     assert!(told == expected);
@@ -78,7 +73,7 @@ fn what_rust_saves_c_restores_and_the_other_way_round() {
 
 #[test]
 fn both_tell_the_same_faults() {
-    let mut image = alone(&Record::from_bytes(&Random(4).bytes()));
+    let mut image = alone(&bytes(&mut Random(4)));
     let Some(told) = told("image_faults", &image, &["faults"]) else { return };
     let (flips, rest) = told.split_at(8 * RECORD_ALONE);
     for (bit, &fault) in flips.iter().enumerate() {

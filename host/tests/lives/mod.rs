@@ -1,0 +1,46 @@
+//! Pools that calls lead to, the same in each run.
+
+#![allow(dead_code)] // Each test uses what it needs.
+
+use ramsummer::{Handle, Kind, Pool};
+
+/// Numbers that look random and are the same in each run.
+pub struct Random(pub u64);
+
+impl Random {
+    pub fn below(&mut self, bound: u64) -> u64 {
+        self.0 = self.0.wrapping_mul(6_364_136_223_846_793_005).wrapping_add(1_442_695_040_888_963_407);
+        (self.0 >> 33) % bound
+    }
+
+    pub fn fill(&mut self, bytes: &mut [u8]) {
+        bytes.iter_mut().for_each(|byte| *byte = self.below(256) as u8);
+    }
+}
+
+/// One call, which may be refused.
+fn call(pool: &mut Pool, random: &mut Random) {
+    let task = random.below(16) as u8;
+    let kind = if random.below(2) == 0 { Kind::Local } else { Kind::Global };
+    let extension = random.below(31) as u8;
+    let handle = Handle::from(pool.record().given.saturating_sub(random.below(90) as u32));
+    let _ = match random.below(16) {
+        0..=1 => pool.join(task),
+        2 => pool.leave(task).map(drop),
+        3 => pool.block(task).map(drop),
+        4 => pool.resume(task),
+        5..=6 => pool.tick(task).map(drop),
+        7..=10 => pool.make(task, kind, extension, 1 + random.below(64) as u16).map(drop),
+        11..=13 => pool.write(task, handle, 0, &task.to_le_bytes()),
+        _ => pool.refresh(task, kind, extension, handle),
+    };
+}
+
+/// Pools that calls lead to from a fresh one, each 20 calls after the last.
+pub fn pools(count: usize) -> impl Iterator<Item = Pool> {
+    let (mut pool, mut random) = (Pool::new(), Random(7));
+    (0..count).map(move |_| {
+        (0..20).for_each(|_| call(&mut pool, &mut random));
+        pool.clone()
+    })
+}

@@ -1,0 +1,100 @@
+//! What docs/RESTART.md says of tasks that come back, held on pools that calls lead to.
+
+use lives::pools;
+use ramsummer::{image, Kind, Pool, Record, Refusal, Report, TASKS};
+
+mod lives;
+
+const ABSENT: u16 = 0;
+const WAITING: u16 = 2;
+
+fn restored(record: &Record) -> Record {
+    let mut kept = [0; image::RECORD_ALONE];
+    image::save(record, &mut kept).unwrap();
+    image::restore(&kept).unwrap()
+}
+
+/// The pools again, each from the image of its record.
+fn restarted() -> impl Iterator<Item = Pool> {
+    pools(400).map(|pool| {
+        let (record, small, large) = pool.into_parts();
+        Pool::over(restored(&record).into(), small, large)
+    })
+}
+
+/// The local expirations of a task.
+fn local(record: &Record, task: u8) -> usize {
+    record.clocks.iter().filter(|&&clock| clock == 16 + task).count()
+}
+
+#[test]
+fn a_task_that_finds_itself_joined_leaves_and_joins() {
+    let mut gone = 0;
+    for pool in restarted() {
+        for task in (0..TASKS as u8).filter(|&task| pool.record().tasks[usize::from(task)].state != ABSENT) {
+            let Report { expirations, .. } = pool.report().unwrap();
+            assert_eq!(pool.clone().join(task), Err(Refusal::TaskPresent));
+            let mut anew = pool.clone();
+            let advanced = anew.leave(task).unwrap();
+            anew.join(task).unwrap();
+            assert_eq!((local(anew.record(), task), anew.record().tasks[usize::from(task)].clock), (0, 0));
+            // Only what this task set goes, unless global time advances.
+            let stand = usize::from(expirations) - local(pool.record(), task);
+            let left = usize::from(anew.report().unwrap().expirations);
+            assert!(if advanced { left <= stand } else { left == stand });
+            gone += local(pool.record(), task);
+        }
+    }
+    assert!(gone > 1000);
+}
+
+#[test]
+fn or_it_goes_on_and_everything_of_it_is_as_it_was() {
+    for (mut pool, whole) in restarted().zip(pools(400)) {
+        for task in 0..TASKS as u8 {
+            let waited = whole.record().tasks[usize::from(task)].state == WAITING;
+            assert_eq!(pool.clone().resume(task).is_ok(), waited);
+        }
+        assert!(pool == whole);
+        let mut whole = whole;
+        for task in 0..TASKS as u8 {
+            assert_eq!(pool.tick(task), whole.tick(task));
+        }
+        assert!(pool == whole);
+    }
+}
+
+/// Without the stores: no object stands after 32 ticks of one task, once all have left; and no handle is given again.
+#[test]
+fn a_pool_without_its_stores_is_empty_after_32_ticks() {
+    let mut longest = 0;
+    for mut pool in restarted() {
+        let given = pool.record().given;
+        for task in 0..TASKS as u8 {
+            let _ = pool.leave(task);
+        }
+        pool.join(0).unwrap();
+        for ticks in 1..=32 {
+            assert_eq!(pool.tick(0), Ok(true));
+            if pool.report().unwrap().small > 0 {
+                longest = longest.max(ticks);
+            }
+        }
+        let empty = Report { given, ..Report::default() };
+        assert_eq!(pool.report(), Ok(empty));
+        let handle = pool.make(0, Kind::Local, 0, 1).unwrap();
+        assert_eq!(u32::from(handle), given + 1);
+    }
+    assert!(longest > 28); // so that fewer ticks would not do
+}
+
+/// An image that is older than the last calls gives their handles again.
+#[test]
+fn an_older_image_gives_handles_again() {
+    let mut pool = Pool::new();
+    pool.join(0).unwrap();
+    let old = restored(pool.record());
+    let first = pool.make(0, Kind::Global, 30, 8).unwrap();
+    let mut back = Pool::over(old, [0; ramsummer::SMALL], [0; ramsummer::LARGE]);
+    assert_eq!(back.make(0, Kind::Local, 0, 200), Ok(first));
+}

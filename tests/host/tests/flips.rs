@@ -1,0 +1,185 @@
+//! What refusal 15 notices of a flipped bit, and what it cannot: every flip of one bit of full records. The table goes
+//! to docs/RESTART.md, and the test holds the document to it:
+//!
+//! ```text
+//! cargo test --offline --manifest-path tests/host/Cargo.toml --test flips -- --nocapture
+//! ```
+
+use host_tests::entries::Entries;
+use host_tests::host::Host;
+use host_tests::library::Library;
+use host_tests::memory::{bytes_mut, Memory};
+use host_tests::reading::{figures, of_record};
+use plain::limits::TASKS;
+use plain::record::{Pool, RECORD};
+use reference::call::{Call, Kind};
+use reference::random::Random;
+use std::mem::offset_of;
+use std::ops::RangeInclusive;
+use std::path::Path;
+
+const RECORDS: u64 = 200;
+const NO_FREE_BLOCK: u8 = 9;
+const NO_FREE_EXPIRATION: u8 = 10;
+const NOT_WELL_FORMED: u8 = 15;
+
+// Full records that calls lead to.
+
+fn kind(random: &mut Random) -> Kind {
+    random.pick(&[Kind::Local, Kind::Global])
+}
+
+fn make(random: &mut Random, length: u16) -> Call<'static> {
+    Call::Make { task: random.below(TASKS) as u8, kind: kind(random), extension: random.below(31) as u8, length }
+}
+
+fn refresh(random: &mut Random, pool: &Pool) -> Call<'static> {
+    let handle = random.pick(&pool.handles);
+    Call::Refresh { task: random.below(TASKS) as u8, kind: kind(random), extension: random.below(31) as u8, handle }
+}
+
+/// Any call that changes the record, but for leaves.
+fn any(random: &mut Random, pool: &Pool) -> Call<'static> {
+    let task = random.below(TASKS) as u8;
+    match random.below(16) {
+        0..=5 => Call::Tick { task },
+        6 => Call::Block { task },
+        7..=8 => Call::Resume { task },
+        9..=10 => refresh(random, pool),
+        _ => {
+            let longest = random.pick(&[32, 256]);
+            let length = 1 + random.below(longest) as u16;
+            make(random, length)
+        }
+    }
+}
+
+/// Both stores are full and 256 expirations stand, after a life of some thousand calls.
+fn full(seed: u64) -> Memory {
+    let mut random = Random::new(seed);
+    let mut host = Host::<Library>::new(Memory::fresh(&mut random));
+    for task in 0..TASKS as u8 {
+        host.call(&Call::Join { task }).unwrap();
+    }
+    for _ in 0..500 + random.below(4_000) {
+        let _ = host.call(&any(&mut random, &host.memory.pool));
+    }
+    for task in 0..TASKS as u8 {
+        let _ = host.call(&Call::Resume { task });
+    }
+    while !is_full(&host.memory.pool) {
+        fill(&mut random, &mut host, 1..=32);
+        fill(&mut random, &mut host, 33..=256);
+    }
+    while host.call(&refresh(&mut random, &host.memory.pool)).err() != Some(NO_FREE_EXPIRATION) {}
+    let standing = figures(&host.memory.pool);
+    assert_eq!((standing.small, standing.large, standing.expirations), (64, 32, 256));
+    host.memory
+}
+
+fn is_full(pool: &Pool) -> bool {
+    !pool.handles.contains(&0)
+}
+
+/// Makes objects of these lengths until no block for them is free. Where no expiration is free, time goes on.
+fn fill(random: &mut Random, host: &mut Host<Library>, lengths: RangeInclusive<u16>) {
+    loop {
+        let length = lengths.start() + random.below(lengths.len()) as u16;
+        match host.call(&make(random, length)) {
+            Ok(_) => {}
+            Err(NO_FREE_BLOCK) => return,
+            Err(number) => {
+                assert_eq!(number, NO_FREE_EXPIRATION);
+                (0..TASKS as u8).for_each(|task| assert!(host.call(&Call::Tick { task }).is_ok()));
+            }
+        }
+    }
+}
+
+// The flips.
+
+/// The fields of a record, and where each starts.
+const FIELDS: [(&str, usize); 8] = [
+    ("tasks", offset_of!(Pool, tasks)),
+    ("global", offset_of!(Pool, global)),
+    ("given", offset_of!(Pool, given)),
+    ("handles", offset_of!(Pool, handles)),
+    ("lengths", offset_of!(Pool, lengths)),
+    ("clocks", offset_of!(Pool, clocks)),
+    ("named", offset_of!(Pool, named)),
+    ("dues", offset_of!(Pool, dues)),
+];
+
+fn field_of(place: usize) -> usize {
+    FIELDS.iter().rposition(|&(_, start)| start <= place).unwrap()
+}
+
+/// Flips there were, and flips that leave a record that is answered.
+#[derive(Clone, Copy, Default)]
+struct Count {
+    flips: usize,
+    answered: usize,
+}
+
+impl Count {
+    fn share(self) -> f64 {
+        100.0 * self.answered as f64 / self.flips as f64
+    }
+}
+
+fn sum(counts: &[Count]) -> Count {
+    counts.iter().fold(Count::default(), |sum, count| Count {
+        flips: sum.flips + count.flips,
+        answered: sum.answered + count.answered,
+    })
+}
+
+/// All flips of a record, by field. One that is answered has another meaning than before: the flip was not in vain.
+fn flip_all(mut memory: Memory) -> [Count; 8] {
+    let mut counts = [Count::default(); 8];
+    let before = of_record(&memory);
+    for bit in 0..8 * RECORD {
+        let (place, mask) = (bit / 8, 1 << (bit % 8));
+        let count = &mut counts[field_of(place)];
+        count.flips += 1;
+        bytes_mut(&mut memory.pool)[place] ^= mask;
+        let (mut small, mut large, mut expirations, mut given) = (0, 0, 0, 0);
+        match Library::report(&mut memory.pool, &mut small, &mut large, &mut expirations, &mut given) {
+            0 => {
+                count.answered += 1;
+                assert!(of_record(&memory) != before, "bit {bit}");
+            }
+            number => assert_eq!(number, NOT_WELL_FORMED),
+        }
+        bytes_mut(&mut memory.pool)[place] ^= mask;
+    }
+    counts
+}
+
+/// Lines of a table in Markdown: a field, its bits, and how many of the flips were answered.
+fn table(records: &[[Count; 8]]) -> String {
+    let line =
+        |name: &str, count: Count| format!("| {name} | {} | {:.1} % |\n", count.flips / records.len(), count.share());
+    let fields = FIELDS.iter().enumerate().map(|(field, (name, _))| {
+        let counts: Vec<Count> = records.iter().map(|counts| counts[field]).collect();
+        line(&format!("`{name}`"), sum(&counts))
+    });
+    fields.chain([line("all", sum(records.as_flattened()))]).collect()
+}
+
+/// The lowest and the highest share of one record.
+fn range(records: &[[Count; 8]]) -> String {
+    let mut shares: Vec<f64> = records.iter().map(|counts| sum(counts).share()).collect();
+    shares.sort_by(f64::total_cmp);
+    format!("{:.1} to {:.1} %", shares[0], shares[shares.len() - 1])
+}
+
+#[test]
+fn the_document_says_how_many_flips_are_answered() {
+    let records: Vec<_> = (0..RECORDS).map(|seed| flip_all(full(seed))).collect();
+    let (table, range) = (table(&records), range(&records));
+    println!("{table}\nof one record: {range}");
+    let document = Path::new(env!("CARGO_MANIFEST_DIR")).join("../../docs/RESTART.md");
+    let text = std::fs::read_to_string(document).unwrap();
+    assert!(text.contains(&table) && text.contains(&range), "docs/RESTART.md has other figures");
+}
