@@ -50,9 +50,10 @@ static uint8_t run(void) {
     if (!refusal) refusal = ramsummer_tick(&pool, 0, &advanced);
     if (!refusal) refusal = ramsummer_tick(&pool, 1, &advanced);
     if (refusal) return refusal;
-    ramsummer_image_save_with_stores(POOL, kept.images[0], sizeof kept.images[0]);
-    ramsummer_image_save_with_stores(POOL, kept.images[1], sizeof kept.images[1]);
-    ramsummer_image_save(&pool, kept.record, sizeof kept.record);
+    if (ramsummer_image_save_with_stores(POOL, kept.images[0], sizeof kept.images[0])
+        || ramsummer_image_save_with_stores(POOL, kept.images[1], sizeof kept.images[1])
+        || ramsummer_image_save(&pool, kept.record, sizeof kept.record))
+        return RAMSUMMER_BUFFER_TOO_SHORT;
     return print_figures("saved");
 }
 
@@ -109,7 +110,10 @@ static uint8_t lose_stores(void) {
     refusal = look(1, kept.battery, text, &local, &global);
     if (refusal) return refusal;
     printf("stores lost: the battery's first byte is %d, and no call tells\n", text[0]);
-    for (task = 0; task < RAMSUMMER_TASKS; task++) ramsummer_leave(&pool, task, &advanced); /* 3 where it was absent */
+    for (task = 0; task < RAMSUMMER_TASKS; task++) {
+        refusal = ramsummer_leave(&pool, task, &advanced);
+        if (refusal && refusal != RAMSUMMER_TASK_ABSENT) return refusal;
+    }
     refusal = ramsummer_join(&pool, 0);
     for (ticks = 0; ticks < 32 && !refusal; ticks++) refusal = ramsummer_tick(&pool, 0, &advanced);
     return refusal ? refusal : print_figures("all have left, one joins and ticks 32 times");

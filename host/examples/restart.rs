@@ -92,7 +92,10 @@ fn lose_stores(kept: &Kept) -> Result<(), Refusal> {
     let mut pool = Pool::over(record, [0; ramsummer::SMALL], [0; ramsummer::LARGE]);
     println!("stores lost: the battery's first byte is {}, and no call tells", pool.read_to_vec(1, kept.battery)?[0]);
     for task in 0..16 {
-        let _ = pool.leave(task); // 3 where it was absent
+        match pool.leave(task) {
+            Ok(_) | Err(Refusal::TaskAbsent) => {}
+            Err(refusal) => return Err(refusal),
+        }
     }
     pool.join(0)?;
     for _ in 0..32 {
