@@ -1,10 +1,11 @@
 //! What the calls answer that have more to say than a number: report, remaining and frame.
 
 use crate::Refusal;
-use std::fmt;
+use core::fmt;
 
 /// The figures of a report.
 #[derive(Clone, Copy, Debug, Default, PartialEq, Eq)]
+#[non_exhaustive]
 pub struct Report {
     /// Objects that stand in the small store, 64 at most.
     pub small: u8,
@@ -27,6 +28,7 @@ impl fmt::Display for Report {
 /// How long an object stands without a refresh. It is gone when both figures have come to 0, and no other task has a
 /// local expiration on it.
 #[derive(Clone, Copy, Debug, Default, PartialEq, Eq)]
+#[non_exhaustive]
 pub struct Remaining {
     /// The asking task's ticks until the last of its local expirations is due; 0 where it has none.
     pub local: u8,
@@ -36,6 +38,7 @@ pub struct Remaining {
 
 /// The answer to a frame: whether its call was carried out, and the answer line, which says that too.
 #[derive(Clone, Copy, Debug, PartialEq, Eq)]
+#[non_exhaustive]
 pub struct Answer<'out> {
     /// Whether the frame's call was carried out.
     pub outcome: Result<(), Refusal>,

@@ -1,6 +1,6 @@
 //! What names an object.
 
-use std::fmt;
+use core::fmt;
 
 /// What names an object (document 01: its number): 1 for the first one made, then one higher each time. It is never
 /// given again, so the handle of an object that is gone names no other one.

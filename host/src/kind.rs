@@ -3,6 +3,7 @@
 /// By which time an expiration is due.
 #[repr(u8)]
 #[derive(Clone, Copy, Debug, PartialEq, Eq, PartialOrd, Ord, Hash)]
+#[non_exhaustive]
 pub enum Kind {
     /// By the setting task's local time (document 01: an own date). With extension e it is due after e + 1 of this
     /// task's ticks: for what the task alone uses.

@@ -4,7 +4,8 @@
 //! life by a refresh, and its block returns when the last expiration has passed. Time moves by the tasks' ticks: each
 //! task has its own *local time*, and *global time* advances once every running task has ticked.
 //!
-//! ```
+#![cfg_attr(feature = "alloc", doc = "```")]
+#![cfg_attr(not(feature = "alloc"), doc = "```ignore")]
 //! use ramsummer::{Kind, Pool, Refusal};
 //!
 //! let mut pool = Pool::new();
@@ -22,14 +23,74 @@
 //! # Ok::<(), Refusal>(())
 //! ```
 //!
+//! # Without an allocator
+//!
+//! The crate is `no_std` and needs no allocator. Two features, both on by default, add what does: `alloc` adds `Pool::new`
+//! and `Pool::read_to_vec`, and `std`, which is `alloc` and more, makes a [`Refusal`] a `std::error::Error`. Firmware
+//! takes none of them:
+//!
+//! ```toml
+//! ramsummer = { path = "...", default-features = false }
+//! ```
+//!
+//! A pool may then be a `static`, behind the author's own lock:
+//!
+//! ```
+//! use core::cell::UnsafeCell;
+//! use core::sync::atomic::{AtomicBool, Ordering};
+//! use ramsummer::{Kind, Pool, Record, Refusal, LARGE, SMALL};
+//!
+//! type InPlace = Pool<Record, [u8; SMALL], [u8; LARGE]>;
+//!
+//! /// One caller at a time; where there are interrupts, they are held off here.
+//! struct Locked {
+//!     taken: AtomicBool,
+//!     pool: UnsafeCell<InPlace>,
+//! }
+//!
+//! // SAFETY: `with` alone leads to the pool, and lets one caller in at a time.
+//! unsafe impl Sync for Locked {}
+//!
+//! impl Locked {
+//!     /// What the work gives, or nothing while another caller is at it.
+//!     fn with<T>(&self, work: impl FnOnce(&mut InPlace) -> T) -> Option<T> {
+//!         if self.taken.swap(true, Ordering::Acquire) {
+//!             return None;
+//!         }
+//!         // SAFETY: `taken` was not set, and is until the work is done.
+//!         let answer = work(unsafe { &mut *self.pool.get() });
+//!         self.taken.store(false, Ordering::Release);
+//!         Some(answer)
+//!     }
+//! }
+//!
+//! static POOL: Locked = Locked {
+//!     taken: AtomicBool::new(false),
+//!     pool: UnsafeCell::new(Pool::over(Record::fresh(), [0; SMALL], [0; LARGE])),
+//! };
+//!
+//! assert_eq!(POOL.with(|pool| pool.join(0)), Some(Ok(())));
+//! let made = POOL.with(|pool| pool.make(0, Kind::Local, 0, 4));
+//! assert_eq!(made, Some(Ok(1.into())));
+//! assert_eq!(POOL.with(|pool| pool.join(0)), Some(Err(Refusal::TaskPresent)));
+//! ```
+//!
+//! # What is proved
+//!
 //! What the calls do is proved of the library, in the repository that this crate is part of. Of this crate nothing is
 //! proved: it passes arguments on and hands answers back, and `src/sys.rs` has all of its unsafe code.
 //!
 //! The build links `libhost.a` from the folder that the environment variable `RAMSUMMER_LIB` names, else from the
 //! repository's `target/staticlib`, where `rt staticlib host` writes it.
 
+#![no_std]
 #![warn(missing_docs)]
 #![deny(unsafe_code)]
+
+#[cfg(feature = "alloc")]
+extern crate alloc;
+#[cfg(feature = "std")]
+extern crate std;
 
 mod answer;
 mod handle;

@@ -1,8 +1,10 @@
 //! The pool: a record and two stores, owned or borrowed, and the calls on them.
 
 use crate::{sys, Answer, Handle, Kind, Record, Refusal, Remaining, Report};
-use std::borrow::BorrowMut;
-use std::fmt;
+#[cfg(feature = "alloc")]
+use alloc::{boxed::Box, vec, vec::Vec};
+use core::borrow::BorrowMut;
+use core::fmt;
 
 /// The length of the small store: 64 blocks of 32 bytes, for objects of 1 to 32 bytes.
 pub const SMALL: usize = 2048;
@@ -19,38 +21,47 @@ pub const LARGEST_BATCH: usize = 32;
 /// The room that [`Pool::frame`] asks for. An answer line has at most 515 bytes.
 pub const LINE: usize = 531;
 
-/// A memory pool: its record and its two stores, which it owns ([`Pool::new`]) or borrows ([`Pool::over`]).
+/// A memory pool: its record and its two stores, in place, borrowed ([`Pool::over`]) or in boxes (`Pool::new`, with the
+/// feature `alloc`).
 ///
 /// Tasks are 0 to 15. Each call is carried out, or refused without any change.
-///
-/// ```
-/// use ramsummer::{Kind, Pool, Refusal};
-///
-/// let mut pool = Pool::new();
-/// pool.join(0)?;
-/// let handle = pool.make(0, Kind::Local, 0, 4)?;
-/// pool.write(0, handle, 1, &[0xA5])?;
-/// assert_eq!(pool.read_to_vec(0, handle)?, [0, 0xA5, 0, 0]);
-/// pool.tick(0)?;
-/// assert_eq!(pool.read_to_vec(0, handle), Err(Refusal::ObjectGone));
-/// # Ok::<(), Refusal>(())
-/// ```
 #[derive(Clone, PartialEq, Eq)]
-pub struct Pool<R = Box<Record>, S = Box<[u8]>, L = S> {
+pub struct Pool<
+    #[cfg(feature = "alloc")] R = Box<Record>,
+    #[cfg(not(feature = "alloc"))] R,
+    #[cfg(feature = "alloc")] S = Box<[u8]>,
+    #[cfg(not(feature = "alloc"))] S,
+    L = S,
+> {
     record: R,
     small: S,
     large: L,
 }
 
+#[cfg(feature = "alloc")]
 impl Pool {
-    /// A fresh pool that owns its record and stores.
+    /// A fresh pool with its record and stores in boxes.
+    ///
+    /// ```
+    /// use ramsummer::{Kind, Pool, Refusal};
+    ///
+    /// let mut pool = Pool::new();
+    /// pool.join(0)?;
+    /// let handle = pool.make(0, Kind::Local, 0, 4)?;
+    /// pool.write(0, handle, 1, &[0xA5])?;
+    /// assert_eq!(pool.read_to_vec(0, handle)?, [0, 0xA5, 0, 0]);
+    /// pool.tick(0)?;
+    /// assert_eq!(pool.read_to_vec(0, handle), Err(Refusal::ObjectGone));
+    /// # Ok::<(), Refusal>(())
+    /// ```
     pub fn new() -> Self {
         Pool::over(Box::default(), vec![0; SMALL].into(), vec![0; LARGE].into())
     }
 }
 
+#[cfg(feature = "alloc")]
 impl Default for Pool {
-    /// A fresh pool that owns its record and stores.
+    /// A fresh pool with its record and stores in boxes.
     fn default() -> Self {
         Self::new()
     }
@@ -62,7 +73,8 @@ where
     S: AsRef<[u8]> + AsMut<[u8]>,
     L: AsRef<[u8]> + AsMut<[u8]>,
 {
-    /// A pool over this record and these stores, each owned or borrowed.
+    /// A pool over this record and these stores, each owned or borrowed. It is `const`, so that a pool may be a `static`;
+    /// [the crate's page](crate#without-an-allocator) has one.
     ///
     /// The stores are [`SMALL`] and [`LARGE`] bytes long; the calls that use them refuse others. A record that was kept
     /// over a restart may be damaged; a report tells.
@@ -79,7 +91,7 @@ where
     /// pool.join(5)?;
     /// # Ok::<(), Refusal>(())
     /// ```
-    pub fn over(record: R, small: S, large: L) -> Self {
+    pub const fn over(record: R, small: S, large: L) -> Self {
         Pool { record, small, large }
     }
 
@@ -124,12 +136,13 @@ where
     /// stands, and no object with a global expiration goes.
     ///
     /// ```
-    /// let mut pool = ramsummer::Pool::new();
+    /// # use ramsummer::*;
+    /// # let mut pool = Pool::over(Record::fresh(), [0; SMALL], [0; LARGE]);
     /// pool.join(0)?;
     /// pool.join(1)?;
     /// assert_eq!(pool.tick(0), Ok(false)); // task 1 has not ticked
     /// assert_eq!(pool.block(1), Ok(true)); // and need not any more
-    /// # Ok::<(), ramsummer::Refusal>(())
+    /// # Ok::<(), Refusal>(())
     /// ```
     pub fn block(&mut self, task: u8) -> Result<bool, Refusal> {
         sys::block(self.record.borrow_mut(), task)
@@ -149,9 +162,8 @@ where
     /// A new object of `length` zero bytes, 1 to [`LONGEST`], with one expiration. The extension is 0 to 30.
     ///
     /// ```
-    /// use ramsummer::{Kind, Pool, Refusal};
-    ///
-    /// let mut pool = Pool::new();
+    /// # use ramsummer::*;
+    /// # let mut pool = Pool::over(Record::fresh(), [0; SMALL], [0; LARGE]);
     /// pool.join(0)?;
     /// for _ in 0..64 {
     ///     pool.make(0, Kind::Local, 30, 32)?;
@@ -168,15 +180,14 @@ where
     /// One more expiration for the object; those that it has stay. The extension is 0 to 30.
     ///
     /// ```
-    /// use ramsummer::{Kind, Pool};
-    ///
-    /// let mut pool = Pool::new();
+    /// # use ramsummer::*;
+    /// # let mut pool = Pool::over(Record::fresh(), [0; SMALL], [0; LARGE]);
     /// pool.join(0)?;
     /// let handle = pool.make(0, Kind::Local, 0, 4)?;
     /// pool.refresh(0, Kind::Local, 1, handle)?;
     /// pool.tick(0)?;
-    /// assert!(pool.read_to_vec(0, handle).is_ok()); // it would be gone by now
-    /// # Ok::<(), ramsummer::Refusal>(())
+    /// assert_eq!(pool.report()?.small, 1); // it would be gone by now
+    /// # Ok::<(), Refusal>(())
     /// ```
     pub fn refresh(&mut self, task: u8, kind: Kind, extension: u8, handle: Handle) -> Result<(), Refusal> {
         sys::refresh(self.record.borrow_mut(), task, kind, extension, handle)
@@ -186,9 +197,8 @@ where
     /// or for none of them, where one is refused. An object that is named twice gets two.
     ///
     /// ```
-    /// use ramsummer::{Handle, Kind, Pool, Refusal};
-    ///
-    /// let mut pool = Pool::new();
+    /// # use ramsummer::*;
+    /// # let mut pool = Pool::over(Record::fresh(), [0; SMALL], [0; LARGE]);
     /// pool.join(0)?;
     /// let mut scan = [Handle::from(0); 3];
     /// for reading in &mut scan {
@@ -212,14 +222,13 @@ where
     /// The object's bytes, copied to the start of `out`; the rest of `out` stays.
     ///
     /// ```
-    /// use ramsummer::{Kind, Pool, LONGEST};
-    ///
-    /// let mut pool = Pool::new();
+    /// # use ramsummer::*;
+    /// # let mut pool = Pool::over(Record::fresh(), [0; SMALL], [0; LARGE]);
     /// pool.join(0)?;
     /// let handle = pool.make(0, Kind::Local, 0, 4)?;
     /// let mut room = [0; LONGEST];
     /// assert_eq!(pool.read(0, handle, &mut room)?, [0, 0, 0, 0]);
-    /// # Ok::<(), ramsummer::Refusal>(())
+    /// # Ok::<(), Refusal>(())
     /// ```
     pub fn read<'out>(&mut self, task: u8, handle: Handle, out: &'out mut [u8]) -> Result<&'out [u8], Refusal> {
         let (record, small, large) = self.parts();
@@ -228,6 +237,7 @@ where
     }
 
     /// The object's bytes, in a vector.
+    #[cfg(feature = "alloc")]
     pub fn read_to_vec(&mut self, task: u8, handle: Handle) -> Result<Vec<u8>, Refusal> {
         self.read(task, handle, &mut [0; LONGEST]).map(<[u8]>::to_vec)
     }
@@ -243,11 +253,12 @@ where
     /// The library is lent a copy of the record, so that a pool can be asked that is only looked at.
     ///
     /// ```
-    /// let mut pool = ramsummer::Pool::new();
+    /// # use ramsummer::*;
+    /// # let mut pool = Pool::over(Record::fresh(), [0; SMALL], [0; LARGE]);
     /// pool.join(0)?;
-    /// pool.make(0, ramsummer::Kind::Global, 0, 200)?;
+    /// pool.make(0, Kind::Global, 0, 200)?;
     /// assert_eq!(pool.report()?.to_string(), "small 0, large 1, expirations 1, given 1");
-    /// # Ok::<(), ramsummer::Refusal>(())
+    /// # Ok::<(), Refusal>(())
     /// ```
     pub fn report(&self) -> Result<Report, Refusal> {
         sys::report(&mut self.record().clone())
@@ -257,16 +268,17 @@ where
     /// a report, the library is lent a copy of the record.
     ///
     /// ```
-    /// use ramsummer::{Kind, Pool, Remaining};
-    ///
-    /// let mut pool = Pool::new();
+    /// # use ramsummer::*;
+    /// # let mut pool = Pool::over(Record::fresh(), [0; SMALL], [0; LARGE]);
     /// pool.join(0)?;
     /// let handle = pool.make(0, Kind::Local, 0, 4)?;
     /// pool.refresh(0, Kind::Global, 1, handle)?;
-    /// assert_eq!(pool.remaining(0, handle)?, Remaining { local: 1, global: 3 });
+    /// let left = pool.remaining(0, handle)?;
+    /// assert_eq!((left.local, left.global), (1, 3));
     /// pool.tick(0)?; // global time advances too, since task 0 runs alone
-    /// assert_eq!(pool.remaining(0, handle)?, Remaining { local: 0, global: 2 });
-    /// # Ok::<(), ramsummer::Refusal>(())
+    /// let left = pool.remaining(0, handle)?;
+    /// assert_eq!((left.local, left.global), (0, 2));
+    /// # Ok::<(), Refusal>(())
     /// ```
     pub fn remaining(&self, task: u8, handle: Handle) -> Result<Remaining, Refusal> {
         sys::remaining(&mut self.record().clone(), task, handle)
@@ -276,9 +288,8 @@ where
     /// which is at least [`LINE`] long.
     ///
     /// ```
-    /// use ramsummer::{Pool, Refusal, LINE};
-    ///
-    /// let mut pool = Pool::new();
+    /// # use ramsummer::*;
+    /// # let mut pool = Pool::over(Record::fresh(), [0; SMALL], [0; LARGE]);
     /// let mut room = [0; LINE];
     /// assert_eq!(pool.frame(b"0100", &mut room).line, b"00\n"); // task 0 joins
     /// let answer = pool.frame(b"0100", &mut room); // and again

@@ -1,7 +1,7 @@
 //! The record of a pool, laid out as the library has it (`ramsummer_pool` in include/ramsummer.h).
 
 use crate::sys;
-use std::mem::{align_of, offset_of, size_of};
+use core::mem::{align_of, offset_of, size_of};
 
 /// Tasks are 0 to 15.
 pub const TASKS: usize = 16;
@@ -18,6 +18,7 @@ pub const RECORD: usize = 2248;
 /// A task. State 0 is absent, 1 running, 2 waiting.
 #[repr(C)]
 #[derive(Clone, Copy, Debug, Default, PartialEq, Eq)]
+#[non_exhaustive]
 pub struct TaskEntry {
     /// 0 absent, 1 running, 2 waiting.
     pub state: u16,
@@ -37,6 +38,7 @@ pub struct TaskEntry {
 /// free block or expiration have no meaning, and may hold anything.
 #[repr(C)]
 #[derive(Clone, Debug, PartialEq, Eq)]
+#[non_exhaustive]
 pub struct Record {
     /// The tasks, by number.
     pub tasks: [TaskEntry; TASKS],
@@ -87,9 +89,8 @@ impl Record {
     /// sum too.
     ///
     /// ```
-    /// use ramsummer::{Pool, Record};
-    ///
-    /// let mut pool = Pool::new();
+    /// # use ramsummer::{Pool, Record, LARGE, SMALL};
+    /// # let mut pool = Pool::over(Record::fresh(), [0; SMALL], [0; LARGE]);
     /// pool.join(3)?;
     /// let kept: [u8; ramsummer::RECORD] = *pool.record().as_bytes();
     /// assert_eq!(Record::from_bytes(&kept), *pool.record());

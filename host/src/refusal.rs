@@ -1,20 +1,20 @@
 //! Why a call was refused: the numbers of documents 01 and 02, and that of a buffer too short.
 
-use std::error::Error;
-use std::fmt;
+use core::fmt;
 
 /// Why a call was refused. A refused call changes nothing.
 ///
 /// ```
-/// use ramsummer::{Pool, Refusal};
-///
-/// let refusal = Pool::new().tick(0).unwrap_err();
+/// # use ramsummer::{Pool, Record, Refusal, LARGE, SMALL};
+/// # let mut pool = Pool::over(Record::fresh(), [0; SMALL], [0; LARGE]);
+/// let refusal = pool.tick(0).unwrap_err();
 /// assert_eq!(refusal, Refusal::TaskAbsent);
 /// assert_eq!(refusal.number(), 3);
 /// assert_eq!(refusal.to_string(), "the task has not joined");
 /// ```
 #[repr(u8)]
 #[derive(Clone, Copy, Debug, PartialEq, Eq, PartialOrd, Ord, Hash)]
+#[non_exhaustive]
 pub enum Refusal {
     /// Task above 15.
     NoSuchTask = 1,
@@ -62,7 +62,7 @@ pub enum Refusal {
 
 impl Refusal {
     /// All refusals, in order of number.
-    pub const ALL: [Refusal; 21] = [
+    pub const ALL: &'static [Refusal] = &[
         Refusal::NoSuchTask,
         Refusal::TaskPresent,
         Refusal::TaskAbsent,
@@ -93,7 +93,7 @@ impl Refusal {
 
     /// The refusal of this number, if there is one.
     pub fn from_number(number: u8) -> Option<Self> {
-        Self::ALL.into_iter().find(|refusal| refusal.number() == number)
+        Self::ALL.iter().copied().find(|refusal| refusal.number() == number)
     }
 
     const fn sentence(self) -> &'static str {
@@ -129,4 +129,5 @@ impl fmt::Display for Refusal {
     }
 }
 
-impl Error for Refusal {}
+#[cfg(feature = "std")]
+impl std::error::Error for Refusal {}

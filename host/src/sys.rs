@@ -279,10 +279,10 @@ pub(crate) fn frame(
 pub(crate) fn record_bytes(record: &Record) -> &[u8; RECORD] {
     // SAFETY: a record is `repr(C)`, RECORD bytes long and without padding (src/record.rs tests its layout while it is
     // compiled), so each of its bytes has a value; bytes may stand at any address.
-    unsafe { &*std::ptr::from_ref(record).cast() }
+    unsafe { &*core::ptr::from_ref(record).cast() }
 }
 
 pub(crate) fn record_of(bytes: &[u8; RECORD]) -> Record {
     // SAFETY: a record has the size of the array and holds only numbers, so any bytes are one.
-    unsafe { std::mem::transmute(*bytes) }
+    unsafe { core::mem::transmute(*bytes) }
 }

@@ -1,9 +1,13 @@
 //! The same calls by the typed functions and by frames: the answers are the same, and after each the tasks, the times and
 //! the figures. So no argument goes astray on the way to the library. The place of a block or expiration is left open by
-//! document 01 and not compared.
+//! document 01 and not compared. The pools are in place, as a host without an allocator has them.
 
-use ramsummer::{Handle, Kind, Pool, Refusal, Report, TaskEntry, LARGEST_BATCH, LINE, TASKS};
+use ramsummer::{Handle, Kind, Record, Refusal, Report, TaskEntry, LARGE, LARGEST_BATCH, LINE, LONGEST, SMALL, TASKS};
 use std::collections::BTreeSet;
+
+type Pool = ramsummer::Pool<Record, [u8; SMALL], [u8; LARGE]>;
+
+const FRESH: Pool = Pool::over(Record::fresh(), [0; SMALL], [0; LARGE]);
 
 /// Numbers that look random and are the same in each run.
 struct Random(u64);
@@ -56,8 +60,9 @@ fn call(pool: &mut Pool, random: &mut Random) -> (String, String) {
         }
         14..=16 => (format!("07{dated}{handle:08X}"), line(pool.refresh(task, kind, extension, named), nothing)),
         17..=19 => {
-            let read = pool.read_to_vec(task, named);
-            (format!("08{task:02X}{handle:08X}"), line(read, |bytes| hexadecimal(&bytes)))
+            let mut room = [0; LONGEST];
+            let read = pool.read(task, named, &mut room);
+            (format!("08{task:02X}{handle:08X}"), line(read, hexadecimal))
         }
         20..=22 => {
             let offset = random.byte(9);
@@ -100,7 +105,7 @@ fn state(pool: &Pool) -> ([TaskEntry; TASKS], u32, Result<Report, Refusal>) {
 
 #[test]
 fn typed_calls_and_frames_do_the_same() {
-    let (mut random, mut typed, mut framed) = (Random(1), Pool::new(), Pool::new());
+    let (mut random, mut typed, mut framed) = (Random(1), FRESH, FRESH);
     let mut seen = BTreeSet::new();
     for _ in 0..20_000 {
         let (frame, expected) = call(&mut typed, &mut random);

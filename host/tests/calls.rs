@@ -1,8 +1,8 @@
 //! Each call through the safe interface: what it answers, each of its refusals, and that a refusal changes nothing.
+#![cfg(feature = "alloc")]
 
 use ramsummer::{
-    Handle, Kind, Pool, Record, Refusal, Remaining, Report, BLOCKS, EXPIRATIONS, LARGE, LARGEST_BATCH, LONGEST, RECORD,
-    SMALL,
+    Handle, Kind, Pool, Record, Refusal, Remaining, BLOCKS, EXPIRATIONS, LARGE, LARGEST_BATCH, LONGEST, RECORD, SMALL,
 };
 
 /// A pool in which task 0 runs, 1 waits and 2 is absent.
@@ -12,6 +12,18 @@ fn pool() -> Pool {
     pool.join(1).unwrap();
     pool.block(1).unwrap();
     pool
+}
+
+/// Those of its report: small, large, expirations, given.
+fn figures(pool: &Pool) -> (u8, u8, u16, u32) {
+    let report = pool.report().unwrap();
+    (report.small, report.large, report.expirations, report.given)
+}
+
+fn left(local: u8, global: u8) -> Remaining {
+    let mut left = Remaining::default();
+    (left.local, left.global) = (local, global);
+    left
 }
 
 fn refused<T>(pool: &mut Pool, refusal: Refusal, call: impl FnOnce(&mut Pool) -> Result<T, Refusal>) {
@@ -28,11 +40,11 @@ fn an_object_lasts_until_its_last_expiration() {
     pool.write(0, handle, 3, &[7]).unwrap();
     assert_eq!(pool.tick(0), Ok(true));
     assert_eq!(pool.read_to_vec(0, handle).unwrap(), [0, 0, 0, 7]);
-    assert_eq!(pool.report(), Ok(Report { small: 1, large: 0, expirations: 1, given: 1 }));
+    assert_eq!(figures(&pool), (1, 0, 1, 1));
     assert_eq!(pool.tick(0), Ok(true));
     refused(&mut pool, Refusal::ObjectGone, |pool| pool.read_to_vec(0, handle));
     refused(&mut pool, Refusal::ObjectGone, |pool| pool.remaining(0, handle));
-    assert_eq!(pool.report(), Ok(Report { small: 0, large: 0, expirations: 0, given: 1 }));
+    assert_eq!(figures(&pool), (0, 0, 0, 1));
 }
 
 /// Local expirations count for the task that set them, global ones for every task; the one that is due last tells.
@@ -45,7 +57,6 @@ fn a_task_is_told_how_long_an_object_stands() {
     pool.refresh(0, Kind::Local, 1, handle).unwrap();
     pool.refresh(1, Kind::Local, 30, handle).unwrap();
     let told = |pool: &Pool| [0, 1, 2].map(|task| pool.remaining(task, handle).unwrap());
-    let left = |local, global| Remaining { local, global };
     assert_eq!(told(&pool), [left(5, 0), left(31, 0), left(0, 0)]);
     pool.refresh(2, Kind::Global, 30, handle).unwrap();
     pool.refresh(0, Kind::Global, 0, handle).unwrap();
@@ -66,15 +77,14 @@ fn objects_are_refreshed_together() {
     let scan = [4, 40, 4].map(|length| pool.make(0, Kind::Local, 0, length).unwrap());
     pool.refresh_all(0, Kind::Local, 2, &scan).unwrap();
     pool.refresh_all(0, Kind::Global, 3, &[scan[1], scan[1]]).unwrap();
-    assert_eq!(pool.report(), Ok(Report { small: 2, large: 1, expirations: 8, given: 3 }));
+    assert_eq!(figures(&pool), (2, 1, 8, 3));
     let told = |pool: &Pool| scan.map(|handle| pool.remaining(0, handle).unwrap());
-    let left = |local, global| Remaining { local, global };
     assert_eq!(told(&pool), [left(3, 0), left(3, 5), left(3, 0)]);
     pool.tick(0).unwrap();
     pool.tick(0).unwrap();
     assert_eq!(told(&pool), [left(1, 0), left(1, 3), left(1, 0)]);
     pool.tick(0).unwrap();
-    assert_eq!(pool.report(), Ok(Report { small: 0, large: 1, expirations: 2, given: 3 }));
+    assert_eq!(figures(&pool), (0, 1, 2, 3));
 }
 
 /// One that is refused stands for all, wherever it is; and of several refusals 11 comes first, then 12, then 10.
@@ -303,13 +313,13 @@ fn the_record_shows_objects_and_expirations() {
 
 #[test]
 fn what_else_stands_in_free_entries_has_no_meaning() {
-    let record =
-        Record { lengths: [999; BLOCKS], named: [255; EXPIRATIONS], dues: [7; EXPIRATIONS], ..Record::fresh() };
+    let mut record = Record::fresh();
+    (record.lengths, record.named, record.dues) = ([999; BLOCKS], [255; EXPIRATIONS], [7; EXPIRATIONS]);
     let mut pool: Pool = Pool::over(record.into(), vec![0; SMALL].into(), vec![0; LARGE].into());
     pool.join(0).unwrap();
     let handle = pool.make(0, Kind::Local, 0, 2).unwrap();
     assert_eq!(pool.read_to_vec(0, handle).unwrap(), [0, 0]);
-    assert_eq!(pool.report(), Ok(Report { small: 1, large: 0, expirations: 1, given: 1 }));
+    assert_eq!(figures(&pool), (1, 0, 1, 1));
     for clock in [1, 15, 16 + 1, 33, 255] {
         let mut record = Record::fresh();
         record.clocks[9] = clock;

@@ -1,4 +1,5 @@
 //! Call frames through the safe interface: document 01's worked example, the refusals of a frame, and its room.
+#![cfg(feature = "alloc")]
 
 use ramsummer::{Kind, Pool, Record, Refusal, LARGE, LINE, SMALL};
 

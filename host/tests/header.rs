@@ -57,14 +57,14 @@ fn claims() -> Vec<(String, usize)> {
     ]
     .map(|(expression, value)| (expression.to_string(), value))
     .into();
-    claims.extend(Refusal::ALL.map(|refusal| (c_name(&format!("{refusal:?}")), refusal.number().into())));
+    claims.extend(Refusal::ALL.iter().map(|refusal| (c_name(&format!("{refusal:?}")), refusal.number().into())));
     claims
 }
 
 /// A program in C that prints the value of each expression on a line, and then each refusal's sentence.
 fn program(claims: &[(String, usize)]) -> String {
     let values = claims.iter().map(|(expression, _)| format!("printf(\"%zu\\n\", (size_t)({expression}));\n"));
-    let sentences = Refusal::ALL.map(|refusal| format!("puts(ramsummer_text({}));\n", refusal.number()));
+    let sentences = Refusal::ALL.iter().map(|refusal| format!("puts(ramsummer_text({}));\n", refusal.number()));
     let body: String = values.chain(sentences).collect();
     format!("#include <stdio.h>\n#include \"ramsummer_text.h\"\nint main(void) {{\n{body}return 0;\n}}\n")
 }
@@ -89,7 +89,7 @@ fn the_headers_have_the_numbers_and_sentences_of_this_crate() {
     for ((expression, value), printed) in claims.iter().zip(values) {
         assert_eq!(printed, value.to_string(), "{expression}");
     }
-    assert_eq!(sentences, Refusal::ALL.map(|refusal| refusal.to_string()));
+    assert_eq!(sentences, Refusal::ALL.iter().map(Refusal::to_string).collect::<Vec<_>>());
 }
 
 #[test]
@@ -111,7 +111,7 @@ fn the_headers_compile_as_c_and_as_cpp() {
 #[test]
 fn the_refusals_are_those_of_the_documents() {
     let table = std::fs::read_to_string(host().join("../docs/REFUSALS.md")).unwrap();
-    for refusal in Refusal::ALL.into_iter().filter(|refusal| *refusal != Refusal::BufferTooShort) {
+    for refusal in Refusal::ALL.iter().filter(|refusal| **refusal != Refusal::BufferTooShort) {
         assert!(table.contains(&format!("| {} | {refusal:?} |", refusal.number())), "{refusal:?}");
     }
 }
