@@ -75,6 +75,8 @@
 //! assert_eq!(POOL.with(|pool| pool.join(0)), Some(Err(Refusal::TaskPresent)));
 //! ```
 //!
+//! `examples/firmware` is a whole program of this sort.
+//!
 //! # What is proved
 //!
 //! What the calls do is proved of the library, in the repository that this crate is part of. Of this crate nothing is

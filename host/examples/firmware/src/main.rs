@@ -1,0 +1,121 @@
+//! A superloop of three tasks, as firmware has it: no std, no allocator, and its pool is a static. examples/firmware.c is
+//! the same in C.
+//!
+//! One task measures the water level each turn. The sensor of another takes its time over the rain, so that this task
+//! blocks until it is ready. The radio sends both. Nobody frees anything: when the rain's sensor is late, its last
+//! reading goes by itself, and the radio says that it is too old.
+
+#![no_std]
+#![no_main]
+
+mod board;
+mod memory;
+
+use core::fmt;
+use memory::InPlace;
+use ramsummer::{Handle, Kind, Refusal};
+
+const LEVEL: u8 = 0;
+const RAIN: u8 = 1;
+const RADIO: u8 = 2;
+const TURNS: u16 = 12;
+
+/// The pool, and the newest reading of each sensor.
+struct Station {
+    pool: &'static mut InPlace,
+    level: Handle,
+    rain: Handle,
+}
+
+/// What the radio knows of a sensor.
+enum Value {
+    Known(u16),
+    NoneYet,
+    TooOld,
+}
+
+#[no_mangle]
+extern "C" fn main() -> i32 {
+    let Some(pool) = memory::take() else { return 1 };
+    let mut station = Station { pool, level: Handle::from(0), rain: Handle::from(0) };
+    match station.run() {
+        Ok(()) => 0,
+        Err(refusal) => {
+            board::print(format_args!("refused with {}, {refusal}\n", refusal.number()));
+            refusal.number().into()
+        }
+    }
+}
+
+impl Station {
+    /// The superloop. One of firmware has no end.
+    fn run(&mut self) -> Result<(), Refusal> {
+        for task in [LEVEL, RAIN, RADIO] {
+            self.pool.join(task)?;
+        }
+        self.pool.block(RAIN)?; // its sensor has begun
+        for turn in 1..=TURNS {
+            self.measure_level(turn)?;
+            if is_rain_ready(turn) {
+                self.measure_rain(turn)?;
+            }
+            self.send(turn)?;
+        }
+        Ok(())
+    }
+
+    /// For the radio in this turn: a global expiration, and no longer than need be.
+    fn measure_level(&mut self, turn: u16) -> Result<(), Refusal> {
+        self.level = self.make(LEVEL, 0, 1000 + turn)?;
+        self.pool.tick(LEVEL)?;
+        Ok(())
+    }
+
+    /// For four turns. Then the sensor begins again, and the others do not wait for this task.
+    fn measure_rain(&mut self, turn: u16) -> Result<(), Refusal> {
+        self.pool.resume(RAIN)?;
+        self.rain = self.make(RAIN, 2, 2 * turn)?;
+        self.pool.tick(RAIN)?;
+        self.pool.block(RAIN)?;
+        Ok(())
+    }
+
+    fn send(&mut self, turn: u16) -> Result<(), Refusal> {
+        let (level, rain) = (self.value(self.level)?, self.value(self.rain)?);
+        let used = self.pool.report()?.small;
+        board::print(format_args!("turn {turn:2}: level {level}, rain {rain}, {used} blocks in use\n"));
+        self.pool.tick(RADIO)?;
+        Ok(())
+    }
+
+    fn make(&mut self, task: u8, extension: u8, reading: u16) -> Result<Handle, Refusal> {
+        let handle = self.pool.make(task, Kind::Global, extension, 2)?;
+        self.pool.write(task, handle, 0, &reading.to_be_bytes())?;
+        Ok(handle)
+    }
+
+    fn value(&mut self, handle: Handle) -> Result<Value, Refusal> {
+        let mut reading = [0; 2];
+        match self.pool.read(RADIO, handle, &mut reading) {
+            Ok(_) => Ok(Value::Known(u16::from_be_bytes(reading))),
+            Err(Refusal::HandleNotGiven) => Ok(Value::NoneYet),
+            Err(Refusal::ObjectGone) => Ok(Value::TooOld),
+            Err(refusal) => Err(refusal),
+        }
+    }
+}
+
+/// Each third turn; but the third time it is three turns late.
+fn is_rain_ready(turn: u16) -> bool {
+    matches!(turn, 3 | 6 | 12)
+}
+
+impl fmt::Display for Value {
+    fn fmt(&self, f: &mut fmt::Formatter<'_>) -> fmt::Result {
+        match self {
+            Value::Known(reading) => reading.fmt(f),
+            Value::NoneYet => f.write_str("none yet"),
+            Value::TooOld => f.write_str("too old"),
+        }
+    }
+}
