@@ -113,60 +113,73 @@ RAMSUMMER_ASSERT(offsetof(ramsummer_pool, dues) == 1224);
 #undef RAMSUMMER_ASSERT
 #endif
 
+/* The compiler warns, where it can, of a call whose answer nobody looks at: it may have been refused. */
+#if defined(__GNUC__)
+#define RAMSUMMER_CHECKED __attribute__((warn_unused_result))
+#elif defined(__cplusplus) && __cplusplus >= 201703L
+#define RAMSUMMER_CHECKED [[nodiscard]]
+#else
+#define RAMSUMMER_CHECKED
+#endif
+
 /* Makes the record that of a fresh pool, whatever it held. Always 0. The stores may hold any bytes. */
 uint8_t ramsummer_fresh(ramsummer_pool *pool);
 
 /* Absent to running, with clock 0. */
-uint8_t ramsummer_join(ramsummer_pool *pool, uint8_t task);
+RAMSUMMER_CHECKED uint8_t ramsummer_join(ramsummer_pool *pool, uint8_t task);
 
 /* To absent; the local expirations that this task set go. Advanced is 1 if global time advanced, else 0. */
-uint8_t ramsummer_leave(ramsummer_pool *pool, uint8_t task, uint8_t *advanced);
+RAMSUMMER_CHECKED uint8_t ramsummer_leave(ramsummer_pool *pool, uint8_t task, uint8_t *advanced);
 
 /* Running to waiting: global time goes on without this task. Advanced as for leave. */
-uint8_t ramsummer_block(ramsummer_pool *pool, uint8_t task, uint8_t *advanced);
+RAMSUMMER_CHECKED uint8_t ramsummer_block(ramsummer_pool *pool, uint8_t task, uint8_t *advanced);
 
 /* Waiting to running. */
-uint8_t ramsummer_resume(ramsummer_pool *pool, uint8_t task);
+RAMSUMMER_CHECKED uint8_t ramsummer_resume(ramsummer_pool *pool, uint8_t task);
 
 /* One unit of the task's local time; once all running tasks have ticked, one of global time. Advanced as for leave. */
-uint8_t ramsummer_tick(ramsummer_pool *pool, uint8_t task, uint8_t *advanced);
+RAMSUMMER_CHECKED uint8_t ramsummer_tick(ramsummer_pool *pool, uint8_t task, uint8_t *advanced);
 
 /* A new object of zero bytes with one expiration. Handle is set to its number. */
-uint8_t ramsummer_make(ramsummer_pool *pool, uint8_t *small_store, size_t small_length, uint8_t *large_store,
-                       size_t large_length, uint8_t task, uint8_t kind, uint8_t extension, uint16_t length,
-                       uint32_t *handle);
+RAMSUMMER_CHECKED uint8_t ramsummer_make(ramsummer_pool *pool, uint8_t *small_store, size_t small_length,
+                                         uint8_t *large_store, size_t large_length, uint8_t task, uint8_t kind,
+                                         uint8_t extension, uint16_t length, uint32_t *handle);
 
 /* One more expiration for the object; those that it has stay. */
-uint8_t ramsummer_refresh(ramsummer_pool *pool, uint8_t task, uint8_t kind, uint8_t extension, uint32_t handle);
+RAMSUMMER_CHECKED uint8_t ramsummer_refresh(ramsummer_pool *pool, uint8_t task, uint8_t kind, uint8_t extension,
+                                            uint32_t handle);
 
 /* A batch: one more expiration for each of count objects, 1 to RAMSUMMER_LARGEST_BATCH, or for none of them where one
  * is refused. An object that is named twice gets two. */
-uint8_t ramsummer_refresh_all(ramsummer_pool *pool, uint8_t task, uint8_t kind, uint8_t extension,
-                              const uint32_t *handles, size_t count);
+RAMSUMMER_CHECKED uint8_t ramsummer_refresh_all(ramsummer_pool *pool, uint8_t task, uint8_t kind, uint8_t extension,
+                                                const uint32_t *handles, size_t count);
 
 /* The object's bytes go to the start of out, and count says how many; the rest of out stays. */
-uint8_t ramsummer_read(ramsummer_pool *pool, const uint8_t *small_store, size_t small_length,
-                       const uint8_t *large_store, size_t large_length, uint8_t task, uint32_t handle, uint8_t *out,
-                       size_t out_length, size_t *count);
+RAMSUMMER_CHECKED uint8_t ramsummer_read(ramsummer_pool *pool, const uint8_t *small_store, size_t small_length,
+                                         const uint8_t *large_store, size_t large_length, uint8_t task, uint32_t handle,
+                                         uint8_t *out, size_t out_length, size_t *count);
 
 /* Replaces count bytes of the object from offset on. */
-uint8_t ramsummer_write(ramsummer_pool *pool, uint8_t *small_store, size_t small_length, uint8_t *large_store,
-                        size_t large_length, uint8_t task, uint32_t handle, uint8_t offset, const uint8_t *bytes,
-                        size_t count);
+RAMSUMMER_CHECKED uint8_t ramsummer_write(ramsummer_pool *pool, uint8_t *small_store, size_t small_length,
+                                          uint8_t *large_store, size_t large_length, uint8_t task, uint32_t handle,
+                                          uint8_t offset, const uint8_t *bytes, size_t count);
 
 /* Small and large objects that stand, expirations that stand, handles given so far. */
-uint8_t ramsummer_report(ramsummer_pool *pool, uint8_t *small_objects, uint8_t *large_objects, uint16_t *expirations,
-                         uint32_t *given);
+RAMSUMMER_CHECKED uint8_t ramsummer_report(ramsummer_pool *pool, uint8_t *small_objects, uint8_t *large_objects,
+                                           uint16_t *expirations, uint32_t *given);
 
 /* How long the object stands without a refresh. Local is set to the ticks of this task until the last of its local
  * expirations is due, global to the advances until the last global one is, whoever set it; 0 where there is none. */
-uint8_t ramsummer_remaining(ramsummer_pool *pool, uint8_t task, uint32_t handle, uint8_t *local, uint8_t *global);
+RAMSUMMER_CHECKED uint8_t ramsummer_remaining(ramsummer_pool *pool, uint8_t task, uint32_t handle, uint8_t *local,
+                                              uint8_t *global);
 
 /* Carries out one call frame. Line is without its LF; the answer line goes to the start of out with its LF, and count
  * says how many bytes. The number is the one that the answer line starts with. */
-uint8_t ramsummer_frame(ramsummer_pool *pool, uint8_t *small_store, size_t small_length, uint8_t *large_store,
-                        size_t large_length, const uint8_t *line, size_t line_length, uint8_t *out, size_t out_length,
-                        size_t *count);
+RAMSUMMER_CHECKED uint8_t ramsummer_frame(ramsummer_pool *pool, uint8_t *small_store, size_t small_length,
+                                          uint8_t *large_store, size_t large_length, const uint8_t *line,
+                                          size_t line_length, uint8_t *out, size_t out_length, size_t *count);
+
+#undef RAMSUMMER_CHECKED
 
 #ifdef __cplusplus
 }

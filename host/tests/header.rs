@@ -108,6 +108,23 @@ fn the_headers_compile_as_c_and_as_cpp() {
     }
 }
 
+/// Fresh alone is never refused.
+#[test]
+fn the_compiler_warns_of_an_answer_that_nobody_looks_at() {
+    for (call, is_warned_of) in [("ramsummer_join(pool, 0)", true), ("ramsummer_fresh(pool)", false)] {
+        let text = format!("#include \"ramsummer.h\"\nvoid f(ramsummer_pool *pool) {{ {call}; }}\n");
+        let source = written(&format!("unused_{is_warned_of}.c"), &text);
+        let object = source.with_extension("o");
+        let options = ["-Wall", "-Werror", "-c", source.to_str().unwrap(), "-o", object.to_str().unwrap()];
+        let Some(checked) = cc(&options) else { return };
+        assert_eq!(checked.status.success(), !is_warned_of, "{}", String::from_utf8_lossy(&checked.stderr));
+    }
+    let header = include_str!("../include/ramsummer.h");
+    let entries =
+        header.lines().filter(|line| line.contains("uint8_t ramsummer_") && !line.contains("ramsummer_fresh("));
+    assert_eq!(entries.filter(|line| !line.starts_with("RAMSUMMER_CHECKED ")).count(), 0);
+}
+
 #[test]
 fn the_refusals_are_those_of_the_documents() {
     let table = std::fs::read_to_string(host().join("../docs/REFUSALS.md")).unwrap();
