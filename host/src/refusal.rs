@@ -2,7 +2,7 @@
 
 use core::fmt;
 
-/// Why a call was refused. A refused call changes nothing.
+/// Why a call was refused. A refused call changes nothing. With the feature `std` it is a `std::error::Error`.
 ///
 /// ```
 /// # use ramsummer::{Pool, Record, Refusal, LARGE, SMALL};

@@ -355,3 +355,10 @@ fn a_pool_can_be_printed_and_sent_to_a_thread() {
     let pool = std::thread::spawn(move || pool.join(0).map(|()| pool)).join().unwrap().unwrap();
     assert_eq!(pool.to_string(), "global time 0, small 0, large 0, expirations 0, given 0");
 }
+
+#[cfg(feature = "std")]
+#[test]
+fn a_refusal_is_an_error() {
+    let error: Box<dyn std::error::Error> = Refusal::ObjectGone.into();
+    assert_eq!(error.to_string(), "the object is gone: its last expiration has passed");
+}
