@@ -102,6 +102,9 @@ impl fmt::Display for Fault {
     }
 }
 
+#[cfg(feature = "std")]
+impl std::error::Error for Fault {}
+
 /// Writes an image of the record alone to the start of `out`, [`RECORD_ALONE`] bytes; the rest of `out` stays.
 pub fn save(record: &Record, out: &mut [u8]) -> Result<(), Fault> {
     write(record, &[], &[], out.get_mut(..RECORD_ALONE).ok_or(Fault::TooShort)?);

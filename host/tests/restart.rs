@@ -80,7 +80,8 @@ fn a_pool_without_its_stores_is_empty_after_32_ticks() {
                 longest = longest.max(ticks);
             }
         }
-        let empty = Report { given, ..Report::default() };
+        let mut empty = Report::default();
+        empty.given = given;
         assert_eq!(pool.report(), Ok(empty));
         let handle = pool.make(0, Kind::Local, 0, 1).unwrap();
         assert_eq!(u32::from(handle), given + 1);
