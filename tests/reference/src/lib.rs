@@ -1,6 +1,6 @@
 //! A reference for the short-term memory pool: its rules as a plain ledger, the same rules written for
-//! speed, the unbounded heap that the ledger is held against, the call frames, and scripts to compare a
-//! pool with.
+//! speed, the unbounded heap that the ledger is held against, the call frames, scripts to compare a
+//! pool with, and a script explained, in words and as a picture.
 //!
 //! Names and the scope paper's words for them: local time, a task's own clock; global time, the common
 //! time; ticked, marked; expiration, a date; handle, an object's number; unbounded heap, the endless heap;
@@ -12,6 +12,7 @@ pub mod call;
 pub mod damage;
 pub mod draft;
 pub mod expiration;
+pub mod explain;
 pub mod frame;
 pub mod generate;
 pub mod heap;

@@ -1,0 +1,122 @@
+//! What a call asks, and what an accepted one is told, in words.
+
+use crate::call::{Accepted, Call, Figures, Kind, Lifetime, Model};
+use crate::explain::phrases::{counted, due, listed, shown_bytes};
+use crate::explain::watch::{Change, Watch};
+use crate::limits::{Store, LARGEST_BATCH, MOST_EXPIRATIONS};
+
+/// What the call asks.
+pub fn asked(call: &Call) -> String {
+    match *call {
+        Call::Join { task } => format!("join of task {task}"),
+        Call::Leave { task } => format!("leave of task {task}"),
+        Call::Block { task } => format!("block of task {task}"),
+        Call::Resume { task } => format!("resume of task {task}"),
+        Call::Tick { task } => format!("tick of task {task}"),
+        Call::Make { task, kind, extension, length } => {
+            format!("task {task}, make of {}, {}", counted(length.into(), "byte"), kind_words(kind, extension))
+        }
+        Call::Refresh { task, kind, extension, handle } => {
+            format!("task {task}, refresh of object {handle}, {}", kind_words(kind, extension))
+        }
+        Call::Read { task, handle } => format!("task {task}, read of object {handle}"),
+        Call::Write { task, handle, offset, bytes } => {
+            format!("task {task}, write of {} at offset {offset} of object {handle}", counted(bytes.len(), "byte"))
+        }
+        Call::Report => "report".into(),
+        Call::Remaining { task, handle } => format!("task {task}, remaining life of object {handle}"),
+        Call::Batch { task, kind, extension, handles } => {
+            let objects = match handles.count() {
+                0..=LARGEST_BATCH => listed("object", &handles.iter().collect::<Vec<_>>()),
+                count => counted(count, "object"),
+            };
+            format!("task {task}, refresh of {objects}, {}", kind_words(kind, extension))
+        }
+    }
+}
+
+fn kind_words(kind: Kind, extension: u8) -> String {
+    let kind = match kind {
+        Kind::Local => "local",
+        Kind::Global => "global",
+    };
+    format!("{kind} with extension {extension}")
+}
+
+/// What it is told, from the ledger after it.
+pub fn told(watch: &Watch, call: &Call, change: &Change) -> String {
+    match *call {
+        Call::Join { .. } => "it runs, from local time 0 on".into(),
+        Call::Leave { .. } => format!("it is absent; {}", time(watch, change)),
+        Call::Block { .. } => format!("it waits; {}", time(watch, change)),
+        Call::Resume { .. } => format!("it runs again, after it waited since line {}", change.before),
+        Call::Tick { .. } => time(watch, change),
+        Call::Make { task, kind, extension, length } => {
+            let (handle, store) = (watch.ledger.figures().given, store_name(length));
+            format!("object {handle} in the {store} store, until {}", due(watch.expiration(task, kind, extension)))
+        }
+        Call::Refresh { task, kind, extension, handle } => {
+            let (until, count) = (due(watch.expiration(task, kind, extension)), watch.trail.count(handle));
+            format!("one expiration more, until {until}; it has {count}")
+        }
+        Call::Read { task, handle } => bytes(watch, task, handle),
+        Call::Write { .. } => "done".into(),
+        Call::Report => figures(watch.ledger.figures()),
+        Call::Remaining { task, handle } => remaining(watch, task, handle),
+        Call::Batch { task, kind, extension, .. } => {
+            format!("one expiration more for each, until {}", due(watch.expiration(task, kind, extension)))
+        }
+    }
+}
+
+/// Whether global time advances or for whom it waits, and what goes.
+fn time(watch: &Watch, change: &Change) -> String {
+    let time = if watch.advanced == watch.line {
+        format!("global time advances to {}", watch.ledger.tasks().global())
+    } else {
+        awaited(watch)
+    };
+    match change.gone.len() {
+        0 => time,
+        1 => format!("{time}; {} is gone", listed("object", &change.gone)),
+        _ => format!("{time}; {} are gone", listed("object", &change.gone)),
+    }
+}
+
+fn awaited(watch: &Watch) -> String {
+    match watch.awaited() {
+        none if none.is_empty() => "no task runs, and global time stands".into(),
+        tasks => format!("global time waits for {}", listed("task", &tasks)),
+    }
+}
+
+/// The store of a length that is none of refusal 7's.
+pub fn store_name(length: u16) -> &'static str {
+    match Store::holding(length) {
+        Ok(Store::Large) => "large",
+        _ => "small",
+    }
+}
+
+fn bytes(watch: &Watch, task: u8, handle: u32) -> String {
+    match watch.ledger.read(task, handle) {
+        Ok(Accepted::Bytes(bytes)) => shown_bytes(bytes),
+        other => unreachable!("a read was accepted, and now gives {other:?}"),
+    }
+}
+
+fn figures(Figures { small, large, expirations, given }: Figures) -> String {
+    let (smalls, larges) = (Store::Small.blocks(), Store::Large.blocks());
+    let given = counted(given as usize, "handle");
+    format!("{small} of {smalls} small objects, {large} of {larges} large, {expirations} of {MOST_EXPIRATIONS} expirations, {given} given")
+}
+
+fn remaining(watch: &Watch, task: u8, handle: u32) -> String {
+    match watch.ledger.remaining(task, handle) {
+        Ok(Accepted::Remaining(Lifetime { local, global })) => {
+            let (ticks, advances) = (counted(local.into(), "tick"), counted(global.into(), "advance"));
+            format!("{ticks} of task {task} by its local expirations, {advances} by global ones")
+        }
+        other => unreachable!("remaining life was told, and now gives {other:?}"),
+    }
+}

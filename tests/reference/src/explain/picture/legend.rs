@@ -1,0 +1,41 @@
+//! What the lines, bars and marks mean.
+
+use super::bars::ALL;
+use super::curves::{EXPIRATIONS, GLOBAL, LARGE, SMALL};
+use super::marks::CROSS;
+use super::scale::LEFT;
+use super::svg::{text_width, Anchor, Path, Svg};
+
+const SAMPLE: f64 = 28.0;
+const SIZE: u32 = 12;
+const GAP: f64 = 22.0;
+
+/// Two rows, from this middle of the first on.
+pub fn legend(svg: &mut Svg, y: f64) {
+    let mut x = LEFT;
+    for (style, name) in
+        [(SMALL, "small objects"), (LARGE, "large objects"), (EXPIRATIONS, "expirations"), (GLOBAL, "global time")]
+    {
+        let mut line = Path::default();
+        line.line((x, y), (x + SAMPLE, y));
+        x = item(svg, x, y, style, &line, name);
+    }
+    let mut cross = Path::default();
+    cross.cross((x + SAMPLE / 2.0, y));
+    item(svg, x, y, CROSS, &cross, "refused");
+
+    let (mut x, y) = (LEFT, y + 20.0);
+    for shown in ALL {
+        let mut bar = Path::default();
+        shown.bar(&mut bar, y - 5.0, x, x + SAMPLE);
+        x = item(svg, x, y, shown.style(), &bar, shown.name());
+    }
+}
+
+/// A sample and its name. Gives where the next one starts.
+fn item(svg: &mut Svg, x: f64, y: f64, style: &str, sample: &Path, name: &str) -> f64 {
+    svg.path(style, sample);
+    let start = x + SAMPLE + 6.0;
+    svg.text(start, y + 4.0, SIZE, Anchor::Start, name);
+    start + text_width(name, SIZE) + GAP
+}

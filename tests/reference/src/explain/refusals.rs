@@ -1,0 +1,116 @@
+//! Why a call is refused, and what would have been needed, in words.
+
+use crate::call::{Call, Refusal};
+use crate::explain::answers::store_name;
+use crate::explain::phrases::{counted, listed};
+use crate::explain::watch::Watch;
+use crate::limits::{LARGEST_BATCH, LONGEST, LONGEST_EXTENSION, MOST_EXPIRATIONS, TASKS};
+use crate::tasks::State;
+
+/// From the ledger, which a refusal leaves as it was.
+pub fn reason(watch: &Watch, call: &Call, refusal: Refusal) -> String {
+    match refusal {
+        Refusal::TaskAbove15 => format!("tasks are 0 to {}", TASKS - 1),
+        Refusal::TaskNotAbsent => format!("{}; only an absent task can join", state(watch, call)),
+        Refusal::TaskAbsent => format!("{}; it has to join first", state(watch, call)),
+        Refusal::TaskWaiting => format!("{}; it has to resume first", state(watch, call)),
+        Refusal::TaskRunning => format!("{}; only a waiting task can resume", state(watch, call)),
+        Refusal::ExtensionAbove30 => format!("an extension is at most {LONGEST_EXTENSION}"),
+        Refusal::LengthOutOfRange => format!("a length is 1 to {LONGEST}"),
+        Refusal::AllHandlesGiven => "all handles are given, and none comes again".into(),
+        Refusal::NoFreeBlock => no_block(watch, call),
+        Refusal::ExpirationsFull => no_expiration(watch, call),
+        Refusal::HandleNotGiven => not_given(watch, call),
+        Refusal::ObjectGone => gone(watch, call),
+        Refusal::RangeAboveLength => past_the_end(watch, call),
+        Refusal::BatchOutOfRange => format!("a batch has 1 to {LARGEST_BATCH} objects"),
+        Refusal::NotHexadecimal | Refusal::UnknownOperation | Refusal::WrongFrameLength | Refusal::KindAbove1 => {
+            unreachable!("refusal {} is a frame's", refusal as u8)
+        }
+    }
+}
+
+/// The state of the call's task, and since when.
+fn state(watch: &Watch, call: &Call) -> String {
+    let Some(task) = task_of(call) else { return "it has no task".into() };
+    let line = watch.since[usize::from(task)];
+    match watch.task(task).state {
+        State::Absent if line == 0 => format!("task {task} has not joined"),
+        State::Absent => format!("task {task} left at line {line}"),
+        State::Running => format!("task {task} runs since line {line}"),
+        State::Waiting => format!("task {task} waits since line {line}"),
+    }
+}
+
+fn task_of(call: &Call) -> Option<u8> {
+    match *call {
+        Call::Join { task } | Call::Leave { task } | Call::Block { task } | Call::Resume { task } => Some(task),
+        Call::Tick { task } | Call::Make { task, .. } | Call::Refresh { task, .. } => Some(task),
+        Call::Read { task, .. } | Call::Write { task, .. } => Some(task),
+        Call::Remaining { task, .. } | Call::Batch { task, .. } => Some(task),
+        Call::Report => None,
+    }
+}
+
+/// The objects that the call names.
+fn objects_of(call: &Call) -> Vec<u32> {
+    match *call {
+        Call::Refresh { handle, .. } | Call::Read { handle, .. } => vec![handle],
+        Call::Write { handle, .. } | Call::Remaining { handle, .. } => vec![handle],
+        Call::Batch { handles, .. } => handles.iter().collect(),
+        _ => Vec::new(),
+    }
+}
+
+fn no_block(watch: &Watch, call: &Call) -> String {
+    let &Call::Make { length, .. } = call else { unreachable!("only a make asks for a block") };
+    let (store, figures) = (store_name(length), watch.ledger.figures());
+    let objects = if store == "small" { figures.small } else { figures.large };
+    format!("the {store} store is full with {objects} objects; {}", still(watch))
+}
+
+fn no_expiration(watch: &Watch, call: &Call) -> String {
+    let (standing, asked) = (watch.ledger.figures().expirations, objects_of(call).len().max(1));
+    format!("{standing} expirations stand, and with {asked} more they are above {MOST_EXPIRATIONS}; {}", still(watch))
+}
+
+/// Why nothing comes back: for whom global time waits, and since when.
+fn still(watch: &Watch) -> String {
+    let (time, tasks) = (watch.ledger.tasks().global(), listed("task", &watch.awaited()));
+    match watch.advanced {
+        0 => format!("global time is {time} from the start on and waits for {tasks}"),
+        line => format!("global time is {time} since line {line} and waits for {tasks}"),
+    }
+}
+
+fn not_given(watch: &Watch, call: &Call) -> String {
+    let given = watch.ledger.figures().given;
+    let unknown: Vec<_> = objects_of(call).into_iter().filter(|&handle| handle == 0 || handle > given).collect();
+    let unknown = listed("handle", &unknown[..1]);
+    match given {
+        0 => format!("{unknown} was not given; none was so far"),
+        _ => format!("{unknown} was not given; the last was {given}"),
+    }
+}
+
+fn gone(watch: &Watch, call: &Call) -> String {
+    let objects = objects_of(call);
+    let gone: Vec<_> = objects.iter().filter_map(|&handle| Some((handle, watch.trail.gone(handle)?))).collect();
+    let (handle, first) = gone[0];
+    let which = if objects.len() == 1 { String::new() } else { format!("object {handle} is ") };
+    let others = match gone.len() {
+        1 => String::new(),
+        more => format!("; {} more gone", counted(more - 1, "object")),
+    };
+    let (line, last) = (first.line, first.last);
+    format!(
+        "{which}gone at line {line} with its last expiration, set by task {} at line {}{others}",
+        last.setter, last.line
+    )
+}
+
+fn past_the_end(watch: &Watch, call: &Call) -> String {
+    let &Call::Write { handle, offset, bytes, .. } = call else { unreachable!("only a write has a range") };
+    let (end, length) = (usize::from(offset) + bytes.len(), watch.ledger.length(handle).unwrap_or(0));
+    format!("it would end at {end}, and the object has {}", counted(length, "byte"))
+}

@@ -1,0 +1,63 @@
+//! Who set each expiration and where, and with which of them each object went. The ledger keeps neither.
+
+use std::collections::BTreeMap;
+
+use crate::expiration::Expiration;
+
+/// An expiration with its origin. Lines count from 1.
+#[derive(Clone, Copy, Debug)]
+pub struct Set {
+    pub setter: u8,
+    pub line: usize,
+    pub expiration: Expiration,
+}
+
+/// The line at which an object went, and the last of its expirations.
+#[derive(Clone, Copy, Debug)]
+pub struct Gone {
+    pub line: usize,
+    pub last: Set,
+}
+
+#[derive(Debug, Default)]
+pub struct Trail {
+    standing: BTreeMap<u32, Vec<Set>>,
+    gone: BTreeMap<u32, Gone>,
+}
+
+impl Trail {
+    /// The handles of the standing objects, in order.
+    pub fn handles(&self) -> impl Iterator<Item = u32> + '_ {
+        self.standing.keys().copied()
+    }
+
+    /// How many expirations an object has.
+    pub fn count(&self, handle: u32) -> usize {
+        self.standing.get(&handle).map_or(0, Vec::len)
+    }
+
+    /// Since when an object is gone, and with what.
+    pub fn gone(&self, handle: u32) -> Option<Gone> {
+        self.gone.get(&handle).copied()
+    }
+
+    pub fn set(&mut self, handle: u32, set: Set) {
+        self.standing.entry(handle).or_default().push(set);
+    }
+
+    /// Ends these expirations at this line. Gives the handles of the objects that go with their last one; where several
+    /// end together, the one that was set last is the last.
+    pub fn end(&mut self, line: usize, ends: impl Fn(&Expiration) -> bool) -> Vec<u32> {
+        let (mut went, gone) = (Vec::new(), &mut self.gone);
+        self.standing.retain(|&handle, sets| {
+            let newest = sets.last().copied();
+            sets.retain(|set| !ends(&set.expiration));
+            if let (true, Some(last)) = (sets.is_empty(), newest) {
+                went.push(handle);
+                gone.insert(handle, Gone { line, last });
+            }
+            !sets.is_empty()
+        });
+        went
+    }
+}

@@ -1,0 +1,103 @@
+//! A ledger that is watched: beside it stand the lines at which things came to be as they are.
+
+use crate::call::{Call, Kind, Model, Refusal};
+use crate::expiration::Expiration;
+use crate::explain::trail::{Set, Trail};
+use crate::ledger::Ledger;
+use crate::limits::TASKS;
+use crate::tasks::{State, Task};
+
+pub struct Watch {
+    pub ledger: Ledger,
+    pub trail: Trail,
+    /// The line that is carried out, from 1.
+    pub line: usize,
+    /// For each task the line of its last change of state; 0 before the first.
+    pub since: [usize; TASKS],
+    /// The line of the last advance; 0 before the first.
+    pub advanced: usize,
+}
+
+/// What an accepted call has brought about.
+pub struct Change {
+    /// The objects that went with it.
+    pub gone: Vec<u32>,
+    /// The line since which its task had been in the state before; 0 from the start on.
+    pub before: usize,
+}
+
+impl Watch {
+    pub fn fresh() -> Watch {
+        let (ledger, trail) = (Ledger::fresh(), Trail::default());
+        Watch { ledger, trail, line: 0, since: [0; TASKS], advanced: 0 }
+    }
+
+    /// Does the call. A refusal changes nothing.
+    pub fn call(&mut self, call: &Call) -> Result<Change, Refusal> {
+        let time = self.ledger.tasks().global();
+        self.ledger.call(call)?;
+        if self.ledger.tasks().global() != time {
+            self.advanced = self.line;
+        }
+        let before = self.note_state(call);
+        self.note_expirations(call);
+        Ok(Change { gone: self.end_expirations(call), before })
+    }
+
+    /// Gives the line since which the task had been in its state.
+    fn note_state(&mut self, call: &Call) -> usize {
+        match *call {
+            Call::Join { task } | Call::Leave { task } | Call::Block { task } | Call::Resume { task } => {
+                std::mem::replace(&mut self.since[usize::from(task)], self.line)
+            }
+            _ => 0,
+        }
+    }
+
+    fn note_expirations(&mut self, call: &Call) {
+        match *call {
+            Call::Make { task, kind, extension, .. } => {
+                self.note(self.ledger.figures().given, task, kind, extension);
+            }
+            Call::Refresh { task, kind, extension, handle } => self.note(handle, task, kind, extension),
+            Call::Batch { task, kind, extension, handles } => {
+                handles.iter().for_each(|handle| self.note(handle, task, kind, extension));
+            }
+            _ => {}
+        }
+    }
+
+    fn note(&mut self, handle: u32, setter: u8, kind: Kind, extension: u8) {
+        let expiration = self.expiration(setter, kind, extension);
+        self.trail.set(handle, Set { setter, line: self.line, expiration });
+    }
+
+    /// The expiration that is set now.
+    pub fn expiration(&self, setter: u8, kind: Kind, extension: u8) -> Expiration {
+        Expiration::set(self.ledger.tasks(), setter, kind, extension)
+    }
+
+    fn end_expirations(&mut self, call: &Call) -> Vec<u32> {
+        let tasks = self.ledger.tasks();
+        match *call {
+            Call::Leave { task } => self.trail.end(self.line, |set| set.is_local_of(task) || set.is_due(tasks)),
+            Call::Block { .. } | Call::Tick { .. } => self.trail.end(self.line, |set| set.is_due(tasks)),
+            _ => Vec::new(),
+        }
+    }
+
+    /// The entry of a task from 0 to 15.
+    pub fn task(&self, task: u8) -> &Task {
+        &self.ledger.tasks().entries()[usize::from(task)]
+    }
+
+    /// The tasks that global time waits for: those that run and have not ticked.
+    pub fn awaited(&self) -> Vec<u32> {
+        let is_awaited = |task: &Task| task.state == State::Running && !task.ticked;
+        (0..)
+            .zip(self.ledger.tasks().entries())
+            .filter(|(_, task)| is_awaited(task))
+            .map(|(number, _)| number)
+            .collect()
+    }
+}
