@@ -12,42 +12,58 @@ const GAP: f64 = 6.0;
 /// The most numbers of a label.
 const MOST: usize = 2;
 
-/// The numbers of refusals too near to each other for labels of their own.
+/// Refusals that have one label: they are too near to each other for two, or lines in a row are refused with one number.
 struct Label {
     start: f64,
+    /// The place of the last one's line, from 0.
+    last: usize,
+    count: usize,
     numbers: Vec<u8>,
 }
 
 impl Label {
+    /// `9`, `9 ×12` for twelve of them, or the first of several numbers.
     fn words(&self) -> String {
-        let first: Vec<_> = self.numbers.iter().take(MOST).map(u8::to_string).collect();
-        let more = if self.numbers.len() > MOST { ", ..." } else { "" };
-        first.join(", ") + more
+        match self.numbers[..] {
+            [number] if self.count == 1 => number.to_string(),
+            [number] => format!("{number} ×{}", self.count),
+            _ => {
+                let first: Vec<_> = self.numbers.iter().take(MOST).map(u8::to_string).collect();
+                first.join(", ") + if self.numbers.len() > MOST { ", ..." } else { "" }
+            }
+        }
     }
 
     fn end(&self) -> f64 {
         self.start + text_width(&self.words(), SIZE)
     }
+
+    fn takes(&self, start: f64, place: usize, number: u8) -> bool {
+        start < self.end() + GAP || (self.last + 1 == place && self.numbers == [number])
+    }
+
+    /// A number stands once.
+    fn add(&mut self, place: usize, number: u8) {
+        (self.last, self.count) = (place, self.count + 1);
+        if !self.numbers.contains(&number) {
+            self.numbers.push(number);
+        }
+    }
 }
 
-/// Where the refusals are, and their numbers.
-fn refusals(columns: Columns, lines: &[Line]) -> impl Iterator<Item = (f64, u8)> + '_ {
-    let number = |line: &Line| line.refusal.map(|refusal| refusal as u8);
-    lines.iter().enumerate().filter_map(move |(place, line)| Some((columns.middle(place), number(line)?)))
+/// The places of the refused lines, from 0, and the numbers.
+fn refusals(lines: &[Line]) -> impl Iterator<Item = (usize, u8)> + '_ {
+    lines.iter().enumerate().filter_map(|(place, line)| Some((place, line.refusal? as u8)))
 }
 
-/// From left to right; a number of a label stands in it once.
+/// From left to right.
 fn labels(columns: Columns, lines: &[Line]) -> Vec<Label> {
     let mut labels: Vec<Label> = Vec::new();
-    for (x, number) in refusals(columns, lines) {
-        let start = x - text_width("9", SIZE) / 2.0;
+    for (place, number) in refusals(lines) {
+        let start = columns.middle(place) - text_width("9", SIZE) / 2.0;
         match labels.last_mut() {
-            Some(last) if start < last.end() + GAP => {
-                if !last.numbers.contains(&number) {
-                    last.numbers.push(number);
-                }
-            }
-            _ => labels.push(Label { start, numbers: vec![number] }),
+            Some(label) if label.takes(start, place, number) => label.add(place, number),
+            _ => labels.push(Label { start, last: place, count: 1, numbers: vec![number] }),
         }
     }
     labels
@@ -55,7 +71,7 @@ fn labels(columns: Columns, lines: &[Line]) -> Vec<Label> {
 
 /// The places of the crosses, one a pixel at most.
 fn places(columns: Columns, lines: &[Line]) -> Vec<f64> {
-    let mut places: Vec<f64> = refusals(columns, lines).map(|(x, _)| x).collect();
+    let mut places: Vec<f64> = refusals(lines).map(|(place, _)| columns.middle(place)).collect();
     places.dedup_by_key(|x| x.round());
     places
 }

@@ -1,0 +1,328 @@
+//! Scripts in words and as pictures.
+
+mod svg;
+
+use std::fs;
+use std::path::{Path, PathBuf};
+use std::process::{Command, Output};
+
+use reference::explain::{explain, in_words, picture};
+use reference::generate::script;
+use reference::program::run_program;
+use reference::script::{lines, run, LIMIT};
+
+const EXPLAIN: &str = env!("CARGO_BIN_EXE_explain");
+
+/// A script without LFs, and the words of its last line.
+fn last_words(script: &str) -> String {
+    explain(&script_of(script)).pop().unwrap().words
+}
+
+fn script_of(frames: &str) -> Vec<u8> {
+    frames.replace(' ', "\n").into_bytes()
+}
+
+/// `count` times the same.
+fn times(count: usize, frame: &str) -> String {
+    format!(" {frame}").repeat(count)
+}
+
+#[test]
+fn words_of_each_call() {
+    for (script, words) in [
+        ("0103", "join of task 3: it runs, from local time 0 on"),
+        ("0103 0203", "leave of task 3: it is absent; no task runs, and global time stands"),
+        ("0103 0104 0203", "leave of task 3: it is absent; global time waits for task 4"),
+        ("0103 0104 0503 0204", "leave of task 4: it is absent; global time advances to 1"),
+        ("0103 0303", "block of task 3: it waits; no task runs, and global time stands"),
+        ("0103 0104 0503 0304", "block of task 4: it waits; global time advances to 1"),
+        ("0103 0303 0403", "resume of task 3: it runs again, after it waited since line 2"),
+        ("0103 0503", "tick of task 3: global time advances to 1"),
+        ("0103 060301020004", "task 3, make of 4 bytes, global with extension 2: object 1 in the small store, until global time 4"),
+        ("0103 060300000001", "task 3, make of 1 byte, local with extension 0: object 1 in the small store, until local time 1 of task 3"),
+        ("0103 060300000021", "task 3, make of 33 bytes, local with extension 0: object 1 in the large store, until local time 1 of task 3"),
+        ("0103 060300000004 0703010100000001", "task 3, refresh of object 1, global with extension 1: one expiration more, until global time 3; it has 2"),
+        ("0103 060300000004 0903000000010107A5 080300000001", "task 3, read of object 1: 00 07 A5 00"),
+        ("0103 060300000004 0903000000010107A5", "task 3, write of 2 bytes at offset 1 of object 1: done"),
+        ("0103 060300000004 060300000040 0A", "report: 1 of 64 small objects, 1 of 32 large, 2 of 256 expirations, 2 handles given"),
+        ("0103 060301010004 0B0300000001", "task 3, remaining life of object 1: 0 ticks of task 3 by its local expirations, 3 advances by global ones"),
+        ("0103 060300000004 0C03000000000001", "task 3, refresh of object 1, local with extension 0: one expiration more for each, until local time 1 of task 3"),
+        (
+            "0103 060300000004 060300000004 060300000004 0C030001000000010000000200000003",
+            "task 3, refresh of objects 1 to 3, local with extension 1: one expiration more for each, until local time 2 of task 3",
+        ),
+    ] {
+        assert_eq!(last_words(script), words, "{script}");
+    }
+}
+
+#[test]
+fn for_whom_global_time_waits() {
+    let joined = "0103 0107 0109 0101 0301";
+    assert_eq!(last_words(&format!("{joined} 0503")), "tick of task 3: global time waits for tasks 7 and 9");
+    assert_eq!(last_words(&format!("{joined} 0503 0503")), "tick of task 3: global time waits for tasks 7 and 9");
+    assert_eq!(last_words(&format!("{joined} 0503 0509")), "tick of task 9: global time waits for task 7");
+    assert_eq!(last_words(&format!("{joined} 0503 0509 0507")), "tick of task 7: global time advances to 1");
+}
+
+#[test]
+fn what_goes() {
+    assert_eq!(
+        last_words("0103 0104 060300000004 0503"),
+        "tick of task 3: global time waits for task 4; object 1 is gone"
+    );
+    assert_eq!(
+        last_words("0103 060300000004 060300000004 0503"),
+        "tick of task 3: global time advances to 1; objects 1 and 2 are gone"
+    );
+    assert_eq!(
+        last_words("0103 0104 060300050004 0203"),
+        "leave of task 3: it is absent; global time waits for task 4; object 1 is gone"
+    );
+}
+
+#[test]
+fn since_when_an_object_is_gone_and_with_what() {
+    let read = "080100000001";
+    for (script, gone) in [
+        // By its only one.
+        ("0101 060100000004 0501", "gone at line 3 with its last expiration, set by task 1 at line 2"),
+        // By another task's refresh, which was due later.
+        (
+            "0101 0102 060100000004 0702000100000001 0501 0502 0502",
+            "gone at line 7 with its last expiration, set by task 2 at line 4",
+        ),
+        // The refresh was due before what the make had set.
+        (
+            "0101 0102 060100010004 0702000000000001 0502 0501 0501",
+            "gone at line 7 with its last expiration, set by task 1 at line 3",
+        ),
+        // Both together: the one that was set last.
+        ("0101 060100000004 0701000000000001 0501", "gone at line 4 with its last expiration, set by task 1 at line 3"),
+        // With its setter's leave.
+        ("0101 0102 060200050004 0202", "gone at line 4 with its last expiration, set by task 2 at line 3"),
+        // By a batch.
+        (
+            "0101 060100000004 0C01000100000001 0501 0501",
+            "gone at line 5 with its last expiration, set by task 1 at line 3",
+        ),
+        // By a block that lets global time advance.
+        (
+            "0101 0102 060101000004 0501 0502 0501 0302",
+            "gone at line 7 with its last expiration, set by task 1 at line 3",
+        ),
+    ] {
+        assert_eq!(last_words(&format!("{script} {read}")), format!("task 1, read of object 1: {gone}"), "{script}");
+    }
+}
+
+#[test]
+fn words_of_each_refusal() {
+    let smalls = format!("0101{}", times(65, "060101000004"));
+    let larges = format!("0101 0501{}", times(33, "060101000100"));
+    let dates = format!("0101 060101000004{}", times(256, "0701010000000001"));
+    let batch = format!("0101 060101000004{} 0C0101000000000100000001", times(254, "0701010000000001"));
+    let crowd = format!("0101 0C010000{}", "00000001".repeat(33));
+    for (number, script, words) in [
+        (1, "0110", "join of task 16: tasks are 0 to 15"),
+        (2, "0103 0103", "join of task 3: task 3 runs since line 1; only an absent task can join"),
+        (2, "0103 0303 0103", "join of task 3: task 3 waits since line 2; only an absent task can join"),
+        (3, "0503", "tick of task 3: task 3 has not joined; it has to join first"),
+        (3, "0103 0203 0303", "block of task 3: task 3 left at line 2; it has to join first"),
+        (4, "0103 0303 0503", "tick of task 3: task 3 waits since line 2; it has to resume first"),
+        (5, "0103 0403", "resume of task 3: task 3 runs since line 1; only a waiting task can resume"),
+        (6, "0101 0601001F0004", "task 1, make of 4 bytes, local with extension 31: an extension is at most 30"),
+        (7, "0101 060100000101", "task 1, make of 257 bytes, local with extension 0: a length is 1 to 256"),
+        (
+            9,
+            &smalls,
+            "task 1, make of 4 bytes, global with extension 0: the small store is full with 64 objects; \
+             global time is 0 from the start on and waits for task 1",
+        ),
+        (
+            9,
+            &larges,
+            "task 1, make of 256 bytes, global with extension 0: the large store is full with 32 objects; \
+             global time is 1 since line 2 and waits for task 1",
+        ),
+        (
+            10,
+            &dates,
+            "task 1, refresh of object 1, global with extension 0: 256 expirations stand, and with 1 more they are above 256; \
+             global time is 0 from the start on and waits for task 1",
+        ),
+        (
+            10,
+            &batch,
+            "task 1, refresh of objects 1 and 1, global with extension 0: 255 expirations stand, and with 2 more they are \
+             above 256; global time is 0 from the start on and waits for task 1",
+        ),
+        (11, "0101 080100000001", "task 1, read of object 1: handle 1 was not given; none was so far"),
+        (
+            11,
+            "0101 060100000004 0C0100000000000100000009",
+            "task 1, refresh of objects 1 and 9, local with extension 0: handle 9 was not given; the last was 1",
+        ),
+        (
+            12,
+            "0101 060100000004 060100010004 0501 0C0100000000000100000002",
+            "task 1, refresh of objects 1 and 2, local with extension 0: object 1 is gone at line 4 with its last \
+             expiration, set by task 1 at line 2",
+        ),
+        (
+            12,
+            "0101 060100000004 060100000004 0501 0C0100000000000100000002",
+            "task 1, refresh of objects 1 and 2, local with extension 0: object 1 is gone at line 4 with its last \
+             expiration, set by task 1 at line 2; 1 object more gone",
+        ),
+        (
+            13,
+            "0101 060100000004 09010000000103A5A5",
+            "task 1, write of 2 bytes at offset 3 of object 1: it would end at 5, and the object has 4 bytes",
+        ),
+        (16, "01x0", "frame \"01x0\": character 3 is no digit, 0 to 9 or A to F"),
+        (16, "010", "frame \"010\": 3 digits, and a byte has two"),
+        (17, "0D01", "frame \"0D01\": operations are 01 to 0C"),
+        (17, "0101  ", "frame \"\": an empty line has no operation"),
+        (18, "010101", "frame \"010101\": a join has 2 bytes, and not 3"),
+        (3, "0C000000", "task 0, refresh of no object, local with extension 0: task 0 has not joined; it has to join first"),
+        (18, "0C00000001", "frame \"0C00000001\": a batch has 4 bytes and 4 for each object, and not 5"),
+        (19, "060102000004", "frame \"060102000004\": kind 02 is neither 00, local, nor 01, global"),
+        (20, "0101 0C010000", "task 1, refresh of no object, local with extension 0: a batch has 1 to 32 objects"),
+        (20, &crowd, "task 1, refresh of 33 objects, local with extension 0: a batch has 1 to 32 objects"),
+    ] {
+        let line = explain(&script_of(script)).pop().unwrap();
+        assert_eq!((line.words.as_str(), line.refusal.map(|refusal| refusal as u8)), (words, Some(number)), "{script}");
+    }
+}
+
+/// Each line has the answer of the run, and what it says that stands is what the report tells.
+#[test]
+fn generated_scripts_are_explained_as_they_run() {
+    for seed in 0..40 {
+        let script = script(seed);
+        let script = &script[..script.len().min(8_000)];
+        let (explained, answers) = (explain(script), run(script));
+        assert_eq!(explained.len(), lines(&answers).count());
+        for (line, answer) in explained.iter().zip(lines(&answers)) {
+            let number = line.refusal.map_or(0, |refusal| refusal as u8);
+            assert_eq!(format!("{number:02X}").as_bytes(), &answer[..2], "seed {seed}: {}", line.words);
+        }
+    }
+}
+
+#[test]
+fn every_line_has_its_number_and_what_became_of_it() {
+    let text = in_words(&explain(b"0100\n\n0500\n"));
+    let lines = [
+        "1  done        join of task 0: it runs, from local time 0 on",
+        "2  refused 17  frame \"\": an empty line has no operation",
+        "3  done        tick of task 0: global time advances to 1",
+    ];
+    assert_eq!(text.lines().collect::<Vec<_>>(), lines);
+    assert_eq!(in_words(&explain(b"")), "");
+}
+
+/// Well-formed, with all parts, within its frame, and no text over another.
+fn check_picture(name: &str, picture: &str) {
+    let tags = svg::tags(picture);
+    let ids: Vec<_> = tags.iter().filter(|tag| tag.name == "g").map(|tag| tag.attributes["id"]).collect();
+    assert_eq!(ids, ["legend", "objects", "expirations", "global-time", "tasks", "refusals", "lines"], "{name}");
+    for foreign in ["<script", "<style", "<image", "href", "font-face", "@import"] {
+        assert!(!picture.contains(foreign), "{name}: {foreign}");
+    }
+    let texts = svg::texts(&tags);
+    for words in ["small objects", "large objects", "expirations", "global time", "refused", "task absent", "waiting"] {
+        assert!(texts.iter().any(|text| text.text == words), "{name}: no {words}");
+    }
+    for axis in ["Standing objects (count)", "Expirations (count)", "Global time (advances)", "Tasks (number)"] {
+        assert!(texts.iter().any(|text| text.text.starts_with(axis)), "{name}: no {axis}");
+    }
+    assert!(texts.iter().any(|text| text.text == "Line of the script (number)"), "{name}");
+    let (width, height) = (tags[0].number("width"), tags[0].number("height"));
+    assert_eq!(width, 1000.0);
+    for (place, text) in texts.iter().enumerate() {
+        let is_inside = text.left >= 0.0 && text.right <= width && text.top >= 0.0 && text.bottom <= height;
+        assert!(is_inside, "{name}: {text:?}");
+        for other in &texts[..place] {
+            assert!(!text.overlaps(other), "{name}: {text:?} and {other:?}");
+        }
+    }
+}
+
+#[test]
+fn pictures_can_be_read() {
+    for seed in 0..20 {
+        check_picture(&format!("seed {seed}"), &picture(&explain(&script(seed))));
+    }
+    let scripts: [(&str, Vec<u8>); 6] = [
+        ("empty", Vec::new()),
+        ("one line", b"0100".to_vec()),
+        ("one refused", b"0500".to_vec()),
+        ("as many lines as there can be", vec![b'\n'; LIMIT]),
+        ("refused in turn", b"\nx\n010\n0110\n".repeat(900)),
+        ("only ticks", [&b"0100\n"[..], &b"0500\n".repeat(13_000)].concat()),
+    ];
+    for (name, script) in scripts {
+        check_picture(name, &picture(&explain(&script)));
+    }
+}
+
+#[test]
+fn a_picture_has_a_row_for_each_task_that_joins() {
+    let count = |script: &[u8]| {
+        let picture = picture(&explain(script));
+        let (_, tasks) = picture.split_once("<g id=\"tasks\">").unwrap();
+        tasks.split_once("</g>").unwrap().0.matches("text-anchor=\"end\"").count()
+    };
+    assert_eq!(count(b""), 0);
+    assert_eq!(count(b"0100\n0107\n0200\n"), 2);
+}
+
+fn document(name: &str) -> PathBuf {
+    Path::new(env!("CARGO_MANIFEST_DIR")).join("../../docs").join(name)
+}
+
+fn run_explain(arguments: &[&str]) -> Output {
+    Command::new(EXPLAIN).args(arguments).output().unwrap()
+}
+
+/// The weekend: its committed picture is what the program makes of its script.
+#[test]
+fn the_weekend() {
+    let (script, file) = (document("weekend.script"), Path::new(env!("CARGO_TARGET_TMPDIR")).join("weekend.svg"));
+    let output = run_explain(&["--svg", file.to_str().unwrap(), script.to_str().unwrap()]);
+    assert!(output.status.success());
+    let made = fs::read_to_string(&file).unwrap();
+    check_picture("weekend", &made);
+    assert!(
+        made == fs::read_to_string(document("weekend.svg")).unwrap(),
+        "explain --svg docs/weekend.svg docs/weekend.script"
+    );
+
+    let text = String::from_utf8(output.stdout).unwrap();
+    assert!(text.lines().count() <= 300);
+    let full = "the small store is full with 64 objects; global time is 2 since line 86 and waits for task 7";
+    assert_eq!(text.lines().filter(|line| line.contains("refused 9 ") && line.ends_with(full)).count(), 12);
+    assert!(text.contains("block of task 7: it waits; global time advances to 3\n"));
+    assert!(text
+        .contains("task 0, read of object 35: gone at line 228 with its last expiration, set by task 0 at line 87\n"));
+}
+
+#[test]
+fn the_program_reads_standard_input() {
+    let script = script(3);
+    let output = run_program(&mut Command::new(EXPLAIN), &script).unwrap();
+    assert!(output.status.success());
+    assert_eq!(output.stdout, in_words(&explain(&script)).as_bytes());
+}
+
+#[test]
+fn the_program_refuses_what_it_cannot_do() {
+    for arguments in [&["--svg"][..], &["--png", "x"], &["a", "b"], &["--svg", "a", "--svg", "b"]] {
+        assert_eq!(run_explain(arguments).status.code(), Some(2), "{arguments:?}");
+    }
+    assert_eq!(run_explain(&["no/such/script"]).status.code(), Some(1));
+    let output = run_program(&mut Command::new(EXPLAIN), &vec![b'\n'; LIMIT + 1]).unwrap();
+    assert_eq!((output.status.code(), output.stdout), (Some(1), Vec::new()));
+}
