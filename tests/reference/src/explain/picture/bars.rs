@@ -68,8 +68,8 @@ pub fn present(lines: &[Line]) -> Vec<usize> {
 }
 
 /// A row for each of these tasks, from `top` on.
-pub fn bars(svg: &mut Svg, columns: Columns, top: f64, tasks: &[usize], lines: &[Line]) {
-    let mut paths = ALL.map(|_| Path::default());
+pub fn bars(svg: &mut Svg, lines: &[Line], top: f64, tasks: &[usize]) {
+    let (columns, mut paths) = (Columns(lines.len()), ALL.map(|_| Path::default()));
     for (row, &task) in tasks.iter().enumerate() {
         let top = top + ROW * row as f64 + (ROW - BAR) / 2.0;
         svg.text(LEFT - 8.0, top + BAR - 1.0, 11, Anchor::End, &task.to_string());

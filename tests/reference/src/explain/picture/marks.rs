@@ -5,12 +5,14 @@ use super::svg::{text_width, Anchor, Path, Svg};
 use crate::explain::Line;
 
 pub const CROSS: &str = "fill=\"none\" stroke=\"#b00020\" stroke-width=\"2\"";
-const THROUGH: &str = "fill=\"none\" stroke=\"#b00020\" stroke-width=\"0.7\" stroke-opacity=\"0.4\"";
+const THROUGH: &str = "fill=\"none\" stroke=\"#b00020\" stroke-width=\"0.7\" stroke-opacity=\"0.45\"";
 const SIZE: u32 = 11;
 /// Between two labels.
 const GAP: f64 = 6.0;
 /// The most numbers of a label.
 const MOST: usize = 2;
+/// The most lines through a panel.
+const MOST_THROUGH: usize = 80;
 
 /// Refusals that have one label: they are too near to each other for two, or lines in a row are refused with one number.
 struct Label {
@@ -57,8 +59,8 @@ fn refusals(lines: &[Line]) -> impl Iterator<Item = (usize, u8)> + '_ {
 }
 
 /// From left to right.
-fn labels(columns: Columns, lines: &[Line]) -> Vec<Label> {
-    let mut labels: Vec<Label> = Vec::new();
+fn labels(lines: &[Line]) -> Vec<Label> {
+    let (columns, mut labels) = (Columns(lines.len()), Vec::<Label>::new());
     for (place, number) in refusals(lines) {
         let start = columns.middle(place) - text_width("9", SIZE) / 2.0;
         match labels.last_mut() {
@@ -70,25 +72,28 @@ fn labels(columns: Columns, lines: &[Line]) -> Vec<Label> {
 }
 
 /// The places of the crosses, one a pixel at most.
-fn places(columns: Columns, lines: &[Line]) -> Vec<f64> {
+fn places(lines: &[Line]) -> Vec<f64> {
+    let columns = Columns(lines.len());
     let mut places: Vec<f64> = refusals(lines).map(|(place, _)| columns.middle(place)).collect();
     places.dedup_by_key(|x| x.round());
     places
 }
 
-/// Thin lines through all panels.
-pub fn through(svg: &mut Svg, columns: Columns, lines: &[Line], top: f64, bottom: f64) {
-    let mut path = Path::default();
-    places(columns, lines).into_iter().for_each(|x| path.line((x, top), (x, bottom)));
+/// Thin lines through a panel, unless they are so many that they hide it.
+pub fn through(svg: &mut Svg, lines: &[Line], top: f64, bottom: f64) {
+    let (places, mut path) = (places(lines), Path::default());
+    if places.len() <= MOST_THROUGH {
+        places.into_iter().for_each(|x| path.line((x, top), (x, bottom)));
+    }
     svg.path(THROUGH, &path);
 }
 
 /// The row of crosses, and below it the numbers.
-pub fn crosses(svg: &mut Svg, columns: Columns, lines: &[Line], y: f64) {
+pub fn crosses(svg: &mut Svg, lines: &[Line], y: f64) {
     let mut path = Path::default();
-    places(columns, lines).into_iter().for_each(|x| path.cross((x, y)));
+    places(lines).into_iter().for_each(|x| path.cross((x, y)));
     svg.path(CROSS, &path);
-    for label in labels(columns, lines) {
+    for label in labels(lines) {
         svg.text(label.start, y + 18.0, SIZE, Anchor::Start, &label.words());
     }
 }

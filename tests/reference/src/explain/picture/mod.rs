@@ -11,7 +11,7 @@ use super::phrases::counted;
 use super::Line;
 use crate::limits::{Store, MOST_EXPIRATIONS};
 use bars::{bars, present, HATCHED, ROW};
-use curves::{axis, curve, frame, grid, EXPIRATIONS, GLOBAL, LARGE, SMALL};
+use curves::{axis, baseline, curve, frame, grid, EXPIRATIONS, GLOBAL, LARGE, SMALL};
 use scale::{Columns, Panel, LEFT, RIGHT};
 use svg::{Anchor, Svg};
 
@@ -21,15 +21,14 @@ const TOP: f64 = 112.0;
 
 /// Standing objects, expirations and global time after each line, the tasks' states, and the refusals.
 pub fn picture(lines: &[Line]) -> String {
-    let (columns, title) = (Columns(lines.len()), title(lines));
-    let mut svg = Svg::default();
+    let (mut svg, title) = (Svg::default(), title(lines));
     svg.raw(HATCHED);
     svg.text(LEFT, 28.0, 18, Anchor::Start, &title);
     svg.group("legend", |svg| legend::legend(svg, 52.0));
-    let bottom = figures(&mut svg, columns, lines);
-    let bottom = tasks(&mut svg, columns, bottom + APART, lines);
-    let bottom = refusals(&mut svg, columns, bottom + APART, lines);
-    let height = line_axis(&mut svg, columns, bottom);
+    let bottom = figures(&mut svg, lines);
+    let bottom = tasks(&mut svg, bottom + APART, lines);
+    let bottom = refusals(&mut svg, bottom + APART, lines);
+    let height = line_axis(&mut svg, Columns(lines.len()), bottom);
     svg.finish(height, &title)
 }
 
@@ -39,7 +38,7 @@ fn title(lines: &[Line]) -> String {
 }
 
 /// The three panels of figures. This and the next ones give where they end.
-fn figures(svg: &mut Svg, columns: Columns, lines: &[Line]) -> f64 {
+fn figures(svg: &mut Svg, lines: &[Line]) -> f64 {
     let small = || lines.iter().map(|line| u64::from(line.after.figures.small));
     let large = || lines.iter().map(|line| u64::from(line.after.figures.large));
     let expirations = || lines.iter().map(|line| u64::from(line.after.figures.expirations));
@@ -53,22 +52,22 @@ fn figures(svg: &mut Svg, columns: Columns, lines: &[Line]) -> f64 {
         most(large())
     );
     svg.group("objects", |svg| {
-        axis(svg, columns, &panel, &name);
-        curve(svg, columns, &panel, SMALL, small());
-        curve(svg, columns, &panel, LARGE, large());
+        axis(svg, lines, &panel, &name);
+        curve(svg, &panel, SMALL, small());
+        curve(svg, &panel, LARGE, large());
     });
 
     let panel = Panel { top: panel.bottom() + APART, height: 80.0, most: MOST_EXPIRATIONS as u64, step: 64 };
     let name = format!("Expirations (count): at most {} of {MOST_EXPIRATIONS}", most(expirations()));
     svg.group("expirations", |svg| {
-        axis(svg, columns, &panel, &name);
-        curve(svg, columns, &panel, EXPIRATIONS, expirations());
+        axis(svg, lines, &panel, &name);
+        curve(svg, &panel, EXPIRATIONS, expirations());
     });
 
     let panel = Panel::up_to(panel.bottom() + APART, 80.0, most(global()));
     svg.group("global-time", |svg| {
-        axis(svg, columns, &panel, "Global time (advances)");
-        curve(svg, columns, &panel, GLOBAL, global());
+        axis(svg, lines, &panel, "Global time (advances)");
+        curve(svg, &panel, GLOBAL, global());
     });
     panel.bottom()
 }
@@ -77,26 +76,25 @@ fn most(values: impl Iterator<Item = u64>) -> u64 {
     values.max().unwrap_or(0)
 }
 
-fn tasks(svg: &mut Svg, columns: Columns, top: f64, lines: &[Line]) -> f64 {
+fn tasks(svg: &mut Svg, top: f64, lines: &[Line]) -> f64 {
     let tasks = present(lines);
     let height = ROW * tasks.len().max(1) as f64;
     let name = if tasks.is_empty() { "Tasks (number): none joins" } else { "Tasks (number): their states" };
     svg.group("tasks", |svg| {
         svg.text(LEFT, top - 8.0, 13, Anchor::Start, name);
-        grid(svg, columns, top, top + height);
-        bars(svg, columns, top, &tasks, lines);
+        grid(svg, lines, top, top + height);
+        bars(svg, lines, top, &tasks);
         frame(svg, top, height);
     });
     top + height
 }
 
-fn refusals(svg: &mut Svg, columns: Columns, top: f64, lines: &[Line]) -> f64 {
+fn refusals(svg: &mut Svg, top: f64, lines: &[Line]) -> f64 {
     let height = 34.0;
     svg.group("refusals", |svg| {
-        marks::through(svg, columns, lines, TOP, top);
         svg.text(LEFT, top - 8.0, 13, Anchor::Start, "Refusals (number of the refusal)");
-        marks::crosses(svg, columns, lines, top + 10.0);
-        frame(svg, top, height);
+        marks::crosses(svg, lines, top + 10.0);
+        baseline(svg, top + height);
     });
     top + height
 }
