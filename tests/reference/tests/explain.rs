@@ -6,6 +6,7 @@ use std::fs;
 use std::path::{Path, PathBuf};
 use std::process::{Command, Output};
 
+use reference::call::Refusal;
 use reference::explain::{explain, in_words, picture};
 use reference::generate::script;
 use reference::program::run_program;
@@ -287,7 +288,7 @@ fn run_explain(arguments: &[&str]) -> Output {
     Command::new(EXPLAIN).args(arguments).output().unwrap()
 }
 
-/// The weekend: its committed picture is what the program makes of its script.
+/// The weekend: its committed picture is what the program makes of its script, and so are the lines in its document.
 #[test]
 fn the_weekend() {
     let (script, file) = (document("weekend.script"), Path::new(env!("CARGO_TARGET_TMPDIR")).join("weekend.svg"));
@@ -295,18 +296,34 @@ fn the_weekend() {
     assert!(output.status.success());
     let made = fs::read_to_string(&file).unwrap();
     check_picture("weekend", &made);
-    assert!(
-        made == fs::read_to_string(document("weekend.svg")).unwrap(),
-        "explain --svg docs/weekend.svg docs/weekend.script"
-    );
+    let committed = fs::read_to_string(document("weekend.svg")).unwrap();
+    assert!(made == committed, "make it anew: explain --svg docs/weekend.svg docs/weekend.script");
 
     let text = String::from_utf8(output.stdout).unwrap();
     assert!(text.lines().count() <= 300);
-    let full = "the small store is full with 64 objects; global time is 2 since line 86 and waits for task 7";
-    assert_eq!(text.lines().filter(|line| line.contains("refused 9 ") && line.ends_with(full)).count(), 12);
-    assert!(text.contains("block of task 7: it waits; global time advances to 3\n"));
-    assert!(text
-        .contains("task 0, read of object 35: gone at line 228 with its last expiration, set by task 0 at line 87\n"));
+    let page = fs::read_to_string(document("WEEKEND.md")).unwrap();
+    let (_, words) = page.split_once("## In words").unwrap();
+    let quoted: Vec<_> = words.lines().filter_map(|line| line.strip_prefix("    ")).collect();
+    assert_eq!(quoted.len(), 3);
+    for line in quoted {
+        assert!(text.lines().any(|written| written == line), "{line}");
+    }
+}
+
+/// Its fault and its cure: twelve makes find the store full, and none where task 7 blocks when its sensor is dead.
+#[test]
+fn the_weekend_with_block_in_time() {
+    let script = fs::read_to_string(document("weekend.script")).unwrap();
+    let mut frames: Vec<_> = script.lines().collect();
+    let full = |frames: &[&str]| {
+        let lines = explain(frames.join("\n").as_bytes());
+        lines.iter().filter(|line| line.refusal == Some(Refusal::NoFreeBlock)).count()
+    };
+    assert_eq!(full(&frames), 12);
+    let block = frames.remove(212);
+    assert_eq!(block, "0307");
+    frames.insert(86, block);
+    assert_eq!(full(&frames), 0);
 }
 
 #[test]
