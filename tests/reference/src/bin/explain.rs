@@ -21,6 +21,8 @@ fn main() -> ExitCode {
     };
     match run(&order) {
         Ok(code) => code,
+        // Who reads it has seen enough.
+        Err(error) if error.kind() == io::ErrorKind::BrokenPipe => ExitCode::SUCCESS,
         Err(error) => {
             eprintln!("explain: {error}");
             ExitCode::FAILURE

@@ -8,7 +8,7 @@ use crate::explain::Line;
 pub const SMALL: &str = "fill=\"none\" stroke=\"#0b3c6f\" stroke-width=\"2.2\"";
 pub const LARGE: &str = "fill=\"none\" stroke=\"#d9730d\" stroke-width=\"2.2\" stroke-dasharray=\"7 3\"";
 pub const EXPIRATIONS: &str = "fill=\"none\" stroke=\"#2b6b2b\" stroke-width=\"2.6\" stroke-dasharray=\"2 1\"";
-pub const GLOBAL: &str = "fill=\"none\" stroke=\"#7b3fa0\" stroke-width=\"3.4\"";
+pub const GLOBAL: &str = "fill=\"none\" stroke=\"#9a5cc4\" stroke-width=\"3.4\"";
 const GRID: &str = "fill=\"none\" stroke=\"#dddddd\" stroke-width=\"1\"";
 const FRAME: &str = "fill=\"none\" stroke=\"#888888\" stroke-width=\"1\"";
 

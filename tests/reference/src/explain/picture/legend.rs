@@ -6,6 +6,9 @@ use super::marks::CROSS;
 use super::scale::LEFT;
 use super::svg::{text_width, Anchor, Path, Svg};
 
+const CURVES: [(&str, &str); 4] =
+    [(SMALL, "small objects"), (LARGE, "large objects"), (EXPIRATIONS, "expirations"), (GLOBAL, "global time")];
+
 const SAMPLE: f64 = 28.0;
 const SIZE: u32 = 12;
 const GAP: f64 = 22.0;
@@ -13,9 +16,7 @@ const GAP: f64 = 22.0;
 /// Two rows, from this middle of the first on.
 pub fn legend(svg: &mut Svg, y: f64) {
     let mut x = LEFT;
-    for (style, name) in
-        [(SMALL, "small objects"), (LARGE, "large objects"), (EXPIRATIONS, "expirations"), (GLOBAL, "global time")]
-    {
+    for (style, name) in CURVES {
         let mut line = Path::default();
         line.line((x, y), (x + SAMPLE, y));
         x = item(svg, x, y, style, &line, name);
@@ -38,4 +39,32 @@ fn item(svg: &mut Svg, x: f64, y: f64, style: &str, sample: &Path, name: &str) -
     let start = x + SAMPLE + 6.0;
     svg.text(start, y + 4.0, SIZE, Anchor::Start, name);
     start + text_width(name, SIZE) + GAP
+}
+
+#[cfg(test)]
+mod tests {
+    use super::super::bars::Shown;
+    use super::*;
+
+    /// How light a style's colour is, from 0 to 1.
+    fn lightness(style: &str) -> f64 {
+        let (_, colour) = style.split_once('#').unwrap();
+        let part = |place| f64::from(u8::from_str_radix(&colour[place..place + 2], 16).unwrap()) / 255.0;
+        0.3 * part(0) + 0.59 * part(2) + 0.11 * part(4)
+    }
+
+    fn dashes(style: &str) -> Option<&str> {
+        style.split_once("stroke-dasharray").map(|(_, dashes)| dashes)
+    }
+
+    #[test]
+    fn without_colours_they_still_differ() {
+        let differ = |a, b| dashes(a) != dashes(b) || (lightness(a) - lightness(b)).abs() > 0.25;
+        for (place, (style, name)) in CURVES.iter().enumerate() {
+            assert!(CURVES[..place].iter().all(|(other, _)| differ(style, other)), "{name}");
+        }
+        // An absent task has a thin bar, and a waiting one is hatched.
+        assert!(differ(Shown::Awaited.style(), Shown::Ticked.style()));
+        assert!(Shown::Waiting.style().contains("hatched"));
+    }
 }
