@@ -108,7 +108,8 @@ fn bytes(watch: &Watch, task: u8, handle: u32) -> String {
 fn figures(Figures { small, large, expirations, given }: Figures) -> String {
     let (smalls, larges) = (Store::Small.blocks(), Store::Large.blocks());
     let given = counted(given as usize, "handle");
-    format!("{small} of {smalls} small objects, {large} of {larges} large, {expirations} of {MOST_EXPIRATIONS} expirations, {given} given")
+    let objects = format!("{small} of {smalls} small objects, {large} of {larges} large");
+    format!("{objects}, {expirations} of {MOST_EXPIRATIONS} expirations, {given} given")
 }
 
 fn remaining(watch: &Watch, task: u8, handle: u32) -> String {
