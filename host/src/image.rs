@@ -15,14 +15,14 @@
 //! back is a record that the first call tests, as it does any other.
 //!
 //! ```
-//! use ramsummer::{image, Pool};
+//! use ramsummer::{image, Pool, Record, LARGE, SMALL};
 //!
-//! let mut pool = Pool::new();
+//! let mut pool = Pool::over(Record::fresh(), [0; SMALL], [0; LARGE]);
 //! pool.join(3)?;
 //! let mut kept = [0; image::WITH_STORES];
 //! image::save_with_stores(pool.record(), pool.small(), pool.large(), &mut kept).unwrap();
 //!
-//! let (mut small, mut large) = ([0; ramsummer::SMALL], [0; ramsummer::LARGE]);
+//! let (mut small, mut large) = ([0; SMALL], [0; LARGE]);
 //! let record = image::restore_with_stores(&kept, &mut small, &mut large).unwrap();
 //! assert_eq!(record, *pool.record());
 //!
