@@ -1,5 +1,5 @@
 /*
- * Ramsummer: the C interface of the proved memory pool, libhost.a (x86-64). C99, C11 and C++.
+ * Ramsummer: the C interface of the proved memory pool, libramsummer.a (x86-64). C99, C11 and C++.
  *
  * What a caller owes, for every call:
  *   - each pointer is non-null and aligned, also where its count is 0, and leads to as many bytes as its length says;

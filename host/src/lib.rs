@@ -1,4 +1,4 @@
-//! A proved short-term memory pool: a safe interface over the static library `libhost.a`.
+//! A proved short-term memory pool: a safe interface over the static library `libramsummer.a`.
 //!
 //! Sixteen tasks take blocks for readings and never hand them back. An object carries *expirations*; a task extends its
 //! life by a refresh, and its block returns when the last expiration has passed. Time moves by the tasks' ticks: each
@@ -82,8 +82,8 @@
 //! What the calls do is proved of the library, in the repository that this crate is part of. Of this crate nothing is
 //! proved: it passes arguments on and hands answers back, and `src/sys.rs` has all of its unsafe code.
 //!
-//! The build links `libhost.a` from the folder that the environment variable `RAMSUMMER_LIB` names, else from the
-//! repository's `target/staticlib`, where `rt staticlib host` writes it.
+//! The build links `libramsummer.a` from the repository's `target/staticlib`, where `rt staticlib ramsummer` writes it,
+//! or from the folder that the environment variable `RAMSUMMER_LIB` names (README.md has the rule).
 
 #![no_std]
 #![warn(missing_docs)]

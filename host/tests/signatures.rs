@@ -64,7 +64,7 @@ fn header() -> Signatures {
 
 /// The text of all files of the proved source, if it is here.
 fn source() -> Option<String> {
-    let folder = Path::new(env!("CARGO_MANIFEST_DIR")).join("../crates/host/src");
+    let folder = Path::new(env!("CARGO_MANIFEST_DIR")).join("../crates/ramsummer/src");
     let files = fs::read_dir(folder).ok()?;
     Some(files.map(|file| fs::read_to_string(file.unwrap().path()).unwrap()).collect())
 }
@@ -79,6 +79,6 @@ fn the_header_and_the_crate_agree() {
 fn the_header_and_the_proved_source_agree() {
     match source() {
         Some(source) => assert_eq!(signatures(&source, "fn", source_form), header()),
-        None => eprintln!("crates/host is not here: its entries were not compared with the header"),
+        None => eprintln!("crates/ramsummer is not here: its entries were not compared with the header"),
     }
 }

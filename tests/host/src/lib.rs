@@ -1,7 +1,7 @@
 //! The linked library as tests and measures use it: its entries, a host that makes calls and watches what they
 //! touch, the record read as a ledger, records to begin from, the cases that are measured, and the depth of the stack.
 //!
-//! `RAMSUMMER_LIB` names the folder of another archive than the project's own:
+//! `RAMSUMMER_LIB` names the folder of another library than the repository's own, as host/README.md says:
 //!
 //! ```text
 //! RAMSUMMER_LIB=FOLDER cargo test --offline

@@ -28,7 +28,7 @@ use Rattle.frames.specs.declared.Frame.{Frame}
 use Rattle.execute.specs.Execution.{IsReplyTo, replyToFrame, afterFrame}
 use Rattle.numbered.specs.Told.{Loans, Told, toldBy}
 use Rattle.numbered.specs.Steps.{frameAsked, bytesAsked, isHeard, tells, Gives}
-use Rattle.host.specs.Demands.{Action, HostRuns, toldOf, afterAction, toldOfAll, afterActions, HostDemand2, Using, actionOf, usedIn, toldIn, HostDemand3}
+use Rattle.ramsummer.specs.Demands.{Action, HostRuns, toldOf, afterAction, toldOfAll, afterActions, HostDemand2, Using, actionOf, usedIn, toldIn, HostDemand3}
 
 -- A well-formed record with whole stores that reads as a ledger.
 record Beside (p : Pool) (small large : List ℕ) (L : Ledger) : Type 0 where

@@ -59,10 +59,10 @@ use Rattle.numbered.proofs.frame as call
 use Rattle.numbered.proofs.frame.Symbol as call-def
 use Rattle.numbered.proofs.frame.Symbol.{name as #call}
 use Rattle.numbered.proofs.frame.Met as call-thm
-use Rattle.host.proofs.ramsummer_frame.Key.{name as #f}
-use Rattle.host.proofs.ramsummer_frame as f
-use Rattle.host.proofs.ramsummer_frame.Statement as stated
-use Rattle.host.proofs.ramsummer_frame.Code as code
+use Rattle.ramsummer.proofs.ramsummer_frame.Key.{name as #f}
+use Rattle.ramsummer.proofs.ramsummer_frame as f
+use Rattle.ramsummer.proofs.ramsummer_frame.Statement as stated
+use Rattle.ramsummer.proofs.ramsummer_frame.Code as code
 
 abbrev Arg : Type 0
 Arg = (RefT Pool × (RefT (List ℕ) × (RefT (List ℕ) × (RefT (List ℕ) × (RefT (List ℕ) × (RefT ℕ × Unit {0}))))))

@@ -55,10 +55,10 @@ use Rattle.numbered.proofs.read as call
 use Rattle.numbered.proofs.read.Symbol as call-def
 use Rattle.numbered.proofs.read.Symbol.{name as #call}
 use Rattle.numbered.proofs.read.Met as call-thm
-use Rattle.host.proofs.ramsummer_read.Key.{name as #f}
-use Rattle.host.proofs.ramsummer_read as f
-use Rattle.host.proofs.ramsummer_read.Statement as stated
-use Rattle.host.proofs.ramsummer_read.Code as code
+use Rattle.ramsummer.proofs.ramsummer_read.Key.{name as #f}
+use Rattle.ramsummer.proofs.ramsummer_read as f
+use Rattle.ramsummer.proofs.ramsummer_read.Statement as stated
+use Rattle.ramsummer.proofs.ramsummer_read.Code as code
 
 abbrev Arg : Type 0
 Arg = (RefT Pool × (RefT (List ℕ) × (RefT (List ℕ) × (ℕ × (ℕ × (RefT (List ℕ) × (RefT ℕ × Unit {0})))))))

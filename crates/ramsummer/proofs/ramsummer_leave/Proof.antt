@@ -59,10 +59,10 @@ use Rattle.numbered.proofs.leave as call
 use Rattle.numbered.proofs.leave.Symbol as call-def
 use Rattle.numbered.proofs.leave.Symbol.{name as #call}
 use Rattle.numbered.proofs.leave.Met as call-thm
-use Rattle.host.proofs.ramsummer_leave.Key.{name as #f}
-use Rattle.host.proofs.ramsummer_leave as f
-use Rattle.host.proofs.ramsummer_leave.Statement as stated
-use Rattle.host.proofs.ramsummer_leave.Code as code
+use Rattle.ramsummer.proofs.ramsummer_leave.Key.{name as #f}
+use Rattle.ramsummer.proofs.ramsummer_leave as f
+use Rattle.ramsummer.proofs.ramsummer_leave.Statement as stated
+use Rattle.ramsummer.proofs.ramsummer_leave.Code as code
 
 abbrev Arg : Type 0
 Arg = (RefT Pool × (ℕ × (RefT ℕ × Unit {0})))

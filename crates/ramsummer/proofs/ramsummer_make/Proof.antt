@@ -59,10 +59,10 @@ use Rattle.numbered.proofs.make as call
 use Rattle.numbered.proofs.make.Symbol as call-def
 use Rattle.numbered.proofs.make.Symbol.{name as #call}
 use Rattle.numbered.proofs.make.Met as call-thm
-use Rattle.host.proofs.ramsummer_make.Key.{name as #f}
-use Rattle.host.proofs.ramsummer_make as f
-use Rattle.host.proofs.ramsummer_make.Statement as stated
-use Rattle.host.proofs.ramsummer_make.Code as code
+use Rattle.ramsummer.proofs.ramsummer_make.Key.{name as #f}
+use Rattle.ramsummer.proofs.ramsummer_make as f
+use Rattle.ramsummer.proofs.ramsummer_make.Statement as stated
+use Rattle.ramsummer.proofs.ramsummer_make.Code as code
 
 abbrev Arg : Type 0
 Arg = (RefT Pool × (RefT (List ℕ) × (RefT (List ℕ) × (ℕ × (ℕ × (ℕ × (ℕ × (RefT ℕ × Unit {0}))))))))

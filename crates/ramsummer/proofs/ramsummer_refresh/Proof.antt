@@ -59,10 +59,10 @@ use Rattle.numbered.proofs.refresh as call
 use Rattle.numbered.proofs.refresh.Symbol as call-def
 use Rattle.numbered.proofs.refresh.Symbol.{name as #call}
 use Rattle.numbered.proofs.refresh.Met as call-thm
-use Rattle.host.proofs.ramsummer_refresh.Key.{name as #f}
-use Rattle.host.proofs.ramsummer_refresh as f
-use Rattle.host.proofs.ramsummer_refresh.Statement as stated
-use Rattle.host.proofs.ramsummer_refresh.Code as code
+use Rattle.ramsummer.proofs.ramsummer_refresh.Key.{name as #f}
+use Rattle.ramsummer.proofs.ramsummer_refresh as f
+use Rattle.ramsummer.proofs.ramsummer_refresh.Statement as stated
+use Rattle.ramsummer.proofs.ramsummer_refresh.Code as code
 
 abbrev Arg : Type 0
 Arg = (RefT Pool × (ℕ × (ℕ × (ℕ × (ℕ × Unit {0})))))

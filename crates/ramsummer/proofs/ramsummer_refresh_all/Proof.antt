@@ -59,10 +59,10 @@ use Rattle.numbered.proofs.refresh_all as call
 use Rattle.numbered.proofs.refresh_all.Symbol as call-def
 use Rattle.numbered.proofs.refresh_all.Symbol.{name as #call}
 use Rattle.numbered.proofs.refresh_all.Met as call-thm
-use Rattle.host.proofs.ramsummer_refresh_all.Key.{name as #f}
-use Rattle.host.proofs.ramsummer_refresh_all as f
-use Rattle.host.proofs.ramsummer_refresh_all.Statement as stated
-use Rattle.host.proofs.ramsummer_refresh_all.Code as code
+use Rattle.ramsummer.proofs.ramsummer_refresh_all.Key.{name as #f}
+use Rattle.ramsummer.proofs.ramsummer_refresh_all as f
+use Rattle.ramsummer.proofs.ramsummer_refresh_all.Statement as stated
+use Rattle.ramsummer.proofs.ramsummer_refresh_all.Code as code
 
 abbrev Arg : Type 0
 Arg = (RefT Pool × (ℕ × (ℕ × (ℕ × (RefT (List ℕ) × Unit {0})))))

@@ -55,10 +55,10 @@ use Rattle.numbered.proofs.write as call
 use Rattle.numbered.proofs.write.Symbol as call-def
 use Rattle.numbered.proofs.write.Symbol.{name as #call}
 use Rattle.numbered.proofs.write.Met as call-thm
-use Rattle.host.proofs.ramsummer_write.Key.{name as #f}
-use Rattle.host.proofs.ramsummer_write as f
-use Rattle.host.proofs.ramsummer_write.Statement as stated
-use Rattle.host.proofs.ramsummer_write.Code as code
+use Rattle.ramsummer.proofs.ramsummer_write.Key.{name as #f}
+use Rattle.ramsummer.proofs.ramsummer_write as f
+use Rattle.ramsummer.proofs.ramsummer_write.Statement as stated
+use Rattle.ramsummer.proofs.ramsummer_write.Code as code
 
 abbrev Arg : Type 0
 Arg = (RefT Pool × (RefT (List ℕ) × (RefT (List ℕ) × (ℕ × (ℕ × (ℕ × (RefT (List ℕ) × Unit {0})))))))

@@ -1,4 +1,4 @@
--- `ramsummer_tick` meets its contract: a walk of its MIR. The record is copied out of the borrow and passed to `numbered::tick`; the record that comes back is stored
+-- `ramsummer_block` meets its contract: a walk of its MIR. The record is copied out of the borrow and passed to `numbered::block`; the record that comes back is stored
 -- behind the borrow, which is closed at it, and the number is returned.
 -- All that the walk knows of the call is that it meets its contract. Written by tools/entry-walk.
 use mathlib.Core.Path.{_≡_, refl, ap, subst}
@@ -55,14 +55,14 @@ use Rattle.numbered.specs.Told.{buffered}
 use Rattle.numbered.specs.Entries.{Does, MakesBy, RefreshesBy, RefreshesAllBy, WritesTo, CopiesOut, Carries}
 use Rattle.numbered.proofs.Numbered as J
 use Rattle.numbered.proofs.Numbered.Laws as J′
-use Rattle.numbered.proofs.tick as call
-use Rattle.numbered.proofs.tick.Symbol as call-def
-use Rattle.numbered.proofs.tick.Symbol.{name as #call}
-use Rattle.numbered.proofs.tick.Met as call-thm
-use Rattle.host.proofs.ramsummer_tick.Key.{name as #f}
-use Rattle.host.proofs.ramsummer_tick as f
-use Rattle.host.proofs.ramsummer_tick.Statement as stated
-use Rattle.host.proofs.ramsummer_tick.Code as code
+use Rattle.numbered.proofs.block as call
+use Rattle.numbered.proofs.block.Symbol as call-def
+use Rattle.numbered.proofs.block.Symbol.{name as #call}
+use Rattle.numbered.proofs.block.Met as call-thm
+use Rattle.ramsummer.proofs.ramsummer_block.Key.{name as #f}
+use Rattle.ramsummer.proofs.ramsummer_block as f
+use Rattle.ramsummer.proofs.ramsummer_block.Statement as stated
+use Rattle.ramsummer.proofs.ramsummer_block.Code as code
 
 abbrev Arg : Type 0
 Arg = (RefT Pool × (ℕ × (RefT ℕ × Unit {0})))
@@ -108,7 +108,7 @@ module _ {M : Type 1} (𝓤 : URA M) (H : Heap 𝓤) (A : Atoms 𝓤) (W : Given
 
   -- what the call says of what it gives back and leaves
   abbrev Did : Numbered → ℕ → Type 0
-  Did r y1 = Does (Use (Schedule Tick n0)) (h) ((s1 .now) ∷ []) (r .number) (r .pool) (y1 ∷ [])
+  Did r y1 = Does (Use (Schedule Block n0)) (h) ((s1 .now) ∷ []) (r .number) (r .pool) (y1 ∷ [])
 
   abbrev Left : Numbered → ℕ → List (Item 𝓤)
   Left r y1 = ‵ (fobs γ (P.the-row .coded .code (r .pool))) ∷ ‵ (fbor κ (Body (mem P.the-row) b o γ)) ∷ ‵ (flft κ q) ∷ (‵ (flft κ1 q1) ⊛ ‵ ftrue) ∷ ‵ (fres (s1 .name) (u8 .coded .code y1)) ∷ ‵ (u8 .own (r .number) ((vint w8 (r .number)) ∷ [])) ∷ []
@@ -167,10 +167,10 @@ meets : {M : Type 1} (𝓤 : URA M) (H : Heap 𝓤) (A : Atoms 𝓤) (W : Given 
 meets 𝓤 H A W at-mem run 𝓣 known = walk-meets 𝓤 H A f.ended stayed W (goes 𝓤 H A W at-mem run) (f.clauses 𝓤 H A at-mem run) (WpFn 𝓤 H (𝓣 .C) (𝓣 .Λ) code.function) (WpFn-mono 𝓤 H (W .laws) 𝓣 code.function)
     (walks 𝓤 H A W at-mem run (𝓣 .C) (𝓣 .Λ) (fmOf 𝓤 H (W .laws) 𝓣) known)
 
-pub ramsummer-tick-spec : {M : Type 1} → stated.statement M
+pub ramsummer-block-spec : {M : Type 1} → stated.statement M
 unfolding code.routine tablesOf
-ramsummer-tick-spec 𝓤 H 𝓜 𝓖 𝓡 =
+ramsummer-block-spec 𝓤 H 𝓜 𝓖 𝓡 =
     entered 𝓤 H (tripleOf 𝓤 H (𝓖 .A) f.signature (f.spec 𝓤 H (𝓖 .A) (𝓜 .mem) (𝓡 .run)))
     (tables 𝓤 H 𝓜 𝓡 code.env .C) (tables 𝓤 H 𝓜 𝓡 code.env .Λ) #f code.function (code.unfolded 𝓤 H 𝓜 𝓡)
     (meets 𝓤 H (𝓖 .A) (givenOf 𝓤 H 𝓜 𝓖) (𝓜 .mem) (𝓡 .run) (tablesOf 𝓤 H 𝓜 (tables 𝓤 H 𝓜 𝓡 code.env))
-    (cited 𝓤 H (Called 𝓤 H (𝓖 .A) (𝓜 .mem) (𝓡 .run)) 𝓜 𝓡 code.env #call call-def.routine code.calls-numbered·tick (call-thm.met 𝓤 H 𝓜 𝓖 𝓡)))
+    (cited 𝓤 H (Called 𝓤 H (𝓖 .A) (𝓜 .mem) (𝓡 .run)) 𝓜 𝓡 code.env #call call-def.routine code.calls-numbered·block (call-thm.met 𝓤 H 𝓜 𝓖 𝓡)))

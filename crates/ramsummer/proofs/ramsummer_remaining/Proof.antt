@@ -55,10 +55,10 @@ use Rattle.numbered.proofs.remaining as call
 use Rattle.numbered.proofs.remaining.Symbol as call-def
 use Rattle.numbered.proofs.remaining.Symbol.{name as #call}
 use Rattle.numbered.proofs.remaining.Met as call-thm
-use Rattle.host.proofs.ramsummer_remaining.Key.{name as #f}
-use Rattle.host.proofs.ramsummer_remaining as f
-use Rattle.host.proofs.ramsummer_remaining.Statement as stated
-use Rattle.host.proofs.ramsummer_remaining.Code as code
+use Rattle.ramsummer.proofs.ramsummer_remaining.Key.{name as #f}
+use Rattle.ramsummer.proofs.ramsummer_remaining as f
+use Rattle.ramsummer.proofs.ramsummer_remaining.Statement as stated
+use Rattle.ramsummer.proofs.ramsummer_remaining.Code as code
 
 abbrev Arg : Type 0
 Arg = (RefT Pool × (ℕ × (ℕ × (RefT ℕ × (RefT ℕ × Unit {0})))))

@@ -59,10 +59,10 @@ use Rattle.numbered.proofs.join as call
 use Rattle.numbered.proofs.join.Symbol as call-def
 use Rattle.numbered.proofs.join.Symbol.{name as #call}
 use Rattle.numbered.proofs.join.Met as call-thm
-use Rattle.host.proofs.ramsummer_join.Key.{name as #f}
-use Rattle.host.proofs.ramsummer_join as f
-use Rattle.host.proofs.ramsummer_join.Statement as stated
-use Rattle.host.proofs.ramsummer_join.Code as code
+use Rattle.ramsummer.proofs.ramsummer_join.Key.{name as #f}
+use Rattle.ramsummer.proofs.ramsummer_join as f
+use Rattle.ramsummer.proofs.ramsummer_join.Statement as stated
+use Rattle.ramsummer.proofs.ramsummer_join.Code as code
 
 abbrev Arg : Type 0
 Arg = (RefT Pool × (ℕ × Unit {0}))

@@ -55,10 +55,10 @@ use Rattle.numbered.proofs.report as call
 use Rattle.numbered.proofs.report.Symbol as call-def
 use Rattle.numbered.proofs.report.Symbol.{name as #call}
 use Rattle.numbered.proofs.report.Met as call-thm
-use Rattle.host.proofs.ramsummer_report.Key.{name as #f}
-use Rattle.host.proofs.ramsummer_report as f
-use Rattle.host.proofs.ramsummer_report.Statement as stated
-use Rattle.host.proofs.ramsummer_report.Code as code
+use Rattle.ramsummer.proofs.ramsummer_report.Key.{name as #f}
+use Rattle.ramsummer.proofs.ramsummer_report as f
+use Rattle.ramsummer.proofs.ramsummer_report.Statement as stated
+use Rattle.ramsummer.proofs.ramsummer_report.Code as code
 
 abbrev Arg : Type 0
 Arg = (RefT Pool × (RefT ℕ × (RefT ℕ × (RefT ℕ × (RefT ℕ × Unit {0})))))
