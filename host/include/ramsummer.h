@@ -30,7 +30,7 @@ extern "C" {
 
 /* Counts. */
 #define RAMSUMMER_TASKS 16         /* tasks are 0 to 15 */
-#define RAMSUMMER_BLOCKS 96        /* 64 small ones, then 32 large ones */
+#define RAMSUMMER_STORE_BLOCKS 96  /* 64 of the small store, then 32 of the large one */
 #define RAMSUMMER_EXPIRATIONS 256  /* as many stand at most, in all */
 #define RAMSUMMER_MAX_EXTENSION 30 /* the longest extension of an expiration */
 #define RAMSUMMER_LARGEST_BATCH 32 /* the most objects that one call refreshes */
@@ -47,7 +47,7 @@ enum ramsummer_answer {
     RAMSUMMER_NO_SUCH_TASK = 1,         /* task above 15 */
     RAMSUMMER_TASK_PRESENT = 2,         /* join: the task is not absent */
     RAMSUMMER_TASK_ABSENT = 3,          /* the task has not joined */
-    RAMSUMMER_TASK_WAITING = 4,         /* the task has blocked and not resumed */
+    RAMSUMMER_TASK_WAITING = 4,         /* the task waits: it has not resumed */
     RAMSUMMER_TASK_RUNNING = 5,         /* resume: the task is running */
     RAMSUMMER_EXTENSION_TOO_LONG = 6,   /* extension above 30 */
     RAMSUMMER_LENGTH_OUT_OF_RANGE = 7,  /* length 0 or above 256 */
@@ -77,17 +77,17 @@ typedef struct ramsummer_task_entry {
 /*
  * The record of a pool. A fresh one is all zeros.
  *
- * Block i has the object handles[i] of lengths[i] bytes; handle 0 is a free block. Expiration i belongs to the object in
- * block named[i], and is due when the clock clocks[i] reads dues[i]: 16 + t is the local time of task t, 32 global time,
- * and 0 a free entry. The other fields of a free block or entry have no meaning and may hold anything.
+ * Store block i has the object handles[i] of lengths[i] bytes; handle 0 is a free one. Expiration i belongs to the
+ * object in store block named[i], and is due when the clock clocks[i] reads dues[i]: 16 + t is the local time of task t,
+ * 32 global time, and 0 a free entry. The other fields of a free one of either have no meaning and may hold anything.
  */
 typedef struct ramsummer_pool {
     ramsummer_task_entry tasks[RAMSUMMER_TASKS];
-    uint32_t global;                       /* global time */
-    uint32_t given;                        /* handles given so far */
-    uint32_t handles[RAMSUMMER_BLOCKS];    /* those of the small store's blocks, then those of the large one's */
-    uint16_t lengths[RAMSUMMER_BLOCKS];
-    uint8_t clocks[RAMSUMMER_EXPIRATIONS]; /* in no order */
+    uint32_t global;                          /* global time */
+    uint32_t given;                           /* handles given so far */
+    uint32_t handles[RAMSUMMER_STORE_BLOCKS]; /* those of the small store's blocks, then those of the large one's */
+    uint16_t lengths[RAMSUMMER_STORE_BLOCKS];
+    uint8_t clocks[RAMSUMMER_EXPIRATIONS];    /* in no order */
     uint8_t named[RAMSUMMER_EXPIRATIONS];
     uint32_t dues[RAMSUMMER_EXPIRATIONS];
 } ramsummer_pool;

@@ -103,8 +103,8 @@ static inline uint8_t *ramsummer_image_put_record(uint8_t *at, const ramsummer_p
     }
     at = ramsummer_image_put(at, pool->global, 4);
     at = ramsummer_image_put(at, pool->given, 4);
-    for (i = 0; i < RAMSUMMER_BLOCKS; i++) at = ramsummer_image_put(at, pool->handles[i], 4);
-    for (i = 0; i < RAMSUMMER_BLOCKS; i++) at = ramsummer_image_put(at, pool->lengths[i], 2);
+    for (i = 0; i < RAMSUMMER_STORE_BLOCKS; i++) at = ramsummer_image_put(at, pool->handles[i], 4);
+    for (i = 0; i < RAMSUMMER_STORE_BLOCKS; i++) at = ramsummer_image_put(at, pool->lengths[i], 2);
     for (i = 0; i < RAMSUMMER_EXPIRATIONS; i++) at = ramsummer_image_put(at, pool->clocks[i], 1);
     for (i = 0; i < RAMSUMMER_EXPIRATIONS; i++) at = ramsummer_image_put(at, pool->named[i], 1);
     for (i = 0; i < RAMSUMMER_EXPIRATIONS; i++) at = ramsummer_image_put(at, pool->dues[i], 4);
@@ -120,8 +120,8 @@ static inline const uint8_t *ramsummer_image_take_record(const uint8_t *at, rams
     }
     pool->global = ramsummer_image_take(&at, 4);
     pool->given = ramsummer_image_take(&at, 4);
-    for (i = 0; i < RAMSUMMER_BLOCKS; i++) pool->handles[i] = ramsummer_image_take(&at, 4);
-    for (i = 0; i < RAMSUMMER_BLOCKS; i++) pool->lengths[i] = (uint16_t)ramsummer_image_take(&at, 2);
+    for (i = 0; i < RAMSUMMER_STORE_BLOCKS; i++) pool->handles[i] = ramsummer_image_take(&at, 4);
+    for (i = 0; i < RAMSUMMER_STORE_BLOCKS; i++) pool->lengths[i] = (uint16_t)ramsummer_image_take(&at, 2);
     for (i = 0; i < RAMSUMMER_EXPIRATIONS; i++) pool->clocks[i] = (uint8_t)ramsummer_image_take(&at, 1);
     for (i = 0; i < RAMSUMMER_EXPIRATIONS; i++) pool->named[i] = (uint8_t)ramsummer_image_take(&at, 1);
     for (i = 0; i < RAMSUMMER_EXPIRATIONS; i++) pool->dues[i] = ramsummer_image_take(&at, 4);

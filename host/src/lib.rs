@@ -108,5 +108,5 @@ pub use answer::{Answer, Remaining, Report};
 pub use handle::Handle;
 pub use kind::Kind;
 pub use pool::{Pool, LARGE, LARGEST_BATCH, LINE, LONGEST, SMALL};
-pub use record::{Record, TaskEntry, BLOCKS, EXPIRATIONS, RECORD, TASKS};
+pub use record::{Record, TaskEntry, EXPIRATIONS, RECORD, STORE_BLOCKS, TASKS};
 pub use refusal::Refusal;

@@ -6,8 +6,8 @@ use core::mem::{align_of, offset_of, size_of};
 /// Tasks are 0 to 15.
 pub const TASKS: usize = 16;
 
-/// The blocks of both stores: 64 small ones, then 32 large ones.
-pub const BLOCKS: usize = 96;
+/// The blocks of both stores: 64 of the small one, then 32 of the large one.
+pub const STORE_BLOCKS: usize = 96;
 
 /// The expirations that may stand at a time, in all.
 pub const EXPIRATIONS: usize = 256;
@@ -33,9 +33,9 @@ pub struct TaskEntry {
 /// It holds nothing but numbers, and any numbers may be in it: each call tests first whether the record is well-formed,
 /// and refuses with [`NotWellFormed`](crate::Refusal::NotWellFormed) where it is not.
 ///
-/// Block `i` and the object in it are `handles[i]` and `lengths[i]`; blocks 0 to 63 are the small store's, 64 to 95 the
+/// Store block `i` and the object in it are `handles[i]` and `lengths[i]`; 0 to 63 are the small store's, 64 to 95 the
 /// large one's. Expiration `i` is `clocks[i]`, `named[i]` and `dues[i]`; they stand in no order. The other fields of a
-/// free block or expiration have no meaning, and may hold anything.
+/// free store block or expiration have no meaning, and may hold anything.
 #[repr(C)]
 #[derive(Clone, Debug, PartialEq, Eq)]
 #[non_exhaustive]
@@ -46,14 +46,14 @@ pub struct Record {
     pub global: u32,
     /// The count of handles given so far.
     pub given: u32,
-    /// The handle of the object in each block; 0 where the block is free.
-    pub handles: [u32; BLOCKS],
-    /// The length of the object in each block.
-    pub lengths: [u16; BLOCKS],
+    /// The handle of the object in each store block; 0 where it is free.
+    pub handles: [u32; STORE_BLOCKS],
+    /// The length of the object in each store block.
+    pub lengths: [u16; STORE_BLOCKS],
     /// The clock that each expiration goes by: 16 and the number of a task for the task's local time, 32 for global time,
     /// and 0 where the entry is free. (A call's [`Kind`](crate::Kind) is another number.)
     pub clocks: [u8; EXPIRATIONS],
-    /// The block with the object that each expiration belongs to.
+    /// The store block with the object that each expiration belongs to.
     pub named: [u8; EXPIRATIONS],
     /// What the clock of each expiration reads when it is due.
     pub dues: [u32; EXPIRATIONS],
@@ -77,8 +77,8 @@ impl Record {
             tasks: [TaskEntry { state: 0, ticked: 0, clock: 0 }; TASKS],
             global: 0,
             given: 0,
-            handles: [0; BLOCKS],
-            lengths: [0; BLOCKS],
+            handles: [0; STORE_BLOCKS],
+            lengths: [0; STORE_BLOCKS],
             clocks: [0; EXPIRATIONS],
             named: [0; EXPIRATIONS],
             dues: [0; EXPIRATIONS],

@@ -22,7 +22,7 @@ pub enum Refusal {
     TaskPresent = 2,
     /// The task has not joined.
     TaskAbsent = 3,
-    /// The task has blocked and not resumed.
+    /// The task waits: it has not resumed.
     TaskWaiting = 4,
     /// Resume: the task is running.
     TaskRunning = 5,

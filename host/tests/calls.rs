@@ -2,7 +2,8 @@
 #![cfg(feature = "alloc")]
 
 use ramsummer::{
-    Handle, Kind, Pool, Record, Refusal, Remaining, BLOCKS, EXPIRATIONS, LARGE, LARGEST_BATCH, LONGEST, RECORD, SMALL,
+    Handle, Kind, Pool, Record, Refusal, Remaining, EXPIRATIONS, LARGE, LARGEST_BATCH, LONGEST, RECORD, SMALL,
+    STORE_BLOCKS,
 };
 
 /// A pool in which task 0 runs, 1 waits and 2 is absent.
@@ -314,7 +315,7 @@ fn the_record_shows_objects_and_expirations() {
 #[test]
 fn what_else_stands_in_free_entries_has_no_meaning() {
     let mut record = Record::fresh();
-    (record.lengths, record.named, record.dues) = ([999; BLOCKS], [255; EXPIRATIONS], [7; EXPIRATIONS]);
+    (record.lengths, record.named, record.dues) = ([999; STORE_BLOCKS], [255; EXPIRATIONS], [7; EXPIRATIONS]);
     let mut pool: Pool = Pool::over(record.into(), vec![0; SMALL].into(), vec![0; LARGE].into());
     pool.join(0).unwrap();
     let handle = pool.make(0, Kind::Local, 0, 2).unwrap();

@@ -35,7 +35,7 @@ fn claims() -> Vec<(String, usize)> {
         ("RAMSUMMER_LINE", ramsummer::LINE),
         ("RAMSUMMER_RECORD", ramsummer::RECORD),
         ("RAMSUMMER_TASKS", ramsummer::TASKS),
-        ("RAMSUMMER_BLOCKS", ramsummer::BLOCKS),
+        ("RAMSUMMER_STORE_BLOCKS", ramsummer::STORE_BLOCKS),
         ("RAMSUMMER_EXPIRATIONS", ramsummer::EXPIRATIONS),
         ("RAMSUMMER_LARGEST_BATCH", ramsummer::LARGEST_BATCH),
         ("RAMSUMMER_DONE", 0),

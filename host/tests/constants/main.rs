@@ -35,7 +35,7 @@ fn proved() -> Numbers {
         ("LINE", value("execute", "LONGEST_ANSWER")),
         ("RECORD", layout::size_of("Pool")),
         ("TASKS", value("ledger", "TASK_COUNT")),
-        ("BLOCKS", value("record", "BLOCK_COUNT")),
+        ("STORE_BLOCKS", value("record", "BLOCK_COUNT")),
         ("EXPIRATIONS", value("record", "EXPIRATION_COUNT")),
         ("MAX_EXTENSION", value("ledger", "LIMITS.extension")),
         ("LARGEST_BATCH", value("ledger", "LARGEST_BATCH")),
