@@ -7,8 +7,8 @@ use std::{env, process};
 
 const ARCHIVE: &str = "libramsummer.a";
 
-/// Links the library. `root` is the repository's, seen from the folder of the crate that is built.
-pub fn library(root: &str) {
+/// Links the library, and tells where it is. `root` is the repository's, seen from the folder of the crate that is built.
+pub fn library(root: &str) -> PathBuf {
     println!("cargo:rerun-if-env-changed=RAMSUMMER_LIB");
     let folder = folder(root);
     let archive = folder.join(ARCHIVE);
@@ -20,6 +20,7 @@ pub fn library(root: &str) {
     }
     println!("cargo:rustc-link-search=native={}", folder.display());
     println!("cargo:rustc-link-lib=static=ramsummer");
+    archive
 }
 
 fn folder(root: &str) -> PathBuf {

@@ -115,7 +115,7 @@ pub const BATCH: &str = "batch of 32";
 pub const ONE_BY_ONE: &str = "32 refreshes";
 
 /// So many objects, from all over the blocks.
-fn naming(expirations: usize, count: usize) -> Arguments {
+pub(crate) fn naming(expirations: usize, count: usize) -> Arguments {
     let (small, large) = objects(expirations);
     let handles = (0..count).map(|place| 1 + (place * (small + large) / count) as u32).collect();
     Arguments { handles, extension: 9, ..Arguments::default() }
@@ -166,7 +166,7 @@ fn refusals(expirations: usize) -> Vec<Case> {
     cases
 }
 
-fn case(name: &'static str, entry: Entry, expirations: usize, arguments: Arguments) -> Case {
+pub(crate) fn case(name: &'static str, entry: Entry, expirations: usize, arguments: Arguments) -> Case {
     let sets = match entry {
         Entry::Make | Entry::Refresh => 1,
         Entry::Batch | Entry::OneByOne => arguments.handles.len(),
@@ -210,7 +210,7 @@ fn last_handles(expirations: usize) -> (u32, u32) {
     (small as u32, (small + large) as u32)
 }
 
-fn line(call: &Call) -> Arguments {
+pub(crate) fn line(call: &Call) -> Arguments {
     let mut line = Vec::new();
     encode(call, &mut line);
     line.pop();

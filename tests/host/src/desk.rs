@@ -57,6 +57,7 @@ pub const SUBJECTS: [Subject; 3] = [Subject::Library, Subject::Plain, Subject::W
 
 #[derive(Clone, Copy, Debug, PartialEq, Eq)]
 pub enum Entry {
+    Fresh,
     Join,
     Leave,
     Block,
@@ -78,7 +79,8 @@ pub enum Entry {
 
 impl Entry {
     /// The entries, and the fit test.
-    pub const ALL: [Entry; 14] = [
+    pub const ALL: [Entry; 15] = [
+        Entry::Fresh,
         Entry::Join,
         Entry::Leave,
         Entry::Block,
@@ -100,7 +102,7 @@ impl Entry {
     }
 }
 
-/// The function that is measured. The work alone has no entry for frames.
+/// The function that is measured. The work alone has none for fresh and for frames.
 pub fn action(entry: Entry, subject: Subject) -> Option<Action> {
     if entry == Entry::Fit {
         return (subject == Subject::Plain).then_some(fit as Action);
@@ -124,6 +126,7 @@ fn fit(desk: &mut Desk, _: &Arguments) -> u8 {
 
 fn entry_of<E: Entries>(entry: Entry) -> Action {
     match entry {
+        Entry::Fresh => |desk, _| E::fresh(&mut desk.memory.pool),
         Entry::Join => |desk, with| E::join(&mut desk.memory.pool, with.task),
         Entry::Leave => |desk, with| E::leave(&mut desk.memory.pool, with.task, &mut desk.advanced),
         Entry::Block => |desk, with| E::block(&mut desk.memory.pool, with.task, &mut desk.advanced),
@@ -204,7 +207,7 @@ fn work_of(entry: Entry) -> Option<Action> {
             let refresh = |handle: &u32| number(work::refresh(&mut desk.memory.pool, with_all, *handle));
             with.handles.iter().map(refresh).max().unwrap_or(0)
         },
-        Entry::Frame | Entry::Fit => return None,
+        Entry::Fresh | Entry::Frame | Entry::Fit => return None,
     })
 }
 

@@ -22,22 +22,42 @@ pub fn full(expirations: usize) -> Memory {
 
 /// So many tasks run, so many small and large objects stand, and so many expirations in all, set by the tasks in turn,
 /// local and global. None goes within five ticks.
-pub fn standing(tasks: usize, (small, large): (usize, usize), expirations: usize) -> Memory {
+pub fn standing(tasks: usize, objects: (usize, usize), expirations: usize) -> Memory {
+    standing_by(tasks, objects, expirations, |count| Setting {
+        task: (count % tasks) as u8,
+        kind: if count % 2 == 0 { Kind::Local } else { Kind::Global },
+        extension: 5 + (count % 26) as u8,
+        object: count % (objects.0 + objects.1),
+    })
+}
+
+/// One expiration: by which task, and how; and on which object, by its count, where it makes none.
+pub struct Setting {
+    pub task: u8,
+    pub kind: Kind,
+    pub extension: u8,
+    pub object: usize,
+}
+
+/// So many tasks run, so many small and large objects stand, each made with one of the first of these expirations.
+pub fn standing_by(
+    tasks: usize,
+    (small, large): (usize, usize),
+    expirations: usize,
+    setting: impl Fn(usize) -> Setting,
+) -> Memory {
     let mut host = Host::<Plain>::new(Memory::fresh(&mut Random::new(1)));
     let mut done = |call: Call| assert!(host.call(&call).is_ok(), "{call:?}");
     for task in 0..tasks as u8 {
         done(Call::Join { task });
     }
     for count in 0..expirations {
-        let task = (count % tasks) as u8;
-        let kind = if count % 2 == 0 { Kind::Local } else { Kind::Global };
-        let extension = 5 + (count % 26) as u8;
-        let objects = small + large;
-        done(if count < objects {
+        let Setting { task, kind, extension, object } = setting(count);
+        done(if count < small + large {
             let length = if count < small { SMALL_SIZE } else { LARGE_SIZE } as u16;
             Call::Make { task, kind, extension, length }
         } else {
-            Call::Refresh { task, kind, extension, handle: 1 + (count % objects) as u32 }
+            Call::Refresh { task, kind, extension, handle: 1 + object as u32 }
         });
     }
     host.memory
@@ -74,6 +94,15 @@ pub const NUMBERINGS: [Numbering; 4] =
     [Numbering::InTurn, Numbering::Alike(256), Numbering::Alike(65_536), Numbering::OnOnePlace];
 
 impl Numbering {
+    /// In words.
+    pub fn name(self) -> String {
+        match self {
+            Numbering::InTurn => "one after the other".to_string(),
+            Numbering::Alike(modulus) => format!("alike modulo {modulus}"),
+            Numbering::OnOnePlace => "on one place of plain's table".to_string(),
+        }
+    }
+
     /// The handles, lowest first.
     pub fn handles(self) -> Vec<u32> {
         let place = spread(FIRST);

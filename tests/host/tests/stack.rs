@@ -4,11 +4,12 @@ use std::hint::black_box;
 
 use host_tests::cases::{all, Case};
 use host_tests::desk::{Action, Entry, Subject};
+use host_tests::extremes;
 use host_tests::stack::depth;
 
 const KB: usize = 1024;
 
-/// What each call may take. The line and the answer of a frame are its caller's, and not in it.
+/// What each call may take: docs/BUDGET.md has the goals, 8 KB and of a frame 10. The line and the answer of a frame are its caller's, and not in it.
 const fn limit(entry: Entry) -> usize {
     match entry {
         Entry::Frame => 10 * KB,
@@ -25,7 +26,7 @@ fn deepest(cases: &[Case], entry: Entry, subject: Subject) -> usize {
 
 #[test]
 fn a_call_stays_within_its_limit() {
-    let cases = all();
+    let cases: Vec<_> = all().into_iter().chain(extremes::usual()).chain(extremes::all()).collect();
     for entry in Entry::ALL {
         let [library, plain] = [Subject::Library, Subject::Plain].map(|subject| deepest(&cases, entry, subject));
         println!("{}: {library} bytes, plain {plain}", entry.name());

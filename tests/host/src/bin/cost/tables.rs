@@ -1,60 +1,55 @@
 //! The tables.
 
-use host_tests::cases::{self, Case, BATCH, ONE_BY_ONE, STANDING};
+use host_tests::callgrind::Count;
+use host_tests::cases::{Case, BATCH, ONE_BY_ONE, STANDING};
 use host_tests::desk::{Entry, Subject};
-use host_tests::samples::{Numbering, NUMBERINGS};
+use host_tests::malloc;
+use host_tests::measures::Measures;
+use host_tests::samples::NUMBERINGS;
 use host_tests::stack;
 use plain::limits::{EXPIRATIONS, LARGEST_BATCH};
 
-use crate::callgrind::Count;
-use crate::malloc;
-use crate::measures::Measures;
+use crate::limits::{self, GOAL};
 
 const MOST: usize = STANDING[STANDING.len() - 1];
 
-/// What a call of the library may take of the plain pool's instructions.
-const LIMIT: f64 = 1.2;
-
-/// Prints all, and says whether no call takes more than [`LIMIT`] times the plain pool's instructions.
-pub fn print(counts: &Measures<Count>, times: &Measures<f64>) -> bool {
-    let cases = cases::all();
+/// Prints all, and says whether every call is within its limit.
+pub fn print(cases: &[Case], counts: &Measures<Count>, times: &Measures<f64>) -> bool {
     println!("## Each call, {MOST} expirations standing (255 where the call sets one, 224 where it sets 32)\n");
-    calls(&cases, counts, times);
+    calls(cases, counts, times);
     println!("\n## Growth: instructions with so many expirations standing\n");
-    growth(&cases, counts);
+    growth(cases, counts);
     println!("\n## A scan of 32 objects: refreshed one by one, and by one batch\n");
-    scans(&cases, counts, times);
+    scans(cases, counts, times);
     println!("\n## Where the instructions go, {MOST} expirations standing\n");
-    parts(&cases, counts);
+    parts(cases, counts);
     println!("\n## Functions of the library in one tick, {MOST} expirations standing\n");
-    functions(&cases, counts);
+    functions(cases, counts);
     println!("\n## Handles that make the fit test work most, {MOST} expirations standing\n");
-    numberings(&cases, counts, times);
+    numberings(cases, counts, times);
     println!("\n## Stack: the deepest of all cases of a call, in bytes\n");
-    stacks(&cases);
+    stacks(cases);
     println!("\n## Beside malloc\n");
-    mallocs(&cases, counts, times);
-    println!();
-    let usual = worst(&cases, counts, "a record of usual handles", |case| case.numbering.is_none());
-    let numbered = worst(&cases, counts, "the other handles", |case| case.numbering.is_some());
-    usual & numbered
+    mallocs(cases, counts, times);
+    println!("\n## Limits: library/plain, {MOST} expirations standing\n");
+    within_limits(cases, counts)
 }
 
-/// The highest ratio of library to plain with all expirations standing, of the cases of a kind that are not refused with
-/// 15; and whether it is within the limit.
-fn worst(cases: &[Case], counts: &Measures<Count>, what: &str, of: impl Fn(&Case) -> bool) -> bool {
-    let fit = cases
-        .iter()
-        .enumerate()
-        .filter(|(_, case)| of(case) && case.entry != Entry::OneByOne && case.expirations == MOST && case.answer != 15);
-    let ratios = fit.filter_map(|(place, case)| match totals(&counts.cases[place]) {
-        [Some(library), Some(plain), _] => Some((library / plain, case)),
-        _ => None,
-    });
-    let Some((ratio, case)) = ratios.max_by(|one, other| one.0.total_cmp(&other.0)) else { return true };
-    let numbering = case.numbering.map_or_else(String::new, |numbering| format!(", handles {}", name(numbering)));
-    println!("The highest ratio with {what}: {ratio:.2} ({}{numbering}); the limit is {LIMIT}.", case.name);
-    ratio <= LIMIT
+/// The ratio of each case with all expirations standing that is not refused with 15, beside its limit and the goal; and
+/// whether all are within their limits.
+fn within_limits(cases: &[Case], counts: &Measures<Count>) -> bool {
+    println!("| call | library/plain | its limit | within | the goal | met |\n|---|---:|---:|---|---:|---|");
+    let is_held = |case: &Case| case.entry != Entry::OneByOne && case.expirations == MOST && case.answer != 15;
+    let mut within = true;
+    for (place, case) in cases.iter().enumerate().filter(|(_, case)| is_held(case)) {
+        let [Some(library), Some(plain), _] = totals(&counts.cases[place]) else { continue };
+        let (name, ratio) = (limits::name(case), library / plain);
+        let limit = limits::of(&name);
+        let says = |is: bool| if is { "yes" } else { "no" };
+        println!("| {name} | {ratio:.3} | {limit:.2} | {} | {GOAL} | {} |", says(ratio <= limit), says(ratio <= GOAL));
+        within &= ratio <= limit;
+    }
+    within
 }
 
 /// The cases of one call with the most expirations and the handles that a short list of calls gives, with their places.
@@ -182,14 +177,6 @@ fn functions(cases: &[Case], counts: &Measures<Count>) {
     }
 }
 
-fn name(numbering: Numbering) -> String {
-    match numbering {
-        Numbering::InTurn => "one after the other".to_string(),
-        Numbering::Alike(modulus) => format!("alike modulo {modulus}"),
-        Numbering::OnOnePlace => "on one place of plain's table".to_string(),
-    }
-}
-
 /// Each numbering of the objects beside the usual one, which is the first.
 fn numberings(cases: &[Case], counts: &Measures<Count>, times: &Measures<f64>) {
     println!("| call | handles | library | to usual | plain | to usual | library/plain | ns: library | plain |");
@@ -206,7 +193,7 @@ fn numberings(cases: &[Case], counts: &Measures<Count>, times: &Measures<f64>) {
             println!(
                 "| {} | {} | {} | {} | {} | {} | {} | {} | {} |",
                 case.name,
-                name(numbering),
+                numbering.name(),
                 number(library),
                 ratio(library, library_usual),
                 number(plain),

@@ -5,15 +5,14 @@ use std::time::Instant;
 
 use host_tests::cases::Case;
 use host_tests::desk::{measured, Action, Desk};
-
-use crate::malloc;
-use crate::measures::{measure, Measures};
+use host_tests::malloc;
+use host_tests::measures::{measure, Measures};
 
 const ROUNDS: usize = 20;
 const REPEATS: usize = 1_000;
 
-pub fn all() -> Measures<f64> {
-    measure(time, |way| best(|| malloc::measured(way.action, way.size)))
+pub fn all(cases: &[Case]) -> Measures<f64> {
+    measure(cases, time, |way| best(|| malloc::measured(way.action, way.size)))
 }
 
 fn time(case: &Case, action: Action) -> f64 {

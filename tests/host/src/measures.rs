@@ -1,8 +1,7 @@
 //! Something measured of all cases, always in the same order.
 
-use host_tests::cases::{self, Case};
-use host_tests::desk::{Action, SUBJECTS};
-
+use crate::cases::Case;
+use crate::desk::{Action, SUBJECTS};
 use crate::malloc::{Way, WAYS};
 
 /// What is measured of each case, for each subject that has it, and of each way of allocation.
@@ -11,7 +10,7 @@ pub struct Measures<T> {
     pub ways: Vec<T>,
 }
 
-pub fn measure<T>(mut case: impl FnMut(&Case, Action) -> T, way: impl FnMut(&Way) -> T) -> Measures<T> {
+pub fn measure<T>(cases: &[Case], mut case: impl FnMut(&Case, Action) -> T, way: impl FnMut(&Way) -> T) -> Measures<T> {
     let mut of = |of: &Case| SUBJECTS.map(|subject| of.action(subject).map(|action| case(of, action)));
-    Measures { cases: cases::all().iter().map(&mut of).collect(), ways: WAYS.iter().map(way).collect() }
+    Measures { cases: cases.iter().map(&mut of).collect(), ways: WAYS.iter().map(way).collect() }
 }

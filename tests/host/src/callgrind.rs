@@ -1,4 +1,4 @@
-//! Instructions: every case under callgrind in one run of this program, with the counts written out after each.
+//! Instructions: every case under callgrind in one run of the program that asks, with the counts written out after each.
 
 use std::cell::RefCell;
 use std::collections::BTreeMap;
@@ -8,9 +8,8 @@ use std::io;
 use std::path::{Path, PathBuf};
 use std::process::{Command, Stdio};
 
-use host_tests::cases::Case;
-use host_tests::desk::{measured, Action, Desk};
-
+use crate::cases::Case;
+use crate::desk::{measured, Action, Desk};
 use crate::malloc::{self, Way};
 use crate::measures::{measure, Measures};
 
@@ -35,8 +34,8 @@ impl Count {
 }
 
 /// Makes all calls, and has the counts written out after each case.
-pub fn run_all() {
-    measure(run, run_way);
+pub fn run_all(cases: &[Case]) {
+    measure(cases, run, run_way);
 }
 
 fn run(case: &Case, action: Action) {
@@ -64,8 +63,9 @@ fn case_is_done() {
     black_box(());
 }
 
-/// Runs this program under callgrind and reads its counts, one file for each case.
-pub fn counts() -> io::Result<Measures<Count>> {
+/// Runs this program under callgrind, as `PROGRAM count`, which has to [`run_all`] the same cases, and reads its counts, one
+/// file for each case.
+pub fn counts(cases: &[Case]) -> io::Result<Measures<Count>> {
     let folder = Folder::new()?;
     let file = folder.0.join("counts");
     let mut valgrind = Command::new("valgrind");
@@ -79,14 +79,14 @@ pub fn counts() -> io::Result<Measures<Count>> {
     }
     let parts = (1..).map(|part| folder.0.join(format!("counts.{part}"))).take_while(|path| path.exists());
     let counts: Vec<Count> = parts.map(|path| read(&path)).collect::<io::Result<_>>()?;
-    in_order(counts).ok_or_else(|| io::Error::other("callgrind has not written out every case"))
+    in_order(cases, counts).ok_or_else(|| io::Error::other("callgrind has not written out every case"))
 }
 
 /// The counts, in the order in which the cases were run, put where they belong.
-fn in_order(counts: Vec<Count>) -> Option<Measures<Count>> {
+fn in_order(cases: &[Case], counts: Vec<Count>) -> Option<Measures<Count>> {
     let counts = RefCell::new(counts.into_iter());
     let next = || counts.borrow_mut().next();
-    let Measures { cases, ways } = measure(|_, _| next(), |_| next());
+    let Measures { cases, ways } = measure(cases, |_, _| next(), |_| next());
     let complete = |of_case: [Option<Option<Count>>; 3]| match of_case {
         [Some(None), ..] | [_, Some(None), _] | [.., Some(None)] => None,
         counted => Some(counted.map(Option::flatten)),
@@ -122,7 +122,7 @@ struct Folder(PathBuf);
 
 impl Folder {
     fn new() -> io::Result<Folder> {
-        let path = std::env::temp_dir().join(format!("cost-{}", std::process::id()));
+        let path = std::env::temp_dir().join(format!("counts-{}", std::process::id()));
         fs::create_dir(&path)?;
         Ok(Folder(path))
     }
@@ -131,7 +131,7 @@ impl Folder {
 impl Drop for Folder {
     fn drop(&mut self) {
         if let Err(error) = fs::remove_dir_all(&self.0) {
-            eprintln!("cost: {} stays: {error}", self.0.display());
+            eprintln!("{} stays: {error}", self.0.display());
         }
     }
 }

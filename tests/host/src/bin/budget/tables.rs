@@ -1,0 +1,129 @@
+//! The tables.
+
+use host_tests::callgrind::Count;
+use host_tests::cases::Case;
+use host_tests::desk::{Entry, Subject};
+use host_tests::measures::Measures;
+use host_tests::stack;
+use plain::calls::ANSWER_ROOM;
+use plain::limits::{LARGE_STORE, SMALL_STORE};
+use plain::record::RECORD;
+
+use crate::archive::Size;
+
+/// How many times the typical instructions the worst ones may be.
+const MOST_TO_TYPICAL: f64 = 2.0;
+
+/// The stack that a call may take, and a frame, in bytes.
+const CALL_STACK: usize = 8 * 1024;
+const FRAME_STACK: usize = 10 * 1024;
+
+/// How many expirations stand where a call is typical: half of all.
+const TYPICAL_STANDING: usize = 128;
+
+/// Each row: its call, and the case that is typical of it. The rows of a frame are by what it asks.
+const ROWS: [(&str, &str); 20] = [
+    ("fresh", "fresh"),
+    ("join", "join"),
+    ("leave", "leave"),
+    ("block", "block"),
+    ("resume", "resume"),
+    ("tick", "tick"),
+    ("make", "make 32"),
+    ("refresh", "refresh"),
+    ("batch", "batch of 16"),
+    ("read", "read 32"),
+    ("write", "write 32"),
+    ("report", "report"),
+    ("remaining", "remaining"),
+    ("frame: tick", "frame: tick"),
+    ("frame: make", "frame: make 32"),
+    ("frame: batch", "frame: batch of 16"),
+    ("frame: read", "frame: read 256"),
+    ("frame: write", "frame: write 256"),
+    ("frame: report", "frame: report"),
+    ("frame: remaining", "frame: remaining"),
+];
+
+pub fn print(cases: &[Case], size: &Size, counts: &Measures<Count>) {
+    println!("## Memory, in bytes\n");
+    memory(size);
+    println!("\n## Stack and instructions of each call\n");
+    let met = calls(cases, counts);
+    println!("\nThe goals are met by {} of {} rows in stack and by {} in instructions.", met.0, ROWS.len(), met.1);
+}
+
+fn memory(size: &Size) {
+    println!("| what | where | bytes |\n|---|---|---:|");
+    println!("| the record | RAM, the host's | {RECORD} |");
+    println!("| the small store | RAM, the host's | {SMALL_STORE} |");
+    println!("| the large store | RAM, the host's | {LARGE_STORE} |");
+    println!("| record and stores together | RAM, the host's | {} |", RECORD + SMALL_STORE + LARGE_STORE);
+    println!("| the library's own variables | RAM | {} |", size.variables);
+    println!("| room for an answer line, where frames are used | RAM, the host's | {ANSWER_ROOM} |");
+    println!("| machine code of all entries, x86-64 | text | {} |", size.text);
+    println!("| constants | read-only | {} |", size.constants);
+}
+
+/// Prints the rows, and tells how many meet the goals of stack and of instructions.
+fn calls(cases: &[Case], counts: &Measures<Count>) -> (usize, usize) {
+    println!("| call | stack | goal | met | instructions: typical | worst | worst/typical | goal | met | worst is |");
+    println!("|---|---:|---:|---|---:|---:|---:|---:|---|---|");
+    let met = ROWS.map(|(row, typical)| {
+        let of_row = || cases.iter().enumerate().filter(|(_, case)| row_of(case) == row);
+        let stack = of_row().filter_map(|(_, case)| depth(case)).max().expect("a case");
+        let stack_goal = if row.starts_with("frame") { FRAME_STACK } else { CALL_STACK };
+        let (place, _) = of_row().find(|(_, case)| is_typical(case, typical)).expect("a typical case");
+        let typical = instructions(counts, place);
+        // 15 is of damaged records alone.
+        let reached = of_row().filter(|(_, case)| case.answer != 15);
+        let (worst, case) = reached
+            .map(|(place, case)| (instructions(counts, place), case))
+            .max_by(|one, other| one.0.total_cmp(&other.0))
+            .expect("a case");
+        let met = (stack <= stack_goal, worst <= MOST_TO_TYPICAL * typical);
+        println!(
+            "| {row} | {stack} | {stack_goal} | {} | {typical:.0} | {worst:.0} | {:.2} | {MOST_TO_TYPICAL} | {} | {} |",
+            says(met.0),
+            worst / typical,
+            says(met.1),
+            described(case),
+        );
+        met
+    });
+    (met.iter().filter(|met| met.0).count(), met.iter().filter(|met| met.1).count())
+}
+
+/// The row of a case. 32 refreshes and the fit test are no calls, and are in none.
+fn row_of(case: &Case) -> String {
+    match case.entry {
+        Entry::Frame => case.name.split([' ', ',']).take(2).collect::<Vec<_>>().join(" "),
+        entry => entry.name(),
+    }
+}
+
+fn is_typical(case: &Case, name: &str) -> bool {
+    case.name == name && case.expirations == TYPICAL_STANDING && case.numbering.is_none()
+}
+
+fn depth(case: &Case) -> Option<usize> {
+    case.action(Subject::Library).map(|action| stack::depth(case, action))
+}
+
+fn instructions(counts: &Measures<Count>, place: usize) -> f64 {
+    counts.cases[place][0].as_ref().map_or(0.0, Count::total)
+}
+
+/// Which record it is: what the call does there, and how its handles are numbered.
+fn described(case: &Case) -> String {
+    let handles = case.numbering.map_or_else(String::new, |numbering| format!("; handles {}", numbering.name()));
+    format!("{}, {} expirations{handles}", case.name, case.expirations)
+}
+
+fn says(met: bool) -> &'static str {
+    if met {
+        "yes"
+    } else {
+        "no"
+    }
+}

@@ -1,0 +1,62 @@
+//! What each call of the library may take of the plain pool's instructions, with 256 expirations standing.
+
+use host_tests::cases::Case;
+
+/// What every call is to come to.
+pub const GOAL: f64 = 1.2;
+
+/// What each may take today: its ratio when this was written, rounded up to the next 0.05 that leaves 0.01 free, since the
+/// plain pool's own count varies so much from build to build. A call that is not here has the goal. Where a ratio falls its
+/// limit is to follow.
+const LIMITS: [(&str, f64); 39] = [
+    ("join", 1.2),
+    ("leave", 1.75),
+    ("block", 1.3),
+    ("resume", 1.2),
+    ("tick", 1.25),
+    ("tick, one expires", 1.45),
+    ("tick, advances, one expires", 1.45),
+    ("tick, all expire", 1.6),
+    ("make 32", 1.3),
+    ("make 256", 1.3),
+    ("report", 1.1),
+    ("refresh", 1.3),
+    ("read 32", 1.1),
+    ("read 256", 1.1),
+    ("write 32", 1.1),
+    ("write 256", 1.1),
+    ("remaining", 1.1),
+    ("remaining, all on the object", 1.95),
+    ("read 32, all on the object", 1.2),
+    ("batch of 1", 1.4),
+    ("batch of 32", 1.75),
+    ("frame: tick", 1.35),
+    ("frame: make 32", 1.4),
+    ("frame: report", 1.35),
+    ("frame: read 256", 1.35),
+    ("frame: remaining", 1.35),
+    ("frame: write 256", 1.55),
+    ("frame: batch of 32", 1.8),
+    ("tick, refused 1", 1.35),
+    ("make, refused 1", 1.35),
+    ("read, refused 1", 1.1),
+    ("tick, 96 objects, handles one after the other", 1.25),
+    ("make 32, 95 objects, handles one after the other", 1.3),
+    ("tick, 96 objects, handles alike modulo 256", 1.75),
+    ("make 32, 95 objects, handles alike modulo 256", 1.75),
+    ("tick, 96 objects, handles alike modulo 65536", 2.4),
+    ("make 32, 95 objects, handles alike modulo 65536", 2.45),
+    ("tick, 96 objects, handles on one place of plain's table", 0.7),
+    ("make 32, 95 objects, handles on one place of plain's table", 0.7),
+];
+
+/// The limit of a case by its name.
+pub fn of(name: &str) -> f64 {
+    LIMITS.iter().find(|(other, _)| *other == name).map_or(GOAL, |&(_, limit)| limit)
+}
+
+/// A case's name, with its numbering where that is what it is about.
+pub fn name(case: &Case) -> String {
+    let numbering = case.numbering.map_or_else(String::new, |numbering| format!(", handles {}", numbering.name()));
+    format!("{}{numbering}", case.name)
+}
