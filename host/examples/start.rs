@@ -1,11 +1,17 @@
-//! The shortest way through the pool: join, make, write, read, tick.
+//! The shortest way through the pool: join, make, write, read, tick. After the tick the object is gone, and a read is refused.
 use ramsummer::{Kind, Pool, Refusal};
+
 fn main() -> Result<(), Refusal> {
     let mut pool = Pool::new();
     pool.join(0)?;
     let handle = pool.make(0, Kind::Local, 0, 7)?; // 7 bytes, until the next tick of task 0
     pool.write(0, handle, 0, b"12.50 m")?;
-    println!("{}", String::from_utf8_lossy(&pool.read_to_vec(0, handle)?));
-    pool.tick(0)?; // the block has come back by itself
+    let found = pool.read_to_vec(0, handle)?;
+    println!("{}", String::from_utf8_lossy(&found));
+    pool.tick(0)?; // the block comes back by itself
+    match pool.read_to_vec(0, handle) {
+        Ok(_) => unreachable!("its last expiration has passed"),
+        Err(refusal) => println!("refused with {}: {refusal}", refusal.number()),
+    }
     Ok(())
 }

@@ -18,6 +18,5 @@ fn the_readme_has_both_starts() {
     for (name, language) in [("examples/start.c", "c"), ("examples/start.rs", "rust")] {
         let lines = lines_of(name);
         assert!(readme.contains(&format!("```{language}\n{lines}```")), "{name} is not in the README as it is");
-        assert_eq!(lines.lines().count(), 10, "{name} has another count of lines");
     }
 }
