@@ -1,5 +1,6 @@
-//! Each call on the records that it works most on, of those that a host can reach: made by calls, with both stores full,
-//! 256 expirations standing, and handles that are alike modulo 65536, which tests/numbering.rs reaches by calls too.
+//! Each call on the records that it works most on, of those that a host can reach: both stores full, 256 expirations
+//! standing, and handles that are alike modulo 65536. Calls make all but the handles, which are put in at the end;
+//! tests/numbering.rs reaches those by calls, on a record of its own.
 
 use plain::limits::{EXPIRATIONS, LARGEST_BATCH};
 use reference::call::{packed, Call, Handles, Kind};
