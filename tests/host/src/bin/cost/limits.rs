@@ -50,9 +50,12 @@ const LIMITS: [(&str, f64); 39] = [
     ("make 32, 95 objects, handles on one place of plain's table", 0.7),
 ];
 
+/// What a limit leaves to the machine: another C library copies in other instructions.
+const SLACK: f64 = 0.1;
+
 /// The limit of a case by its name.
 pub fn of(name: &str) -> f64 {
-    LIMITS.iter().find(|(other, _)| *other == name).map_or(GOAL, |&(_, limit)| limit)
+    SLACK + LIMITS.iter().find(|(other, _)| *other == name).map_or(GOAL, |&(_, limit)| limit)
 }
 
 /// A case's name, with its numbering where that is what it is about.
