@@ -8,5 +8,6 @@ pub mod KeptObjects
 pub mod KeptExpirations
 pub mod Kept
 pub mod Remaining
+pub mod Awaited
 pub mod Batches
 pub mod LongBatches

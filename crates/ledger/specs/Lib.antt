@@ -6,6 +6,7 @@ pub mod Objects
 pub mod Refusals
 pub mod Ledger
 pub mod Remaining
+pub mod Awaited
 pub mod Heap
 pub mod Compared
 pub mod Kept

@@ -16,3 +16,4 @@ pub mod Searches
 pub mod Columns
 pub mod Filling
 pub mod Most
+pub mod Bits

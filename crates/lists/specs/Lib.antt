@@ -4,3 +4,4 @@ pub mod Blocks
 pub mod Columns
 pub mod Filled
 pub mod Most
+pub mod Bits
