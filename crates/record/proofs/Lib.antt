@@ -8,3 +8,4 @@ pub mod FreshReads
 pub mod Types
 pub mod States
 pub mod Times
+pub mod Awaited

@@ -2,6 +2,7 @@
 ghost use mathlib.Core.List.{map};
 ghost use mathlib.Core.Path.{_≡_};
 ghost use Rattle.lists.specs.Tests.{all};
+ghost use Rattle.ledger.specs.Awaited.{awaitedOf};
 ghost use Rattle.ledger.specs.Tasks.{isAbsent, allTicked};
 ghost use Rattle.record.specs.Codes.{stateOf, taskOf, isRunningEntry, isPendingEntry};
 ghost use Rattle.record.specs.WellFormed.{isFitTask};
@@ -63,4 +64,16 @@ pub fn all_ticked(tasks: [TaskEntry; TASK_COUNT]) -> bool
         some = some | is_running(e);
     }
     some
+}
+
+// T19: the tasks that run and have not ticked, a bit each. From the last task down, so that a turn doubles what it has.
+pub fn awaited(tasks: [TaskEntry; TASK_COUNT]) -> u16
+    ensures { λ r. ⌜ r ≡ awaitedOf (map taskOf tasks) ⌝ }
+{
+    let mut bits: u16 = 0;
+    for i in 0..TASK_COUNT {
+        let e = tasks[TASK_COUNT - 1 - i];
+        bits = 2 * bits + is_pending(e) as u16;
+    }
+    bits
 }
