@@ -1,4 +1,5 @@
 pub mod ByValue
 pub mod Replies
 pub mod Promises
+pub mod AwaitedTold
 pub mod Steps

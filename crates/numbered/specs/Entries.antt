@@ -1,16 +1,20 @@
 -- What the entries promise: record and stores as the call leaves them, and the call's reply told.
 use Prim.Native.Nat.{ℕ, _≤_, _<_}
+use mathlib.Core.Bool.{true, false}
 use mathlib.Core.List.{List, []}
 use mathlib.Core.Path.{_≡_}
 use lib.ListN.{length}
+use Rattle.ledger.specs.Awaited.{awaitedBits}
+use Rattle.ledger.specs.Ledger.{Ledger}
 use Rattle.ledger.specs.Numbers.{numberOf}
 use Rattle.ledger.specs.Objects.{plain}
 use Rattle.ledger.specs.declared.Answer.{Answer}
 use Rattle.ledger.specs.declared.Call.the-variants.{Refresh, Batch}
 use Rattle.ledger.specs.declared.Kind.{Kind}
-use Rattle.ledger.specs.declared.Refusal.the-variants.{UnknownKind}
+use Rattle.ledger.specs.declared.Refusal.the-variants.{NotWellFormed, UnknownKind}
 use Rattle.ledger.specs.declared.Request.{Request}
 use Rattle.ledger.specs.declared.Request.the-variants.{Use}
+use Rattle.record.specs.Pools.{isWellFormed, Reads}
 use Rattle.record.specs.declared.Pool.{Pool}
 use Rattle.calls.specs.Contract as Contract
 use Rattle.frames.specs.Answers.{longestAnswer}
@@ -49,6 +53,13 @@ pub record CopiesOut (task handle : ℕ) (p : Pool) (small large : List ℕ) (lo
   pub bytes : List ℕ
   pub reads : Contract.ReadsBack task handle p small large answer bytes
   pub told : withNumber number loans′ ≡ toldBy (record { answer = answer; bytes = bytes }) loans
+
+-- T19, awaited: a look of the host's that asks nothing of the pool's rules and leaves the record. 15 where it is not well-formed, and the number that was lent stays; else 0,
+-- and whatever ledger record and stores read as, the number is its awaited tasks.
+pub record TellsAwaited (p : Pool) (old number new : ℕ) : Type 0 where
+  pub unfit : isWellFormed p ≡ false → (number ≡ numberOf NotWellFormed) × (new ≡ old)
+  pub done : isWellFormed p ≡ true → number ≡ 0
+  pub tells : isWellFormed p ≡ true → (small large : List ℕ) (L : Ledger) → Reads p small large L → new ≡ awaitedBits L
 
 -- A call whose kind is given by its code: 19 where there is no such kind, before anything else is tested.
 abbrev pub MakesBy : KindByte → ℕ → ℕ → ℕ → Pool → List ℕ → List ℕ → List ℕ → ℕ → Pool → List ℕ → List ℕ → List ℕ → Type 0

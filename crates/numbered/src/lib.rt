@@ -10,7 +10,7 @@ ghost use Rattle.record.specs.Reading.{freshPool};
 ghost use Rattle.record.specs.Tables.{pooled};
 ghost use Rattle.frames.specs.Frames.{kindOf};
 ghost use Rattle.numbered.specs.Told.{buffered};
-ghost use Rattle.numbered.specs.Entries.{Does, MakesBy, RefreshesBy, RefreshesAllBy, WritesTo, CopiesOut, Carries};
+ghost use Rattle.numbered.specs.Entries.{Does, MakesBy, RefreshesBy, RefreshesAllBy, WritesTo, CopiesOut, TellsAwaited, Carries};
 
 mod advancing;
 mod kinds;
@@ -42,6 +42,7 @@ use record::Head;
 use record::Pool;
 use record::fresh;
 use record::head_of;
+use record::running;
 use stores::write_block;
 
 // A buffer too short: a number that is none of 01's.
@@ -360,6 +361,19 @@ pub fn remaining(p: Pool, task: u8, handle: u32, local: &mut u8, global: &mut u8
     };
     *local = life.local;
     *global = life.global;
+    0
+}
+
+// For whom the global time waits. It is no call of the ledger: it changes nothing, and no frame asks it.
+pub fn awaited(p: Pool, tasks: &mut u16) -> u8
+    ensures { λ r. ⌜ TellsAwaited p (now (tasks .entry)) r (now (tasks .exit)) ⌝ }
+{
+    let h = head_of(p);
+    if !is_well_formed(h, &p.handles, &p.lengths, &p.clocks, &p.named, &p.dues) {
+        return number_of(Refusal::NotWellFormed);
+    }
+    let entries = p.tasks;
+    *tasks = running::awaited(entries);
     0
 }
 

@@ -8,7 +8,7 @@ ghost use Rattle.ledger.specs.declared.Request.the-variants.{Use, Report, Remai
 ghost use Rattle.record.specs.Reading.{freshPool};
 ghost use Rattle.frames.specs.Frames.{kindOf};
 ghost use Rattle.numbered.specs.Told.{buffered};
-ghost use Rattle.numbered.specs.Entries.{Does, MakesBy, RefreshesBy, RefreshesAllBy, WritesTo, CopiesOut, Carries};
+ghost use Rattle.numbered.specs.Entries.{Does, MakesBy, RefreshesBy, RefreshesAllBy, WritesTo, CopiesOut, TellsAwaited, Carries};
 use record::Pool;
 
 #[no_mangle]
@@ -172,6 +172,14 @@ pub extern "C" fn ramsummer_remaining(
     ensures { λ r. ⌜ Does (Remaining task handle) (now (p .entry)) (now (local .entry) ∷ now (global .entry) ∷ []) r (now (p .entry)) (now (local .exit) ∷ now (global .exit) ∷ []) × (now (p .exit) ≡ now (p .entry)) ⌝ }
 {
     numbered::remaining(*p, task, handle, local, global)
+}
+
+// For whom the global time waits: the tasks that run and have not ticked, a bit each. It asks nothing of the pool's rules, and the record stays.
+#[no_mangle]
+pub extern "C" fn ramsummer_awaited(p: &mut Pool, tasks: &mut u16) -> u8
+    ensures { λ r. ⌜ TellsAwaited (now (p .entry)) (now (tasks .entry)) r (now (tasks .exit)) × (now (p .exit) ≡ now (p .entry)) ⌝ }
+{
+    numbered::awaited(*p, tasks)
 }
 
 // One line without its LF; the line of its answer goes to the start of a buffer of at least 531 bytes, and how many to `count`.
