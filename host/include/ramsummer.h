@@ -173,6 +173,10 @@ RAMSUMMER_CHECKED uint8_t ramsummer_report(ramsummer_pool *pool, uint8_t *small_
 RAMSUMMER_CHECKED uint8_t ramsummer_remaining(ramsummer_pool *pool, uint8_t task, uint32_t handle, uint8_t *local,
                                               uint8_t *global);
 
+/* For whom global time waits: the tasks that run and have not ticked since it last advanced, bit t for task t. It
+ * advances with the tick, block or leave that leaves no bit set while some task runs. */
+RAMSUMMER_CHECKED uint8_t ramsummer_awaited(ramsummer_pool *pool, uint16_t *tasks);
+
 /* Carries out one call frame. Line is without its LF; the answer line goes to the start of out with its LF, and count
  * says how many bytes. The number is the one that the answer line starts with. */
 RAMSUMMER_CHECKED uint8_t ramsummer_frame(ramsummer_pool *pool, uint8_t *small_store, size_t small_length,

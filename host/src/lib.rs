@@ -103,6 +103,7 @@ mod record;
 mod refusal;
 #[allow(unsafe_code)]
 mod sys;
+mod tasks;
 
 pub use answer::{Answer, Remaining, Report};
 pub use handle::Handle;
@@ -110,3 +111,4 @@ pub use kind::Kind;
 pub use pool::{Pool, LARGE, LARGEST_BATCH, LINE, LONGEST, SMALL};
 pub use record::{Record, TaskEntry, EXPIRATIONS, RECORD, STORE_BLOCKS, TASKS};
 pub use refusal::Refusal;
+pub use tasks::Tasks;

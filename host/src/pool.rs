@@ -1,6 +1,6 @@
 //! The pool: a record and two stores, owned or borrowed, and the calls on them.
 
-use crate::{sys, Answer, Handle, Kind, Record, Refusal, Remaining, Report};
+use crate::{sys, Answer, Handle, Kind, Record, Refusal, Remaining, Report, Tasks};
 #[cfg(feature = "alloc")]
 use alloc::{boxed::Box, vec, vec::Vec};
 use core::borrow::BorrowMut;
@@ -282,6 +282,23 @@ where
     /// ```
     pub fn remaining(&self, task: u8, handle: Handle) -> Result<Remaining, Refusal> {
         sys::remaining(&mut self.record().clone(), task, handle)
+    }
+
+    /// For whom global time waits: the tasks that run and have not ticked since it last advanced. As for a report, the
+    /// library is lent a copy of the record.
+    ///
+    /// ```
+    /// # use ramsummer::*;
+    /// # let mut pool = Pool::over(Record::fresh(), [0; SMALL], [0; LARGE]);
+    /// pool.join(3)?;
+    /// pool.join(7)?;
+    /// pool.tick(3)?;
+    /// assert!(pool.awaited()?.contains(7));
+    /// assert!(pool.awaited()?.iter().eq([7]));
+    /// # Ok::<(), Refusal>(())
+    /// ```
+    pub fn awaited(&self) -> Result<Tasks, Refusal> {
+        sys::awaited(&mut self.record().clone()).map(Tasks::of_bits)
     }
 
     /// Carries out one call frame: a line of hexadecimal without its LF. The answer line goes to the start of `out`,

@@ -69,6 +69,7 @@ extern "C" {
         given: &mut u32,
     ) -> u8;
     fn ramsummer_remaining(pool: &mut Record, task: u8, handle: u32, local: &mut u8, global: &mut u8) -> u8;
+    fn ramsummer_awaited(pool: &mut Record, tasks: &mut u16) -> u8;
     fn ramsummer_frame(
         pool: &mut Record,
         small: *mut u8,
@@ -246,6 +247,14 @@ pub(crate) fn remaining(pool: &mut Record, task: u8, handle: Handle) -> Result<R
     // SAFETY: three `&mut`; the figures are two fields of a variable of this function.
     outcome(unsafe { ramsummer_remaining(pool, task, handle.into(), local, global) })?;
     Ok(remaining)
+}
+
+/// The awaited tasks, a bit each.
+pub(crate) fn awaited(pool: &mut Record) -> Result<u16, Refusal> {
+    let mut tasks = 0;
+    // SAFETY: two `&mut`; the number is a variable of this function.
+    outcome(unsafe { ramsummer_awaited(pool, &mut tasks) })?;
+    Ok(tasks)
 }
 
 /// What became of the frame's call, and how many bytes of `out` the answer line has.

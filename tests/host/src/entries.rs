@@ -44,6 +44,7 @@ pub trait Entries {
     ) -> u8;
     fn report(pool: &mut Pool, small: &mut u8, large: &mut u8, expirations: &mut u16, given: &mut u32) -> u8;
     fn remaining(pool: &mut Pool, task: u8, handle: u32, local: &mut u8, global: &mut u8) -> u8;
+    fn awaited(pool: &mut Pool, tasks: &mut u16) -> u8;
     fn frame(pool: &mut Pool, small: &mut [u8], large: &mut [u8], line: &[u8], out: &mut [u8], count: &mut usize)
         -> u8;
 }
@@ -141,6 +142,11 @@ impl Entries for Plain {
     #[inline]
     fn remaining(pool: &mut Pool, task: u8, handle: u32, local: &mut u8, global: &mut u8) -> u8 {
         calls::remaining(pool, task, handle, local, global)
+    }
+
+    #[inline]
+    fn awaited(pool: &mut Pool, tasks: &mut u16) -> u8 {
+        calls::awaited(pool, tasks)
     }
 
     #[inline]

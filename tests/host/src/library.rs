@@ -62,6 +62,7 @@ extern "C" {
     ) -> u8;
     fn ramsummer_report(pool: *mut Pool, small: *mut u8, large: *mut u8, expirations: *mut u16, given: *mut u32) -> u8;
     fn ramsummer_remaining(pool: *mut Pool, task: u8, handle: u32, local: *mut u8, global: *mut u8) -> u8;
+    fn ramsummer_awaited(pool: *mut Pool, tasks: *mut u16) -> u8;
     fn ramsummer_frame(
         pool: *mut Pool,
         small: *mut u8,
@@ -175,6 +176,11 @@ impl Entries for Library {
     #[inline]
     fn remaining(pool: &mut Pool, task: u8, handle: u32, local: &mut u8, global: &mut u8) -> u8 {
         unsafe { ramsummer_remaining(pool, task, handle, local, global) }
+    }
+
+    #[inline]
+    fn awaited(pool: &mut Pool, tasks: &mut u16) -> u8 {
+        unsafe { ramsummer_awaited(pool, tasks) }
     }
 
     #[inline]

@@ -134,6 +134,15 @@ pub fn remaining(pool: &Pool, task: u8, handle: u32, local: &mut u8, global: &mu
     }
 }
 
+/// For whom global time waits, a bit for each task.
+pub fn awaited(pool: &Pool, tasks: &mut u16) -> u8 {
+    if !is_well_formed(pool) {
+        return NOT_WELL_FORMED;
+    }
+    *tasks = work::awaited(pool);
+    ACCEPTED
+}
+
 /// One frame, without its LF. The answer line goes to the start of `out`, a refusal's too.
 pub fn frame(
     pool: &mut Pool,

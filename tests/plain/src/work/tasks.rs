@@ -82,6 +82,12 @@ fn settle(pool: &mut Pool, mut ended: bool) -> bool {
     advances
 }
 
+/// Bit t: task t runs and has not ticked.
+pub fn awaited(pool: &Pool) -> u16 {
+    let bit = |task: &TaskEntry| u16::from(task.state == RUNNING && task.ticked == 0);
+    pool.tasks.iter().rev().fold(0, |bits, task| bits << 1 | bit(task))
+}
+
 /// At least one task runs, and every running one has ticked.
 fn all_ticked(tasks: &[TaskEntry; TASKS]) -> bool {
     let (mut running, mut pending) = (false, false);
