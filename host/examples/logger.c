@@ -89,6 +89,16 @@ static uint8_t wait_or_go_on(uint8_t cycle) {
     return RAMSUMMER_DONE;
 }
 
+/* The watchdog, once a cycle: task 0 has ticked, so that it is awaited again only where global time has advanced since. */
+static uint8_t watch(void) {
+    uint16_t awaited;
+    uint8_t refusal = ramsummer_awaited(&pool, &awaited), task;
+    if (refusal || awaited >> READER & 1) return refusal;
+    for (task = 0; task < RAMSUMMER_TASKS; task++)
+        if (awaited >> task & 1) printf("          global time waits for task %d\n", task);
+    return refusal;
+}
+
 static uint8_t print_cycle(uint8_t cycle, unsigned read, bool refreshed) {
     uint8_t small_objects, large_objects;
     uint16_t expirations;
@@ -97,7 +107,7 @@ static uint8_t print_cycle(uint8_t cycle, unsigned read, bool refreshed) {
     if (!refusal)
         printf("cycle %2d: %u readings, global time %2u, %d blocks in use%s\n", cycle, read, (unsigned)pool.global,
                small_objects, refreshed ? ", the last whole scan refreshed" : "");
-    return refusal;
+    return refusal ? refusal : watch();
 }
 
 /* All cycles from a fresh pool, up to the first refusal. Total is the count of readings. */

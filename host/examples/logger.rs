@@ -110,6 +110,15 @@ fn print_cycle(pool: &Pool, cycle: u8, read: usize, refreshed: bool) -> Result<(
     let (time, blocks) = (pool.record().global, pool.report()?.small);
     let kept = if refreshed { ", the last whole scan refreshed" } else { "" };
     println!("cycle {cycle:2}: {read} readings, global time {time:2}, {blocks} blocks in use{kept}");
+    watch(pool)
+}
+
+/// The watchdog, once a cycle: task 0 has ticked, so that it is awaited again only where global time has advanced since.
+fn watch(pool: &Pool) -> Result<(), Refusal> {
+    let awaited = pool.awaited()?;
+    if !awaited.contains(READER) {
+        awaited.iter().for_each(|task| println!("          global time waits for task {task}"));
+    }
     Ok(())
 }
 
