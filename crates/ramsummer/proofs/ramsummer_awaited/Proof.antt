@@ -55,10 +55,10 @@ use Rattle.numbered.proofs.awaited as call
 use Rattle.numbered.proofs.awaited.Symbol as call-def
 use Rattle.numbered.proofs.awaited.Symbol.{name as #call}
 use Rattle.numbered.proofs.awaited.Met as call-thm
-use Rattle.host.proofs.ramsummer_awaited.Key.{name as #f}
-use Rattle.host.proofs.ramsummer_awaited as f
-use Rattle.host.proofs.ramsummer_awaited.Statement as stated
-use Rattle.host.proofs.ramsummer_awaited.Code as code
+use Rattle.ramsummer.proofs.ramsummer_awaited.Key.{name as #f}
+use Rattle.ramsummer.proofs.ramsummer_awaited as f
+use Rattle.ramsummer.proofs.ramsummer_awaited.Statement as stated
+use Rattle.ramsummer.proofs.ramsummer_awaited.Code as code
 
 abbrev Arg : Type 0
 Arg = (RefT Pool × (RefT ℕ × Unit {0}))
