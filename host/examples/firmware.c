@@ -4,7 +4,8 @@
  *
  * One task measures the water level each turn. The sensor of another takes its time over the rain, so that this task
  * blocks until it is ready. The radio sends both. Nobody frees anything: when the rain's sensor is late, its last
- * reading goes by itself, and the radio says that it is too old.
+ * reading goes by itself, and the radio says that it is too old. For this the radio sets how long the rain's readings
+ * last, since what a task has set by global time waits with it.
  */
 #include <stdbool.h>
 #include <string.h>
@@ -43,9 +44,9 @@ static void put_number(unsigned number, size_t width) {
 /* Each third turn; but the third time it is three turns late. */
 static bool is_rain_ready(unsigned turn) { return turn == 3 || turn == 6 || turn == 12; }
 
-static uint8_t make(uint8_t task, uint8_t extension, unsigned value) {
+static uint8_t make(uint8_t task, uint8_t kind, unsigned value) {
     const uint8_t reading[LENGTH] = {(uint8_t)(value >> 8), (uint8_t)value};
-    uint8_t refusal = ramsummer_make(POOL, task, RAMSUMMER_GLOBAL, extension, LENGTH, &newest[task]);
+    uint8_t refusal = ramsummer_make(POOL, task, kind, 0, LENGTH, &newest[task]);
     if (refusal) return refusal;
     return ramsummer_write(POOL, task, newest[task], 0, reading, LENGTH);
 }
@@ -53,16 +54,17 @@ static uint8_t make(uint8_t task, uint8_t extension, unsigned value) {
 /* For the radio in this turn: a global expiration, and no longer than need be. */
 static uint8_t measure_level(unsigned turn) {
     uint8_t advanced;
-    uint8_t refusal = make(LEVEL, 0, 1000 + turn);
+    uint8_t refusal = make(LEVEL, RAMSUMMER_GLOBAL, 1000 + turn);
     if (refusal) return refusal;
     return ramsummer_tick(&pool, LEVEL, &advanced);
 }
 
-/* For four turns. Then the sensor begins again, and the others do not wait for this task. */
+/* For four turns of the radio. Then the sensor begins again, and the others do not wait for this task. */
 static uint8_t measure_rain(unsigned turn) {
     uint8_t advanced;
     uint8_t refusal = ramsummer_resume(&pool, RAIN);
-    if (!refusal) refusal = make(RAIN, 2, 2 * turn);
+    if (!refusal) refusal = make(RAIN, RAMSUMMER_LOCAL, 2 * turn);
+    if (!refusal) refusal = ramsummer_refresh(&pool, RADIO, RAMSUMMER_LOCAL, 3, newest[RAIN]);
     if (!refusal) refusal = ramsummer_tick(&pool, RAIN, &advanced);
     if (!refusal) refusal = ramsummer_block(&pool, RAIN, &advanced);
     return refusal;

@@ -4,7 +4,8 @@
  * Each cycle every task makes a block for its reading, task 0 reads them all, and every task ticks. The readings are
  * for another task, so their expirations are global: due once every running task has ticked twice. Task 0 also keeps
  * the last scan that is whole, with a reading of every sensor: it refreshes all of them by one call, and only where they
- * would be gone at the next look.
+ * would be gone at the next look. What the task with the dead sensor has asked it for nobody refreshes: it is put off
+ * for as long as the task waits, and is there when the task comes back.
  */
 #include <stdbool.h>
 #include <stdio.h>
@@ -20,6 +21,7 @@ static ramsummer_pool pool;
 static uint8_t small[RAMSUMMER_SMALL], large[RAMSUMMER_LARGE];
 static uint32_t newest[RAMSUMMER_TASKS]; /* the newest reading of each task */
 static uint32_t whole[RAMSUMMER_TASKS];  /* the last ones that are all of one cycle */
+static uint32_t request;                 /* what WAITER asks its sensor */
 
 /* A pool's record and stores, as make, read and write take them. */
 #define POOL &pool, small, sizeof small, large, sizeof large
@@ -81,11 +83,28 @@ static uint8_t run(uint8_t cycle, unsigned *read, bool *refreshed) {
     return refusal;
 }
 
+/* Its request would last two advances; while it waits it lasts. */
+static uint8_t ask_and_wait(uint8_t cycle) {
+    uint8_t advanced;
+    uint8_t refusal = ramsummer_make(POOL, WAITER, RAMSUMMER_GLOBAL, 0, 1, &request);
+    if (!refusal) refusal = ramsummer_write(POOL, WAITER, request, 0, &cycle, 1);
+    if (!refusal) refusal = ramsummer_block(&pool, WAITER, &advanced);
+    return refusal;
+}
+
+static uint8_t go_on(void) {
+    uint8_t asked;
+    size_t count;
+    uint8_t refusal = ramsummer_resume(&pool, WAITER);
+    if (!refusal) refusal = ramsummer_read(POOL, WAITER, request, &asked, 1, &count);
+    if (!refusal) printf("          task %d resumes and finds its request of cycle %d\n", WAITER, asked);
+    return refusal;
+}
+
 /* The cure: global time goes on without a task that waits. */
 static uint8_t wait_or_go_on(uint8_t cycle) {
-    uint8_t advanced;
-    if (cycle == FIRST_DEAD) return ramsummer_block(&pool, WAITER, &advanced);
-    if (cycle == LAST_DEAD + 1) return ramsummer_resume(&pool, WAITER);
+    if (cycle == FIRST_DEAD) return ask_and_wait(cycle);
+    if (cycle == LAST_DEAD + 1) return go_on();
     return RAMSUMMER_DONE;
 }
 

@@ -3,7 +3,8 @@
 //! Each cycle every task makes a block for its reading, task 0 reads them all, and every task ticks. The readings are
 //! for another task, so their expirations are global: due once every running task has ticked twice. Task 0 also keeps
 //! the last scan that is whole, with a reading of every sensor: it refreshes all of them by one call, and only where they
-//! would be gone at the next look.
+//! would be gone at the next look. What the task with the dead sensor has asked it for nobody refreshes: it is put off
+//! for as long as the task waits, and is there when the task comes back.
 
 use ramsummer::{Handle, Kind, Pool, Refusal};
 use std::ops::RangeInclusive;
@@ -19,11 +20,12 @@ const READINGS: usize = 4 * 16 + 6 * 15; // of all cycles
 /// A reading of each task.
 type Scan = [Handle; TASKS as usize];
 
-/// The pool, the newest reading of each task, and the last ones that are all of one cycle.
+/// The pool, the newest reading of each task, the last ones that are all of one cycle, and what WAITER asks its sensor.
 struct Logger {
     pool: Pool,
     newest: Scan,
     whole: Scan,
+    request: Handle,
 }
 
 fn main() -> ExitCode {
@@ -40,14 +42,14 @@ fn main() -> ExitCode {
 /// All cycles from a fresh pool, up to the first refusal. Gives the count of readings.
 fn log(with_block: bool) -> Result<usize, Refusal> {
     let none = [Handle::from(0); TASKS as usize];
-    let mut logger = Logger { pool: Pool::new(), newest: none, whole: none };
+    let mut logger = Logger { pool: Pool::new(), newest: none, whole: none, request: Handle::from(0) };
     for task in 0..TASKS {
         logger.pool.join(task)?;
     }
     let mut total = 0;
     for cycle in 1..=CYCLES {
         if with_block {
-            wait_or_go_on(&mut logger.pool, cycle)?;
+            wait_or_go_on(&mut logger, cycle)?;
         }
         let (read, refreshed) = run(&mut logger, cycle).inspect_err(|refusal| print_refusal(cycle, *refusal))?;
         print_cycle(&logger.pool, cycle, read, refreshed)?;
@@ -56,19 +58,23 @@ fn log(with_block: bool) -> Result<usize, Refusal> {
     Ok(total)
 }
 
-/// The cure: global time goes on without a task that waits.
-fn wait_or_go_on(pool: &mut Pool, cycle: u8) -> Result<(), Refusal> {
+/// The cure: global time goes on without a task that waits. Its request would last two advances; while it waits it lasts.
+fn wait_or_go_on(Logger { pool, request, .. }: &mut Logger, cycle: u8) -> Result<(), Refusal> {
     if cycle == *DEAD.start() {
+        *request = pool.make(WAITER, Kind::Global, 0, 1)?;
+        pool.write(WAITER, *request, 0, &[cycle])?;
         pool.block(WAITER)?;
     } else if cycle == DEAD.end() + 1 {
         pool.resume(WAITER)?;
+        let asked = pool.read_to_vec(WAITER, *request)?[0];
+        println!("          task {WAITER} resumes and finds its request of cycle {asked}");
     }
     Ok(())
 }
 
 /// One cycle of the tasks at work. Gives how many readings task 0 has read as they were written, and whether it has
 /// refreshed the last whole scan.
-fn run(Logger { pool, newest, whole }: &mut Logger, cycle: u8) -> Result<(usize, bool), Refusal> {
+fn run(Logger { pool, newest, whole, .. }: &mut Logger, cycle: u8) -> Result<(usize, bool), Refusal> {
     let at_work = |task: &u8| *task != WAITER || !DEAD.contains(&cycle);
     for task in (0..TASKS).filter(at_work) {
         let handle = pool.make(task, Kind::Global, 0, 4)?;

@@ -38,7 +38,8 @@ extern "C" {
 /* By which time an expiration is due. */
 enum ramsummer_kind {
     RAMSUMMER_LOCAL = 0, /* the task's own clock: due after extension + 1 of its ticks */
-    RAMSUMMER_GLOBAL = 1 /* the common time of all running tasks: due after extension + 2 advances */
+    RAMSUMMER_GLOBAL = 1 /* the common time of all running tasks: due after extension + 2 advances, of which those do
+                          * not count that come while its setter waits */
 };
 
 /* What a call returns. */
@@ -79,7 +80,8 @@ typedef struct ramsummer_task_entry {
  *
  * Store block i has the object handles[i] of lengths[i] bytes; handle 0 is a free one. Expiration i belongs to the
  * object in store block named[i], and is due when the clock clocks[i] reads dues[i]: 16 + t is the local time of task t,
- * 32 global time, and 0 a free entry. The other fields of a free one of either have no meaning and may hold anything.
+ * 32 + t global time where task t set it, 48 global time where its setter has left since, and 0 a free entry. The other
+ * fields of a free one of either have no meaning and may hold anything.
  */
 typedef struct ramsummer_pool {
     ramsummer_task_entry tasks[RAMSUMMER_TASKS];
@@ -128,10 +130,12 @@ uint8_t ramsummer_fresh(ramsummer_pool *pool);
 /* Absent to running, with clock 0. */
 RAMSUMMER_CHECKED uint8_t ramsummer_join(ramsummer_pool *pool, uint8_t task);
 
-/* To absent; the local expirations that this task set go. Advanced is 1 if global time advanced, else 0. */
+/* To absent; the local expirations that this task set go, and the global ones count on, whoever joins by its number
+ * later. Advanced is 1 if global time advanced, else 0. */
 RAMSUMMER_CHECKED uint8_t ramsummer_leave(ramsummer_pool *pool, uint8_t task, uint8_t *advanced);
 
-/* Running to waiting: global time goes on without this task. Advanced as for leave. */
+/* Running to waiting: global time goes on without this task, and each advance, that of this call too, puts the global
+ * expirations that it set off by one. Advanced as for leave. */
 RAMSUMMER_CHECKED uint8_t ramsummer_block(ramsummer_pool *pool, uint8_t task, uint8_t *advanced);
 
 /* Waiting to running. */
@@ -169,7 +173,8 @@ RAMSUMMER_CHECKED uint8_t ramsummer_report(ramsummer_pool *pool, uint8_t *small_
                                            uint16_t *expirations, uint32_t *given);
 
 /* How long the object stands without a refresh. Local is set to the ticks of this task until the last of its local
- * expirations is due, global to the advances until the last global one is, whoever set it; 0 where there is none. */
+ * expirations is due, global to the advances until the last global one is, whoever set it, where its setter does not
+ * wait meanwhile; 0 where there is none. */
 RAMSUMMER_CHECKED uint8_t ramsummer_remaining(ramsummer_pool *pool, uint8_t task, uint32_t handle, uint8_t *local,
                                               uint8_t *global);
 

@@ -24,8 +24,9 @@
 extern "C" {
 #endif
 
-/* The version changes with the order or the count of the record's fields. */
-#define RAMSUMMER_IMAGE_VERSION 1
+/* The version changes with the order or the count of the record's fields, and with what their numbers mean. Up to 1 an
+ * image did not tell who had set a global expiration. */
+#define RAMSUMMER_IMAGE_VERSION 2
 
 /* RSMR, the first letter in the lowest byte. */
 #define RAMSUMMER_IMAGE_MAGIC 0x524D5352u

@@ -32,7 +32,8 @@ impl fmt::Display for Report {
 pub struct Remaining {
     /// The asking task's ticks until the last of its local expirations is due; 0 where it has none.
     pub local: u8,
-    /// The advances of global time until the last global expiration is due, whoever set it; 0 where there is none.
+    /// The advances of global time until the last global expiration is due, whoever set it, where its setter does not
+    /// wait meanwhile; 0 where there is none.
     pub global: u8,
 }
 

@@ -40,8 +40,9 @@ use core::fmt;
 /// What an image starts with.
 pub const MAGIC: [u8; 4] = *b"RSMR";
 
-/// The version of the layout. It changes with the order or the count of the record's fields.
-pub const VERSION: u32 = 1;
+/// The version of the layout. It changes with the order or the count of the record's fields, and with what their numbers
+/// mean. Up to 1 an image did not tell who had set a global expiration.
+pub const VERSION: u32 = 2;
 
 /// The size of an image of the record alone, in bytes.
 pub const RECORD_ALONE: usize = HEAD + RECORD + SUM;

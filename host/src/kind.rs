@@ -9,7 +9,8 @@ pub enum Kind {
     /// task's ticks: for what the task alone uses.
     Local = 0,
     /// By global time (document 01: a common date). With extension e it is due after e + 2 advances, to which each
-    /// running task has to tick: for what others use too.
+    /// running task has to tick: for what others use too. Advances while its setter waits do not count; those after its
+    /// setter has left do.
     Global = 1,
 }
 

@@ -125,7 +125,8 @@ where
         sys::join(self.record.borrow_mut(), task)
     }
 
-    /// To absent; the local expirations that this task set go. Answers whether global time advanced.
+    /// To absent; the local expirations that this task set go. Those by global time stay and count on, whoever joins by
+    /// its number later. Answers whether global time advanced.
     pub fn leave(&mut self, task: u8) -> Result<bool, Refusal> {
         sys::leave(self.record.borrow_mut(), task)
     }
@@ -135,13 +136,22 @@ where
     /// A task calls it before it waits for something that may not come: while it runs and does not tick, global time
     /// stands, and no object with a global expiration goes.
     ///
+    /// What the task itself has set waits with it: its local time stands, and each advance puts its global expirations
+    /// off by one, the advance that its block brings too.
+    ///
     /// ```
     /// # use ramsummer::*;
     /// # let mut pool = Pool::over(Record::fresh(), [0; SMALL], [0; LARGE]);
     /// pool.join(0)?;
     /// pool.join(1)?;
+    /// let request = pool.make(1, Kind::Global, 0, 4)?;
     /// assert_eq!(pool.tick(0), Ok(false)); // task 1 has not ticked
     /// assert_eq!(pool.block(1), Ok(true)); // and need not any more
+    /// for _ in 0..100 {
+    ///     assert_eq!(pool.tick(0), Ok(true));
+    /// }
+    /// pool.resume(1)?;
+    /// assert_eq!(pool.remaining(1, request)?.global, 2);
     /// # Ok::<(), Refusal>(())
     /// ```
     pub fn block(&mut self, task: u8) -> Result<bool, Refusal> {

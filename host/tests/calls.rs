@@ -310,6 +310,29 @@ fn the_record_shows_objects_and_expirations() {
     assert_eq!(record.dues[global], record.global + 4 + 2);
     pool.leave(1).unwrap();
     assert_eq!((pool.record().clocks[local], pool.record().clocks[global]), (0, 32));
+    pool.leave(0).unwrap();
+    pool.join(0).unwrap();
+    assert_eq!(pool.record().clocks[global], 48);
+}
+
+#[test]
+fn what_a_task_has_set_by_global_time_waits_with_it() {
+    let mut pool = Pool::new();
+    (0..2).for_each(|task| pool.join(task).unwrap());
+    let (waits, counts) = (pool.make(0, Kind::Global, 0, 4).unwrap(), pool.make(1, Kind::Global, 0, 4).unwrap());
+    assert_eq!(pool.tick(1), Ok(false));
+    assert_eq!(pool.block(0), Ok(true));
+    assert_eq!(pool.tick(1), Ok(true));
+    assert_eq!(pool.remaining(1, waits).unwrap().global, 2);
+    assert_eq!(pool.remaining(1, counts), Err(Refusal::ObjectGone));
+    // It departs, and another of its number waits.
+    assert_eq!(pool.leave(0), Ok(false));
+    pool.join(0).unwrap();
+    assert_eq!(pool.block(0), Ok(false));
+    assert_eq!(pool.tick(1), Ok(true));
+    assert_eq!(pool.remaining(1, waits).unwrap().global, 1);
+    assert_eq!(pool.tick(1), Ok(true));
+    assert_eq!(pool.remaining(1, waits), Err(Refusal::ObjectGone));
 }
 
 #[test]
@@ -321,7 +344,7 @@ fn what_else_stands_in_free_entries_has_no_meaning() {
     let handle = pool.make(0, Kind::Local, 0, 2).unwrap();
     assert_eq!(pool.read_to_vec(0, handle).unwrap(), [0, 0]);
     assert_eq!(figures(&pool), (1, 0, 1, 1));
-    for clock in [1, 15, 16 + 1, 33, 255] {
+    for clock in [1, 15, 16 + 1, 32 + 1, 48, 49, 255] {
         let mut record = Record::fresh();
         record.clocks[9] = clock;
         let mut pool: Pool = Pool::over(record.into(), vec![0; SMALL].into(), vec![0; LARGE].into());

@@ -2,15 +2,15 @@
 use Prim.Native.Nat.{ℕ, _≤_, _<_}
 use native.Mathlib.Omega.{arith}
 use mathlib.Core.Bool.{Bool, true, false, cond, not, _&&_, _||_, true≢false}
-use mathlib.Core.List.{List, map, map-id}
+use mathlib.Core.List.{List, map, map-id, map-map}
 use mathlib.Core.Logic.{_≢_}
-use mathlib.Core.Path.{_≡_, refl, sym, ap, _∙_}
+use mathlib.Core.Path.{_≡_, refl, sym, ap, subst, _∙_}
 use borrow.Author.Tests.{eqb-true, eqb-false, eq-eqb, ne-eqb, lt-ltb, ltb-true, ltb-false}
 use lib.Dec.{eqb, ltb}
 use lib.ListN.{length, getD, List·getD-map}
 use lib.Seq.{getD-set-same, getD-set-other}
 use Rattle.lists.specs.Tests.{all}
-use Rattle.lists.proofs.All.{all-imp, all-true, map-same, All→none}
+use Rattle.lists.proofs.All.{all-every, all-imp, all-true, map-same, All→none}
 use Rattle.lists.proofs.Cases.{by-test}
 use Rattle.ledger.specs.Limits.{taskCount}
 use Rattle.ledger.specs.Tasks.{isTested, allTicked}
@@ -24,7 +24,8 @@ use Rattle.record.specs.declared.GlobalTime.{GlobalTime}
 use Rattle.record.specs.declared.Due.{Due}
 use Rattle.record.specs.declared.Due.the-variants.{Free, Local, Global, Unknown}
 use Rattle.record.proofs.Facts.{fit-local, fit-global}
-use Rattle.steps.specs.Events.{movedEntry, untickedEntry, movedTasks, advancedTasks, advancedTime, leaverOf, isLasting, keptEntry}
+use Rattle.steps.specs.Events.{nextTime, movedEntry, untickedEntry, movedTasks, advancedTasks, advancedTime, leaverOf, lateEntry, isLasting, keptEntry, passedEntry}
+use Rattle.steps.proofs.Late.{lateDue, late-due, late-none}
 use Rattle.tasks.specs.Steps.{isLeave, testedAfter}
 use Rattle.tasks.specs.declared.Planned.{Planned}
 use Rattle.expirations.specs.Ending.{isEnding, endedEntry}
@@ -33,6 +34,14 @@ use Rattle.expirations.specs.declared.Passing.{Passing}
 -- the time that a plan leaves
 abbrev pub passingOf : ℕ → Planned → Passing
 passingOf task q = record { task = task; leaves = q .leaves; local = q .local; advanced = q .advanced; global = q .global }
+
+-- who leaves, by the plan
+pub leaver-as : (event : Event) (task : ℕ) → cond (isLeave event) task taskCount ≡ leaverOf event task
+leaver-as Join task = refl
+leaver-as Leave task = refl
+leaver-as Block task = refl
+leaver-as Resume task = refl
+leaver-as Tick task = refl
 
 -- the leaver's own go, and nobody else's
 own-leaver : (event : Event) (task : ℕ) → task < taskCount → eqb task (leaverOf event task) ≡ isLeave event
@@ -67,11 +76,11 @@ unticked-clocks : (advanced : Bool) (tasks : List TaskEntry) (i : ℕ)
 unticked-clocks true tasks i = ap (λ (e : TaskEntry). e .clock .0) (List·getD-map untickedEntry tasks i absentEntry)
 unticked-clocks false tasks i = refl
 
--- by the global time, which stands still or advances
-global-lasts : (advanced : Bool) (at : ℕ) (global : GlobalTime) → 1 ≤ leftAt at (global .0)
-    → ltb 0 (leftAt at (advancedTime advanced global .0)) ≡ not (advanced && eqb (leftAt at (advancedTime advanced global .0)) 0)
-global-lasts true at global ahead = lasts-or-ends false (leftAt at (advancedTime true global .0))
-global-lasts false at global ahead = lt-ltb 0 _ ahead
+-- by the global time, which stands still or advances, with what is put off then
+global-lasts : (advanced waits : Bool) (at : ℕ) (global : GlobalTime) → 1 ≤ leftAt at (global .0)
+    → (let left = leftAt (cond (advanced && waits) (nextTime at) at) (advancedTime advanced global .0) in ltb 0 left ≡ not (advanced && eqb left 0))
+global-lasts true waits at global ahead = lasts-or-ends false (leftAt (cond waits (nextTime at) at) (advancedTime true global .0))
+global-lasts false waits at global ahead = lt-ltb 0 _ ahead
 
 -- An accepted event with an advance test
 module _ (event : Event) (task : ℕ) (tasks : List TaskEntry) (global : GlobalTime) (sixteen : length tasks ≡ taskCount) (known : task < taskCount) where
@@ -92,10 +101,20 @@ module _ (event : Event) (task : ℕ) (tasks : List TaskEntry) (global : GlobalT
         unticked-clocks advanced moved s
         ∙ ap (λ (e : TaskEntry). e .clock .0) (getD-set-other tasks task s _ absentEntry other)
 
+    -- an expiration before it is judged
+    abbrev late : Due → Due
+    late due = lateDue (leaverOf event task) advanced (plan advanced .tasks) due
+
+    abbrev pub lately : ExpirationEntry → ExpirationEntry
+    lately e = lateEntry (leaverOf event task) advanced (plan advanced .tasks) e
+
     -- what lasts is what does not end
-    lasting-as : (used : Bool) (due : Due) → isFitDue (getD tasks (setterOf due) absentEntry) global used due ≡ true
-        → isLasting (leaverOf event task) (getD (plan advanced .tasks) (setterOf due) absentEntry) (plan advanced .global) due
+    abbrev LastsAs : Due → Type 0
+    LastsAs due =
+        isLasting (leaverOf event task) (getD (plan advanced .tasks) (setterOf due) absentEntry) (plan advanced .global) due
         ≡ not (isEnding (passingOf task (plan advanced)) due)
+
+    lasting-as : (used : Bool) (due : Due) → isFitDue (getD tasks (setterOf due) absentEntry) global used due ≡ true → LastsAs (late due)
     lasting-as used Free fit = refl
     lasting-as used (Local s at) fit =
         by-test (eqb s task)
@@ -106,17 +125,21 @@ module _ (event : Event) (task : ℕ) (tasks : List TaskEntry) (global : GlobalT
         let f = fit-local (getD tasks s absentEntry) global used s at fit in
         let apart = eqb-false s task other in
         rw (other, other-leaver event task s (f .known) apart, other-clock s apart, lt-ltb 0 _ (f .ahead)))
-    lasting-as used (Global at) fit = global-lasts advanced (at .0) global (fit-global (getD tasks 0 absentEntry) global used at fit .ahead)
+    lasting-as used (Global s at) fit = global-lasts advanced _ (at .0) global (fit-global (getD tasks s absentEntry) global used s at fit .ahead)
     lasting-as used Unknown fit = refl
 
     -- so the entries after it are those that the record's sweep leaves
     entry-as : (blocks : List BlockEntry) (e : ExpirationEntry) → isFitEntry tasks global blocks e ≡ true
-        → keptEntry (leaverOf event task) (plan advanced .tasks) (plan advanced .global) e ≡ endedEntry (passingOf task (plan advanced)) e
-    entry-as blocks e f = rw (lasting-as _ (dueOf e) f) (cond-not (isEnding (passingOf task (plan advanced)) (dueOf e)) (freedEntry e) e)
+        → keptEntry (leaverOf event task) (plan advanced .tasks) (plan advanced .global) (lately e) ≡ endedEntry (passingOf task (plan advanced)) (lately e)
+    entry-as blocks e f =
+        let lasts : LastsAs (dueOf (lately e)) = subst LastsAs (sym (late-due (leaverOf event task) advanced (plan advanced .tasks) e)) (lasting-as _ (dueOf e) f) in
+        ap (λ (stands : Bool). cond stands (lately e) (freedEntry (lately e))) lasts
+        ∙ cond-not (isEnding (passingOf task (plan advanced)) (dueOf (lately e))) (freedEntry (lately e)) (lately e)
 
     pub kept-as : (blocks : List BlockEntry) (xs : List ExpirationEntry) → all (isFitEntry tasks global blocks) xs ≡ true
-        → map (keptEntry (leaverOf event task) (plan advanced .tasks) (plan advanced .global)) xs ≡ map (endedEntry (passingOf task (plan advanced))) xs
-    kept-as blocks xs fits = map-same _ _ xs (all-imp (entry-as blocks) xs (all-true _ xs fits))
+        → map (passedEntry (leaverOf event task) advanced (plan advanced .tasks) (plan advanced .global)) xs
+        ≡ map (endedEntry (passingOf task (plan advanced))) (map lately xs)
+    kept-as blocks xs fits = map-same _ _ xs (all-imp (entry-as blocks) xs (all-true _ xs fits)) ∙ sym (map-map _ lately xs)
 
 -- A block that leaves the global time ends nothing.
 module _ (task : ℕ) (tasks : List TaskEntry) (global : GlobalTime) (sixteen : length tasks ≡ taskCount) (known : task < taskCount) where
@@ -131,14 +154,15 @@ module _ (task : ℕ) (tasks : List TaskEntry) (global : GlobalTime) (sixteen : 
       by-test (eqb s task)
       (λ own. rw (own, ← eqb-true s task own, ne-eqb (leftAt (at .0) (getD tasks s absentEntry .clock .0)) 0 (λ z. omega (arith, f .ahead))))
       (λ other. rw other)
-  unending used (Global at) fit = refl
+  unending used (Global s at) fit = refl
   unending used Unknown fit = refl
 
   entry-stays : (blocks : List BlockEntry) (e : ExpirationEntry) → isFitEntry tasks global blocks e ≡ true → endedEntry (passingOf task blocked) e ≡ e
   entry-stays blocks e f = rw (unending _ (dueOf e) f)
 
   pub block-keeps : (blocks : List BlockEntry) (xs : List ExpirationEntry) → all (isFitEntry tasks global blocks) xs ≡ true
-      → map (keptEntry (leaverOf Block task) (blocked .tasks) (blocked .global)) xs ≡ xs
+      → map (passedEntry (leaverOf Block task) false (blocked .tasks) (blocked .global)) xs ≡ xs
   block-keeps blocks xs fits =
       kept-as Block task tasks global sixteen known false blocks xs fits
+      ∙ ap (map (endedEntry (passingOf task blocked))) (map-same _ (λ e. e) xs (all-every _ (late-none (blocked .tasks)) xs) ∙ map-id xs)
       ∙ map-same _ (λ e. e) xs (all-imp (entry-stays blocks) xs (all-true _ xs fits)) ∙ map-id xs

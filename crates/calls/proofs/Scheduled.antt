@@ -36,7 +36,7 @@ use Rattle.record.specs.declared.GlobalTime.{GlobalTime}
 use Rattle.record.specs.declared.Pool.{Pool}
 use Rattle.record.specs.declared.TaskEntry.{TaskEntry}
 use Rattle.record.proofs.Facts.{fit-parts}
-use Rattle.steps.specs.Events.{verdictOf, verdictAt, movedEntry, movedTasks, leaverOf, keptEntry, keptBlock, swept, withTimes, poolAfter, answerAfter, outcomeBy, scheduled}
+use Rattle.steps.specs.Events.{verdictOf, verdictAt, movedEntry, movedTasks, leaverOf, keptBlock, swept, withTimes, poolAfter, answerAfter, outcomeBy, scheduled}
 use Rattle.steps.proofs.EventsFollow.{schedule-follows, schedule-fits}
 use Rattle.steps.proofs.Standing.{none-freed, swept-none}
 use Rattle.steps.proofs.Staying.{event-stays}
@@ -128,12 +128,12 @@ module _ (event : Event) (task : ℕ) (p : Tables) where
 -- a tested event that may end nothing is a block that leaves the global time
 tested-still : (event : Event) (task : ℕ) (p : Tables) → Typed p → WellFormed.isWellFormed p ≡ true → task < taskCount → isTested event ≡ true
     → mayEnd event (advanced event task p) ≡ false
-    → swept (leaverOf event task) (tested event task p .tasks) (tested event task p .global) p ≡ withTimes (tested event task p .tasks) (tested event task p .global) p
+    → swept (leaverOf event task) (advanced event task p) (tested event task p .tasks) (tested event task p .global) p ≡ withTimes (tested event task p .tasks) (tested event task p .global) p
 tested-still Join task p types w known t s = absurd (false≢true t)
 tested-still Leave task p types w known t s = absurd (true≢false s)
 tested-still Block task p types w known t s =
     rw s
-    (swept-none (leaverOf Block task) _ _ p w
+    (swept-none (leaverOf Block task) false _ _ p w
     (block-keeps task (p .tasks) (p .global) (types .tasks) known (p .blocks) (p .expirations) (fit-parts p w .entries)))
 tested-still Resume task p types w known t s = absurd (false≢true t)
 tested-still Tick task p types w known t s = absurd (true≢false s)
@@ -155,13 +155,13 @@ module _ (event : Event) (task : ℕ) (p : Tables) (types : Typed p) (w : WellFo
 pub record Swept (event : Event) (task : ℕ) (p : Tables) (q : Planned) : Type 0 where
   pub known : task < taskCount
   pub plan : q ≡ tested event task p
-  pub left : scheduled event task p .pool ≡ swept (leaverOf event task) (q .tasks) (q .global) p
+  pub left : scheduled event task p .pool ≡ swept (leaverOf event task) (advanced event task p) (q .tasks) (q .global) p
 
 module _ (event : Event) (task : ℕ) (p : Tables) where
   swept-by : (v : Verdict) → (v ≡ Accepted → task < taskCount) → plannedBy v event task (p .tasks) (p .global) .ends ≡ true
       → (task < taskCount) × (plannedBy v event task (p .tasks) (p .global) ≡ tested event task p)
       × (outcomeBy v event task p .pool
-      ≡ swept (leaverOf event task) (plannedBy v event task (p .tasks) (p .global) .tasks) (plannedBy v event task (p .tasks) (p .global) .global) p)
+      ≡ swept (leaverOf event task) (advanced event task p) (plannedBy v event task (p .tasks) (p .global) .tasks) (plannedBy v event task (p .tasks) (p .global) .global) p)
   unfolding poolAfter plannedAfter
   swept-by Accepted known s = by-test (isTested event) (λ t. (known refl, rw t, rw t)) (λ t. absurd (false≢true (rw t at s)))
   swept-by (Refused r) known s = absurd (false≢true s)

@@ -1,28 +1,30 @@
 -- The calls of tasks on lent tables, by what they plan and what the expirations' part ends.
 use Prim.Native.Nat.{ℕ}
-use mathlib.Core.Bool.{true, false, true≢false}
+use mathlib.Core.Bool.{true, false, cond, true≢false}
 use mathlib.Core.List.{List, map}
 use mathlib.Core.Path.{_≡_, refl, sym, ap, _∙_}
 use lib.ListN.{length}
 use Rattle.lists.specs.Tables.{mapFrom}
+use Rattle.ledger.specs.Limits.{taskCount}
 use Rattle.ledger.specs.declared.Answer.the-variants.{Refused as RefusedAnswer}
 use Rattle.ledger.specs.declared.Call.the-variants.{Schedule}
 use Rattle.ledger.specs.declared.Event.{Event}
 use Rattle.ledger.specs.declared.Refusal.{Refusal}
 use Rattle.ledger.specs.declared.Request.the-variants.{Use}
 use Rattle.record.specs.Reading.{HeadTyped}
-use Rattle.record.specs.Tables.{Tables, SizedEntries, blocksOf, entriesOf, tablesBy, tablesOf, pooled, blockEntries}
+use Rattle.record.specs.Tables.{ExpirationEntry, Tables, SizedEntries, blocksOf, entriesOf, tablesBy, tablesOf, pooled, blockEntries}
 use Rattle.record.specs.Pools.{isWellFormed}
 use Rattle.record.specs.declared.Head.{Head}
 use Rattle.record.specs.declared.Pool.{Pool}
 use Rattle.record.proofs.Facts.{Fit, fit-parts}
-use Rattle.steps.specs.Events.{leaverOf, keptEntry, keptBlock, swept, scheduled}
+use Rattle.steps.specs.Events.{leaverOf, lateEntry, passedEntry, keptBlock, swept, scheduled}
+use Rattle.steps.proofs.Late.{late-blocks}
 use Rattle.tasks.specs.Steps.{planned}
 use Rattle.tasks.specs.declared.Planned.{Planned}
 use Rattle.expirations.specs.Ending.{Ends}
 use Rattle.calls.specs.Engine.{FollowsBeside}
 use Rattle.calls.proofs.Lent.{lent-typed}
-use Rattle.calls.proofs.Passing.{passingOf, kept-as}
+use Rattle.calls.proofs.Passing.{passingOf, leaver-as, kept-as}
 use Rattle.calls.proofs.Scheduled.{Swept, advanced, schedule-obeys, planned-answer, refused-unmoved, still-planned, swept-planned, blocks-left}
 
 -- the head that a plan leaves
@@ -49,7 +51,7 @@ module _ {h : Head} {hs cs ns ds : List ℕ} (types : HeadTyped h) (a : length h
             rw (so, u .sameTasks, u .sameTime) refl);
       }
 
-  module _ {hs′ cs′ : List ℕ} (s : q .ends ≡ true) (ends : Ends (passingOf task q) ns ds hs cs hs′ cs′) (ls : List ℕ) (l : length ls ≡ blockEntries)
+  module _ {hs′ cs′ ds′ : List ℕ} (s : q .ends ≡ true) (ends : Ends (passingOf task q) (q .tasks) ns ds hs cs hs′ cs′ ds′) (ls : List ℕ) (l : length ls ≡ blockEntries)
       (w : isWellFormed (pooled h hs ls cs ns ds) ≡ true) where
     abbrev before : Tables
     before = tablesBy h (blocksOf hs ls) (entriesOf cs ns ds)
@@ -62,34 +64,42 @@ module _ {h : Head} {hs cs ns ds : List ℕ} (types : HeadTyped h) (a : length h
     unfolding tablesOf
     fit = fit-parts before w
 
+    -- the entries before they are judged
+    abbrev late : List ExpirationEntry
+    late = map (lateEntry (cond (q .leaves) task taskCount) (q .advanced) (q .tasks)) (entriesOf cs ns ds)
+
     -- the entries that are left
-    kept : map (keptEntry (leaverOf event task) (q .tasks) (q .global)) (entriesOf cs ns ds) ≡ entriesOf cs′ ns ds
+    kept : map (passedEntry (leaverOf event task) (advanced event task before) (q .tasks) (q .global)) (entriesOf cs ns ds) ≡ entriesOf cs′ ns ds′
     unfolding tablesBy
     kept =
-        rw (ends .entries, plan .plan)
+        rw (ends .entries, plan .plan, leaver-as event task)
         (kept-as event task (h .tasks) (h .global) (types .tasks) (plan .known) (advanced event task before) (blocksOf hs ls) (entriesOf cs ns ds) (fit .entries))
 
     -- and the blocks
-    freed : mapFrom 0 (keptBlock (entriesOf cs′ ns ds)) (blocksOf hs ls) ≡ blocksOf hs′ ls
+    freed : mapFrom 0 (keptBlock (entriesOf cs′ ns ds′)) (blocksOf hs ls) ≡ blocksOf hs′ ls
     unfolding tablesBy
-    freed = rw (ends .blocks ls l, ends .entries) (sym (blocks-left (h .given) (passingOf task q) (entriesOf cs ns ds) (blocksOf hs ls) (fit .blocks)))
+    freed =
+        rw (ends .blocks ls l, ends .entries)
+        (sym
+        (blocks-left (h .given) (passingOf task q) late (blocksOf hs ls)
+        (late-blocks (cond (q .leaves) task taskCount) (q .advanced) (q .tasks) (h .given) (entriesOf cs ns ds) (blocksOf hs ls) (fit .blocks))))
 
-    ended-left : tablesOf (pooled (headAfter q h) hs′ ls cs′ ns ds) ≡ scheduled event task before .pool
+    ended-left : tablesOf (pooled (headAfter q h) hs′ ls cs′ ns ds′) ≡ scheduled event task before .pool
     unfolding tablesOf tablesBy swept
     ended-left = sym (plan .left ∙ rw (kept, freed))
 
   -- what is over has ended
-  pub schedule-ended : {hs′ cs′ : List ℕ} → q .ends ≡ true → Ends (passingOf task q) ns ds hs cs hs′ cs′
-      → FollowsBeside (Use (Schedule event task)) h hs cs ns ds (q .answer) (headAfter q h) hs′ cs′ ns ds
+  pub schedule-ended : {hs′ cs′ ds′ : List ℕ} → q .ends ≡ true → Ends (passingOf task q) (q .tasks) ns ds hs cs hs′ cs′ ds′
+      → FollowsBeside (Use (Schedule event task)) h hs cs ns ds (q .answer) (headAfter q h) hs′ cs′ ns ds′
   unfolding tablesOf tablesBy
-  schedule-ended {hs′} {cs′} s ends =
+  schedule-ended {hs′} {cs′} {ds′} s ends =
       record {
         handlesSize = ends .handlesSize;
-        sized = record { of-clocks = ends .clocksSize; of-named = e .of-named; of-dues = e .of-dues };
+        sized = record { of-clocks = ends .clocksSize; of-named = e .of-named; of-dues = ends .duesSize };
         follows = λ ls l w small large.
             let p : Pool = pooled h hs ls cs ns ds in
             let t = lent-typed h hs ls cs ns ds types (record { of-handles = a; of-lengths = l }) e in
-            schedule-obeys event task {p = p} {p′ = pooled (headAfter q h) hs′ ls cs′ ns ds} t w small large
+            schedule-obeys event task {p = p} {p′ = pooled (headAfter q h) hs′ ls cs′ ns ds′} t w small large
             (rw so (planned-answer event task (tablesOf p)))
             (ended-left s ends ls l w)
             (λ why r.

@@ -81,12 +81,12 @@ pub fn schedule(
     handles: &mut [u32; BLOCK_COUNT],
     clocks: &mut [u8; EXPIRATION_COUNT],
     named: &[u8; EXPIRATION_COUNT],
-    dues: &[u32; EXPIRATION_COUNT],
+    dues: &mut [u32; EXPIRATION_COUNT],
     event: Event,
     task: u8,
 ) -> Step
     requires { ⌜ (length (now handles) ≡ blockEntries) × SizedEntries (now clocks) (now named) (now dues) ⌝ }
-    ensures { λ r. ⌜ FollowsBeside (Use (Schedule event task)) h (now (handles .entry)) (now (clocks .entry)) (now (named .entry)) (now (dues .entry)) (r .answer) (r .head) (now (handles .exit)) (now (clocks .exit)) (now (named .entry)) (now (dues .entry)) ⌝ }
+    ensures { λ r. ⌜ FollowsBeside (Use (Schedule event task)) h (now (handles .entry)) (now (clocks .entry)) (now (named .entry)) (now (dues .entry)) (r .answer) (r .head) (now (handles .exit)) (now (clocks .exit)) (now (named .entry)) (now (dues .exit)) ⌝ }
 {
     let before = h.tasks;
     let time = h.global;
@@ -113,7 +113,7 @@ pub fn schedule(
         advanced: planned.advanced,
         global: global,
     };
-    end(passing, handles, clocks, named, dues);
+    end(passing, tasks, handles, clocks, named, dues);
     Step {
         answer: answer,
         head: head,

@@ -24,12 +24,12 @@ pub fn schedule<'a>(
     lengths: &'a [u16; BLOCK_COUNT],
     clocks: &mut [u8; EXPIRATION_COUNT],
     named: &'a [u8; EXPIRATION_COUNT],
-    dues: &'a [u32; EXPIRATION_COUNT],
+    dues: &mut [u32; EXPIRATION_COUNT],
     event: Event,
     task: u8,
 ) -> Step
     requires { ⌜ Sized (now handles) (now lengths) (now clocks) (now named) (now dues) ⌝ }
-    ensures { λ r. ⌜ Sized (now (handles .exit)) (now (lengths .entry)) (now (clocks .exit)) (now (named .entry)) (now (dues .entry)) × Follows (Use (Schedule event task)) (pooled h (now (handles .entry)) (now (lengths .entry)) (now (clocks .entry)) (now (named .entry)) (now (dues .entry))) (r .answer) (pooled (r .head) (now (handles .exit)) (now (lengths .entry)) (now (clocks .exit)) (now (named .entry)) (now (dues .entry))) ⌝ }
+    ensures { λ r. ⌜ Sized (now (handles .exit)) (now (lengths .entry)) (now (clocks .exit)) (now (named .entry)) (now (dues .exit)) × Follows (Use (Schedule event task)) (pooled h (now (handles .entry)) (now (lengths .entry)) (now (clocks .entry)) (now (named .entry)) (now (dues .entry))) (r .answer) (pooled (r .head) (now (handles .exit)) (now (lengths .entry)) (now (clocks .exit)) (now (named .entry)) (now (dues .exit))) ⌝ }
 {
     if !is_well_formed(h, handles, lengths, clocks, named, dues) {
         return Step {

@@ -65,9 +65,9 @@ Served request new h hs ls cs ns ds small large r hs′ ls′ cs′ ns′ ds′ 
 
 module _ (new : List ℕ) {h : Head} {hs ls cs ns ds : List ℕ} (sized : Sized hs ls cs ns ds) {small large : List ℕ} {call : Call}
     (ready : Ready (Use call) (pooled h hs ls cs ns ds) small large) {r : Done} where
-  pub schedule-arm : {event : Event} {task : ℕ} → call ≡ Schedule event task → {s : Step} {hs′ cs′ : List ℕ}
-      → FollowsBeside (Use (Schedule event task)) h hs cs ns ds (s .answer) (s .head) hs′ cs′ ns ds → r ≡ withoutBytes (s .answer) (s .head)
-      → Served (Use call) new h hs ls cs ns ds small large r hs′ ls cs′ ns ds small large
+  pub schedule-arm : {event : Event} {task : ℕ} → call ≡ Schedule event task → {s : Step} {hs′ cs′ ds′ : List ℕ}
+      → FollowsBeside (Use (Schedule event task)) h hs cs ns ds (s .answer) (s .head) hs′ cs′ ns ds′ → r ≡ withoutBytes (s .answer) (s .head)
+      → Served (Use call) new h hs ls cs ns ds small large r hs′ ls cs′ ns ds′ small large
   schedule-arm {event} {task} is {s} f so =
       rw (is, so) (
         record { blocks = record { of-handles = f .handlesSize; of-lengths = sized .blocks .of-lengths }; entries = f .sized },

@@ -3,11 +3,11 @@ use Prim.Native.Nat.{ℕ, _+_, _-_, _<_}
 use native.Mathlib.Omega.{arith}
 use mathlib.Core.Bool.{true, false, false≢true, _&&_, _||_, and-eq-true-iff, and-false, and-true, or-false}
 use mathlib.Core.Path.{_≡_, refl, sym, _∙_}
-use borrow.Author.Tests.{eqb-true, eq-eqb, ne-eqb, leb-true, le-leb, lt-ltb}
+use borrow.Author.Tests.{eqb-true, eq-eqb, ne-eqb, leb-true, le-leb, lt-leb, lt-ltb}
 use lib.Dec.{eqb, leb, ltb}
 use Rattle.lists.proofs.Cases.{by-test, refuted}
 use Rattle.ledger.specs.Limits.{taskCount}
-use Rattle.record.specs.Codes.{dueBy, isDueLocal, isDueGlobal, localCode, globalCode}
+use Rattle.record.specs.Codes.{isGlobalClock, dueBy, isDueLocal, isDueGlobal, localCode, globalCode}
 use Rattle.record.specs.declared.Due.{Due}
 use Rattle.record.specs.declared.Due.the-variants.{Free, Local, Global, Unknown}
 use Rattle.record.specs.declared.GlobalTime.{GlobalTime}
@@ -16,15 +16,15 @@ use Rattle.expirations.specs.Ending.{isEnding, isEndingLocal}
 use Rattle.expirations.specs.declared.Passing.{Passing}
 
 -- only what goes by the global time
-pub global-clock : (now : GlobalTime) (clock due : ℕ) → isDueGlobal now (dueBy clock due) ≡ true → eqb clock globalCode ≡ true
-global-clock now clock due e = and-eq-true-iff (eqb clock globalCode) _ .0 (asked-global clock due now ∙ e) .0
+pub global-clock : (now : GlobalTime) (clock due : ℕ) → isDueGlobal now (dueBy clock due) ≡ true → isGlobalClock clock ≡ true
+global-clock now clock due e = and-eq-true-iff (isGlobalClock clock) _ .0 (asked-global clock due now ∙ e) .0
 
 module _ (t : Passing) where
   -- by either clock
   pub by-either : (due : Due) → isEnding t due ≡ (isEndingLocal t due || t .advanced && isDueGlobal (t .global) due)
   by-either Free = sym (and-false (t .advanced))
   by-either (Local setter at) = rw (and-false (t .advanced)) (sym (or-false _))
-  by-either (Global at) = refl
+  by-either (Global setter at) = refl
   by-either Unknown = sym (and-false (t .advanced))
 
   module _ (clock due : ℕ) where
@@ -46,7 +46,7 @@ module _ (t : Passing) where
       by-test (eqb clock 0)
       (λ z. absurd (false≢true (rw z at e)))
       (λ z.
-      by-test (eqb clock globalCode)
+      by-test (isGlobalClock clock)
       (λ g. absurd (false≢true (rw (z, g) at e)))
       (λ g.
       by-test (leb localCode clock && ltb clock globalCode)
@@ -61,7 +61,7 @@ module _ (t : Passing) where
     unfolding dueBy
     own-due due =
         let same : localCode + t .task - localCode ≡ t .task = omega arith in
-        rw (ne-eqb (localCode + t .task) 0 (omega arith), ne-eqb (localCode + t .task) globalCode (omega arith), le-leb localCode (localCode + t .task) (omega arith), lt-ltb (localCode + t .task) globalCode (omega arith), same)
+        rw (ne-eqb (localCode + t .task) 0 (omega arith), lt-leb globalCode (localCode + t .task) (omega arith), le-leb localCode (localCode + t .task) (omega arith), lt-ltb (localCode + t .task) globalCode (omega arith), same)
 
     pub by-local : (clock due : ℕ)
         → (t .leaves && eqb clock (localCode + t .task) || isDueLocal (t .task) (t .local) (dueBy clock due)) ≡ isEndingLocal t (dueBy clock due)

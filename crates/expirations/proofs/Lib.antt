@@ -4,4 +4,5 @@ pub mod Counting
 pub mod Setting
 pub mod Flags
 pub mod Tables
+pub mod PutOff
 pub mod Longest

@@ -17,7 +17,7 @@ use Rattle.lists.proofs.Searches.{first-least, first-most}
 use Rattle.expirations.specs.Places.{Asked, Changed}
 
 -- what holds before a place and from there on holds everywhere
-split {ℓ} : {C : Type ℓ} (k b : ℕ) → (k < b → C) → (b ≤ k → C) → C
+pub split {ℓ} : {C : Type ℓ} (k b : ℕ) → (k < b → C) → (b ≤ k → C) → C
 split k b f g = by-test (ltb k b) (λ t. f (ltb-true k b t)) (λ t. g (ltb-false k b t))
 
 module _ (p : ℕ → Bool) where
@@ -124,6 +124,17 @@ module _ {ℓ} {A : Type ℓ} {d : A} {f : ℕ → A → A} where
               (λ n. getD-set-other ys b k v d (omega arith) ∙ s .inside k l n)
               (λ n. let same : k ≡ b = omega arith in rw (same, getD-set-same ys b v d h, e, s .after b (omega arith)));
           after = λ k l. getD-set-other ys b k v d (omega arith) ∙ s .after k (omega arith);
+        }
+
+    -- the same made in another way
+    pub changed-same : {g : ℕ → A → A} → ((k : ℕ) (x : A) → f k x ≡ g k x) → Changed d g a b xs ys
+    changed-same e =
+        record {
+          ordered = s .ordered;
+          size = s .size;
+          before = s .before;
+          inside = λ k l m. s .inside k l m ∙ e k (getD xs k d);
+          after = s .after;
         }
 
     pub changed-end : {c : ℕ} → b ≤ c → c ≤ b → Changed d f a c xs ys

@@ -12,7 +12,7 @@ use Rattle.lists.proofs.First.{first-set, count-first}
 use Rattle.lists.proofs.Tables.{map-set}
 use Rattle.ledger.specs.declared.Kind.{Kind}
 use Rattle.ledger.specs.declared.Kind.the-variants.{Local, Global}
-use Rattle.record.specs.Codes.{localCode}
+use Rattle.record.specs.Codes.{localCode, globalCode}
 use Rattle.record.specs.Tables.{ExpirationEntry, entriesOf, SizedEntries, expirationEntries, Tables}
 use Rattle.record.specs.declared.GlobalTime.{GlobalTime}
 use Rattle.record.specs.declared.TaskEntry.{TaskEntry}
@@ -31,7 +31,7 @@ module _ (tasks : List TaskEntry) (global : GlobalTime) where
   -- one that a task sets is in use
   pub made-used : (kind : Kind) (task extension block : ℕ) {e : Entry} → e ≡ entryFor tasks global kind task extension block → isFree (e .clock) ≡ false
   made-used Local task extension block made = rw made (ne-eqb (localCode + task) 0 (omega arith))
-  made-used Global task extension block made = rw made
+  made-used Global task extension block made = rw made (ne-eqb (globalCode + task) 0 (omega arith))
 
   -- and on any block it is the same but for that
   made-on : (kind : Kind) (task extension block : ℕ) {e : Entry} → e ≡ entryFor tasks global kind task extension block

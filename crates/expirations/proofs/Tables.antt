@@ -4,26 +4,28 @@ use native.Mathlib.Omega.{arith}
 use mathlib.Core.Bool.{Bool, true, false, cond, _||_}
 use mathlib.Core.List.{List, [], _∷_, map}
 use mathlib.Core.Path.{_≡_, refl, sym, _∙_, ap}
-use borrow.Author.Tests.{eqb-true, eqb-false, ltb-true, ltb-false, le-leb, lt-leb}
-use lib.Dec.{eqb, leb, ltb}
+use borrow.Author.Tests.{eqb-true, le-leb, lt-leb, lt-ltb, le-ltb}
+use lib.Dec.{eqb, leb}
 use lib.ListN.{length, getD, length-map, List·getD-map}
 use lib.Seq.{ext-getD}
 use Rattle.lists.specs.Tables.{mapFrom}
 use Rattle.lists.specs.Tests.{any}
 use Rattle.lists.proofs.Cases.{by-test, or-right}
 use Rattle.lists.proofs.Tables.{length-mapFrom}
-use Rattle.record.specs.Codes.{dueBy, dueOf, isDated, freeBlock, freeEntry, freedBlock, freedEntry, localCode, globalCode}
+use Rattle.record.specs.Codes.{dueBy, dueOf, isDated, freeBlock, freeEntry, freedBlock, freedEntry, localCode, globalCode, departedCode}
 use Rattle.record.specs.Tables.{ExpirationEntry, blockEntry, expirationEntry, blocksOf, entriesOf, SizedEntries, blockEntries, expirationEntries, byteValues}
 use Rattle.record.specs.WellFormed.{isNaming}
+use Rattle.record.specs.declared.TaskEntry.{TaskEntry}
 use Rattle.record.proofs.Columns.{length-blocks, block-at, length-entries, entry-at}
 use Rattle.steps.specs.Events.{keptBlock}
 use Rattle.steps.proofs.KeptBlocks.{block-left}
 use Rattle.expirations.specs.Ending.{isEnding, endedEntry, isEndingAt, Ended, Ends}
+use Rattle.expirations.specs.Late.{lateIn}
 use Rattle.expirations.specs.Places.{Asked, Changed}
 use Rattle.expirations.specs.Releasing.{Flags, keptByFlag}
 use Rattle.expirations.specs.Standing.{isDatedClock}
 use Rattle.expirations.specs.declared.Passing.{Passing}
-use Rattle.expirations.proofs.Places.{asked-start, asked-join, asked-same, asked-end, changed-start, changed-join, changed-end}
+use Rattle.expirations.proofs.Places.{split, asked-start, asked-join, asked-same, asked-end, changed-start, changed-join, changed-end}
 
 module _ {ℓ} {A : Type ℓ} (p : A → Bool) (d : A) where
   any-none : (xs : List A) → ((k : ℕ) → k < length xs → p (getD xs k d) ≡ false) → any p xs ≡ false
@@ -65,14 +67,15 @@ dated-clock clock due =
     by-test (eqb clock 0)
     (λ z. rw (eqb-true clock 0 z))
     (λ z.
-    by-test (eqb clock globalCode)
-    (λ g. rw (eqb-true clock globalCode g))
-    (λ g.
-    by-test (ltb clock globalCode)
-    (λ l. by-test (leb localCode clock) (λ m. rw (z, g, l, m, le-leb clock globalCode (omega (arith, ltb-true clock globalCode l)))) (λ m. rw (z, g, l, m)))
+    split clock globalCode
     (λ l.
-    let past : globalCode < clock = omega (arith, ltb-false clock globalCode l, eqb-false clock globalCode g) in
-    rw (z, g, l, le-leb localCode clock (omega arith), lt-leb clock globalCode past))))
+    let low = lt-leb globalCode clock l in
+    let below = le-leb clock departedCode (omega arith) in
+    by-test (leb localCode clock) (λ m. rw (z, low, lt-ltb clock globalCode l, m, below)) (λ m. rw (z, low, m)))
+    (λ l.
+    let least = le-leb localCode clock (omega arith) in
+    let high = le-leb globalCode clock l in
+    by-test (leb clock departedCode) (λ m. rw (z, high, least, m)) (λ m. rw (z, high, m, least, le-ltb clock globalCode l))))
 
 -- what a test of the entries finds, by a test of their numbers at each place
 module _ {cs ns ds : List ℕ} (sized : SizedEntries cs ns ds) where
@@ -139,18 +142,27 @@ module _ {t : Passing} {cs ns ds cs′ : List ℕ} {r : Bool} (s : Ended t ds 0 
   ended-any : r ≡ any (λ (e : ExpirationEntry). isEnding t (dueOf e)) (entriesOf cs ns ds)
   ended-any = asked-entries sized _ (λ k. refl) (s .asked)
 
-  module _ {hs : List ℕ} (h : length hs ≡ blockEntries) where
+  -- of what a leave and an advance make of other entries
+  module _ {tasks : List TaskEntry} {cs₀ ds₀ hs : List ℕ} (late : entriesOf cs ns ds ≡ lateIn t tasks (entriesOf cs₀ ns ds₀)) (h : length hs ≡ blockEntries) where
     -- where any was, blocks are released
     pub ends-some : {hs′ : List ℕ} {flags : List Bool} → r ≡ true → Flags cs′ ns expirationEntries flags → Changed 0 (keptByFlag flags) 0 blockEntries hs hs′
-        → Ends t ns ds hs cs hs′ cs′
+        → Ends t tasks ns ds₀ hs cs₀ hs′ cs′ ds
     ends-some e f z =
         record {
           handlesSize = z .size ∙ h;
           clocksSize = sized′ .of-clocks;
-          entries = ended-entries;
-          blocks = λ ls l. rw (← ended-any, e) (released ls ds f z sized′ h l);
+          duesSize = sized′ .of-dues;
+          entries = ended-entries ∙ ap (map (endedEntry t)) late;
+          blocks = λ ls l. rw (← late, ← ended-any, e) (released ls ds f z sized′ h l);
         }
 
     -- and else nothing changes
-    pub ends-none : r ≡ false → Ends t ns ds hs cs hs cs′
-    ends-none e = record { handlesSize = h; clocksSize = sized′ .of-clocks; entries = ended-entries; blocks = λ ls l. rw (← ended-any, e) }
+    pub ends-none : r ≡ false → Ends t tasks ns ds₀ hs cs₀ hs cs′ ds
+    ends-none e =
+        record {
+          handlesSize = h;
+          clocksSize = sized′ .of-clocks;
+          duesSize = sized′ .of-dues;
+          entries = ended-entries ∙ ap (map (endedEntry t)) late;
+          blocks = λ ls l. rw (← late, ← ended-any, e);
+        }

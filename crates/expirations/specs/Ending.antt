@@ -12,7 +12,9 @@ use Rattle.record.specs.Tables.{ExpirationEntry, blocksOf, entriesOf, blockEntr
 use Rattle.record.specs.declared.Due.{Due}
 use Rattle.record.specs.declared.Due.the-variants.{Free, Local, Global, Unknown}
 use Rattle.record.specs.declared.GlobalTime.{GlobalTime}
+use Rattle.record.specs.declared.TaskEntry.{TaskEntry}
 use Rattle.steps.specs.Events.{keptBlock}
+use Rattle.expirations.specs.Late.{lateIn}
 use Rattle.expirations.specs.Places.{Asked, Changed}
 use Rattle.expirations.specs.declared.Passing.{Passing}
 
@@ -20,7 +22,7 @@ use Rattle.expirations.specs.declared.Passing.{Passing}
 abbrev pub isEnding : Passing → Due → Bool
 isEnding t Free = false
 isEnding t (Local setter at) = eqb setter (t .task) && (t .leaves || eqb (leftAt (at .0) (t .local .0)) 0)
-isEnding t (Global at) = t .advanced && eqb (leftAt (at .0) (t .global .0)) 0
+isEnding t (Global setter at) = t .advanced && eqb (leftAt (at .0) (t .global .0)) 0
 isEnding t Unknown = false
 
 abbrev pub endedEntry : Passing → ExpirationEntry → ExpirationEntry
@@ -30,7 +32,7 @@ endedEntry t e = cond (isEnding t (dueOf e)) (freedEntry e) e
 abbrev pub isEndingLocal : Passing → Due → Bool
 isEndingLocal t Free = false
 isEndingLocal t (Local setter at) = isEnding t (Local setter at)
-isEndingLocal t (Global at) = false
+isEndingLocal t (Global setter at) = false
 isEndingLocal t Unknown = false
 
 -- and of the entry at a place
@@ -55,12 +57,14 @@ pub record Ended (t : Passing) (dues : List ℕ) (a b : ℕ) (clocks clocks′ :
   pub changed : Changed 0 (keptClock t dues) a b clocks clocks′
   pub asked : Asked (isEndingAt t clocks dues) a b r
 
--- Both tables after an event: what it ends is ended; and where it ends anything, the blocks that none names any more are free.
-pub record Ends (t : Passing) (named dues handles clocks handles′ clocks′ : List ℕ) : Type 0 where
+-- Both tables after an event: of what a leave and an advance make of the entries, what it ends is ended; and where it ends anything, the blocks that none
+-- names any more are free.
+pub record Ends (t : Passing) (tasks : List TaskEntry) (named dues handles clocks handles′ clocks′ dues′ : List ℕ) : Type 0 where
   pub handlesSize : length handles′ ≡ blockEntries
   pub clocksSize : length clocks′ ≡ expirationEntries
-  pub entries : entriesOf clocks′ named dues ≡ map (endedEntry t) (entriesOf clocks named dues)
+  pub duesSize : length dues′ ≡ expirationEntries
+  pub entries : entriesOf clocks′ named dues′ ≡ map (endedEntry t) (lateIn t tasks (entriesOf clocks named dues))
   pub blocks : (lengths : List ℕ) → length lengths ≡ blockEntries
       → blocksOf handles′ lengths
-      ≡ cond (any (λ (e : ExpirationEntry). isEnding t (dueOf e)) (entriesOf clocks named dues))
-      (mapFrom 0 (keptBlock (entriesOf clocks′ named dues)) (blocksOf handles lengths)) (blocksOf handles lengths)
+      ≡ cond (any (λ (e : ExpirationEntry). isEnding t (dueOf e)) (lateIn t tasks (entriesOf clocks named dues)))
+      (mapFrom 0 (keptBlock (entriesOf clocks′ named dues′)) (blocksOf handles lengths)) (blocksOf handles lengths)

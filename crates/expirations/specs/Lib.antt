@@ -1,6 +1,7 @@
 pub mod Places
 pub mod Standing
 pub mod Setting
+pub mod Late
 pub mod Ending
 pub mod Releasing
 pub mod Remaining

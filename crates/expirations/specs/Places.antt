@@ -4,6 +4,12 @@ use mathlib.Core.Bool.{Bool, true, false}
 use mathlib.Core.List.{List}
 use mathlib.Core.Path.{_≡_}
 use lib.ListN.{length, getD}
+use Rattle.record.specs.Tables.{byteValues}
+
+-- r is the place of a byte in a table that has one for each
+pub record PlaceFor (byte r : ℕ) : Type 0 where
+  pub so : r ≡ byte
+  pub below : r < byteValues
 
 -- r says whether one of the places from a up to b passes
 pub record Asked (p : ℕ → Bool) (a b : ℕ) (r : Bool) : Type 0 where

@@ -9,11 +9,6 @@ use Rattle.record.specs.Tables.{byteValues}
 use Rattle.expirations.specs.Places.{Asked}
 use Rattle.expirations.specs.Standing.{isDatedAt}
 
--- r is the number of a block, and a byte
-pub record FlagFor (block r : ℕ) : Type 0 where
-  pub so : r ≡ block
-  pub below : r < byteValues
-
 -- the entry at a place names the block
 abbrev pub isNamedAt : List ℕ → List ℕ → ℕ → ℕ → Bool
 isNamedAt clocks named block k = isDatedAt clocks k && eqb (getD named k 0) block

@@ -7,7 +7,7 @@ use lib.ListN.{getD}
 use Rattle.lists.specs.Tests.{count}
 use Rattle.lists.specs.Tables.{firstFrom}
 use Rattle.record.specs.Tables.{expirationEntries}
-use Rattle.record.specs.Codes.{localCode, globalCode}
+use Rattle.record.specs.Codes.{localCode, departedCode, isGlobalClock}
 
 -- the entries of a half, whose count a byte can hold, and of a group that is asked at once; and the groups
 abbrev pub halfSize : ℕ
@@ -33,7 +33,7 @@ freeIn clocks = firstFrom 0 (λ (clock : ℕ). eqb clock 0) clocks
 
 -- the clock of an expiration: of a task, or the global time
 abbrev pub isDatedClock : ℕ → Bool
-isDatedClock clock = leb localCode clock && leb clock globalCode
+isDatedClock clock = leb localCode clock && leb clock departedCode
 
 -- what the entry at a place has
 abbrev pub isByteAt : ℕ → List ℕ → ℕ → Bool
@@ -41,3 +41,6 @@ isByteAt byte column k = eqb (getD column k 0) byte
 
 abbrev pub isDatedAt : List ℕ → ℕ → Bool
 isDatedAt clocks k = isDatedClock (getD clocks k 0)
+
+abbrev pub isGlobalClockAt : List ℕ → ℕ → Bool
+isGlobalClockAt clocks k = isGlobalClock (getD clocks k 0)

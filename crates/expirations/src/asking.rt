@@ -4,12 +4,13 @@ ghost use Prim.Native.Nat.{_+_, _≤_};
 ghost use mathlib.Core.Path.{_≡_};
 ghost use lib.ListN.{length, take, drop};
 ghost use Rattle.record.specs.Tables.{expirationEntries};
-ghost use Rattle.expirations.specs.Places.{Asked};
-ghost use Rattle.expirations.specs.Standing.{standingOf, freeIn, isDatedClock, isByteAt, isDatedAt, halfSize, groupSize};
+ghost use Rattle.expirations.specs.Places.{Asked, PlaceFor};
+ghost use Rattle.expirations.specs.Standing.{standingOf, freeIn, isDatedClock, isByteAt, isDatedAt, isGlobalClockAt, halfSize, groupSize};
 use record::EXPIRATION_COUNT;
+use record::codes::DEPARTED;
 use record::codes::FREE;
-use record::codes::GLOBAL;
 use record::codes::LOCAL;
+use record::codes::is_global;
 
 // Entries of which a byte can hold the count.
 pub const HALF: usize = EXPIRATION_COUNT / 2;
@@ -77,7 +78,14 @@ pub fn free_entry(clocks: &[u8; EXPIRATION_COUNT]) -> usize
 pub fn is_dated(clock: u8) -> bool
     ensures { λ r. ⌜ r ≡ isDatedClock clock ⌝ }
 {
-    (LOCAL <= clock) & (clock <= GLOBAL)
+    (LOCAL <= clock) & (clock <= DEPARTED)
+}
+
+// The place of a byte, a clock or the number of a block, in a table that has one for each.
+pub fn place_for(byte: u8) -> usize
+    ensures { λ r. ⌜ PlaceFor byte r ⌝ }
+{
+    byte as usize
 }
 
 // Whether one of a group is in use.
@@ -88,6 +96,18 @@ pub fn any_dated(clocks: &[u8; EXPIRATION_COUNT], from: usize) -> bool
     let mut some = false;
     for i in from..from + GROUP {
         some = some | is_dated(clocks[i]);
+    }
+    some
+}
+
+// Whether one of a group goes by the global time.
+pub fn any_global_clock(clocks: &[u8; EXPIRATION_COUNT], from: usize) -> bool
+    requires { ⌜ (length (now clocks) ≡ expirationEntries) × (from + groupSize ≤ expirationEntries) ⌝ }
+    ensures { λ r. ⌜ Asked (isGlobalClockAt (now (clocks .entry))) from (from + groupSize) r ⌝ }
+{
+    let mut some = false;
+    for i in from..from + GROUP {
+        some = some | is_global(clocks[i]);
     }
     some
 }

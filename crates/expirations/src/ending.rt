@@ -12,12 +12,12 @@ ghost use Rattle.expirations.specs.Standing.{groupSize};
 use super::Passing;
 use super::asking::GROUP;
 use super::asking::GROUP_COUNT;
+use super::asking::any_global_clock;
 use super::asking::has_byte;
 use record::EXPIRATION_COUNT;
 use record::GlobalTime;
 use record::LocalTime;
 use record::codes::FREE;
-use record::codes::GLOBAL;
 use record::codes::LOCAL;
 use record::codes::is_due_global;
 use record::codes::is_due_local;
@@ -60,7 +60,7 @@ fn any_global<'a>(
     requires { ⌜ (length (now clocks) ≡ expirationEntries) × (length (now dues) ≡ expirationEntries) × (from + groupSize ≤ expirationEntries) ⌝ }
     ensures { λ r. ⌜ Asked (isGlobalAt global (now (clocks .entry)) (now (dues .entry))) from (from + groupSize) r ⌝ }
 {
-    if !has_byte(clocks, GLOBAL, from, from + GROUP) {
+    if !any_global_clock(clocks, from) {
         return false;
     }
     let mut some = false;

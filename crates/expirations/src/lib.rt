@@ -11,6 +11,7 @@ ghost use Rattle.record.specs.Tables.{SizedEntries, blockEntries, expirationEnt
 
 mod asking;
 mod ending;
+mod late;
 mod releasing;
 mod remaining;
 
@@ -19,6 +20,8 @@ use asking::free_entry;
 use asking::free_from;
 use asking::standing_in;
 use ending::end_due;
+use late::desert;
+use late::put_off;
 use ledger::Kind;
 use ledger::LARGEST_BATCH;
 use ledger::TASK_COUNT;
@@ -72,7 +75,7 @@ fn entry_for(
             }
         }
         Kind::Global => Entry {
-            clock: GLOBAL,
+            clock: GLOBAL + task,
             block: block as u8,
             due: wrapping_add_u32(global.0, extension as u32 + 2),
         },
@@ -156,18 +159,21 @@ pub struct Passing {
     pub global: GlobalTime,
 }
 
-// What an event ends: the task's local expirations that are due, all of them where it leaves, and at an advance the global ones that are due. An object whose
-// last one ends is gone, and its block is free.
+// What an event ends: the task's local expirations that are due, all of them where it leaves, and at an advance the global ones that are due, after those whose
+// setter waits are put off. An object whose last one ends is gone, and its block is free.
 pub fn end(
     t: Passing,
+    tasks: [TaskEntry; TASK_COUNT],
     handles: &mut [u32; BLOCK_COUNT],
     clocks: &mut [u8; EXPIRATION_COUNT],
     named: &[u8; EXPIRATION_COUNT],
-    dues: &[u32; EXPIRATION_COUNT],
+    dues: &mut [u32; EXPIRATION_COUNT],
 )
     requires { ⌜ (t .task < taskCount) × (length (now handles) ≡ blockEntries) × SizedEntries (now clocks) (now named) (now dues) ⌝ }
-    ensures { λ _. ⌜ Ends t (now (named .entry)) (now (dues .entry)) (now (handles .entry)) (now (clocks .entry)) (now (handles .exit)) (now (clocks .exit)) ⌝ }
+    ensures { λ _. ⌜ Ends t tasks (now (named .entry)) (now (dues .entry)) (now (handles .entry)) (now (clocks .entry)) (now (handles .exit)) (now (clocks .exit)) (now (dues .exit)) ⌝ }
 {
+    desert(t, clocks);
+    put_off(t, tasks, clocks, dues);
     if end_due(t, clocks, dues) {
         keep_named(flags_of(clocks, named), handles);
     }

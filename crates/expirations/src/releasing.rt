@@ -5,22 +5,16 @@ ghost use mathlib.Core.Path.{_≡_};
 ghost use lib.ListN.{length};
 ghost use Rattle.record.specs.Tables.{blockEntries, expirationEntries};
 ghost use Rattle.expirations.specs.Places.{Changed};
-ghost use Rattle.expirations.specs.Releasing.{FlagFor, Flags, keptByFlag};
+ghost use Rattle.expirations.specs.Releasing.{Flags, keptByFlag};
 ghost use Rattle.expirations.specs.Standing.{groupSize};
 use super::asking::GROUP;
 use super::asking::GROUP_COUNT;
 use super::asking::any_dated;
 use super::asking::is_dated;
+use super::asking::place_for;
 use record::BLOCK_COUNT;
 use record::BYTE_VALUES;
 use record::EXPIRATION_COUNT;
-
-// The flag of a block's number.
-fn flag_for(block: u8) -> usize
-    ensures { λ r. ⌜ FlagFor block r ⌝ }
-{
-    block as usize
-}
 
 // Marks what the entries of a group name.
 fn mark_in<'a>(
@@ -39,7 +33,7 @@ fn mark_in<'a>(
         if !is_dated(clocks[i]) {
             continue;
         }
-        let at = flag_for(named[i]);
+        let at = place_for(named[i]);
         flags[at] = true;
     }
 }

@@ -64,7 +64,7 @@ fn units_by(q: Query, due: Due) -> Units
             local: local_units(q, setter, at),
             global: 0,
         },
-        Due::Global(at) => Units {
+        Due::Global { setter: _, at } => Units {
             local: 0,
             global: global_left(at, now),
         },

@@ -1,38 +1,49 @@
 -- Expirations by themselves: one is fit if its codes there are and it is due in time; and the flags of the blocks that they name.
 use Prim.Native.Nat.{ℕ, _-_, _<_}
 use native.Mathlib.Omega.{arith}
-use mathlib.Core.Bool.{Bool, true, false, false≢true, _&&_, and-eq-true-iff}
+use mathlib.Core.Bool.{Bool, true, false, true≢false, false≢true, _&&_, and-eq-true-iff}
 use mathlib.Core.List.{List}
 use mathlib.Core.Path.{_≡_, refl, sym, _∙_}
-use borrow.Author.Tests.{eqb-true, eqb-false, ne-eqb, lt-ltb, ltb-true, le-leb, leb-true}
+use borrow.Author.Tests.{eqb-true, ne-eqb, ltb-true, ltb-false, le-leb, leb-true}
 use lib.Dec.{eqb, leb, ltb}
 use lib.ListN.{length, getD}
 use Rattle.lists.specs.Tests.{all}
 use Rattle.lists.proofs.Cases.{by-test, refuted, and₃}
 use Rattle.lists.proofs.Counts.{any-pairs, all-two}
 use Rattle.lists.proofs.Searches.{passes-within}
-use Rattle.record.specs.Codes.{dueBy, isDated, freeEntry}
+use Rattle.record.specs.Codes.{isGlobalClock, dueBy, isDated, absentEntry, freeEntry}
 use Rattle.record.specs.Tables.{ExpirationEntry, SizedEntries, entriesOf}
 use Rattle.record.specs.WellFormed.{isFitDue, isNaming}
 use Rattle.record.specs.declared.TaskEntry.{TaskEntry}
 use Rattle.record.specs.declared.GlobalTime.{GlobalTime}
+use Rattle.record.specs.declared.Due.{Due}
+use Rattle.record.specs.declared.Due.the-variants.{Free, Local, Global, Unknown}
 use Rattle.record.proofs.Columns.{length-entries, entry-at}
 use Rattle.fitness.specs.Checks.{isCodedBy, isCoded, CodedTimes, isTimely, slotBy, Slots, isByte, Marks, Names}
 use Rattle.fitness.proofs.Named.{isFitAlone}
 
+-- a code that there is and that is not the global time's
+not-global : (clock : ℕ) → leb clock 48 ≡ true → isGlobalClock clock ≡ false → ltb clock 32 ≡ true
+not-global clock most g =
+    by-test (ltb clock 32) (λ t. t) (λ t. absurd (true≢false (rw (le-leb 32 clock (ltb-false clock 32 t), most) at g)))
+
 -- a code that there is not
-unknown : (clock block : ℕ) → eqb clock 0 ≡ false → eqb clock 32 ≡ false → (leb 16 clock && ltb clock 32) ≡ false → isCodedBy clock block ≡ false
+unknown : (clock block : ℕ) → eqb clock 0 ≡ false → isGlobalClock clock ≡ false → (leb 16 clock && ltb clock 32) ≡ false → isCodedBy clock block ≡ false
 unknown clock block z g l =
     refuted (isCodedBy clock block)
     (λ t.
-    let (least, most, _) = and₃ (leb 16 clock) (leb clock 32) (ltb block 96) (rw z at t) in
-    let below : clock < 32 = omega (arith, leb-true clock 32 most, eqb-false clock 32 g) in
-    false≢true (sym l ∙ rw (least, lt-ltb clock 32 below)))
+    let (least, most, _) = and₃ (leb 16 clock) (leb clock 48) (ltb block 96) (rw z at t) in
+    false≢true (sym l ∙ rw (least, not-global clock most g)))
 
 -- the test of the block apart from the others
-block-apart : (b l p a : Bool) → (b && l && p && a) ≡ (b && (true && l && p && a))
-block-apart true l p a = refl
-block-apart false l p a = refl
+block-apart : (setter : TaskEntry) (global : GlobalTime) (used : Bool) (due : Due) → isDated due ≡ true
+    → isFitDue setter global used due ≡ (used && isFitDue setter global true due)
+unfolding isFitDue
+block-apart setter global true due d = refl
+block-apart setter global false Free d = absurd (false≢true d)
+block-apart setter global false (Local task at) d = refl
+block-apart setter global false (Global task at) d = refl
+block-apart setter global false Unknown d = refl
 
 module _ (tasks : List TaskEntry) (global : GlobalTime) where
   alone-parts : (e : ExpirationEntry) → isFitAlone tasks global e ≡ (isCoded e && isTimely tasks global e)
@@ -41,25 +52,29 @@ module _ (tasks : List TaskEntry) (global : GlobalTime) where
       by-test (eqb (e .clock) 0)
       (λ z. rw (eqb-true (e .clock) 0 z))
       (λ z.
-      by-test (eqb (e .clock) 32)
-      (λ g. rw (eqb-true (e .clock) 32 g))
+      by-test (isGlobalClock (e .clock))
+      (λ g.
+      let (least, most) = and-eq-true-iff (leb 32 (e .clock)) (leb (e .clock) 48) .0 g in
+      rw
+      (z, g, most, le-leb 16 (e .clock) (omega (arith, leb-true 32 (e .clock) least)))
+      (block-apart (getD tasks (e .clock - 32) absentEntry) global (ltb (e .block) 96) (Global (e .clock - 32) (record { 0 = e .due })) refl))
       (λ g.
       by-test (leb 16 (e .clock) && ltb (e .clock) 32)
       (λ l.
       let (least, below) = and-eq-true-iff (leb 16 (e .clock)) (ltb (e .clock) 32) .0 l in
-      let most : leb (e .clock) 32 ≡ true = le-leb (e .clock) 32 (omega (arith, ltb-true (e .clock) 32 below)) in
-      rw (z, g, least, below, most) (block-apart (ltb (e .block) 96) _ _ _))
+      let most : leb (e .clock) 48 ≡ true = le-leb (e .clock) 48 (omega (arith, ltb-true (e .clock) 32 below)) in
+      rw (z, g, least, below, most) (block-apart (getD tasks (e .clock - 16) absentEntry) global (ltb (e .block) 96) (Local (e .clock - 16) (record { 0 = e .due })) refl))
       (λ l. rw (unknown (e .clock) (e .block) z g l, z, g, l))))
 
   pub by-parts : (xs : List ExpirationEntry) → all (isFitAlone tasks global) xs ≡ (all isCoded xs && all (isTimely tasks global) xs)
   by-parts = all-two isCoded (isTimely tasks global) (isFitAlone tasks global) alone-parts
 
 -- a code that there is
-code-below : (clock block : ℕ) → isCodedBy clock block ≡ true → clock < 33
+code-below : (clock block : ℕ) → isCodedBy clock block ≡ true → clock < 49
 code-below clock block e =
     by-test (eqb clock 0)
     (λ z. omega (arith, eqb-true clock 0 z))
-    (λ z. omega (arith, leb-true clock 32 (and₃ (leb 16 clock) (leb clock 32) (ltb block 96) (rw z at e) .1)))
+    (λ z. omega (arith, leb-true clock 48 (and₃ (leb 16 clock) (leb clock 48) (ltb block 96) (rw z at e) .1)))
 
 -- an entry sets the flag of the block that it names, and of no other
 names-slot : (clock block due k : ℕ) → isCodedBy clock block ≡ true → k < 96 → eqb (slotBy clock block) k ≡ (isDated (dueBy clock due) && eqb block k)
@@ -68,12 +83,11 @@ names-slot clock block due k e h =
     by-test (eqb clock 0)
     (λ z. rw (z, ne-eqb 255 k (omega arith)))
     (λ z.
-    by-test (eqb clock 32)
+    by-test (isGlobalClock clock)
     (λ g. rw (z, g))
     (λ g.
-    let (least, most, _) = and₃ (leb 16 clock) (leb clock 32) _ (rw z at e) in
-    let below : clock < 32 = omega (arith, leb-true clock 32 most, eqb-false clock 32 g) in
-    rw (z, g, least, lt-ltb clock 32 below)))
+    let (least, most, _) = and₃ (leb 16 clock) (leb clock 48) _ (rw z at e) in
+    rw (z, g, least, not-global clock most g)))
 
 module _ {clocks named dues : List ℕ} (s : SizedEntries clocks named dues) (coded : all isCoded (entriesOf clocks named dues) ≡ true) where
   size : length (entriesOf clocks named dues) ≡ 256

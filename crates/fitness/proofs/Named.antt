@@ -34,8 +34,8 @@ unfolding isFitDue
 fit-by setter global before after Free f e = refl
 fit-by setter global true after (Local task at) f e = rw (f refl refl) e
 fit-by setter global false after (Local task at) f e = absurd (false≢true e)
-fit-by setter global true after (Global at) f e = rw (f refl refl) e
-fit-by setter global false after (Global at) f e = absurd (false≢true e)
+fit-by setter global true after (Global task at) f e = rw (f refl refl) e
+fit-by setter global false after (Global task at) f e = absurd (false≢true e)
 fit-by setter global before after Unknown f e = e
 
 -- and what it says of it holds
@@ -45,8 +45,8 @@ unfolding isFitDue
 fit-says setter global used Free e d = absurd (false≢true d)
 fit-says setter global true (Local task at) e d = refl
 fit-says setter global false (Local task at) e d = e
-fit-says setter global true (Global at) e d = refl
-fit-says setter global false (Global at) e d = e
+fit-says setter global true (Global task at) e d = refl
+fit-says setter global false (Global task at) e d = e
 fit-says setter global used Unknown e d = absurd (false≢true d)
 
 -- one block: z is whether it is free, n whether it is named, s whether its length and its handle are fit

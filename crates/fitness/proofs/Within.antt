@@ -3,11 +3,12 @@ use Prim.Native.Nat.{ℕ, _+_, _-_, _%_, _≤_, _<_}
 use native.Mathlib.Omega.{arith}
 use mathlib.Core.Bool.{Bool, true, false, cond, not, _&&_, and-eq-true-iff}
 use mathlib.Core.List.{List, [], _∷_}
+use mathlib.Core.Logic.{_≢_}
 use mathlib.Core.Path.{_≡_, refl, ap, _∙_}
-use borrow.Author.Tests.{eqb-true, eqb-false, ne-eqb, lt-ltb, le-ltb, ltb-true, ltb-false, le-leb, leb-true}
+use borrow.Author.Tests.{eqb-true, eqb-false, ne-eqb, lt-ltb, le-ltb, ltb-true, ltb-false, le-leb, lt-leb, leb-true, leb-false}
 use lib.Dec.{eqb, leb, ltb}
-use lib.ListN.{getD, set, replicate, getD-replicate, List·getD-eq-default}
-use lib.Seq.{getD-set-other}
+use lib.ListN.{length, getD, set, replicate, length-set, getD-replicate, List·getD-eq-default}
+use lib.Seq.{getD-set-same, getD-set-other}
 use Rattle.lists.specs.Tests.{all}
 use Rattle.lists.proofs.All.{all-getD}
 use Rattle.lists.proofs.Cases.{by-test, same-test}
@@ -15,7 +16,7 @@ use Rattle.lists.proofs.Filling.{Laid}
 use Rattle.ledger.specs.Limits.{counterRange, limits}
 use Rattle.ledger.proofs.Figures.{allowed, at-capacity}
 use Rattle.ledger.specs.Tasks.{isAbsent}
-use Rattle.record.specs.Codes.{stateOf, dueBy, leftAt, absentEntry}
+use Rattle.record.specs.Codes.{stateOf, isGlobalClock, dueBy, leftAt, absentEntry}
 use Rattle.record.specs.Reading.{HeadTyped}
 use Rattle.record.specs.Tables.{ExpirationEntry}
 use Rattle.record.specs.WellFormed.{isAhead, isFitDue}
@@ -30,35 +31,71 @@ use Rattle.fitness.specs.declared.times.Time.the-variants.{Local, Global
 abbrev pub nextOf : List TaskEntry → ℕ → Time
 nextOf tasks t = nextLocal (getD tasks t absentEntry .clock)
 
-abbrev pub unitsAt : List TaskEntry → ℕ → ℕ
-unitsAt tasks t = unitsOf (getD tasks t absentEntry .state)
+abbrev pub unitsAt : List TaskEntry → ℕ → ℕ → ℕ
+unitsAt tasks most t = unitsOf most (getD tasks t absentEntry .state)
 
 pub firsts-end : {tasks : List TaskEntry} {global : GlobalTime} (last : Time) → last ≡ nextGlobal global → {i : ℕ} {out : List Time}
-    → Laid noTime (nextOf tasks) 16 16 (replicate 33 last) i out → 16 ≤ i → Firsts tasks global out
+    → Laid noTime (nextOf tasks) 16 16 (replicate 49 last) i out → 16 ≤ i → Firsts tasks global out
 firsts-end last e m h =
     record {
       by-task = λ t l. m .so t (omega arith);
-      by-global = m .rest 32 (λ t l e. absurd (omega arith)) ∙ getD-replicate 33 32 last noTime (omega arith) ∙ e;
+      by-global = λ k a b. m .rest k (λ t l e. absurd (omega arith)) ∙ getD-replicate 49 k last noTime (omega arith) ∙ e;
     }
 
--- the table before the tasks: a free entry's units, and those of the global time
-abbrev pub unitsStart : List ℕ
-unitsStart = set (set (replicate 33 0) 0 4294967296) 32 32
+-- the table before the tasks: a free entry's units, and those of a departed setter
+abbrev unitsStart : List ℕ
+unitsStart = set (set (replicate 49 0) 0 4294967296) 48 32
 
-pub units-end : {tasks : List TaskEntry} {i : ℕ} {out : List ℕ} → Laid 0 (unitsAt tasks) 16 16 unitsStart i out → 16 ≤ i → Units tasks out
-unfolding counterRange
-units-end m h =
-    record {
-      size = m .size;
-      free = m .rest 0 (λ t l e. absurd (omega arith));
-      unknown = λ k a b.
-          m .rest k (λ t l e. absurd (omega arith))
-          ∙ getD-set-other (set (replicate 33 0) 0 4294967296) 32 k 32 0 (λ e. absurd (omega arith))
-          ∙ getD-set-other (replicate 33 0) 0 k 4294967296 0 (λ e. absurd (omega arith))
-          ∙ getD-replicate 33 k 0 0 (omega arith);
-      by-task = λ t l. m .so t (omega arith);
-      by-global = rw at-capacity (m .rest 32 (λ t l e. absurd (omega arith)));
-    }
+-- those of the first tasks stand at both their codes, and elsewhere what stood there before
+pub record UnitsTo (tasks : List TaskEntry) (i : ℕ) (out : List ℕ) : Type 0 where
+  pub size : length out ≡ 49
+  pub by-task : (t : ℕ) → t < i → getD out (t + 16) 0 ≡ unitsAt tasks 31 t
+  pub by-global : (t : ℕ) → t < i → getD out (t + 32) 0 ≡ unitsAt tasks 32 t
+  pub rest : (k : ℕ) → ((t : ℕ) → t < 32 → k ≢ t + 16) → getD out k 0 ≡ getD unitsStart k 0
+
+pub units-start : {tasks : List TaskEntry} → UnitsTo tasks 0 unitsStart
+units-start = record { size = refl; by-task = λ t l. absurd (omega arith); by-global = λ t l. absurd (omega arith); rest = λ k o. refl }
+
+module _ {tasks : List TaskEntry} {i : ℕ} {out : List ℕ} (m : UnitsTo tasks i out) where
+  pub units-turn : i < 16 → UnitsTo tasks (i + 1) (set (set out (i + 16) (unitsAt tasks 31 i)) (i + 32) (unitsAt tasks 32 i))
+  units-turn h =
+      let locals = set out (i + 16) (unitsAt tasks 31 i) in
+      let size : length locals ≡ 49 = simp length-set (m .size) in
+      record {
+        size = simp length-set (m .size);
+        by-task = λ t l.
+            getD-set-other locals (i + 32) (t + 16) (unitsAt tasks 32 i) 0 (λ e. absurd (omega arith))
+            ∙ by-test (eqb t i)
+            (λ s. rw (eqb-true t i s) (getD-set-same out (i + 16) (unitsAt tasks 31 i) 0 (omega (arith, m .size))))
+            (λ s. getD-set-other out (i + 16) (t + 16) (unitsAt tasks 31 i) 0 (λ e. eqb-false t i s (omega arith)) ∙ m .by-task t (omega (arith, eqb-false t i s)));
+        by-global = λ t l.
+            by-test (eqb t i)
+            (λ s. rw (eqb-true t i s) (getD-set-same locals (i + 32) (unitsAt tasks 32 i) 0 (omega (arith, size))))
+            (λ s.
+            getD-set-other locals (i + 32) (t + 32) (unitsAt tasks 32 i) 0 (λ e. eqb-false t i s (omega arith))
+            ∙ getD-set-other out (i + 16) (t + 32) (unitsAt tasks 31 i) 0 (λ e. absurd (omega arith))
+            ∙ m .by-global t (omega (arith, eqb-false t i s)));
+        rest = λ k o.
+            getD-set-other locals (i + 32) k (unitsAt tasks 32 i) 0 (λ e. o (i + 16) (omega arith) (omega arith))
+            ∙ getD-set-other out (i + 16) k (unitsAt tasks 31 i) 0 (o i (omega arith))
+            ∙ m .rest k o;
+      }
+
+  pub units-end : 16 ≤ i → Units tasks out
+  unfolding counterRange
+  units-end h =
+      record {
+        size = m .size;
+        free = m .rest 0 (λ t l e. absurd (omega arith));
+        unknown = λ k a b.
+            m .rest k (λ t l e. absurd (omega arith))
+            ∙ getD-set-other (set (replicate 49 0) 0 4294967296) 48 k 32 0 (λ e. absurd (omega arith))
+            ∙ getD-set-other (replicate 49 0) 0 k 4294967296 0 (λ e. absurd (omega arith))
+            ∙ getD-replicate 49 k 0 0 (omega arith);
+        by-task = λ t l. rw at-capacity (m .by-task t (omega arith));
+        by-global = λ t l. rw at-capacity (m .by-global t (omega arith));
+        by-departed = rw at-capacity (m .rest 48 (λ t l e. absurd (omega arith)));
+      }
 
 left-below : (due : ℕ) (first : Time) → leftFrom due first < counterRange
 unfolding counterRange
@@ -81,44 +118,57 @@ ahead-next due now most n m =
     let (least, last) = and-eq-true-iff (leb 1 (leftAt due now)) _ .0 e in
     lt-ltb _ most (omega (arith, leb-true 1 (leftAt due now) least, leb-true (leftAt due now) most last)))
 
-local-units : (due now : ℕ) (absent : Bool) → now < counterRange
-    → ltb (leftAt due ((now + 1) % counterRange)) (cond absent 0 (limits .extension + 1)) ≡ (not absent && isAhead (limits .extension + 1) (leftAt due now))
-unfolding counterRange
-local-units due now true n = le-ltb (leftAt due ((now + 1) % counterRange)) 0 (omega arith)
-local-units due now false n = ahead-next due now (limits .extension + 1) n (omega (arith, allowed .most-extension))
+-- the same of a task that may be absent
+units-ahead : (due now most : ℕ) (absent : Bool) → now < counterRange → most < counterRange
+    → ltb (leftAt due ((now + 1) % counterRange)) (cond absent 0 most) ≡ (not absent && isAhead most (leftAt due now))
+units-ahead due now most true n m = le-ltb (leftAt due ((now + 1) % counterRange)) 0 (omega arith)
+units-ahead due now most false n m = ahead-next due now most n m
 
-global-units : (due now : ℕ) → now < counterRange
-    → ltb (leftAt due ((now + 1) % counterRange)) (limits .extension + 2) ≡ isAhead (limits .extension + 2) (leftAt due now)
+few : limits .extension + 2 < counterRange
 unfolding counterRange
-global-units due now n = ahead-next due now (limits .extension + 2) n (omega (arith, allowed .most-extension))
+few = omega (arith, allowed .most-extension)
 
 module _ {h : Head} (typed : HeadTyped h) {firsts : List Time} {units : List ℕ} (f : Firsts (h .tasks) (h .global) firsts) (u : Units (h .tasks) units) where
+  -- the task that an entry's code is of, where the codes of the tasks start at a
+  abbrev setter : ExpirationEntry → ℕ → TaskEntry
+  setter e a = getD (h .tasks) (e .clock - a) absentEntry
+
   -- by a task's clock
-  module _ (e : ExpirationEntry) (least : 16 ≤ e .clock) (below : e .clock < 32) where
-    abbrev setter : TaskEntry
-    setter = getD (h .tasks) (e .clock - 16) absentEntry
+  local-timely : (e : ExpirationEntry) → 16 ≤ e .clock → e .clock < 32 → isWithin firsts units e ≡ isTimely (h .tasks) (h .global) e
+  unfolding isFitDue dueBy
+  local-timely e least below =
+      let place : e .clock ≡ e .clock - 16 + 16 = omega arith in
+      let first : getD firsts (e .clock) noTime ≡ nextLocal (setter e 16 .clock) = ap (λ k. getD firsts k noTime) place ∙ f .by-task (e .clock - 16) (omega arith) in
+      let unit : getD units (e .clock) 0 ≡ unitsOf (limits .extension + 1) (setter e 16 .state) = ap (λ k. getD units k 0) place ∙ u .by-task (e .clock - 16) (omega arith) in
+      let now = all-getD (λ (x : TaskEntry). x .clock .0 < counterRange) absentEntry zero-below (h .tasks) (typed .clocks) (e .clock - 16) in
+      rw
+      (first, unit, ne-eqb (e .clock) 0 (omega arith), lt-leb 32 (e .clock) below, le-leb 16 (e .clock) least, lt-ltb (e .clock) 32 below, lt-ltb (e .clock - 16) 16 (omega arith))
+      (units-ahead (e .due) (setter e 16 .clock .0) (limits .extension + 1) (isAbsent (stateOf (setter e 16 .state))) now (omega (arith, few)))
 
-    place : e .clock ≡ e .clock - 16 + 16
-    place = omega arith
+  -- by the global time, of a task
+  global-timely : (e : ExpirationEntry) → 32 ≤ e .clock → e .clock < 48 → isWithin firsts units e ≡ isTimely (h .tasks) (h .global) e
+  unfolding isFitDue dueBy
+  global-timely e least below =
+      let place : e .clock ≡ e .clock - 32 + 32 = omega arith in
+      let unit : getD units (e .clock) 0 ≡ unitsOf (limits .extension + 2) (setter e 32 .state) = ap (λ k. getD units k 0) place ∙ u .by-global (e .clock - 32) (omega arith) in
+      rw
+      (f .by-global (e .clock) least (omega arith), unit, ne-eqb (e .clock) 0 (omega arith), le-leb 32 (e .clock) least, le-leb (e .clock) 48 (omega arith), ne-eqb (e .clock - 32) 16 (omega arith))
+      (units-ahead (e .due) (h .global .0) (limits .extension + 2) (isAbsent (stateOf (setter e 32 .state))) (typed .global) few)
 
-    local-timely : isWithin firsts units e ≡ isTimely (h .tasks) (h .global) e
-    unfolding isFitDue dueBy
-    local-timely =
-        let first : getD firsts (e .clock) noTime ≡ nextLocal (setter .clock) = ap (λ k. getD firsts k noTime) place ∙ f .by-task (e .clock - 16) (omega arith) in
-        let unit : getD units (e .clock) 0 ≡ unitsOf (setter .state) = ap (λ k. getD units k 0) place ∙ u .by-task (e .clock - 16) (omega arith) in
-        let now = all-getD (λ (x : TaskEntry). x .clock .0 < counterRange) absentEntry zero-below (h .tasks) (typed .clocks) (e .clock - 16) in
-        rw
-        (first, unit, ne-eqb (e .clock) 0 (omega arith), ne-eqb (e .clock) 32 (omega arith), le-leb 16 (e .clock) least, lt-ltb (e .clock) 32 below, lt-ltb (e .clock - 16) 16 (omega arith))
-        (local-units (e .due) (setter .clock .0) (isAbsent (stateOf (setter .state))) now)
+  -- and of a departed setter
+  departed-timely : (e : ExpirationEntry) → e .clock ≡ 48 → isWithin firsts units e ≡ isTimely (h .tasks) (h .global) e
+  unfolding isFitDue dueBy
+  departed-timely e d =
+      rw (d, u .by-departed, f .by-global 48 (omega arith) (omega arith)) (ahead-next (e .due) (h .global .0) (limits .extension + 2) (typed .global) few)
 
   -- by a code that is no clock's
-  no-units : (k : ℕ) → eqb k 0 ≡ false → eqb k 32 ≡ false → (leb 16 k && ltb k 32) ≡ false → getD units k 0 ≡ 0
+  no-units : (k : ℕ) → eqb k 0 ≡ false → isGlobalClock k ≡ false → (leb 16 k && ltb k 32) ≡ false → getD units k 0 ≡ 0
   no-units k z g l =
       by-test (ltb k 16)
       (λ t. u .unknown k (omega (arith, eqb-false k 0 z)) (ltb-true k 16 t))
       (λ t.
-      let least : 16 ≤ k = ltb-false k 16 t in
-      List·getD-eq-default units 0 {n = k} (omega (arith, u .size, eqb-false k 32 g, ltb-false k 32 (rw (le-leb 16 k least) at l))))
+      let not-local : 32 ≤ k = ltb-false k 32 (rw (le-leb 16 k (ltb-false k 16 t)) at l) in
+      List·getD-eq-default units 0 {n = k} (omega (arith, u .size, leb-false k 48 (rw (le-leb 32 k not-local) at g))))
 
   timely : (e : ExpirationEntry) → isWithin firsts units e ≡ isTimely (h .tasks) (h .global) e
   unfolding isFitDue dueBy
@@ -126,8 +176,12 @@ module _ {h : Head} (typed : HeadTyped h) {firsts : List Time} {units : List ℕ
       by-test (eqb (e .clock) 0)
       (λ z. rw (eqb-true (e .clock) 0 z, u .free) (lt-ltb _ counterRange (left-below (e .due) (getD firsts 0 noTime))))
       (λ z.
-      by-test (eqb (e .clock) 32)
-      (λ g. rw (eqb-true (e .clock) 32 g, u .by-global, f .by-global) (global-units (e .due) (h .global .0) (typed .global)))
+      by-test (isGlobalClock (e .clock))
+      (λ g.
+      let (least, most) = and-eq-true-iff (leb 32 (e .clock)) (leb (e .clock) 48) .0 g in
+      by-test (eqb (e .clock) 48)
+      (λ d. departed-timely e (eqb-true (e .clock) 48 d))
+      (λ d. global-timely e (leb-true 32 (e .clock) least) (omega (arith, leb-true (e .clock) 48 most, eqb-false (e .clock) 48 d))))
       (λ g.
       by-test (leb 16 (e .clock) && ltb (e .clock) 32)
       (λ l.

@@ -1,5 +1,5 @@
 -- What the parts of the test of well-formedness test of tasks, expirations and blocks, and hand to one another.
-use Prim.Native.Nat.{ℕ, _+_, _%_, _<_}
+use Prim.Native.Nat.{ℕ, _+_, _%_, _≤_, _<_}
 use mathlib.Core.Bool.{Bool, Bool·beq, true, false, cond, not, _&&_, _||_}
 use mathlib.Core.List.{List}
 use mathlib.Core.Path.{_≡_}
@@ -9,7 +9,7 @@ use Rattle.lists.specs.Tests.{any, all}
 use Rattle.lists.specs.Filled.{Filled}
 use Rattle.ledger.specs.Limits.{counterRange, limits, taskCount}
 use Rattle.ledger.specs.Tasks.{isAbsent}
-use Rattle.record.specs.Codes.{stateOf, dueOf, setterOf, leftAt, absentEntry, localCode, globalCode}
+use Rattle.record.specs.Codes.{stateOf, dueOf, setterOf, leftAt, absentEntry, localCode, globalCode, departedCode}
 use Rattle.record.specs.WellFormed.{isFitDue, isNaming, isSizedFor}
 use Rattle.record.specs.Tables.{BlockEntry, ExpirationEntry, entriesOf, blockEntries, expirationEntries, byteValues}
 use Rattle.record.specs.declared.GlobalTime.{GlobalTime}
@@ -21,7 +21,7 @@ use Rattle.fitness.specs.declared.times.Time.the-variants.{Local, Global
 
 -- a free entry, or one that goes by a clock that there is and names a block that there is
 abbrev pub isCodedBy : ℕ → ℕ → Bool
-isCodedBy clock block = eqb clock 0 || (leb localCode clock && leb clock globalCode && ltb block blockEntries)
+isCodedBy clock block = eqb clock 0 || (leb localCode clock && leb clock departedCode && ltb block blockEntries)
 
 abbrev pub isCoded : ExpirationEntry → Bool
 isCoded e = isCodedBy (e .clock) (e .block)
@@ -58,9 +58,9 @@ pub record Marks (bytes : List ℕ) (flags : List Bool) : Type 0 where
 pub record Names (named : List Bool) (xs : List ExpirationEntry) : Type 0 where
   pub so : (k : ℕ) → k < blockEntries → getD named k false ≡ any (isNaming k) xs
 
--- the codes of clocks as indices: the global time's is the last that there is
+-- the codes of clocks as indices: that of a departed setter is the last that there is
 abbrev pub codeCount : ℕ
-codeCount = globalCode + 1
+codeCount = departedCode + 1
 
 -- clocks whose codes there are
 pub record Codes (clocks : List ℕ) : Type 0 where
@@ -97,18 +97,19 @@ noTime = Local (record { 0 = 0 })
 -- By each clock the first time that lies ahead,
 pub record Firsts (tasks : List TaskEntry) (global : GlobalTime) (r : List Time) : Type 0 where
   pub by-task : (t : ℕ) → t < taskCount → getD r (t + localCode) noTime ≡ nextLocal (getD tasks t absentEntry .clock)
-  pub by-global : getD r globalCode noTime ≡ nextGlobal global
+  pub by-global : (k : ℕ) → globalCode ≤ k → k ≤ departedCode → getD r k noTime ≡ nextGlobal global
 
--- and the units in which its expirations may be due: all of a free entry, none by the clock of an absent task nor by a code that is no clock's.
-abbrev pub unitsOf : ℕ → ℕ
-unitsOf state = cond (isAbsent (stateOf state)) 0 (limits .extension + 1)
+-- and the units in which its expirations may be due: all of a free entry, none of an absent task nor by a code that is no clock's.
+abbrev pub unitsOf : ℕ → ℕ → ℕ
+unitsOf most state = cond (isAbsent (stateOf state)) 0 most
 
 pub record Units (tasks : List TaskEntry) (r : List ℕ) : Type 0 where
   pub size : length r ≡ codeCount
   pub free : getD r 0 0 ≡ counterRange
   pub unknown : (k : ℕ) → 0 < k → k < localCode → getD r k 0 ≡ 0
-  pub by-task : (t : ℕ) → t < taskCount → getD r (t + localCode) 0 ≡ unitsOf (getD tasks t absentEntry .state)
-  pub by-global : getD r globalCode 0 ≡ limits .extension + 2
+  pub by-task : (t : ℕ) → t < taskCount → getD r (t + localCode) 0 ≡ unitsOf (limits .extension + 1) (getD tasks t absentEntry .state)
+  pub by-global : (t : ℕ) → t < taskCount → getD r (t + globalCode) 0 ≡ unitsOf (limits .extension + 2) (getD tasks t absentEntry .state)
+  pub by-departed : getD r departedCode 0 ≡ limits .extension + 2
 
 -- an entry by such tables
 abbrev pub isWithin : List Time → List ℕ → ExpirationEntry → Bool
@@ -118,7 +119,7 @@ isWithin firsts units e = isWithinBy (getD units (e .clock) 0) (getD firsts (e .
 pub record AllWithin (firsts : List Time) (units clocks dues : List ℕ) (r : Bool) : Type 0 where
   pub so : (named : List ℕ) → length named ≡ expirationEntries → r ≡ all (isWithin firsts units) (entriesOf clocks named dues)
 
--- an entry by W6 to W8, which say when it is due and who set it, apart from the block that it names
+-- an entry by W6 to W8 and W14, which say when it is due and who set it, apart from the block that it names
 abbrev pub isTimely : List TaskEntry → GlobalTime → ExpirationEntry → Bool
 isTimely tasks global e = isFitDue (getD tasks (setterOf (dueOf e)) absentEntry) global true (dueOf e)
 

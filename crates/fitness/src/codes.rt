@@ -6,8 +6,8 @@ ghost use Rattle.fitness.specs.Checks.{isCodedBy, SizedCodes, AllCoded, 
 use record::BLOCK_COUNT;
 use record::BYTE_VALUES;
 use record::EXPIRATION_COUNT;
+use record::codes::DEPARTED;
 use record::codes::FREE;
-use record::codes::GLOBAL;
 use record::codes::LOCAL;
 
 // The flag that an entry sets that names no block.
@@ -17,7 +17,7 @@ const NO_BLOCK: u8 = 255;
 fn is_coded(clock: u8, block: u8) -> bool
     ensures { λ r. ⌜ r ≡ isCodedBy clock block ⌝ }
 {
-    (clock == FREE) | ((LOCAL <= clock) & (clock <= GLOBAL) & ((block as usize) < BLOCK_COUNT))
+    (clock == FREE) | ((LOCAL <= clock) & (clock <= DEPARTED) & ((block as usize) < BLOCK_COUNT))
 }
 
 pub fn all_coded<'a>(clocks: &'a [u8; EXPIRATION_COUNT], named: &'a [u8; EXPIRATION_COUNT]) -> bool

@@ -9,6 +9,7 @@ use record::GlobalTime;
 use record::Head;
 use record::LocalTime;
 use record::TaskEntry;
+use record::codes::DEPARTED;
 use record::codes::FREE;
 use record::codes::GLOBAL;
 use record::codes::LOCAL;
@@ -16,17 +17,24 @@ use record::codes::global_left;
 use record::codes::local_left;
 use record::running::is_absent;
 
-// The codes of clocks, as indices: those of tasks are from LOCAL on, and GLOBAL is the last that there is.
+// The codes of clocks, as indices: those of tasks are from LOCAL on, those of the global time from GLOBAL on by the task that set it, and DEPARTED is the last that there is.
 const NO_CLOCK: usize = FREE as usize;
 
 const FIRST_LOCAL: usize = LOCAL as usize;
 
-const ONLY_GLOBAL: usize = GLOBAL as usize;
+const FIRST_GLOBAL: usize = GLOBAL as usize;
 
-pub const CODES: usize = ONLY_GLOBAL + 1;
+const OF_DEPARTED: usize = DEPARTED as usize;
+
+pub const CODES: usize = OF_DEPARTED + 1;
 
 // All units that a counter has: a free entry is due whenever it likes.
 const ALL_UNITS: u64 = 4294967296;
+
+// The most that an expiration by a task's clock may have, and one by the global time.
+const LOCAL_UNITS: u64 = (LIMITS.extension + 1) as u64;
+
+const GLOBAL_UNITS: u64 = (LIMITS.extension + 2) as u64;
 
 // A time by one of the clocks.
 pub enum Time {
@@ -77,26 +85,24 @@ fn firsts(tasks: [TaskEntry; TASK_COUNT], global: GlobalTime) -> [Time; CODES]
     out
 }
 
-fn units_of(state: u16) -> u64
-    ensures { λ r. ⌜ r ≡ unitsOf state ⌝ }
+// Of an absent task there are none.
+fn units_of(state: u16, most: u64) -> u64
+    ensures { λ r. ⌜ r ≡ unitsOf most state ⌝ }
 {
-    if is_absent(state) {
-        0
-    } else {
-        (LIMITS.extension + 1) as u64
-    }
+    if is_absent(state) { 0 } else { most }
 }
 
-// By each clock the units in which its expirations may be due: none by an absent task's, nor by a code that is no clock's.
+// By each clock the units in which its expirations may be due: none of an absent task, nor by a code that is no clock's.
 fn units(tasks: [TaskEntry; TASK_COUNT]) -> [u64; CODES]
     ensures { λ r. ⌜ Units tasks r ⌝ }
 {
     let mut out = [0; CODES];
     out[NO_CLOCK] = ALL_UNITS;
-    out[ONLY_GLOBAL] = (LIMITS.extension + 2) as u64;
+    out[OF_DEPARTED] = GLOBAL_UNITS;
     for i in 0..TASK_COUNT {
         let e = tasks[i];
-        out[i + FIRST_LOCAL] = units_of(e.state);
+        out[i + FIRST_LOCAL] = units_of(e.state, LOCAL_UNITS);
+        out[i + FIRST_GLOBAL] = units_of(e.state, GLOBAL_UNITS);
     }
     out
 }

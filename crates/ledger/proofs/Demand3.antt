@@ -11,11 +11,11 @@ use lib.Dec.{eqb}
 use Rattle.lists.specs.Columns.{_⊛_}
 use Rattle.lists.specs.Tests.{all, filter, All}
 use Rattle.lists.proofs.Cases.{by-test, not-leb, not-ltb, or-second, or-right}
-use Rattle.lists.proofs.Counts.{not-any-not}
+use Rattle.lists.proofs.Counts.{any-map, not-any-not}
 use Rattle.lists.proofs.All.{all-every, all-imp, all-append, all-map, all-widened}
 use Rattle.lists.proofs.Filters.{filter-map-filter, filter-filter, filter-filter-append, any-filter}
 use Rattle.ledger.specs.Tasks.{Clocks, isTested}
-use Rattle.ledger.specs.Expirations.{DueTime, Expiration, lasting, isLive, isOf, isSetBy, setOnEach}
+use Rattle.ledger.specs.Expirations.{DueTime, Expiration, isOf, isSetBy, putOff, deserted, eachDue, stillLive, lasting, setOnEach}
 use Rattle.ledger.specs.Objects.{Object, Memory, Reply, freshMemory, objectAt, written, stands, standing, replyTo, memoryAfter, expirationsAfter, handlesOf}
 use Rattle.ledger.specs.Refusals.{testsOf}
 use Rattle.ledger.specs.Ledger.{settled, fresh, verdictOn, replyBy, afterBy, reply, next, replies}
@@ -103,16 +103,24 @@ Numbered : Memory → Type 0
 Numbered m = All (λ (o : Object). o .handle ≤ m .given) (m .objects)
 
 -- an event sets no expiration
-lasting-stands : (event : Event) (task : ℕ) (clocks : Clocks) (xs : List Expiration) (handle : ℕ)
-    → stands (lasting event task clocks xs) handle ≡ true → stands xs handle ≡ true
+due-stands : (f : DueTime → DueTime) (xs : List Expiration) (handle : ℕ) → stands (eachDue f xs) handle ≡ stands xs handle
+due-stands f xs handle = any-map (isOf handle) _ xs
+
+live-stands : (advanced : Bool) (clocks : Clocks) (xs : List Expiration) (handle : ℕ) → stands (stillLive advanced clocks xs) handle ≡ true
+    → stands xs handle ≡ true
+live-stands advanced clocks xs handle s =
+    rw (due-stands (putOff advanced clocks) xs handle) at (any-filter _ _ (eachDue (putOff advanced clocks) xs) s)
+
+lasting-stands : (event : Event) (task : ℕ) (advanced : Bool) (clocks : Clocks) (xs : List Expiration) (handle : ℕ)
+    → stands (lasting event task advanced clocks xs) handle ≡ true → stands xs handle ≡ true
 unfolding lasting
-lasting-stands Join task clocks xs handle s = s
-lasting-stands Leave task clocks xs handle s =
+lasting-stands Join task advanced clocks xs handle s = s
+lasting-stands Leave task advanced clocks xs handle s =
     let others : List Expiration = filter (λ (x : Expiration). not (isSetBy task (x .due))) xs in
-    any-filter (isOf handle) (λ (x : Expiration). not (isSetBy task (x .due))) xs (any-filter (isOf handle) (isLive clocks) others s)
-lasting-stands Block task clocks xs handle s = any-filter _ _ xs s
-lasting-stands Resume task clocks xs handle s = s
-lasting-stands Tick task clocks xs handle s = any-filter _ _ xs s
+    any-filter (isOf handle) _ xs (rw (due-stands (deserted task) others handle) at (live-stands advanced clocks (eachDue (deserted task) others) handle s))
+lasting-stands Block task advanced clocks xs handle s = live-stands advanced clocks xs handle s
+lasting-stands Resume task advanced clocks xs handle s = s
+lasting-stands Tick task advanced clocks xs handle s = live-stands advanced clocks xs handle s
 
 -- nor does a batch set one where none stands
 each-stands : (due : DueTime) (handles : List ℕ) (xs : List Expiration) → all (stands xs) handles ≡ true → (handle : ℕ)
@@ -135,7 +143,7 @@ same-sweep : (m : Memory) (xs : List Expiration) (call : Call) (new : List ℕ) 
     ≡ settled (memoryAfter call new m) (expirationsAfter call new m xs)
 unfolding memoryAfter expirationsAfter isInTimeAndBounds Numbered written
 same-sweep m xs (Schedule event task) new k e =
-    rw (swept-twice xs _ (m .objects) (all-every _ (λ o. lasting-stands event task _ xs (o .handle)) (m .objects)))
+    rw (swept-twice xs _ (m .objects) (all-every _ (λ o. lasting-stands event task _ _ xs (o .handle)) (m .objects)))
 same-sweep m xs (Make task kind extension size) new k e =
     rw
     (filter-filter-append _ _ (m .objects) _

@@ -3,11 +3,11 @@ use mathlib.Core.Bool.{Bool, _&&_}
 use mathlib.Core.Path.{_≡_, refl}
 use lib.Dec.{T, eqb, eqb→eq}
 use Rattle.lists.specs.Blocks.{overwritten}
-use Rattle.lists.specs.Tests.{all}
+use Rattle.lists.specs.Tests.{all, All}
 use Rattle.lists.proofs.Tests.{both, sameBy, sameBy→eq, all→All}
 use Rattle.ledger.specs.Limits.{counterRange, limits, lastHandle}
 use Rattle.ledger.specs.Tasks.{freshClocks, moved, allTicked, tasksAfter, advances, clocksAfter}
-use Rattle.ledger.specs.Expirations.{dueAfter, remaining, lasting, setOnEach}
+use Rattle.ledger.specs.Expirations.{dueAfter, remaining, putOff, deserted, lasting, setOnEach}
 use Rattle.ledger.specs.Objects.{freshMemory, objectAt, written, replyTo, memoryAfter, expirationsAfter, handlesOf, usage}
 use Rattle.ledger.specs.Refusals.{testsOf, verdict}
 use Rattle.ledger.specs.Remaining.{remainingLife}
@@ -15,6 +15,7 @@ use Rattle.ledger.specs.Ledger.{fresh, reply, next, replies, afterAll}
 use Rattle.ledger.specs.Rows.{Row, answered, expected, clockAfter, RowHolds}
 use Rattle.ledger.specs.Edges.{edges, EdgesHold}
 use Rattle.ledger.specs.MoreEdges.{moreEdges, MoreEdgesHold}
+use Rattle.ledger.specs.PutOff.{waitingEdges}
 
 -- a row's two equations as a test
 passes : Row → Bool
@@ -29,13 +30,13 @@ passing-holds row t =
       clock = eqb→eq (clockAfter row) (row .clock) clock;
     }
 
--- the checker runs all calls of both tables
-all-pass : T (all passes edges) × T (all passes moreEdges)
-unfolding passes edges moreEdges fresh reply next replies afterAll testsOf verdict
-    freshMemory objectAt written overwritten replyTo memoryAfter expirationsAfter handlesOf setOnEach usage dueAfter remaining remainingLife lasting
+-- the checker runs all calls of the tables
+all-pass : T (all passes edges) × T (all passes moreEdges) × T (all passes waitingEdges)
+unfolding passes edges moreEdges waitingEdges fresh reply next replies afterAll testsOf verdict
+    freshMemory objectAt written overwritten replyTo memoryAfter expirationsAfter handlesOf setOnEach usage dueAfter remaining remainingLife putOff deserted lasting
     freshClocks moved allTicked tasksAfter advances clocksAfter
     limits lastHandle counterRange
-all-pass = (tt, tt)
+all-pass = (tt, tt, tt)
 
 pub edges-hold : EdgesHold
 unfolding edges
@@ -43,3 +44,6 @@ edges-hold = record { thirteen = refl; rows = all→All passes passing-holds edg
 
 pub more-edges-hold : MoreEdgesHold
 more-edges-hold = all→All passes passing-holds moreEdges (all-pass .1)
+
+pub waiting-edges-hold : All RowHolds waitingEdges
+waiting-edges-hold = all→All passes passing-holds waitingEdges (all-pass .2)

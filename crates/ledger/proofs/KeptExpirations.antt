@@ -2,19 +2,19 @@
 use Prim.Native.Nat.{ℕ, _+_, _-_, _≤_, _<_}
 use native.Mathlib.Nat.{le-trans}
 use native.Mathlib.Omega.{arith}
-use mathlib.Core.Bool.{Bool, true, false, true≢false, not}
+use mathlib.Core.Bool.{Bool, true, false, true≢false, cond, not, _&&_, or-true}
 use mathlib.Core.List.{List, [], _∷_}
-use mathlib.Core.Path.{_≡_, refl, sym, _∙_}
-use borrow.Author.Tests.{ltb-true, ltb-false, eqb-true, eq-eqb, not-true, not-false}
+use mathlib.Core.Path.{_≡_, refl, sym, ap, _∙_}
+use borrow.Author.Tests.{ltb-true, ltb-false, leb-false, eqb-true, eqb-false, eq-eqb, not-true, not-false}
 use lib.Dec.{eqb, ltb}
-use lib.ListN.{length, getD, List·getD-map}
+use lib.ListN.{length, getD, List·getD-map, length-map}
 use Rattle.lists.specs.Tests.{any, filter, All}
 use Rattle.lists.proofs.Cases.{by-test}
-use Rattle.lists.proofs.All.{all-imp, all-both, all-filter, all-any, at-set}
+use Rattle.lists.proofs.All.{all-imp, all-both, all-filter, all-any, all-map, at-set}
 use Rattle.lists.proofs.Counts.{any-left, length-filter}
-use Rattle.ledger.specs.Limits.{limits}
-use Rattle.ledger.specs.Tasks.{Task, Clocks, taskAt, absentTask, isAbsent, isTested, moved, unticked, tasksAfter, advances, clocksAfter}
-use Rattle.ledger.specs.Expirations.{DueTime, byLocal, byGlobal, Expiration, dueAfter, remaining, isLive, isSetBy, isOf, lasting, setOnEach}
+use Rattle.ledger.specs.Limits.{limits, taskCount}
+use Rattle.ledger.specs.Tasks.{Task, Clocks, taskAt, absentTask, isAbsent, isWaiting, isTested, moved, unticked, tasksAfter, advances, clocksAfter}
+use Rattle.ledger.specs.Expirations.{DueTime, byLocal, byGlobal, departed, Expiration, dueAfter, remaining, isLive, isSetBy, isOf, putOff, deserted, eachDue, stillLive, lasting, setOnEach}
 use Rattle.ledger.specs.Objects.{Object, Memory, stands, standing}
 use Rattle.ledger.specs.Refusals.{testsOf}
 use Rattle.ledger.specs.Kept.{Within, isOwned, ExpirationKept, ExpirationsKept}
@@ -30,6 +30,17 @@ use Rattle.ledger.proofs.KeptTasks.{tasks-after}
 abbrev LocalWithin : Task → ℕ → Type 0
 LocalWithin setter at = (at - setter .clock ≤ limits .extension + 1) × (isAbsent (setter .state) ≡ false)
 
+-- no advance leaves more units, whether it puts off or not
+put-within : (advanced waits : Bool) (at now most : ℕ) → at - now ≤ most → at + cond (advanced && waits) 1 0 - cond advanced (now + 1) now ≤ most
+put-within true true at now most h = omega (arith, h)
+put-within true false at now most h = omega (arith, h)
+put-within false waits at now most h = omega (arith, h)
+
+-- who set it
+abbrev setterOf : DueTime → ℕ
+setterOf (byLocal setter at) = setter
+setterOf (byGlobal setter at) = setter
+
 module _ (m : Memory) (xs : List Expiration) (new : List ℕ) (task : ℕ) where
   -- the task before the event, and the clocks after it
   abbrev before : Task
@@ -42,30 +53,53 @@ module _ (m : Memory) (xs : List Expiration) (new : List ℕ) (task : ℕ) where
   abbrev Lasts : Event → Expiration → Type 0
   Lasts event = ExpirationKept (after event) (m .objects)
 
+  -- whether the event advances the global time, and what that makes of a due
+  abbrev put : Event → DueTime → DueTime
+  put event = putOff (advances event task (m .clocks)) (after event)
+
   -- the event leaves an expiration that its own task set within bounds
   abbrev Spares : Event → DueTime → Type 0
-  Spares event due = isSetBy task due ≡ true → (at : ℕ) → LocalWithin before at → LocalWithin (moved event before) at
+  Spares event due = setterOf due ≡ task → (at : ℕ) → LocalWithin before at → LocalWithin (moved event before) at
 
-  -- then it leaves all within bounds: no clock goes back
-  within-after : (event : Event) (due : DueTime) → Spares event due → Within (m .clocks) due → Within (after event) due
-  unfolding clocksAfter remaining
+  -- then it leaves the setter of any there, who is no departed one
+  there-after : (event : Event) (setter : ℕ) → (setter ≡ task → (at : ℕ) → LocalWithin before at → LocalWithin (moved event before) at)
+      → not (isAbsent (taskAt (m .clocks) setter .state)) ≡ true → not (isAbsent (taskAt (after event) setter .state)) ≡ true
+  unfolding clocksAfter
+  there-after event setter f h =
+      tasks-after (λ ts. not (isAbsent (getD ts setter absentTask .state)) ≡ true) (λ ts h. rw (List·getD-map unticked ts setter absentTask) h)
+      event task (m .clocks)
+      (at-set (λ t. not (isAbsent (t .state)) ≡ true) (m .clocks .tasks) task setter absentTask
+      (λ e. rw (f e 0 (omega arith, not-true _ (rw e at h)) .1)) h)
+
+  -- and all within bounds: no clock goes back
+  within-after : (event : Event) (due : DueTime) → Spares event due → Within (m .clocks) due → Within (after event) (put event due)
+  unfolding clocksAfter remaining putOff
   within-after event (byLocal setter at) f h =
       tasks-after (λ ts. LocalWithin (getD ts setter absentTask) at) (λ ts h. rw (List·getD-map unticked ts setter absentTask) h)
       event task (m .clocks)
-      (at-set (λ t. LocalWithin t at) (m .clocks .tasks) task setter absentTask (λ e. f (eq-eqb setter task e) at (rw e at h)) h)
-  within-after event (byGlobal at) f h = by-test (advances event task (m .clocks)) (λ e. rw e (omega arith)) (λ e. rw e h)
+      (at-set (λ t. LocalWithin t at) (m .clocks .tasks) task setter absentTask (λ e. f e at (rw e at h)) h)
+  within-after event (byGlobal setter at) f (most, there) = (
+    put-within (advances event task (m .clocks)) (isWaiting (taskAt (after event) setter .state)) at (m .clocks .global) _ most,
+    by-test (eqb setter departed) (λ d. rw d) (λ d. rw d (there-after event setter f (rw d at there))),
+  )
 
   -- an expiration that is still ahead after the event
   lasts : (event : Event) (x : Expiration) → Spares event (x .due) → ExpirationKept (m .clocks) (m .objects) x
-      → 1 ≤ remaining (after event) (x .due) → Lasts event x
+      → 1 ≤ remaining (after event) (put event (x .due)) → Lasts event (record { handle = x .handle; due = put event (x .due) })
   lasts event x f k h = record { owned = k .owned; ahead = h; within = within-after event (x .due) f (k .within) }
 
   -- an event with an advance test leaves only those
   live : (event : Event) (ys : List Expiration) → length ys ≤ limits .expirations
-      → All (λ (x : Expiration). 1 ≤ remaining (after event) (x .due) → Lasts event x) ys
-      → ExpirationsKept (after event) (m .objects) (filter (isLive (after event)) ys)
+      → All (λ (x : Expiration). 1 ≤ remaining (after event) (put event (x .due)) → Lasts event (record { handle = x .handle; due = put event (x .due) })) ys
+      → ExpirationsKept (after event) (m .objects) (stillLive (advances event task (m .clocks)) (after event) ys)
   live event ys r ks =
-      record { each = all-filter (isLive (after event)) (λ x e k. k (ltb-true 0 _ e)) ys ks; room = le-trans (length-filter _ ys) r }
+      let zs = eachDue (put event) ys in
+      record {
+        each =
+            all-filter {P = λ (x : Expiration). 1 ≤ remaining (after event) (x .due) → Lasts event x} (isLive (after event)) (λ x e k. k (ltb-true 0 _ e)) zs
+            (all-map _ _ ys ks);
+        room = le-trans (length-filter _ zs) (rw (length-map ys _) r);
+      }
 
   -- one without moves no clock by which an expiration is due, so all are still ahead
   abbrev Still : Event → Type 0
@@ -77,32 +111,71 @@ module _ (m : Memory) (xs : List Expiration) (new : List ℕ) (task : ℕ) where
   unfolding remaining clocksAfter tasksAfter advances
   ahead-still event e f (byLocal setter at) w h =
       rw e (at-set (λ t. 1 ≤ at - t .clock) (m .clocks .tasks) task setter absentTask (λ q. rw (f at (rw q at w) .0, ← q) h) h)
-  ahead-still event e f (byGlobal at) w h = rw e h
+  ahead-still event e f (byGlobal setter at) w h = rw e h
+
+  -- and puts none off
+  put-still : (event : Event) → isTested event ≡ false → (due : DueTime) → put event due ≡ due
+  unfolding putOff advances
+  put-still event e (byLocal setter at) = refl
+  put-still event e (byGlobal setter at) = rw e (ap (byGlobal setter) (omega arith))
 
   still : (event : Event) → isTested event ≡ false → Still event → ExpirationsKept (m .clocks) (m .objects) xs
       → ExpirationsKept (after event) (m .objects) xs
   still event e f k =
       let spared : (due : DueTime) → Spares event due = λ due own at h. (rw (f at h .0) (h .0), f at h .1) in
       record {
-        each = all-imp (λ x h. lasts event x (spared (x .due)) h (ahead-still event e f (x .due) (h .within) (h .ahead))) xs (k .each);
+        each =
+            all-imp
+            (λ x h. record {
+              owned = h .owned;
+              ahead = ahead-still event e f (x .due) (h .within) (h .ahead);
+              within = rw (put-still event e (x .due)) at (within-after event (x .due) (spared (x .due)) (h .within));
+            })
+            xs (k .each);
         room = k .room;
       }
 
-  -- the expiration is not one that the task set
+  -- the expiration is not one that the task set by its clock
   abbrev isOthers : Expiration → Bool
   isOthers x = not (isSetBy task (x .due))
 
+  -- a leave leaves none with its task as its setter
+  left-others : task < departed → (due : DueTime) → not (isSetBy task due) ≡ true → setterOf (deserted task due) ≡ task → ⊥
+  unfolding deserted
+  left-others known (byLocal setter at) others own = true≢false (sym (eq-eqb setter task own) ∙ not-true _ others)
+  left-others known (byGlobal setter at) others own =
+      by-test (eqb setter task) (λ e. omega (arith, rw e at own, known)) (λ e. eqb-false setter task e (rw e at own))
+
+  -- and all within bounds
+  left-within : task < departed → (due : DueTime) → Within (m .clocks) due → Within (m .clocks) (deserted task due)
+  unfolding deserted remaining
+  left-within known (byLocal setter at) h = h
+  left-within known (byGlobal setter at) (most, there) = by-test (eqb setter task) (λ e. rw e (most, refl)) (λ e. rw e (most, there))
+
+  left-ahead : (due : DueTime) → 1 ≤ remaining (m .clocks) due → 1 ≤ remaining (m .clocks) (deserted task due)
+  unfolding deserted remaining
+  left-ahead (byLocal setter at) h = h
+  left-ahead (byGlobal setter at) h = h
+
+  left-kept : task < departed → (x : Expiration) → ExpirationKept (m .clocks) (m .objects) x
+      → ExpirationKept (m .clocks) (m .objects) (record { handle = x .handle; due = deserted task (x .due) })
+  left-kept known x k =
+      record { owned = k .owned; ahead = left-ahead (x .due) (k .ahead); within = left-within known (x .due) (k .within) }
+
   -- the five events
   pub expirations-after : (event : Event) → Passed m xs (Schedule event task) new → ExpirationsKept (m .clocks) (m .objects) xs
-      → ExpirationsKept (after event) (m .objects) (lasting event task (after event) xs)
+      → ExpirationsKept (after event) (m .objects) (lasting event task (advances event task (m .clocks)) (after event) xs)
   unfolding testsOf lasting moved
   expirations-after Join (exists, (absent, end)) k = still Join refl (λ at h. absurd (true≢false (sym (not-false _ absent) ∙ h .1))) k
   expirations-after Resume c k = still Resume refl (λ at h. (refl, refl)) k
   expirations-after Block c k = live Block xs (k .room) (all-imp (λ x. lasts Block x (λ own at h. (h .0, refl))) xs (k .each))
   expirations-after Tick c k = live Tick xs (k .room) (all-imp (λ x. lasts Tick x (λ own at h. (omega arith, h .1))) xs (k .each))
-  expirations-after Leave c k =
-      live Leave (filter isOthers xs) (le-trans (length-filter isOthers xs) (k .room))
-      (all-filter isOthers (λ x e. lasts Leave x (λ own. absurd (true≢false (sym own ∙ not-true _ e)))) xs (k .each))
+  expirations-after Leave (exists, c) k =
+      let known = leb-false taskCount task exists in
+      let others = filter isOthers xs in
+      live Leave (eachDue (deserted task) others) (rw (length-map others _) (le-trans (length-filter isOthers xs) (k .room)))
+      (all-map _ _ others
+      (all-filter isOthers (λ x e h. lasts Leave _ (λ own. absurd (left-others known (x .due) e own)) (left-kept known x h)) xs (k .each)))
 
 -- the same expirations with other objects
 pub reowned : {clocks : Clocks} {os ps : List Object} {xs : List Expiration}
@@ -128,7 +201,7 @@ new-due : (clocks : Clocks) (task extension : ℕ) (kind : Kind) → isAbsent (t
     → (1 ≤ remaining clocks (dueAfter clocks task kind extension)) × Within clocks (dueAfter clocks task kind extension)
 unfolding dueAfter remaining
 new-due clocks task extension Local present h = (omega arith, (omega arith, present))
-new-due clocks task extension Global present h = omega arith
+new-due clocks task extension Global present h = (omega arith, (omega arith, rw (present, or-true)))
 
 pub expirations-set : {clocks : Clocks} {os : List Object} {xs : List Expiration} (task : ℕ) (kind : Kind) (extension handle : ℕ)
     → isAbsent (taskAt clocks task .state) ≡ false → ltb (limits .extension) extension ≡ false

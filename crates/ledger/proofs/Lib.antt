@@ -2,6 +2,7 @@ pub mod Figures
 pub mod Verdicts
 pub mod Demand3
 pub mod Edges
+pub mod PutOff
 pub mod Passed
 pub mod KeptTasks
 pub mod KeptObjects

@@ -45,11 +45,11 @@ none-left task handle clocks xs gone =
 -- the units left that count for the task that asks, and those that count for all
 abbrev pub localUnits : ℕ → Left → ℕ
 localUnits task (localLeft setter units) = cond (eqb setter task) units 0
-localUnits task (globalLeft units) = 0
+localUnits task (globalLeft setter units) = 0
 
 abbrev pub globalUnits : Left → ℕ
 globalUnits (localLeft setter units) = 0
-globalUnits (globalLeft units) = units
+globalUnits (globalLeft setter units) = units
 
 -- the most of them, of the object with this handle
 abbrev pub mostShown : (Left → ℕ) → ℕ → List Shown → ℕ
@@ -67,12 +67,12 @@ by-shown passes units handle clocks same xs =
 local-units : (task : ℕ) (clocks : Clocks) (due : DueTime) → cond (isSetBy task due) (remaining clocks due) 0 ≡ localUnits task (leftOf clocks due)
 unfolding leftOf
 local-units task clocks (byLocal setter at) = refl
-local-units task clocks (byGlobal at) = refl
+local-units task clocks (byGlobal setter at) = refl
 
 global-units : (clocks : Clocks) (due : DueTime) → cond (isGlobal due) (remaining clocks due) 0 ≡ globalUnits (leftOf clocks due)
 unfolding leftOf
 global-units clocks (byLocal setter at) = refl
-global-units clocks (byGlobal at) = refl
+global-units clocks (byGlobal setter at) = refl
 
 -- both
 abbrev pub shownLife : ℕ → ℕ → List Shown → Life

@@ -16,10 +16,10 @@ wrapped n = n % counterRange
 abbrev pub wrappedTask : Task → Task
 wrappedTask t = record { state = t .state; ticked = t .ticked; clock = wrapped (t .clock) }
 
--- L6: an expiration by its kind, its setter where it is local, and what remains
+-- L6: an expiration by its kind, its setter or that it departed, and what remains
 pub data Left : Type 0 where
   localLeft : (setter units : ℕ) → Left
-  globalLeft : (units : ℕ) → Left
+  globalLeft : (setter units : ℕ) → Left
 
 pub record Shown : Type 0 where
   pub handle : ℕ
@@ -27,7 +27,7 @@ pub record Shown : Type 0 where
 
 unfoldable pub leftOf : Clocks → DueTime → Left
 leftOf clocks (byLocal setter at) = localLeft setter (remaining clocks (byLocal setter at))
-leftOf clocks (byGlobal at) = globalLeft (remaining clocks (byGlobal at))
+leftOf clocks (byGlobal setter at) = globalLeft setter (remaining clocks (byGlobal setter at))
 
 abbrev pub shown : Clocks → Expiration → Shown
 shown clocks x = record { handle = x .handle; left = leftOf clocks (x .due) }

@@ -1,19 +1,24 @@
--- The rules E: expirations (01: dates), local (01: own) and global (01: common), when they are due and what ends them.
+-- The rules E: expirations (01: dates), local (01: own) and global (01: common), when they are due, what puts them off and what ends them.
 use Prim.Native.Nat.{ℕ, _+_, _-_}
-use mathlib.Core.Bool.{Bool, false, not}
-use mathlib.Core.List.{List, [], _∷_}
+use mathlib.Core.Bool.{Bool, false, cond, not, _&&_}
+use mathlib.Core.List.{List, [], _∷_, map}
 use lib.Dec.{eqb, ltb}
 use Rattle.lists.specs.Tests.{filter}
-use Rattle.ledger.specs.Tasks.{Clocks, taskAt}
+use Rattle.ledger.specs.Limits.{taskCount}
+use Rattle.ledger.specs.Tasks.{Clocks, taskAt, isWaiting}
 use Rattle.ledger.specs.declared.Kind.{Kind}
 use Rattle.ledger.specs.declared.Kind.the-variants.{Local, Global}
 use Rattle.ledger.specs.declared.Event.{Event}
 use Rattle.ledger.specs.declared.Event.the-variants.{Join, Leave, Block, Resume, Tick}
 
--- E2, T6: when an expiration is due: by the clock of the task that set it, or by the global time
+-- E2, T6, E19: when an expiration is due, by the clock of the task that set it or by the global time; either keeps its setter
 pub data DueTime : Type 0 where
   byLocal : (setter at : ℕ) → DueTime
-  byGlobal : (at : ℕ) → DueTime
+  byGlobal : (setter at : ℕ) → DueTime
+
+-- E21: the setter of a global one whose setter has left (01: "left"): no task has this number
+abbrev pub departed : ℕ
+departed = taskCount
 
 -- E1: it is of one object
 pub record Expiration : Type 0 where
@@ -23,12 +28,12 @@ pub record Expiration : Type 0 where
 -- E4, E5: when one is due that is set now
 unfoldable pub dueAfter : Clocks → ℕ → Kind → ℕ → DueTime
 dueAfter clocks task Local extension = byLocal task (taskAt clocks task .clock + extension + 1)
-dueAfter clocks task Global extension = byGlobal (clocks .global + extension + 2)
+dueAfter clocks task Global extension = byGlobal task (clocks .global + extension + 2)
 
 -- E6: what remains (01: units left)
 unfoldable pub remaining : Clocks → DueTime → ℕ
 remaining clocks (byLocal setter at) = at - taskAt clocks setter .clock
-remaining clocks (byGlobal at) = at - clocks .global
+remaining clocks (byGlobal setter at) = at - clocks .global
 
 -- E7: not due yet
 abbrev pub isLive : Clocks → Expiration → Bool
@@ -36,15 +41,34 @@ isLive clocks x = ltb 0 (remaining clocks (x .due))
 
 abbrev pub isSetBy : ℕ → DueTime → Bool
 isSetBy task (byLocal setter at) = eqb setter task
-isSetBy task (byGlobal at) = false
+isSetBy task (byGlobal setter at) = false
 
--- E8 to E12: the expirations that an event leaves, by the clocks after it
-unfoldable pub lasting : Event → ℕ → Clocks → List Expiration → List Expiration
-lasting Join task clocks xs = xs
-lasting Block task clocks xs = filter (isLive clocks) xs
-lasting Resume task clocks xs = xs
-lasting Leave task clocks xs = filter (isLive clocks) (filter (λ (x : Expiration). not (isSetBy task (x .due))) xs)
-lasting Tick task clocks xs = filter (isLive clocks) xs
+-- E20: what an advance makes of an expiration, by the clocks after the call: a global one whose setter waits is put off by one
+unfoldable pub putOff : Bool → Clocks → DueTime → DueTime
+putOff advanced clocks (byLocal setter at) = byLocal setter at
+putOff advanced clocks (byGlobal setter at) = byGlobal setter (at + cond (advanced && isWaiting (taskAt clocks setter .state)) 1 0)
+
+-- E21: what the leave of a task makes of one: where the task set it by the global time, its setter is departed for good
+unfoldable pub deserted : ℕ → DueTime → DueTime
+deserted task (byLocal setter at) = byLocal setter at
+deserted task (byGlobal setter at) = byGlobal (cond (eqb setter task) departed setter) at
+
+-- the same expirations, due otherwise
+abbrev pub eachDue : (DueTime → DueTime) → List Expiration → List Expiration
+eachDue f xs = map (λ (x : Expiration). record { handle = x .handle; due = f (x .due) }) xs
+
+-- E11: of those that are put off first, the ones that are not due then
+abbrev pub stillLive : Bool → Clocks → List Expiration → List Expiration
+stillLive advanced clocks xs = filter (isLive clocks) (eachDue (putOff advanced clocks) xs)
+
+-- E8 to E12: the expirations that an event leaves, by whether the global time advanced and by the clocks after it
+unfoldable pub lasting : Event → ℕ → Bool → Clocks → List Expiration → List Expiration
+lasting Join task advanced clocks xs = xs
+lasting Block task advanced clocks xs = stillLive advanced clocks xs
+lasting Resume task advanced clocks xs = xs
+lasting Leave task advanced clocks xs =
+    stillLive advanced clocks (eachDue (deserted task) (filter (λ (x : Expiration). not (isSetBy task (x .due))) xs))
+lasting Tick task advanced clocks xs = stillLive advanced clocks xs
 
 -- the expiration is one of the object with this handle
 abbrev pub isOf : ℕ → Expiration → Bool

@@ -1,13 +1,14 @@
 -- D8: what every ledger keeps from fresh on, its side of the rules W.
 use Prim.Native.Nat.{ℕ, _+_, _≤_, _<_}
-use mathlib.Core.Bool.{Bool, true, false}
+use mathlib.Core.Bool.{Bool, true, false, not, _||_}
 use mathlib.Core.List.{List, [], _∷_}
 use mathlib.Core.Path.{_≡_}
+use lib.Dec.{eqb}
 use lib.ListN.{length}
 use Rattle.lists.specs.Tests.{any, All}
 use Rattle.ledger.specs.Limits.{limits, taskCount, largeSize, lastHandle}
 use Rattle.ledger.specs.Tasks.{Task, Clocks, taskAt, isAbsent, isRunning, allTicked}
-use Rattle.ledger.specs.Expirations.{DueTime, byLocal, byGlobal, Expiration, remaining, isOf}
+use Rattle.ledger.specs.Expirations.{DueTime, byLocal, byGlobal, departed, Expiration, remaining, isOf}
 use Rattle.ledger.specs.Objects.{Object, stands, smallOnes, largeOnes}
 use Rattle.ledger.specs.Ledger.{Ledger}
 
@@ -43,11 +44,13 @@ pub record ObjectsKept (given : ℕ) (os : List Object) : Type 0 where
   pub small : smallOnes os ≤ limits .smallBlocks
   pub large : largeOnes os ≤ limits .largeBlocks
 
--- W6 to W8: no more remains than the largest extension gives, and the setter of a local one is there
+-- W6 to W8, W14: no more remains than the largest extension gives, and the setter is there; that of a global one may have departed
 abbrev pub Within : Clocks → DueTime → Type 0
 Within clocks (byLocal setter at) =
     (remaining clocks (byLocal setter at) ≤ limits .extension + 1) × (isAbsent (taskAt clocks setter .state) ≡ false)
-Within clocks (byGlobal at) = remaining clocks (byGlobal at) ≤ limits .extension + 2
+Within clocks (byGlobal setter at) =
+    (remaining clocks (byGlobal setter at) ≤ limits .extension + 2)
+    × ((eqb setter departed || not (isAbsent (taskAt clocks setter .state))) ≡ true)
 
 -- the expiration is one of an object of the list
 abbrev pub isOwned : List Object → Expiration → Bool

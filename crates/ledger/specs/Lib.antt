@@ -13,3 +13,4 @@ pub mod Kept
 pub mod Rows
 pub mod Edges
 pub mod MoreEdges
+pub mod PutOff

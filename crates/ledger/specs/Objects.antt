@@ -107,7 +107,8 @@ memoryAfter (Batch task kind extension) new m = m
 
 -- E12, O13, O17, O32: and what it makes of the expirations: make and refresh set one, a batch one for each handle, and only events end any
 unfoldable pub expirationsAfter : Call → List ℕ → Memory → List Expiration → List Expiration
-expirationsAfter (Schedule event task) new m xs = lasting event task (clocksAfter event task (m .clocks)) xs
+expirationsAfter (Schedule event task) new m xs =
+    lasting event task (advances event task (m .clocks)) (clocksAfter event task (m .clocks)) xs
 expirationsAfter (Make task kind extension size) new m xs =
     record { handle = m .given + 1; due = dueAfter (m .clocks) task kind extension } ∷ xs
 expirationsAfter (Refresh task kind extension handle) new m xs =

@@ -12,7 +12,7 @@ use Rattle.ledger.specs.declared.Life.{Life}
 
 abbrev pub isGlobal : DueTime → Bool
 isGlobal (byLocal setter at) = false
-isGlobal (byGlobal at) = true
+isGlobal (byGlobal setter at) = true
 
 -- the most units left on any expiration of the object that passes, 0 where none does
 abbrev pub mostLeft : (DueTime → Bool) → ℕ → Clocks → List Expiration → ℕ

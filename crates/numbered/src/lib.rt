@@ -112,14 +112,14 @@ pub fn join(p: Pool, task: u8) -> Numbered
     let lengths = p.lengths;
     let mut clocks = p.clocks;
     let named = p.named;
-    let dues = p.dues;
+    let mut dues = p.dues;
     let step = schedule(
         h,
         &mut handles,
         &lengths,
         &mut clocks,
         &named,
-        &dues,
+        &mut dues,
         Event::Join,
         task,
     );
@@ -136,14 +136,14 @@ pub fn leave(p: Pool, task: u8, advanced: &mut u8) -> Numbered
     let lengths = p.lengths;
     let mut clocks = p.clocks;
     let named = p.named;
-    let dues = p.dues;
+    let mut dues = p.dues;
     let step = schedule(
         h,
         &mut handles,
         &lengths,
         &mut clocks,
         &named,
-        &dues,
+        &mut dues,
         Event::Leave,
         task,
     );
@@ -161,14 +161,14 @@ pub fn block(p: Pool, task: u8, advanced: &mut u8) -> Numbered
     let lengths = p.lengths;
     let mut clocks = p.clocks;
     let named = p.named;
-    let dues = p.dues;
+    let mut dues = p.dues;
     let step = schedule(
         h,
         &mut handles,
         &lengths,
         &mut clocks,
         &named,
-        &dues,
+        &mut dues,
         Event::Block,
         task,
     );
@@ -186,14 +186,14 @@ pub fn resume(p: Pool, task: u8) -> Numbered
     let lengths = p.lengths;
     let mut clocks = p.clocks;
     let named = p.named;
-    let dues = p.dues;
+    let mut dues = p.dues;
     let step = schedule(
         h,
         &mut handles,
         &lengths,
         &mut clocks,
         &named,
-        &dues,
+        &mut dues,
         Event::Resume,
         task,
     );
@@ -210,14 +210,14 @@ pub fn tick(p: Pool, task: u8, advanced: &mut u8) -> Numbered
     let lengths = p.lengths;
     let mut clocks = p.clocks;
     let named = p.named;
-    let dues = p.dues;
+    let mut dues = p.dues;
     let step = schedule(
         h,
         &mut handles,
         &lengths,
         &mut clocks,
         &named,
-        &dues,
+        &mut dues,
         Event::Tick,
         task,
     );

@@ -7,15 +7,19 @@ use borrow.Author.Tests.{eqb-true, eqb-false, eq-eqb, ne-eqb, leb-true, le-leb, 
 use lib.Dec.{eqb, leb, ltb}
 use Rattle.lists.proofs.Cases.{by-test}
 use Rattle.ledger.specs.Limits.{taskCount}
-use Rattle.record.specs.Codes.{dueBy, leftAt, isDueLocal, isDueGlobal, localCode, globalCode}
+use Rattle.record.specs.Codes.{isGlobalClock, dueBy, leftAt, isDueLocal, isDueGlobal, localCode, globalCode}
 use Rattle.record.specs.declared.GlobalTime.{GlobalTime}
 use Rattle.record.specs.declared.LocalTime.{LocalTime}
 
-pub asked-global : (clock due : ℕ) (now : GlobalTime) → (eqb clock globalCode && eqb (leftAt due (now .0)) 0) ≡ isDueGlobal now (dueBy clock due)
+-- a clock of the global time is none of the tasks', nor free
+pub global-code : (clock : ℕ) → isGlobalClock clock ≡ true → eqb clock 0 ≡ false
+global-code clock g = ne-eqb clock 0 (λ e. omega (arith, leb-true globalCode clock (and-eq-true-iff _ _ .0 g .0)))
+
+pub asked-global : (clock due : ℕ) (now : GlobalTime) → (isGlobalClock clock && eqb (leftAt due (now .0)) 0) ≡ isDueGlobal now (dueBy clock due)
 unfolding dueBy
 asked-global clock due now =
-    by-test (eqb clock globalCode)
-    (λ g. rw (eqb-true clock globalCode g))
+    by-test (isGlobalClock clock)
+    (λ g. rw (g, global-code clock g))
     (λ g.
     by-test (eqb clock 0)
     (λ z. rw (g, z))
@@ -41,8 +45,8 @@ asked-local clock due task now known =
     by-test (eqb clock 0)
     (λ z. rw (z, ne-eqb clock (localCode + task) (λ e. omega (arith, eqb-true clock 0 z))))
     (λ z.
-    by-test (eqb clock globalCode)
-    (λ g. rw (z, g, ne-eqb clock (localCode + task) (λ e. omega (arith, eqb-true clock globalCode g))))
+    by-test (isGlobalClock clock)
+    (λ g. rw (z, g, ne-eqb clock (localCode + task) (λ e. omega (arith, leb-true globalCode clock (and-eq-true-iff _ _ .0 g .0)))))
     (λ g.
     by-test (leb localCode clock && ltb clock globalCode)
     (λ l. rw (z, g, l, local-code clock task l))

@@ -34,12 +34,12 @@ use Rattle.record.proofs.Distinct.{Apart, apart-blocks}
 -- due with these units left
 dueIn : Clocks → Left → DueTime
 dueIn clocks (localLeft setter units) = byLocal setter (taskAt clocks setter .clock + units)
-dueIn clocks (globalLeft units) = byGlobal (clocks .global + units)
+dueIn clocks (globalLeft setter units) = byGlobal setter (clocks .global + units)
 
 left-due : (clocks : Clocks) (left : Left) → leftOf clocks (dueIn clocks left) ≡ left
 unfolding dueIn leftOf remaining
 left-due clocks (localLeft setter units) = rw add-sub-cancel-left
-left-due clocks (globalLeft units) = rw add-sub-cancel-left
+left-due clocks (globalLeft setter units) = rw add-sub-cancel-left
 
 abbrev handleOfObject : Object → ℕ
 handleOfObject o = o .handle

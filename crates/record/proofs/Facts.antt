@@ -1,6 +1,6 @@
 -- What a well-formed record has, part by part.
 use Prim.Native.Nat.{ℕ, _+_, _≤_, _<_}
-use mathlib.Core.Bool.{Bool, true, false, and-eq-true-iff}
+use mathlib.Core.Bool.{Bool, true, false, not, _||_, and-eq-true-iff}
 use mathlib.Core.List.{map}
 use mathlib.Core.Logic.{_≢_}
 use mathlib.Core.Path.{_≡_, refl}
@@ -13,6 +13,7 @@ use Rattle.lists.proofs.Cases.{and₃}
 use Rattle.lists.proofs.Tables.{allFrom-at}
 use Rattle.ledger.specs.Limits.{limits, taskCount}
 use Rattle.ledger.specs.Tasks.{isAbsent, allTicked}
+use Rattle.ledger.specs.Expirations.{departed}
 use Rattle.record.specs.Codes.{stateOf, taskOf, leftAt, freeBlock}
 use Rattle.record.specs.WellFormed.{isFitTask, isFitDue, isFitEntry, isNaming, isSizedFor, isFitBlock, isDistinct, handleOf, isWellFormed}
 use Rattle.record.specs.declared.TaskEntry.{TaskEntry}
@@ -66,18 +67,19 @@ fit-local setter global used task at e =
     }
 
 -- and a fit global one
-pub record FitGlobal (used : Bool) (left : ℕ) : Type 0 where
+pub record FitGlobal (setter : TaskEntry) (used : Bool) (task left : ℕ) : Type 0 where
   pub naming : used ≡ true
+  pub there : (eqb task departed || not (isAbsent (stateOf (setter .state)))) ≡ true
   pub ahead : 1 ≤ left
   pub within : left ≤ limits .extension + 2
 
-pub fit-global : (setter : TaskEntry) (global : GlobalTime) (used : Bool) (at : GlobalTime) → isFitDue setter global used (Global at) ≡ true
-    → FitGlobal used (leftAt (at .0) (global .0))
+pub fit-global : (setter : TaskEntry) (global : GlobalTime) (used : Bool) (task : ℕ) (at : GlobalTime)
+    → isFitDue setter global used (Global task at) ≡ true → FitGlobal setter used task (leftAt (at .0) (global .0))
 unfolding isFitDue
-fit-global setter global used at e =
-    let (naming, d) = and-eq-true-iff _ _ .0 e in
+fit-global setter global used task at e =
+    let (naming, there, d) = and₃ used _ _ e in
     let (ahead, within) = and-eq-true-iff _ _ .0 d in
-    record { naming = naming; ahead = leb-true _ _ ahead; within = leb-true _ _ within }
+    record { naming = naming; there = there; ahead = leb-true _ _ ahead; within = leb-true _ _ within }
 
 -- and a block in use of a well-formed record
 pub record FitUsed (p : Tables) (block : ℕ) : Type 0 where

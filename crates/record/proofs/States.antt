@@ -3,12 +3,13 @@ use Prim.Native.Nat.{ℕ}
 use mathlib.Core.Bool.{Bool, true, false, cond, not, _&&_, _||_, and-true, and-false, or-assoc, or-false}
 use mathlib.Core.List.{List, [], _∷_, map}
 use mathlib.Core.Path.{_≡_, refl, sym, ap}
+use borrow.Author.Tests.{eqb-true}
 use lib.Dec.{eqb}
 use Rattle.lists.specs.Tests.{any}
 use Rattle.lists.proofs.Cases.{not-and-not}
 use Rattle.lists.proofs.Counts.{any-map, all-mapped}
 use Rattle.lists.proofs.Implied.{all-not-any}
-use Rattle.ledger.specs.Tasks.{Task, isAbsent, isRunning, allTicked}
+use Rattle.ledger.specs.Tasks.{Task, isAbsent, isRunning, isWaiting, allTicked}
 use Rattle.ledger.specs.declared.State.the-variants.{Absent, Running, Waiting}
 use Rattle.record.specs.Codes.{stateOf, taskOf, isRunningEntry, isPendingEntry}
 use Rattle.record.specs.declared.TaskEntry.{TaskEntry}
@@ -18,6 +19,11 @@ running-by true two = refl
 running-by false true = refl
 running-by false false = refl
 
+waiting-by : (one two : Bool) → (one ≡ true → two ≡ false) → two ≡ isWaiting (cond one Running (cond two Waiting Absent))
+waiting-by true two h = h refl
+waiting-by false true h = refl
+waiting-by false false h = refl
+
 absent-by : (one two : Bool) → (not one && not two) ≡ isAbsent (cond one Running (cond two Waiting Absent))
 absent-by true two = refl
 absent-by false true = refl
@@ -25,6 +31,9 @@ absent-by false false = refl
 
 pub running-code : (code : ℕ) → eqb code 1 ≡ isRunning (stateOf code)
 running-code code = running-by (eqb code 1) (eqb code 2)
+
+pub waiting-code : (code : ℕ) → eqb code 2 ≡ isWaiting (stateOf code)
+waiting-code code = waiting-by (eqb code 1) (eqb code 2) (λ e. rw (eqb-true code 1 e))
 
 pub absent-code : (code : ℕ) → (not (eqb code 1) && not (eqb code 2)) ≡ isAbsent (stateOf code)
 absent-code code = absent-by (eqb code 1) (eqb code 2)

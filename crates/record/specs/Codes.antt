@@ -4,6 +4,7 @@ use mathlib.Core.Bool.{Bool, true, false, cond, not, _&&_}
 use lib.Dec.{eqb, leb, ltb}
 use Rattle.ledger.specs.Limits.{taskCount, counterRange}
 use Rattle.ledger.specs.Tasks.{Task, isRunning}
+use Rattle.ledger.specs.Expirations.{departed}
 use Rattle.ledger.specs.declared.State.{State}
 use Rattle.ledger.specs.declared.State.the-variants.{Absent, Running, Waiting}
 use Rattle.record.specs.declared.TaskEntry.{TaskEntry}
@@ -27,17 +28,24 @@ isRunningEntry e = isRunning (stateOf (e .state))
 abbrev pub isPendingEntry : TaskEntry → Bool
 isPendingEntry e = isRunningEntry e && not (eqb (e .ticked) 1)
 
--- the clock of an expiration by its code: 0 none, from localCode on those of the tasks, and then the global time
+-- the clock of an expiration by its code: 0 none, from localCode on those of the tasks, and from globalCode on the global time, with the task that set it or
+-- that it departed
 abbrev pub localCode : ℕ
 localCode = 16
 
 abbrev pub globalCode : ℕ
 globalCode = localCode + taskCount
 
+abbrev pub departedCode : ℕ
+departedCode = globalCode + departed
+
+abbrev pub isGlobalClock : ℕ → Bool
+isGlobalClock clock = leb globalCode clock && leb clock departedCode
+
 unfoldable pub dueBy : ℕ → ℕ → Due
 dueBy clock due =
     cond (eqb clock 0) Free
-    (cond (eqb clock globalCode) (Global (record { 0 = due }))
+    (cond (isGlobalClock clock) (Global (clock - globalCode) (record { 0 = due }))
     (cond (leb localCode clock && ltb clock globalCode) (Local (clock - localCode) (record { 0 = due })) Unknown))
 
 abbrev pub dueOf : ExpirationEntry → Due
@@ -47,14 +55,14 @@ dueOf e = dueBy (e .clock) (e .due)
 abbrev pub isDated : Due → Bool
 isDated Free = false
 isDated (Local setter at) = true
-isDated (Global at) = true
+isDated (Global setter at) = true
 isDated Unknown = false
 
--- the task whose entry an expiration is tested with
+-- the task whose entry an expiration is tested with: its setter
 abbrev pub setterOf : Due → ℕ
 setterOf Free = 0
 setterOf (Local setter at) = setter
-setterOf (Global at) = 0
+setterOf (Global setter at) = setter
 setterOf Unknown = 0
 
 -- E6: what remains (01: units left), by counters that wrap (T8)
@@ -65,13 +73,13 @@ leftAt due now = (due + (counterRange - now)) % counterRange
 abbrev pub isDueLocal : ℕ → LocalTime → Due → Bool
 isDueLocal task now Free = false
 isDueLocal task now (Local setter at) = eqb setter task && eqb (leftAt (at .0) (now .0)) 0
-isDueLocal task now (Global at) = false
+isDueLocal task now (Global setter at) = false
 isDueLocal task now Unknown = false
 
 abbrev pub isDueGlobal : GlobalTime → Due → Bool
 isDueGlobal now Free = false
 isDueGlobal now (Local setter at) = false
-isDueGlobal now (Global at) = eqb (leftAt (at .0) (now .0)) 0
+isDueGlobal now (Global setter at) = eqb (leftAt (at .0) (now .0)) 0
 isDueGlobal now Unknown = false
 
 -- what an entry past the end of a table reads as

@@ -30,7 +30,7 @@ unfoldable pub shownDue : List TaskEntry → GlobalTime → ℕ → Due → List
 shownDue tasks global handle Free = []
 shownDue tasks global handle (Local setter at) =
     record { handle = handle; left = localLeft setter (leftAt (at .0) (getD tasks setter absentEntry .clock .0)) } ∷ []
-shownDue tasks global handle (Global at) = record { handle = handle; left = globalLeft (leftAt (at .0) (global .0)) } ∷ []
+shownDue tasks global handle (Global setter at) = record { handle = handle; left = globalLeft setter (leftAt (at .0) (global .0)) } ∷ []
 shownDue tasks global handle Unknown = []
 
 abbrev pub shownEntry : List TaskEntry → GlobalTime → List BlockEntry → ExpirationEntry → List Shown

@@ -8,6 +8,7 @@ use Rattle.lists.specs.Tests.{any, all}
 use Rattle.lists.specs.Tables.{allFrom}
 use Rattle.ledger.specs.Limits.{limits, taskCount, smallSize, largeSize}
 use Rattle.ledger.specs.Tasks.{isAbsent, isRunning, allTicked}
+use Rattle.ledger.specs.Expirations.{departed}
 use Rattle.record.specs.Codes.{stateOf, taskOf, dueOf, isDated, setterOf, leftAt, absentEntry, freeBlock}
 use Rattle.record.specs.Reading.{isSmallBlock}
 use Rattle.record.specs.declared.TaskEntry.{TaskEntry}
@@ -31,13 +32,14 @@ abbrev pub isAhead : ℕ → ℕ → Bool
 isAhead most left = leb 1 left && leb left most
 
 -- An expiration, with the entry of its setter and whether it names a block in use, as it must (W1). W6, W8: something remains, and no more than the largest
--- extension gives; W7: the setter of a local one is there; W12: a code that means nothing is not fit.
+-- extension gives; W7, W14: the setter is there, or has departed where it is a global one; W12: a code that means nothing is not fit.
 unfoldable pub isFitDue : TaskEntry → GlobalTime → Bool → Due → Bool
 isFitDue setter global used Free = true
 isFitDue setter global used (Local task at) =
     used && ltb task taskCount && not (isAbsent (stateOf (setter .state)))
     && isAhead (limits .extension + 1) (leftAt (at .0) (setter .clock .0))
-isFitDue setter global used (Global at) = used && isAhead (limits .extension + 2) (leftAt (at .0) (global .0))
+isFitDue setter global used (Global task at) =
+    used && (eqb task departed || not (isAbsent (stateOf (setter .state)))) && isAhead (limits .extension + 2) (leftAt (at .0) (global .0))
 isFitDue setter global used Unknown = false
 
 abbrev pub isFitEntry : List TaskEntry → GlobalTime → List BlockEntry → ExpirationEntry → Bool

@@ -2,7 +2,7 @@
 ghost use Prim.Native.Nat.{_<_};
 ghost use mathlib.Core.Path.{_≡_};
 ghost use Rattle.ledger.specs.Limits.{taskCount};
-ghost use Rattle.record.specs.Codes.{stateOf, dueBy, leftAt, isDueLocal, isDueGlobal};
+ghost use Rattle.record.specs.Codes.{stateOf, isGlobalClock, dueBy, leftAt, isDueLocal, isDueGlobal};
 use super::Due;
 use super::GlobalTime;
 use super::LocalTime;
@@ -16,12 +16,15 @@ pub const RUNNING: u16 = 1;
 
 pub const WAITING: u16 = 2;
 
-// The clock of an expiration entry: none, LOCAL and the number of the task whose clock it is, or GLOBAL.
+// The clock of an expiration entry: none, LOCAL and the number of the task whose clock it is, or for the global time GLOBAL and the number of the task that set it;
+// DEPARTED where that has left.
 pub const FREE: u8 = 0;
 
 pub const LOCAL: u8 = 16;
 
 pub const GLOBAL: u8 = LOCAL + (TASK_COUNT as u8);
+
+pub const DEPARTED: u8 = GLOBAL + (TASK_COUNT as u8);
 
 pub fn state_of(code: u16) -> State
     ensures { λ r. ⌜ r ≡ stateOf code ⌝ }
@@ -35,6 +38,13 @@ pub fn state_of(code: u16) -> State
     State::Absent
 }
 
+// The clock of an expiration that goes by the global time.
+pub fn is_global(clock: u8) -> bool
+    ensures { λ r. ⌜ r ≡ isGlobalClock clock ⌝ }
+{
+    (GLOBAL <= clock) & (clock <= DEPARTED)
+}
+
 // The one place where a number of the table becomes a time, by the clock that it goes by.
 pub fn due_by(clock: u8, due: u32) -> Due
     ensures { λ r. ⌜ r ≡ dueBy clock due ⌝ }
@@ -42,8 +52,11 @@ pub fn due_by(clock: u8, due: u32) -> Due
     if clock == FREE {
         return Due::Free;
     }
-    if clock == GLOBAL {
-        return Due::Global(GlobalTime(due));
+    if is_global(clock) {
+        return Due::Global {
+            setter: clock - GLOBAL,
+            at: GlobalTime(due),
+        };
     }
     if (LOCAL <= clock) & (clock < GLOBAL) {
         return Due::Local {
@@ -66,7 +79,7 @@ pub fn is_due_local(clock: u8, at: LocalTime, task: u8, now: LocalTime) -> bool
 pub fn is_due_global(clock: u8, at: GlobalTime, now: GlobalTime) -> bool
     ensures { λ r. ⌜ r ≡ isDueGlobal now (dueBy clock (at .0)) ⌝ }
 {
-    (clock == GLOBAL) & (global_left(at, now) == 0)
+    is_global(clock) & (global_left(at, now) == 0)
 }
 
 // E6: what remains of a local expiration.

@@ -59,11 +59,11 @@ pub struct Head {
     pub given: u32,
 }
 
-// T6: when an expiration is due; a time by one clock cannot be tested against the other.
+// T6, E19: when an expiration is due, and who set it; a time by one clock cannot be tested against the other.
 pub enum Due {
     Free,
     Local { setter: u8, at: LocalTime },
-    Global(GlobalTime),
+    Global { setter: u8, at: GlobalTime },
     Unknown,
 }
 

@@ -3,7 +3,7 @@ ghost use mathlib.Core.List.{map};
 ghost use mathlib.Core.Path.{_≡_};
 ghost use Rattle.lists.specs.Tests.{all};
 ghost use Rattle.ledger.specs.Awaited.{awaitedOf};
-ghost use Rattle.ledger.specs.Tasks.{isAbsent, allTicked};
+ghost use Rattle.ledger.specs.Tasks.{isAbsent, isWaiting, allTicked};
 ghost use Rattle.record.specs.Codes.{stateOf, taskOf, isRunningEntry, isPendingEntry};
 ghost use Rattle.record.specs.WellFormed.{isFitTask};
 use super::TaskEntry;
@@ -15,6 +15,12 @@ pub fn is_running(e: TaskEntry) -> bool
     ensures { λ r. ⌜ r ≡ isRunningEntry e ⌝ }
 {
     e.state == RUNNING
+}
+
+pub fn is_waiting(e: TaskEntry) -> bool
+    ensures { λ r. ⌜ r ≡ isWaiting (stateOf (e .state)) ⌝ }
+{
+    e.state == WAITING
 }
 
 pub fn is_absent(state: u16) -> bool

@@ -72,9 +72,9 @@ module _ (tasks : List TaskEntry) (global : GlobalTime) (p : Tables) (types : Ty
         given = types .given;
       }
 
-  pub typed-swept : (leaver : ℕ) → Typed (swept leaver tasks global p)
+  pub typed-swept : (leaver : ℕ) (advanced : Bool) → Typed (swept leaver advanced tasks global p)
   unfolding swept
-  typed-swept leaver =
+  typed-swept leaver advanced =
       record {
         tasks = sixteen;
         blocks = length-mapFrom 0 _ (p .blocks) ∙ types .blocks;
@@ -96,7 +96,7 @@ typed-after event task p types =
     by-test (isTested event)
     (λ e. rw e
     (typed-swept (advancedTasks advanced tasks) time p types (advanced-sixteen advanced tasks sixteen) (advanced-clocks advanced tasks clocks)
-    (advanced-global advanced (p .global) (types .global)) (leaverOf event task)))
+    (advanced-global advanced (p .global) (types .global)) (leaverOf event task) advanced))
     (λ e. rw e (typed-put tasks (p .global) p types sixteen clocks (types .global)))
 
 pub typed-scheduled : (event : Event) (task : ℕ) (p : Tables) → Typed p → Typed (scheduled event task p .pool)

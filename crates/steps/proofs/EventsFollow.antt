@@ -25,7 +25,7 @@ use Rattle.record.specs.declared.TaskEntry.{TaskEntry}
 use Rattle.record.specs.Tables.{BlockEntry, ExpirationEntry, Tables}
 use Rattle.record.specs.declared.GlobalTime.{GlobalTime}
 use Rattle.record.proofs.Facts.{Fit, fit-parts}
-use Rattle.steps.specs.Events.{verdictOf, verdictAt, movedTasks, advancedTasks, advancedTime, leaverOf, keptEntry, keptBlock, swept, poolAfter, answerAfter, outcomeBy, scheduled}
+use Rattle.steps.specs.Events.{verdictOf, verdictAt, movedTasks, advancedTasks, advancedTime, leaverOf, passedEntry, keptBlock, swept, poolAfter, answerAfter, outcomeBy, scheduled}
 use Rattle.ledger.specs.declared.Verdict.{Verdict}
 use Rattle.ledger.specs.declared.Verdict.the-variants.{Accepted, Refused}
 use Rattle.steps.proofs.FitAfter.{fit-after}
@@ -84,9 +84,10 @@ module _ (event : Event) (task : ℕ) (p : Tables) (small large : List ℕ) (L :
       by-test (isTested event)
       (λ e. rw e
       (reads-with p small large L fit reads _ _ _ _ _ _ (clocks-alike event task clocks e)
-      (expirations-alike event task clocks (clocks-alike event task clocks e) accepted (p .blocks) (p .expirations) (fit .entries) (L .expirations)
-      (reads .alike .expirations) e)
-      refl (freed-shown entries time (p .blocks) (map (keptEntry (leaverOf event task) entries time) (p .expirations)))))
+      (rw (advances-alike event task (p .tasks) (L .memory .clocks) (clocks .tasks) e)
+      (expirations-alike event task clocks (rw (advances-alike event task (p .tasks) (L .memory .clocks) (clocks .tasks) e) at (clocks-alike event task clocks e)) accepted (p .blocks) (p .expirations) (fit .entries) (L .expirations)
+      (reads .alike .expirations) e))
+      refl (freed-shown entries time (p .blocks) (map (passedEntry (leaverOf event task) advanced entries time) (p .expirations)))))
       (λ e. rw e
       (reads-with p small large L fit reads _ _ _ _ _ _ (untested-clocks-alike event task clocks e)
       (untested-expirations-alike event task clocks (untested-clocks-alike event task clocks e) accepted (p .blocks) (p .expirations) (fit .entries)

@@ -1,17 +1,19 @@
 -- An accepted event leaves a well-formed record well-formed.
 use Prim.Native.Nat.{ℕ, _<_}
 use native.Mathlib.Omega.{arith}
-use mathlib.Core.Bool.{Bool, true, false, true≢false}
+use mathlib.Core.Bool.{Bool, true, false, true≢false, not}
 use mathlib.Core.List.{List, map}
 use mathlib.Core.Path.{_≡_, refl}
-use borrow.Author.Tests.{eqb-false}
+use borrow.Author.Tests.{eqb-false, not-true}
 use lib.Dec.{eqb}
 use lib.ListN.{getD, set, List·getD-map}
 use Rattle.lists.specs.Tests.{all}
+use Rattle.lists.proofs.Cases.{and₃, or-map}
 use Rattle.lists.proofs.All.{all-getD}
 use Rattle.lists.proofs.Tests.{passes-imp, passes-map, passes-set, passes-at}
 use Rattle.ledger.specs.Limits.{taskCount, counterRange}
-use Rattle.ledger.specs.Tasks.{allTicked}
+use Rattle.ledger.specs.Tasks.{isAbsent, allTicked}
+use Rattle.ledger.specs.Expirations.{departed}
 use Rattle.ledger.specs.declared.State.the-variants.{Running}
 use Rattle.ledger.specs.declared.Event.{Event}
 use Rattle.ledger.specs.declared.Event.the-variants.{Join, Leave, Block, Resume, Tick}
@@ -37,19 +39,21 @@ same-fits before after global used Free f e = refl
 same-fits before after global used (Local setter at) f e =
     local-fits before after global global used setter at
     (λ present. let (stays, same) = f present in (stays, λ left. rw (← same) left)) e
-same-fits before after global used (Global at) f e = e
+same-fits before after global used (Global setter at) f e =
+    let (named, there, ahead) = and₃ used _ _ e in
+    rw (named, or-map (eqb setter departed) {c = not (isAbsent (stateOf (after .state)))} (λ here. rw (f (not-true _ here) .0)) there, ahead)
 same-fits before after global used Unknown f e = e
 
 -- the record after the advance test
 fit-advanced : (advanced : Bool) (leaver : ℕ) (tasks : List TaskEntry) (p : Tables) → Fit p → p .global .0 < counterRange
     → OthersStayPresent leaver (p .tasks) tasks → all isFitTask tasks ≡ true → allTicked (map taskOf (advancedTasks advanced tasks)) ≡ false
-    → Fit (swept leaver (advancedTasks advanced tasks) (advancedTime advanced (p .global)) p)
+    → Fit (swept leaver advanced (advancedTasks advanced tasks) (advancedTime advanced (p .global)) p)
 fit-advanced true leaver tasks p f r follows fits unticked =
-    fit-swept leaver (map untickedEntry tasks) (advancedTime true (p .global)) p
-    (λ any other. rw (List·getD-map untickedEntry tasks any absentEntry) (follows any other)) (later-next _ r) f
+    fit-swept leaver true (map untickedEntry tasks) p
+    (λ any other. rw (List·getD-map untickedEntry tasks any absentEntry) (follows any other)) r f
     (passes-map isFitTask untickedEntry unticked-fits tasks fits) unticked
 fit-advanced false leaver tasks p f r follows fits unticked =
-    fit-swept leaver tasks (p .global) p follows (later-same _) f fits unticked
+    fit-swept leaver false tasks p follows r f fits unticked
 
 -- The record after one task's entry is set
 module _ (p : Tables) (f : Fit p) (task : ℕ) (e : TaskEntry) (fits : isFitTask e ≡ true) where
@@ -60,7 +64,7 @@ module _ (p : Tables) (f : Fit p) (task : ℕ) (e : TaskEntry) (fits : isFitTask
   fit-tested : Typed p → (leaver : ℕ) → (eqb task leaver ≡ false → StaysPresent Later (getD (p .tasks) task absentEntry) e)
       → let tasks = set (p .tasks) task e in
       let advanced = allTicked (map taskOf tasks) in
-      Fit (swept leaver (advancedTasks advanced tasks) (advancedTime advanced (p .global)) p)
+      Fit (swept leaver advanced (advancedTasks advanced tasks) (advancedTime advanced (p .global)) p)
   fit-tested r leaver follows =
       let tasks = set (p .tasks) task e in
       fit-advanced (allTicked (map taskOf tasks)) leaver tasks p f (r .global)

@@ -25,7 +25,7 @@ use Rattle.record.specs.Tables.{BlockEntry, ExpirationEntry, Tables}
 use Rattle.record.proofs.Facts.{Fit}
 use Rattle.steps.proofs.FitSwept.{used-fits}
 use Rattle.steps.specs.Objects.{entryFor, withEntry, withObject}
-use Rattle.steps.proofs.Taken.{MaySet, SlotFree, PlaceFree, newBlock, slot-due, local-due, units-set, clock-range, block-stays, blocks-given}
+use Rattle.steps.proofs.Taken.{MaySet, SlotFree, PlaceFree, newBlock, slot-due, local-due, global-due, units-set, clock-range, block-stays, blocks-given}
 
 -- a block that is named is named still when a free entry is set
 named-still : (slot block : ℕ) (e : ExpirationEntry) (xs : List ExpirationEntry) → SlotFree slot xs
@@ -72,7 +72,10 @@ entry-fits p types Local task extension place may blocks used =
     )
 entry-fits p types Global task extension place may blocks used =
     rw (
+      global-due task _ (may .known),
       used,
+      may .present,
+      or-true,
       units-set (p .global .0) (extension + 2) (types .global) (omega (arith, may .short)),
       le-leb 1 (extension + 2) (omega arith),
       le-leb (extension + 2) (limits .extension + 2) (omega (arith, may .short)),
@@ -82,7 +85,7 @@ entry-fits p types Global task extension place may blocks used =
 entry-names : (kind : Kind) (task extension place : ℕ) (p : Tables) → task < taskCount → isNaming place (entryFor kind task extension place p) ≡ true
 unfolding entryFor dueBy
 entry-names Local task extension place p known = rw (local-due task _ known) (eq-eqb place place refl)
-entry-names Global task extension place p known = eq-eqb place place refl
+entry-names Global task extension place p known = rw (global-due task _ known) (eq-eqb place place refl)
 
 -- a refresh of the object in a block
 pub fit-refreshed : (p : Tables) → Fit p → Typed p → (kind : Kind) (task extension place slot : ℕ) → MaySet task extension p

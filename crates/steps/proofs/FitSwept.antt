@@ -1,9 +1,9 @@
 -- A sweep leaves a well-formed record well-formed: what it keeps has units left and a block.
-use Prim.Native.Nat.{ℕ, suc, _+_}
+use Prim.Native.Nat.{ℕ, suc, _+_, _<_}
 use native.Mathlib.Omega.{arith}
-use mathlib.Core.Bool.{Bool, true, false, not, _&&_, _||_, and-eq-true-iff, or-true}
+use mathlib.Core.Bool.{Bool, true, false, cond, not, _&&_, _||_, and-eq-true-iff, or-true}
 use mathlib.Core.List.{List, [], _∷_, map}
-use mathlib.Core.Path.{_≡_, refl}
+use mathlib.Core.Path.{_≡_, refl, sym, subst}
 use borrow.Author.Tests.{not-true, leb-true, le-leb, eq-eqb}
 use lib.Dec.{eqb, leb, ltb}
 use lib.ListN.{getD}
@@ -12,9 +12,10 @@ use Rattle.lists.specs.Tables.{mapFrom}
 use Rattle.lists.proofs.Cases.{by-test, and₃, or-map, or-else, not-map}
 use Rattle.lists.proofs.Tests.{passes-map, passes-found}
 use Rattle.lists.proofs.Tables.{allFrom-mapFrom}
-use Rattle.ledger.specs.Limits.{limits, taskCount}
-use Rattle.ledger.specs.Tasks.{allTicked}
-use Rattle.record.specs.Codes.{dueBy, taskOf, dueOf, isDated, setterOf, leftAt, absentEntry, freeBlock}
+use Rattle.ledger.specs.Limits.{limits, taskCount, counterRange}
+use Rattle.ledger.specs.Tasks.{isAbsent, allTicked}
+use Rattle.ledger.specs.Expirations.{departed}
+use Rattle.record.specs.Codes.{stateOf, dueBy, taskOf, dueOf, isDated, setterOf, leftAt, absentEntry, freeBlock}
 use Rattle.record.specs.WellFormed.{isUsed, isFitTask, isAhead, isFitDue, isFitEntry, isNaming, isFitBlock, isDistinct, handleOf}
 use Rattle.record.specs.declared.TaskEntry.{TaskEntry}
 use Rattle.record.specs.Tables.{BlockEntry, ExpirationEntry, Tables}
@@ -24,8 +25,9 @@ use Rattle.record.specs.declared.Due.{Due}
 use Rattle.record.specs.declared.Due.the-variants.{Free, Local, Global, Unknown}
 use Rattle.record.proofs.Facts.{Fit}
 use Rattle.steps.proofs.KeptBlocks.{kept-block}
-use Rattle.steps.specs.Events.{isLasting, keptEntry, keptBlock, swept}
-use Rattle.steps.proofs.FitTasks.{Later, StaysPresent, OthersStayPresent}
+use Rattle.steps.specs.Events.{nextTime, advancedTime, lateEntry, isLasting, isKept, passedEntry, keptBlock, swept}
+use Rattle.steps.proofs.Late.{lateSetter, lateDue, late-due}
+use Rattle.steps.proofs.FitTasks.{Later, later-next, StaysPresent, OthersStayPresent}
 
 -- what is due is ahead still if it was, by no more than the most
 abbrev pub StaysAhead : ℕ → ℕ → ℕ → ℕ → Type 0
@@ -48,19 +50,50 @@ local-fits before after global later used setter at f e =
     let (stays, ahead) = f (not-true _ present) in
     rw (named, stays, ahead left)
 
+-- one that is put off at an advance has the units that it had
+put-off-left : (at now : ℕ) → now < counterRange → leftAt (nextTime at) (nextTime now) ≡ leftAt at now
+unfolding counterRange
+put-off-left at now r = omega arith
+
+-- by the global time, put off or not, what lasts is ahead still
+late-ahead : (advanced waits : Bool) (at : ℕ) (global : GlobalTime) → global .0 < counterRange → (let after = advancedTime advanced global in
+    let due = cond (advanced && waits) (nextTime at) at in
+    ltb 0 (leftAt due (after .0)) ≡ true → isAhead (limits .extension + 2) (leftAt at (global .0)) ≡ true → isAhead (limits .extension + 2) (leftAt due (after .0)) ≡ true)
+late-ahead true true at global r k e = rw (put-off-left at (global .0) r) e
+late-ahead true false at global r k e = left-ahead _ at _ _ (later-next _ r) k e
+late-ahead false waits at global r k e = e
+
+-- the setter is there still, or departed
+late-there : (leaver setter : ℕ) (before tasks : List TaskEntry) → OthersStayPresent leaver before tasks
+    → (eqb setter departed || not (isAbsent (stateOf (getD before setter absentEntry .state)))) ≡ true
+    → (let late = lateSetter leaver setter in eqb late departed || not (isAbsent (stateOf (getD tasks late absentEntry .state)))) ≡ true
+late-there leaver setter before tasks follows e =
+    by-test (eqb setter leaver)
+    (λ own. rw own)
+    (λ other.
+    by-test (eqb setter departed)
+    (λ gone. rw (other, gone))
+    (λ here. rw (other, here, follows setter other (not-true _ (rw here at e)) .0)))
+
 -- one that lasts stays fit as the times go on
-lasting-fits : (leaver : ℕ) (before after : TaskEntry) (global later : GlobalTime) (used : Bool) (due : Due)
-    → (eqb (setterOf due) leaver ≡ false → StaysPresent Later before after) → Later (global .0) (later .0)
-    → isFitDue before global used due ≡ true → isLasting leaver after later due ≡ true → isFitDue after later used due ≡ true
-unfolding isFitDue
-lasting-fits leaver before after global later used Free f l e k = refl
-lasting-fits leaver before after global later used (Local setter at) f l e k =
-    let (other, left) = and-eq-true-iff _ _ .0 k in
-    local-fits before after global later used setter at
-    (λ present. let (stays, clock) = f (not-true _ other) present in (stays, left-ahead _ (at .0) _ _ clock left)) e
-lasting-fits leaver before after global later used (Global at) f l e k =
-    let (named, ahead) = and-eq-true-iff used _ .0 e in rw (named, left-ahead _ (at .0) _ _ l k ahead)
-lasting-fits leaver before after global later used Unknown f l e k = e
+module _ (leaver : ℕ) (advanced : Bool) (before tasks : List TaskEntry) (global : GlobalTime)
+    (follows : OthersStayPresent leaver before tasks) (range : global .0 < counterRange) where
+  abbrev after : GlobalTime
+  after = advancedTime advanced global
+
+  lasting-fits : (used : Bool) (due : Due) → isFitDue (getD before (setterOf due) absentEntry) global used due ≡ true
+      → (let late = lateDue leaver advanced tasks due in
+      isLasting leaver (getD tasks (setterOf late) absentEntry) after late ≡ true → isFitDue (getD tasks (setterOf late) absentEntry) after used late ≡ true)
+  unfolding isFitDue
+  lasting-fits used Free e k = refl
+  lasting-fits used (Local setter at) e k =
+      let (other, left) = and-eq-true-iff _ _ .0 k in
+      local-fits (getD before setter absentEntry) (getD tasks setter absentEntry) global after used setter at
+      (λ present. let (stays, clock) = follows setter (not-true _ other) present in (stays, left-ahead _ (at .0) _ _ clock left)) e
+  lasting-fits used (Global setter at) e k =
+      let (named, there, ahead) = and₃ used _ _ e in
+      rw (named, late-there leaver setter before tasks follows there, late-ahead advanced _ (at .0) global range k ahead)
+  lasting-fits used Unknown e k = e
 
 -- only an expiration in use looks at its block
 pub used-fits : (setter : TaskEntry) (global : GlobalTime) (before after : Bool) (due : Due) → (isDated due ≡ true → after ≡ before)
@@ -68,7 +101,7 @@ pub used-fits : (setter : TaskEntry) (global : GlobalTime) (before after : Bool)
 unfolding isFitDue
 used-fits setter global before after Free f e = refl
 used-fits setter global before after (Local task at) f e = rw (f refl) e
-used-fits setter global before after (Global at) f e = rw (f refl) e
+used-fits setter global before after (Global task at) f e = rw (f refl) e
 used-fits setter global before after Unknown f e = e
 
 -- entries stay fit by blocks that are as they were where an entry names them
@@ -109,22 +142,32 @@ kept-distinct xs block (b ∷ bs) e =
     (λ n. rw n tail)
 
 -- The record after a sweep with these tasks and this time
-module _ (leaver : ℕ) (tasks : List TaskEntry) (global : GlobalTime) (p : Tables)
-    (follows : OthersStayPresent leaver (p .tasks) tasks) (later : Later (p .global .0) (global .0)) where
+module _ (leaver : ℕ) (advanced : Bool) (tasks : List TaskEntry) (p : Tables)
+    (follows : OthersStayPresent leaver (p .tasks) tasks) (range : p .global .0 < counterRange) where
+  abbrev time : GlobalTime
+  time = advancedTime advanced (p .global)
+
   -- what it keeps is fit, with its block as it was
   entry-fits : (e : ExpirationEntry) → isFitEntry (p .tasks) (p .global) (p .blocks) e ≡ true
-      → isFitEntry tasks global (p .blocks) (keptEntry leaver tasks global e) ≡ true
+      → isFitEntry tasks time (p .blocks) (passedEntry leaver advanced tasks time e) ≡ true
   unfolding isFitDue dueBy
   entry-fits e h =
-      by-test (isLasting leaver (getD tasks (setterOf (dueOf e)) absentEntry) global (dueOf e))
-      (λ k. rw k (lasting-fits leaver _ _ (p .global) global _ (dueOf e) (follows _) later h k))
+      let x = lateEntry leaver advanced tasks e in
+      let late = late-due leaver advanced tasks e in
+      let used = isUsed (getD (p .blocks) (e .block) freeBlock) in
+      by-test (isKept leaver tasks time x)
+      (λ k. rw k
+      (subst (λ due. isFitDue (getD tasks (setterOf due) absentEntry) time used due ≡ true) (sym late)
+      (lasting-fits leaver advanced (p .tasks) tasks (p .global) follows range used (dueOf e) h
+      (subst (λ due. isLasting leaver (getD tasks (setterOf due) absentEntry) time due ≡ true) late k))))
       (λ k. rw k)
 
   -- its parts are fit
-  pub fit-swept : Fit p → all isFitTask tasks ≡ true → allTicked (map taskOf tasks) ≡ false → Fit (swept leaver tasks global p)
+  pub fit-swept : Fit p → all isFitTask tasks ≡ true → allTicked (map taskOf tasks) ≡ false → Fit (swept leaver advanced tasks time p)
   unfolding swept
   fit-swept f fits unticked =
-      let kept = keptEntry leaver tasks global in
+      let global = time in
+      let kept = passedEntry leaver advanced tasks time in
       let xs = map kept (p .expirations) in
       record {
         tasks = fits;

@@ -1,4 +1,5 @@
 pub mod KeptBlocks
+pub mod Late
 pub mod FitTasks
 pub mod FitSwept
 pub mod FitAfter

@@ -29,7 +29,7 @@ use Rattle.record.specs.Tables.{BlockEntry, ExpirationEntry}
 use Rattle.record.specs.declared.GlobalTime.{GlobalTime}
 use Rattle.record.specs.declared.Due.{Due}
 use Rattle.record.specs.declared.Due.the-variants.{Free, Local, Global, Unknown}
-use Rattle.steps.specs.Events.{verdictOf, leaverOf, keptEntry}
+use Rattle.steps.specs.Events.{verdictOf, leaverOf, passedEntry}
 use Rattle.ledger.specs.declared.Verdict.the-variants.{Accepted}
 use Rattle.steps.proofs.ReadTasks.{ClocksAlike, state-alike, clock-alike}
 use Rattle.steps.proofs.Aging.{aged, clock-after, ledger-ages, record-ages}
@@ -53,13 +53,13 @@ accepted-listed event task c tested accepted =
     absurd (true≢false (tested-present event Absent tested (rw past at accepted))))
 
 -- an event with no advance test ends nothing
-lasting-all : (event : Event) (task : ℕ) (c : Clocks) (xs : List Expiration) → isTested event ≡ false → lasting event task c xs ≡ xs
+lasting-all : (event : Event) (task : ℕ) (advanced : Bool) (c : Clocks) (xs : List Expiration) → isTested event ≡ false → lasting event task advanced c xs ≡ xs
 unfolding lasting
-lasting-all Join task c xs untested = refl
-lasting-all Leave task c xs untested = absurd (true≢false untested)
-lasting-all Block task c xs untested = absurd (true≢false untested)
-lasting-all Resume task c xs untested = refl
-lasting-all Tick task c xs untested = absurd (true≢false untested)
+lasting-all Join task advanced c xs untested = refl
+lasting-all Leave task advanced c xs untested = absurd (true≢false untested)
+lasting-all Block task advanced c xs untested = absurd (true≢false untested)
+lasting-all Resume task advanced c xs untested = refl
+lasting-all Tick task advanced c xs untested = absurd (true≢false untested)
 
 -- and leaves its task's clock, unless the task was absent
 moved-stays : (event : Event) (t : Task) (s : State) → isTested event ≡ false → verdictOf event s ≡ Accepted → isAbsent s ≡ false
@@ -76,7 +76,7 @@ moved-stays Tick t s untested accepted present = absurd (true≢false untested)
 -- the setter of a local expiration is not absent
 abbrev SetterPresent : Clocks → Left → Type 0
 SetterPresent c (localLeft setter units) = isAbsent (taskAt c setter .state) ≡ false
-SetterPresent c (globalLeft units) = Unit
+SetterPresent c (globalLeft setter units) = Unit
 
 abbrev AllPresent : Clocks → List Shown → Type 0
 AllPresent c xs = All (λ (x : Shown). SetterPresent c (x .left)) xs
@@ -94,7 +94,7 @@ module _ (event : Event) (task : ℕ) (c : Clocks) (untested : isTested event �
   ledger-stays : (d : DueTime) → SetterPresent c (leftOf c d) → leftOf (clocksAfter event task c) d ≡ leftOf c d
   unfolding leftOf remaining clocksAfter advances
   ledger-stays (byLocal setter at) present = rw (clock-stays setter present)
-  ledger-stays (byGlobal at) present = rw untested
+  ledger-stays (byGlobal setter at) present = rw untested
 
   shown-stays : (y : Expiration) → SetterPresent c (leftOf c (y .due)) → shown (clocksAfter event task c) y ≡ shown c y
   shown-stays y present = rw (ledger-stays (y .due) present)
@@ -105,7 +105,7 @@ module _ (event : Event) (task : ℕ) (c : Clocks) (untested : isTested event �
   record-stays same after handle Free present = refl
   record-stays {tasks} {entries} same after handle (Local setter at) (present, _) =
       rw (clock-alike entries (clocksAfter event task c) (after .tasks) setter, clock-alike tasks c (same .tasks) setter, clock-stays setter present)
-  record-stays same after handle (Global at) present = rw (after .global, same .global, untested)
+  record-stays same after handle (Global setter at) present = rw (after .global, same .global, untested)
   record-stays same after handle Unknown present = refl
 
 -- a fit expiration's setter is not absent
@@ -116,7 +116,7 @@ unfolding shownDue
 fit-present same used handle Free fit = tt
 fit-present {tasks} {global} {c} same used handle (Local setter at) fit =
     (rw (state-alike tasks c (same .tasks) setter) at (fit-local _ global used setter at fit .present), tt)
-fit-present same used handle (Global at) fit = (tt, tt)
+fit-present same used handle (Global setter at) fit = (tt, tt)
 fit-present same used handle Unknown fit = tt
 
 -- An accepted event: from a record and a ledger that show the same expirations, to entries and a time that read as the ledger's clocks after it.
@@ -130,12 +130,12 @@ module _ (event : Event) (task : ℕ) {tasks entries : List TaskEntry} {global t
 
   -- with an advance test
   pub expirations-alike : isTested event ≡ true
-      → List·Permᴰ (readBy (shownEntry entries time blocks) (map (keptEntry (leaverOf event task) entries time) xs))
-      (map (shown (clocksAfter event task c)) (lasting event task (clocksAfter event task c) ys))
+      → List·Permᴰ (readBy (shownEntry entries time blocks) (map (passedEntry (leaverOf event task) (advances event task c) entries time) xs))
+      (map (shown (clocksAfter event task c)) (lasting event task (advances event task c) (clocksAfter event task c) ys))
   expirations-alike tested =
       let listed = accepted-listed event task c tested accepts in
       rw (record-ages event task same after tested listed blocks xs fit, ledger-ages event task c tested listed ys)
-      (readBy-perm (aged event task (advances event task c)) alike)
+      (readBy-perm (aged event task c) alike)
 
   -- no setter is absent, in the record and so in the ledger
   entries-present : All (λ (e : ExpirationEntry). AllPresent c (shownEntry tasks global blocks e)) xs
@@ -147,11 +147,11 @@ module _ (event : Event) (task : ℕ) {tasks entries : List TaskEntry} {global t
   -- with none
   pub untested-expirations-alike : isTested event ≡ false
       → List·Permᴰ (readBy (shownEntry entries time blocks) xs)
-      (map (shown (clocksAfter event task c)) (lasting event task (clocksAfter event task c) ys))
+      (map (shown (clocksAfter event task c)) (lasting event task (advances event task c) (clocksAfter event task c) ys))
   untested-expirations-alike untested =
       rw (
         readBy-same _ (shownEntry tasks global blocks) xs (all-imp (λ e. record-stays event task c untested accepts same after _ (dueOf e)) xs entries-present),
-        lasting-all event task (clocksAfter event task c) ys untested,
+        lasting-all event task (advances event task c) (clocksAfter event task c) ys untested,
         map-same _ (shown c) ys (all-imp (shown-stays event task c untested accepts) ys ledger-present),
       )
       alike

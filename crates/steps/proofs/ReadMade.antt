@@ -36,7 +36,7 @@ use Rattle.steps.proofs.ReadObjects.{same-shown}
 use Rattle.steps.specs.Objects.{entryFor, withEntry, withObject}
 use Rattle.steps.proofs.Finding.{every-object-stands, handles-given}
 use Rattle.steps.proofs.StoreBytes.{BytesCleared, used-in-block}
-use Rattle.steps.proofs.Taken.{MaySet, SlotFree, PlaceFree, newBlock, slot-due, local-due, units-set, clock-range, block-stays}
+use Rattle.steps.proofs.Taken.{MaySet, SlotFree, PlaceFree, newBlock, slot-due, local-due, global-due, units-set, clock-range, block-stays}
 
 -- the object stands by these expirations
 abbrev Stands : List Expiration → Object → Type 0
@@ -66,7 +66,7 @@ entry-shown p types Local task extension place may blocks clocks =
     rw (local-due task _ (may .known), units-set _ (extension + 1) (clock-range p types task) (omega (arith, may .short)), units)
 entry-shown p types Global task extension place may blocks clocks =
     let units : clocks .global + extension + 2 - clocks .global ≡ extension + 2 = omega arith in
-    rw (units-set (p .global .0) (extension + 2) (types .global) (omega (arith, may .short)), units)
+    rw (global-due task _ (may .known), units-set (p .global .0) (extension + 2) (types .global) (omega (arith, may .short)), units)
 
 -- A call that sets an expiration
 module _ (p : Tables) (small large : List ℕ) (L : Ledger) (fit : Fit p) (types : Typed p) (reads : Reads p small large L)

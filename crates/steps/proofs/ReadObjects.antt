@@ -42,7 +42,7 @@ shown-handle : (tasks : List TaskEntry) (global : GlobalTime) (g h : ℕ) (due :
 unfolding shownDue
 shown-handle tasks global g h Free = refl
 shown-handle tasks global g h (Local setter at) = or-false (eqb g h)
-shown-handle tasks global g h (Global at) = or-false (eqb g h)
+shown-handle tasks global g h (Global setter at) = or-false (eqb g h)
 shown-handle tasks global g h Unknown = refl
 
 -- so what it shows depends on that handle only where it is in use
@@ -51,7 +51,7 @@ pub same-shown : (tasks : List TaskEntry) (global : GlobalTime) (g h : ℕ) (due
 unfolding shownDue
 same-shown tasks global g h Free e = refl
 same-shown tasks global g h (Local setter at) e = rw (e refl)
-same-shown tasks global g h (Global at) e = rw (e refl)
+same-shown tasks global g h (Global setter at) e = rw (e refl)
 same-shown tasks global g h Unknown e = refl
 
 -- an entry in use names its block

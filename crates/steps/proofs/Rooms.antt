@@ -23,7 +23,7 @@ use Rattle.ledger.proofs.Figures.{allowed}
 use Rattle.ledger.specs.Objects.{Object, smallOnes, largeOnes, inStoreOf, usage}
 use Rattle.ledger.specs.Compared.{shown, shownObject, viewOf}
 use Rattle.ledger.specs.Ledger.{Ledger}
-use Rattle.record.specs.Codes.{dueBy, dueOf, isDated, freeBlock, localCode, globalCode}
+use Rattle.record.specs.Codes.{dueBy, dueOf, isDated, freeBlock, localCode, globalCode, isGlobalClock}
 use Rattle.record.specs.Reading.{isWhole, shownDue, objectIn, recordView, Typed, Reads}
 use Rattle.record.specs.WellFormed.{isUsed, isFitDue, isFitEntry}
 use Rattle.record.specs.declared.TaskEntry.{TaskEntry}
@@ -51,7 +51,7 @@ shown-once : (tasks : List TaskEntry) (global : GlobalTime) (handle : ℕ) (due 
 unfolding shownDue
 shown-once tasks global handle Free = refl
 shown-once tasks global handle (Local setter at) = refl
-shown-once tasks global handle (Global at) = refl
+shown-once tasks global handle (Global setter at) = refl
 shown-once tasks global handle Unknown = refl
 
 -- a fit entry is free or in use
@@ -62,7 +62,7 @@ fit-dated tasks global blocks e fit =
     by-test (eqb (e .clock) 0)
     (λ z. rw z)
     (λ z.
-    by-test (eqb (e .clock) globalCode)
+    by-test (isGlobalClock (e .clock))
     (λ g. rw (z, g))
     (λ g. by-test (leb localCode (e .clock) && ltb (e .clock) globalCode) (λ l. rw (z, g, l)) (λ l. absurd (false≢true (rw (z, g, l) at fit)))))
 

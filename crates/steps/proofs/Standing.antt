@@ -15,7 +15,7 @@ use Rattle.record.specs.WellFormed.{isNaming, isFitBlock, isWellFormed}
 use Rattle.record.specs.declared.TaskEntry.{TaskEntry}
 use Rattle.record.specs.declared.GlobalTime.{GlobalTime}
 use Rattle.record.proofs.Facts.{fit-parts}
-use Rattle.steps.specs.Events.{isKept, keptEntry, keptBlock, swept, withTimes}
+use Rattle.steps.specs.Events.{passedEntry, keptBlock, swept, withTimes}
 
 -- a fit block stays: it is named, or free
 fit-stays : (given : ℕ) (xs : List ExpirationEntry) (i : ℕ) (b : BlockEntry) → isFitBlock given xs i b ≡ true → keptBlock xs i b ≡ b
@@ -33,7 +33,7 @@ pub none-freed : (given : ℕ) (xs : List ExpirationEntry) (blocks : List BlockE
     → mapFrom 0 (keptBlock xs) blocks ≡ blocks
 none-freed given xs blocks fit = mapFrom-kept (keptBlock xs) (isFitBlock given xs) (fit-stays given xs) 0 blocks fit
 
-pub swept-none : (leaver : ℕ) (tasks : List TaskEntry) (global : GlobalTime) (p : Tables) → isWellFormed p ≡ true
-    → map (keptEntry leaver tasks global) (p .expirations) ≡ p .expirations → swept leaver tasks global p ≡ withTimes tasks global p
+pub swept-none : (leaver : ℕ) (advanced : Bool) (tasks : List TaskEntry) (global : GlobalTime) (p : Tables) → isWellFormed p ≡ true
+    → map (passedEntry leaver advanced tasks global) (p .expirations) ≡ p .expirations → swept leaver advanced tasks global p ≡ withTimes tasks global p
 unfolding swept
-swept-none leaver tasks global p w stay = rw (stay, none-freed (p .given) (p .expirations) (p .blocks) (fit-parts p w .blocks))
+swept-none leaver advanced tasks global p w stay = rw (stay, none-freed (p .given) (p .expirations) (p .blocks) (fit-parts p w .blocks))

@@ -1,7 +1,7 @@
 -- Objects that stand on stay in their blocks: an event only frees blocks, a make sets one that was free, a refresh none.
 use Prim.Native.Nat.{ℕ, _<_}
 use native.Mathlib.Omega.{arith}
-use mathlib.Core.Bool.{true, false}
+use mathlib.Core.Bool.{Bool, true, false}
 use mathlib.Core.List.{List, map}
 use mathlib.Core.Logic.{_≢_}
 use mathlib.Core.Path.{_≡_, refl, sym, ap, _∙_}
@@ -23,7 +23,7 @@ use Rattle.record.specs.declared.GlobalTime.{GlobalTime}
 use Rattle.record.specs.Tables.{Tables}
 use Rattle.record.proofs.Facts.{fit-parts, fit-used}
 use Rattle.record.proofs.Distinct.{handleAt, same-handle}
-use Rattle.steps.specs.Events.{verdictAt, keptEntry, swept, poolAfter, outcomeBy, scheduled}
+use Rattle.steps.specs.Events.{verdictAt, passedEntry, swept, poolAfter, outcomeBy, scheduled}
 use Rattle.steps.specs.Objects.{freePlace, madePool, refreshedPool}
 use Rattle.steps.specs.Staying.{Stays, OneBlock}
 use Rattle.steps.proofs.KeptBlocks.{block-left}
@@ -43,10 +43,10 @@ stays-on {p} {p′} a b =
     }
 
 -- an event: a block that nothing names is freed
-swept-stays : (leaver : ℕ) (tasks : List TaskEntry) (global : GlobalTime) (p : Tables) → Stays p (swept leaver tasks global p)
+swept-stays : (leaver : ℕ) (advanced : Bool) (tasks : List TaskEntry) (global : GlobalTime) (p : Tables) → Stays p (swept leaver advanced tasks global p)
 unfolding swept
-swept-stays leaver tasks global p =
-    let xs = map (keptEntry leaver tasks global) (p .expirations) in
+swept-stays leaver advanced tasks global p =
+    let xs = map (passedEntry leaver advanced tasks global) (p .expirations) in
     record {
       given = omega arith;
       same = λ block.
@@ -56,7 +56,7 @@ swept-stays leaver tasks global p =
 
 stays-by : (v : Verdict) (event : Event) (task : ℕ) (p : Tables) → Stays p (outcomeBy v event task p .pool)
 unfolding poolAfter
-stays-by Accepted event task p = by-test (isTested event) (λ t. rw t (swept-stays _ _ _ p)) (λ t. rw t (same-stays refl refl))
+stays-by Accepted event task p = by-test (isTested event) (λ t. rw t (swept-stays _ _ _ _ p)) (λ t. rw t (same-stays refl refl))
 stays-by (Refused r) event task p = same-stays refl refl
 
 pub event-stays : (event : Event) (task : ℕ) (p : Tables) → Stays p (scheduled event task p .pool)

@@ -4,7 +4,7 @@ use native.Mathlib.Omega.{arith}
 use mathlib.Core.Bool.{Bool, true, false, false≢true}
 use mathlib.Core.List.{List}
 use mathlib.Core.Path.{_≡_}
-use borrow.Author.Tests.{eqb-true, leb-true, le-leb, lt-ltb, ne-eqb}
+use borrow.Author.Tests.{eqb-true, leb-true, le-leb, lt-leb, lt-ltb, ne-eqb}
 use lib.Dec.{eqb, leb}
 use lib.ListN.{length, getD, set}
 use lib.Seq.{getD-set-other}
@@ -15,7 +15,7 @@ use Rattle.lists.proofs.Tables.{allFrom→All}
 use Rattle.ledger.specs.Limits.{limits, taskCount, largeSize, counterRange, isSmall}
 use Rattle.ledger.proofs.Figures.{allowed}
 use Rattle.ledger.specs.Tasks.{isAbsent}
-use Rattle.record.specs.Codes.{dueBy, stateOf, dueOf, isDated, leftAt, absentEntry, freeBlock, freeEntry, localCode, globalCode}
+use Rattle.record.specs.Codes.{dueBy, stateOf, dueOf, isDated, leftAt, absentEntry, freeBlock, freeEntry, localCode, globalCode, departedCode}
 use Rattle.record.specs.Reading.{isSmallBlock, Typed}
 use Rattle.record.specs.WellFormed.{isFitDue, isFitEntry, isNaming, isSizedFor, isFitBlock}
 use Rattle.record.specs.declared.TaskEntry.{TaskEntry}
@@ -58,7 +58,14 @@ pub local-due : (task due : ℕ) → task < taskCount → dueBy (localCode + tas
 unfolding dueBy
 local-due task due known =
     let same : localCode + task - localCode ≡ task = omega arith in
-    rw (ne-eqb (localCode + task) 0 (λ e. omega arith), ne-eqb (localCode + task) globalCode (λ e. omega arith), le-leb localCode (localCode + task) (omega arith), lt-ltb (localCode + task) globalCode (omega arith), same)
+    rw (ne-eqb (localCode + task) 0 (λ e. omega arith), lt-leb globalCode (localCode + task) (omega arith), le-leb localCode (localCode + task) (omega arith), lt-ltb (localCode + task) globalCode (omega arith), same)
+
+-- and that of the global time has its setter
+pub global-due : (task due : ℕ) → task < taskCount → dueBy (globalCode + task) due ≡ Global task (record { 0 = due })
+unfolding dueBy
+global-due task due known =
+    let same : globalCode + task - globalCode ≡ task = omega arith in
+    rw (ne-eqb (globalCode + task) 0 (λ e. omega arith), le-leb globalCode (globalCode + task) (omega arith), le-leb (globalCode + task) departedCode (omega arith), same)
 
 -- units left right after they are set: no counter goes round in so few
 pub units-set : (now units : ℕ) → now < counterRange → units ≤ limits .extension + 2 → leftAt ((now + units) % counterRange) now ≡ units
@@ -74,7 +81,7 @@ fit-used : (setter : TaskEntry) (global : GlobalTime) (used : Bool) (due : Due) 
     → used ≡ true
 fit-used setter global used Free fit dated = absurd (false≢true dated)
 fit-used setter global used (Local task at) fit dated = fit-local setter global used task at fit .naming
-fit-used setter global used (Global at) fit dated = fit-global setter global used at fit .naming
+fit-used setter global used (Global task at) fit dated = fit-global setter global used task at fit .naming
 fit-used setter global used Unknown fit dated = absurd (false≢true dated)
 
 -- so its block stays as it is when a free one is taken

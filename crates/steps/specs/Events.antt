@@ -1,5 +1,5 @@
 -- What an event makes of a record, as a function of its entries.
-use Prim.Native.Nat.{ℕ, _+_, _%_}
+use Prim.Native.Nat.{ℕ, _+_, _-_, _%_}
 use mathlib.Core.Bool.{Bool, true, false, cond, not, _&&_}
 use mathlib.Core.List.{List, map}
 use lib.Dec.{eqb, leb, ltb}
@@ -7,7 +7,7 @@ use lib.ListN.{getD, set}
 use Rattle.lists.specs.Tests.{any}
 use Rattle.lists.specs.Tables.{mapFrom}
 use Rattle.ledger.specs.Limits.{taskCount, counterRange}
-use Rattle.ledger.specs.Tasks.{isTested, allTicked}
+use Rattle.ledger.specs.Tasks.{isWaiting, isTested, allTicked}
 use Rattle.ledger.specs.declared.State.{State}
 use Rattle.ledger.specs.declared.State.the-variants.{Absent, Running, Waiting}
 use Rattle.ledger.specs.declared.Event.{Event}
@@ -16,7 +16,7 @@ use Rattle.ledger.specs.declared.Answer.{Answer}
 use Rattle.ledger.specs.declared.Answer.the-variants.{Done, Advanced}
 use Rattle.ledger.specs.declared.Answer.the-variants.{Refused as RefusedAnswer}
 use Rattle.ledger.specs.declared.Refusal.the-variants.{NoSuchTask, TaskPresent, TaskAbsent, TaskWaiting, TaskRunning}
-use Rattle.record.specs.Codes.{stateOf, taskOf, dueOf, setterOf, leftAt, absentEntry, freedBlock, freedEntry}
+use Rattle.record.specs.Codes.{stateOf, taskOf, globalCode, departedCode, isGlobalClock, dueOf, setterOf, leftAt, absentEntry, freedBlock, freedEntry}
 use Rattle.record.specs.WellFormed.{isNaming}
 use Rattle.record.specs.declared.TaskEntry.{TaskEntry}
 use Rattle.record.specs.Tables.{BlockEntry, ExpirationEntry, Tables, Outcome}
@@ -85,11 +85,30 @@ leaverOf Resume task = taskCount
 leaverOf Leave task = task
 leaverOf Tick task = taskCount
 
+-- E21: the clock of an entry, after the leave of this task; of taskCount nothing is left
+abbrev pub desertedClock : ℕ → ℕ → ℕ
+desertedClock leaver clock = cond (isGlobalClock clock && eqb (clock - globalCode) leaver) departedCode clock
+
+-- E20: whether the setter of an entry waits, by its clock
+abbrev pub isPutOff : List TaskEntry → ℕ → Bool
+isPutOff tasks clock = isGlobalClock clock && isWaiting (stateOf (getD tasks (clock - globalCode) absentEntry .state))
+
+-- both: an entry before it is judged due, by the tasks as they are then
+abbrev pub desertedEntry : ℕ → ExpirationEntry → ExpirationEntry
+desertedEntry leaver e = record { clock = desertedClock leaver (e .clock); block = e .block; due = e .due }
+
+abbrev pub putOffEntry : Bool → List TaskEntry → ExpirationEntry → ExpirationEntry
+putOffEntry advanced tasks e =
+    record { clock = e .clock; block = e .block; due = cond (advanced && isPutOff tasks (e .clock)) (nextTime (e .due)) (e .due) }
+
+abbrev pub lateEntry : ℕ → Bool → List TaskEntry → ExpirationEntry → ExpirationEntry
+lateEntry leaver advanced tasks e = putOffEntry advanced tasks (desertedEntry leaver e)
+
 -- whether an expiration stands on, by the entry of its setter and the global time as they are then
 abbrev pub isLasting : ℕ → TaskEntry → GlobalTime → Due → Bool
 isLasting leaver setter global Free = true
 isLasting leaver setter global (Local task at) = not (eqb task leaver) && ltb 0 (leftAt (at .0) (setter .clock .0))
-isLasting leaver setter global (Global at) = ltb 0 (leftAt (at .0) (global .0))
+isLasting leaver setter global (Global task at) = ltb 0 (leftAt (at .0) (global .0))
 isLasting leaver setter global Unknown = true
 
 -- whether an entry stands on
@@ -103,10 +122,14 @@ keptEntry leaver tasks global e = cond (isKept leaver tasks global e) e (freedEn
 abbrev pub keptBlock : List ExpirationEntry → ℕ → BlockEntry → BlockEntry
 keptBlock xs block b = cond (any (isNaming block) xs) b (freedBlock b)
 
+-- an entry after an event
+abbrev pub passedEntry : ℕ → Bool → List TaskEntry → GlobalTime → ExpirationEntry → ExpirationEntry
+passedEntry leaver advanced tasks global e = keptEntry leaver tasks global (lateEntry leaver advanced tasks e)
+
 -- the record with these tasks and this time, its due expirations and the leaver's own ended, its blocks free where none names them
-unfoldable pub swept : ℕ → List TaskEntry → GlobalTime → Tables → Tables
-swept leaver tasks global p =
-    let xs = map (keptEntry leaver tasks global) (p .expirations) in
+unfoldable pub swept : ℕ → Bool → List TaskEntry → GlobalTime → Tables → Tables
+swept leaver advanced tasks global p =
+    let xs = map (passedEntry leaver advanced tasks global) (p .expirations) in
     record { tasks = tasks; global = global; given = p .given; blocks = mapFrom 0 (keptBlock xs) (p .blocks); expirations = xs }
 
 -- the record with these tasks and this time, all else as it was
@@ -119,7 +142,8 @@ unfoldable pub poolAfter : Event → ℕ → Tables → Tables
 poolAfter event task p =
     let tasks = movedTasks event task (p .tasks) in
     let advanced = allTicked (map taskOf tasks) in
-    cond (isTested event) (swept (leaverOf event task) (advancedTasks advanced tasks) (advancedTime advanced (p .global)) p) (withTimes tasks (p .global) p)
+    cond (isTested event) (swept (leaverOf event task) advanced (advancedTasks advanced tasks) (advancedTime advanced (p .global)) p)
+    (withTimes tasks (p .global) p)
 
 unfoldable pub answerAfter : Event → ℕ → Tables → Answer
 answerAfter event task p = cond (isTested event) (Advanced (allTicked (map taskOf (movedTasks event task (p .tasks))))) Done

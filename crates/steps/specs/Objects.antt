@@ -156,7 +156,7 @@ abbrev pub entryBy : Kind → ℕ → ℕ → ℕ → List TaskEntry → GlobalT
 entryBy Local task extension block tasks global =
     record { clock = localCode + task; block = block; due = (getD tasks task absentEntry .clock .0 + (extension + 1)) % counterRange }
 entryBy Global task extension block tasks global =
-    record { clock = globalCode; block = block; due = (global .0 + (extension + 2)) % counterRange }
+    record { clock = globalCode + task; block = block; due = (global .0 + (extension + 2)) % counterRange }
 
 unfoldable pub entryFor : Kind → ℕ → ℕ → ℕ → Tables → ExpirationEntry
 entryFor kind task extension block p = entryBy kind task extension block (p .tasks) (p .global)

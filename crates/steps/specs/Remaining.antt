@@ -19,13 +19,13 @@ use Rattle.record.specs.declared.Due.the-variants.{Free, Local, Global, Unknown
 abbrev pub leftLocal : ℕ → LocalTime → Due → ℕ
 leftLocal task now Free = 0
 leftLocal task now (Local setter at) = cond (eqb setter task) (leftAt (at .0) (now .0)) 0
-leftLocal task now (Global at) = 0
+leftLocal task now (Global setter at) = 0
 leftLocal task now Unknown = 0
 
 abbrev pub leftGlobal : GlobalTime → Due → ℕ
 leftGlobal now Free = 0
 leftGlobal now (Local setter at) = 0
-leftGlobal now (Global at) = leftAt (at .0) (now .0)
+leftGlobal now (Global setter at) = leftAt (at .0) (now .0)
 leftGlobal now Unknown = 0
 
 -- of an entry, where it names the block

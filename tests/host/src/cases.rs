@@ -1,14 +1,14 @@
 //! What is measured: each call on records where few and many expirations stand, accepted and refused, and on those whose
 //! handles make the fit test work most.
 
-use plain::limits::{EXPIRATIONS, LARGEST_BATCH, SMALL_SIZE};
+use plain::limits::{EXPIRATIONS, LARGEST_BATCH, SMALL_SIZE, TASKS};
 use plain::record::{GLOBAL, LOCAL, RUNNING, WAITING};
 use reference::call::{packed, Call, Handles, Kind};
 use reference::frame::encode;
 
 use crate::desk::{action, Action, Arguments, Entry, Subject};
 use crate::memory::Memory;
-use crate::samples::{renumber, standing, Numbering, NUMBERINGS};
+use crate::samples::{renumber, standing, standing_by, Numbering, Setting, NUMBERINGS};
 
 /// How many expirations stand. Where a call sets one more, 255 stand for 256, and where it sets 32, 224.
 pub const STANDING: [usize; 4] = [0, 64, 128, 256];
@@ -64,23 +64,42 @@ fn calls_on_tasks(expirations: usize) -> Vec<Case> {
     ];
     if expirations > 0 {
         let mut ends = case("tick, one expires", Entry::Tick, expirations, by(0));
-        last_is_due_next(&mut ends.memory, LOCAL);
+        last_is_due_next(&mut ends.memory, |clock| clock == LOCAL);
         let mut advances = case("tick, advances, one expires", Entry::Tick, expirations, by(0));
-        last_is_due_next(&mut advances.memory, GLOBAL);
+        last_is_due_next(&mut advances.memory, |clock| clock >= GLOBAL);
         let others = advances.memory.pool.tasks.iter_mut().skip(1).filter(|task| task.state == RUNNING);
         others.for_each(|task| task.ticked = 1);
         let mut all = case("tick, all expire", Entry::Tick, expirations, by(0));
         all.memory.pool.clocks[..expirations].fill(LOCAL);
         all.memory.pool.dues[..expirations].fill(1);
         cases.extend([ends, advances, all]);
+        for (name, wait) in [("tick, advances, none put off", false), ("tick, advances, all put off", true)] {
+            let memory = set_by_others(expirations, wait);
+            cases.push(Case { memory, ..case(name, Entry::Tick, expirations, by(0)) });
+        }
     }
     cases
 }
 
-/// The last expiration of this clock, which reads 0, is due when it reads 1.
-fn last_is_due_next(memory: &mut Memory, clock: u8) {
-    let last = memory.pool.clocks.iter().rposition(|&other| other == clock);
+/// The last expiration that goes by this clock, which reads 0, is due when it reads 1.
+fn last_is_due_next(memory: &mut Memory, goes_by: fn(u8) -> bool) {
+    let last = memory.pool.clocks.iter().rposition(|&clock| goes_by(clock));
     memory.pool.dues[last.expect("some go by this clock")] = 1;
+}
+
+/// All expirations are global, and the fifteen tasks that have set them all wait, or have all ticked. Task 0 runs.
+fn set_by_others(expirations: usize, wait: bool) -> Memory {
+    let mut memory = standing_by(TASKS, objects(expirations), expirations, |count| Setting {
+        task: 1 + (count % (TASKS - 1)) as u8,
+        kind: Kind::Global,
+        extension: 5 + (count % 26) as u8,
+        object: count % (objects(expirations).0 + objects(expirations).1),
+    });
+    for task in &mut memory.pool.tasks[1..] {
+        task.state = if wait { WAITING } else { RUNNING };
+        task.ticked = u16::from(!wait);
+    }
+    memory
 }
 
 fn calls_on_objects(expirations: usize) -> Vec<Case> {

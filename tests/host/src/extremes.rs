@@ -56,7 +56,9 @@ fn on_tasks() -> Vec<Case> {
         ("leave, all local ones end", "block, all are local", "tick, all local ones end", all_local()),
         ("leave, all of both clocks end", "block, half of all end", "tick, all of both clocks end", both_end(true)),
         ("leave, objects stay", "block, objects stay", "tick, objects stay", both_end(false)),
-        ("leave, all are global and end", "block, all end", "tick, all are global and end", all_global()),
+        ("leave, all are global and end", "block, all end", "tick, all are global and end", all_global(1)),
+        ("leave, all depart and end", "block, all put off", "tick, all are its own and end", all_global(0)),
+        ("leave, all others wait", "block, all others wait", "tick, all put off", all_put_off()),
     ] {
         cases.push(extreme(leave, Entry::Leave, memory.clone(), by(0)));
         cases.push(extreme(block, Entry::Block, memory.clone(), by(0)));
@@ -145,17 +147,30 @@ fn all_local() -> Memory {
     set(EXPIRATIONS, |count| Setting { task: 0, kind: Kind::Local, extension: 0, object: count % OBJECTS })
 }
 
-/// All go at the next advance, and the next tick, leave or block of task 0 is one.
-fn all_global() -> Memory {
-    awaits_0(set(EXPIRATIONS, |count| Setting { task: 0, kind: Kind::Global, extension: 0, object: count % OBJECTS }))
+/// All are of one setter and go at the next advance, and the next tick, leave or block of task 0 is one.
+fn all_global(task: u8) -> Memory {
+    awaits_0(set(EXPIRATIONS, |count| Setting { task, kind: Kind::Global, extension: 0, object: count % OBJECTS }))
 }
 
-/// By turns local of task 0 and global. At its next tick, which advances, all end, or only those beyond the first of each
-/// object.
+/// All are global and would go at the next advance, which is the next tick of task 0; but all who set them wait.
+fn all_put_off() -> Memory {
+    let setter = |count| 1 + (count % usize::from(TASKS - 1)) as u8;
+    let memory = awaits_0(set(EXPIRATIONS, |count| Setting {
+        task: setter(count),
+        kind: Kind::Global,
+        extension: 0,
+        object: count % OBJECTS,
+    }));
+    let blocks: Vec<_> = (1..TASKS).map(|task| Call::Block { task }).collect();
+    after(memory, &blocks)
+}
+
+/// By turns local of task 0 and global of task 1. At the next tick of task 0, which advances, all end, or only those beyond
+/// the first of each object.
 fn both_end(all: bool) -> Memory {
     awaits_0(set(EXPIRATIONS, |count| {
         let extension = if !all && count < OBJECTS { 30 } else { u8::from(count % 2 == 0) };
-        Setting { task: 0, kind: alternate(count), extension, object: count % OBJECTS }
+        Setting { task: (count % 2) as u8, kind: alternate(count), extension, object: count % OBJECTS }
     }))
 }
 

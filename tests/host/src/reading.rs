@@ -2,9 +2,9 @@
 //! 32 bits, an object's expirations by kind, setter and units left, in no order. Places are not compared.
 
 use plain::limits::TASKS;
-use plain::record::{Pool, ABSENT, FREE, GLOBAL, LOCAL, RUNNING};
+use plain::record::{Pool, ABSENT, DEPARTED, FREE, GLOBAL, LOCAL, RUNNING};
 use reference::call::Figures;
-use reference::expiration::Remaining;
+use reference::expiration::{Remaining, Setter};
 use reference::ledger::{Ledger, Standing};
 use reference::tasks::{State, Task};
 
@@ -49,7 +49,8 @@ fn standing(memory: &Memory) -> Vec<Standing> {
         let units = |now: u32| u64::from(due.wrapping_sub(now));
         let remaining = match clock {
             FREE => continue,
-            GLOBAL => Remaining::Global { units: units(pool.global) },
+            DEPARTED => Remaining::Global { setter: Setter::Departed, units: units(pool.global) },
+            GLOBAL.. => Remaining::Global { setter: Setter::Task(clock - GLOBAL), units: units(pool.global) },
             _ => {
                 let setter = clock - LOCAL;
                 Remaining::Local { setter, units: units(pool.tasks[usize::from(setter)].clock) }

@@ -9,7 +9,7 @@ use host_tests::reading::{figures, of_record};
 use host_tests::samples::{after, full};
 use plain::fit::is_well_formed;
 use plain::limits::{BLOCKS, EXPIRATIONS, TASKS};
-use plain::record::{Pool, ABSENT, FREE, GLOBAL, LOCAL, RECORD, RUNNING};
+use plain::record::{Pool, ABSENT, DEPARTED, FREE, GLOBAL, LOCAL, RECORD, RUNNING};
 use reference::call::{packed, Accepted, Call, Figures, Handles, Kind, Lifetime};
 use reference::generate::Profile;
 use reference::random::Random;
@@ -40,15 +40,17 @@ fn is_fit(pool: &Pool) -> bool {
     named && blocks && dates().all(|date| is_ahead(pool, date)) && known && marks && pending && absent
 }
 
-/// W6 to W8, and W12: a known clock, whose setter is there, and so much left as can be.
+/// W6 to W8, W12 and W14: a known clock, a setter that is there or departed, and so much left as can be.
 fn is_ahead(pool: &Pool, date: usize) -> bool {
     let units = |now: u32| pool.dues[date].wrapping_sub(now);
+    let global = (1..=32).contains(&units(pool.global));
     match pool.clocks[date] {
         clock @ LOCAL..GLOBAL => {
             let setter = pool.tasks[usize::from(clock - LOCAL)];
             setter.state != ABSENT && (1..=31).contains(&units(setter.clock))
         }
-        GLOBAL => (1..=32).contains(&units(pool.global)),
+        clock @ GLOBAL..DEPARTED => pool.tasks[usize::from(clock - GLOBAL)].state != ABSENT && global,
+        DEPARTED => global,
         _ => false,
     }
 }
@@ -126,11 +128,13 @@ impl Pair {
     }
 }
 
-/// The object on which the most expirations count for this task, local and global.
+/// The object on which the most expirations count for this task, first of the kind that it has fewer of, local or global.
 fn busiest(pool: &Pool, task: u8) -> u32 {
     let counting = |block: &usize| {
-        let on = pool.clocks.iter().zip(&pool.named).filter(|(_, &named)| usize::from(named) == *block);
-        on.filter(|(&clock, _)| [LOCAL + task, GLOBAL].contains(&clock)).count()
+        let on = || pool.clocks.iter().zip(&pool.named).filter(|(_, &named)| usize::from(named) == *block);
+        let local = on().filter(|(&clock, _)| clock == LOCAL + task).count();
+        let global = on().filter(|(&clock, _)| clock >= GLOBAL).count();
+        (local.min(global), local + global)
     };
     pool.handles[(0..BLOCKS).max_by_key(counting).unwrap_or(0)]
 }
@@ -173,7 +177,7 @@ fn one_byte_of_a_late_record() {
     overwrite_each_byte(late());
 }
 
-/// Tasks of every state.
+/// Tasks of every state, and global expirations of such that run, that wait and that departed.
 fn mixed() -> Memory {
     after(Profile::Everyday, 31, 900)
 }
@@ -196,8 +200,8 @@ fn late() -> Memory {
 /// What stands in them, what remains to the object that is asked for, and what the calls are told.
 #[test]
 fn undamaged_records() {
-    let mixed = (mixed(), (23, 13, 84), (13, 20), [0; 6]);
-    let late = (late(), (33, 14, 83), (14, 31), [0; 6]);
+    let mixed = (mixed(), (28, 19, 74), (15, 20), [0; 6]);
+    let late = (late(), (32, 18, 87), (14, 15), [0; 6]);
     let full = (full(256), (64, 32, 256), (0, 28), [0, 0, 0, 0, 9, 10]);
     for (whole, standing, (local, global), expected) in [mixed, late, full] {
         let Figures { small, large, expirations, .. } = figures(&whole.pool);
@@ -248,12 +252,53 @@ fn damage(pool: &mut Pool, random: &mut Random) {
             pool.named[to] = pool.named[from];
             pool.dues[to] = pool.dues[from];
         }
-        11 => pool.clocks[to] = random.pick(&[FREE, 1, 15, LOCAL, LOCAL + 5, 31, GLOBAL, 33, 255]),
+        11 => {
+            let codes = [FREE, 1, 15, LOCAL, LOCAL + 5, 31, GLOBAL, GLOBAL + 5, 47, DEPARTED, DEPARTED + 1, 63, 255];
+            pool.clocks[to] = random.pick(&codes);
+        }
         12 => pool.named[to] = pool.named[from],
         13 => pool.named[to] = random.pick(&[0, 63, 64, 95, 96, 255]),
         14 => pool.dues[to] = pool.dues[from],
         _ => pool.dues[to] = pool.dues[to].wrapping_add(small),
     }
+}
+
+/// Every code in every entry of a record with tasks of each state. Those of setters that are not there are not fit, nor is
+/// one above 48, which is fit for every entry that is due by global time.
+#[test]
+fn every_code_of_a_clock() {
+    let mut pair = Pair::of(with_each_state());
+    let (calls, whole) = (pair.calls, pair.whole.pool.clone());
+    for date in 0..EXPIRATIONS {
+        let is_ahead = (1..=32).contains(&whole.dues[date].wrapping_sub(whole.global));
+        for code in 0..=255 {
+            let expected = match code {
+                FREE | LOCAL..GLOBAL => None,
+                GLOBAL..DEPARTED => Some(is_ahead && whole.tasks[usize::from(code - GLOBAL)].state != ABSENT),
+                48 => Some(is_ahead),
+                _ => Some(false),
+            };
+            let mut damaged = whole.clone();
+            damaged.clocks[date] = code;
+            let fit = is_fit(&damaged);
+            assert_eq!(is_well_formed(&damaged), fit, "entry {date}, code {code}");
+            assert_eq!(fit, expected.unwrap_or(fit), "entry {date}, code {code}");
+            pair.examine(&calls[..2], |pool| pool.clocks[date] = code);
+        }
+        pair.restore();
+    }
+    println!("{} well-formed, {} not", pair.fit, pair.unfit);
+    assert!(pair.fit > 5_000 && pair.unfit > 50_000);
+}
+
+/// Tasks 1 and 13 wait, tasks 3 and 15 have left what they have set by global time, and the others run.
+fn with_each_state() -> Memory {
+    let mut host = Host::<Plain>::new(full(256));
+    for call in [1, 13].map(|task| Call::Block { task }).into_iter().chain([3, 15].map(|task| Call::Leave { task })) {
+        assert!(host.call(&call).is_ok(), "{call:?}");
+    }
+    assert!(host.memory.pool.clocks.contains(&DEPARTED));
+    host.memory
 }
 
 /// Nothing but chance.

@@ -131,6 +131,9 @@ impl Company {
             _ => {}
         }
         if accepted {
+            if self.plain.memory.pool.global != self.global_before {
+                self.census.note_advance(&self.plain.memory.pool);
+            }
             self.census.note_state(&self.plain.memory.pool);
             self.global_before = self.plain.memory.pool.global;
         }
@@ -175,6 +178,7 @@ fn check_all_met(census: &Census) {
         assert!(census.refused_by[11][number] > 100, "batch, {number}");
     }
     assert_eq!(census.most, (64, 32, 256));
+    assert!(census.put_off > 1_000 && census.most_departed > 20);
     assert!(census.advances > 10_000 && census.frames > 100_000);
 }
 
@@ -190,7 +194,7 @@ fn of_records_whose_counters_go_round() {
     let census = run_lists(1_000..1_105, true);
     check_all_met(&census);
     assert!(census.clock_wraps > 100 && census.global_wraps > 20);
-    assert!(census.remaining_across > 1_000 && census.batches_across > 1_000);
+    assert!(census.remaining_across > 1_000 && census.batches_across > 1_000 && census.put_off_across > 100);
     assert!(census.calls + census.frames > 1_000_000);
 }
 

@@ -99,7 +99,7 @@ fn tasks_that_wait_and_leave() {
     }
 }
 
-const ROWS: [(&str, &str); 29] = [
+const ROWS: [(&str, &str); 36] = [
     ("060000060004", "0000000001"),
     ("0701000200000001", "00"),
     ("0702010500000001", "00"),
@@ -116,10 +116,18 @@ const ROWS: [(&str, &str); 29] = [
     ("0401", "00"),
     ("0B0100000001", "000305"),
     ("0B0000000001", "000505"),
-    // The setter of the global one leaves, and it stands.
+    // The setter of the global one waits, and it is put off.
+    ("0302", "0000"),
+    ("0500", "0000"),
+    ("0501", "0001"),
+    ("0B0000000001", "000405"),
+    ("0B0100000001", "000205"),
+    // The setter leaves, and it stands and counts on.
     ("0202", "0000"),
-    ("0B0200000001", "03"),
-    ("0B0000000001", "000505"),
+    ("0102", "00"),
+    ("0302", "0000"),
+    ("0B0200000001", "04"),
+    ("0B0000000001", "000405"),
     // Task 0 leaves with its local one, and comes back to the others.
     ("0200", "0000"),
     ("0100", "00"),
@@ -128,11 +136,11 @@ const ROWS: [(&str, &str); 29] = [
     ("0B0000000001", "001F05"),
     // With the last of what task 1 set, its own figure is 0 and the object stands.
     ("0501", "0000"),
-    ("0501", "0000"),
     ("0B0100000001", "000105"),
     ("0501", "0000"),
     ("0B0100000001", "000005"),
-    ("0B0000000001", "001F05"),
+    ("0500", "0001"),
+    ("0B0000000001", "001E04"),
 ];
 
 /// Of several faults the first tells: 15, 1, 3, 4, 11, 12. The host tests that a refusal tells nothing else.

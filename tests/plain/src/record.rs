@@ -8,10 +8,12 @@ pub const ABSENT: u16 = 0;
 pub const RUNNING: u16 = 1;
 pub const WAITING: u16 = 2;
 
-/// The clock that an expiration goes by: none, LOCAL and the number of the task whose clock it is, or GLOBAL.
+/// The clock that an expiration goes by, and who has set it: FREE for none; LOCAL and the number of the task that set it,
+/// whose clock it is; GLOBAL and the number of the task that set it; DEPARTED for a global one whose setter has left.
 pub const FREE: u8 = 0;
 pub const LOCAL: u8 = 16;
 pub const GLOBAL: u8 = 32;
+pub const DEPARTED: u8 = 48;
 
 #[derive(Clone, Copy, Debug, PartialEq, Eq)]
 #[repr(C)]

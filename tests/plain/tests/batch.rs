@@ -37,7 +37,7 @@ fn the_answers_of_the_ledger() {
     assert!(asked > 2_000, "{asked}");
 }
 
-/// Task 0 runs, and an object stands in each block, with a global expiration.
+/// Task 0 runs, and an object stands in each block, with a global expiration of that task.
 fn full(handles: impl Iterator<Item = u32>) -> Pool {
     let mut pool = Pool { given: u32::MAX, ..FRESH };
     pool.tasks[0].state = RUNNING;

@@ -5,7 +5,7 @@ use std::collections::BTreeSet;
 
 use plain::fit::{is_well_formed, spread};
 use plain::limits::BLOCKS;
-use plain::record::{Pool, FRESH, GLOBAL};
+use plain::record::{Pool, DEPARTED, FRESH};
 use reference::random::Random;
 
 /// An object with a global expiration in each block.
@@ -14,7 +14,7 @@ fn full() -> Pool {
     for block in 0..BLOCKS {
         pool.handles[block] = 1 + block as u32;
         pool.lengths[block] = 32 + u16::from(block >= 64);
-        (pool.clocks[block], pool.named[block], pool.dues[block]) = (GLOBAL, block as u8, 1);
+        (pool.clocks[block], pool.named[block], pool.dues[block]) = (DEPARTED, block as u8, 1);
     }
     pool
 }

@@ -262,10 +262,17 @@ impl Draft {
 
     /// Every running task ticks, so that global time advances.
     pub fn round(&mut self) {
-        for task in 0..TASKS as u8 {
-            if self.ledger.tasks().is_running(task) {
-                self.call(&Call::Tick { task });
-            }
+        (0..TASKS as u8).for_each(|task| self.tick_if_running(task));
+    }
+
+    /// Every running task but one ticks, so that global time waits for it alone.
+    pub fn round_but(&mut self, awaited: u8) {
+        (0..TASKS as u8).filter(|&task| task != awaited).for_each(|task| self.tick_if_running(task));
+    }
+
+    fn tick_if_running(&mut self, task: u8) {
+        if self.ledger.tasks().is_running(task) {
+            self.call(&Call::Tick { task });
         }
     }
 
@@ -280,6 +287,16 @@ impl Draft {
 
     pub fn make_now(&mut self, extension: u8, length: u16) -> Option<u32> {
         let (task, kind) = (self.runner(), self.kind());
+        self.make_by(task, kind, extension, length)
+    }
+
+    /// The handle of a new object that goes by global time, if this task makes it.
+    pub fn make_global(&mut self, task: u8, extension: u8) -> Option<u32> {
+        let length = self.length();
+        self.make_by(task, Kind::Global, extension, length)
+    }
+
+    fn make_by(&mut self, task: u8, kind: Kind, extension: u8, length: u16) -> Option<u32> {
         let before = self.ledger.figures().given;
         self.call(&Call::Make { task, kind, extension, length });
         let given = self.ledger.figures().given;
@@ -335,6 +352,13 @@ impl Draft {
     /// How many expirations more there is room for.
     pub fn room(&self) -> usize {
         MOST_EXPIRATIONS - usize::from(self.ledger.figures().expirations)
+    }
+
+    /// A running task reads one of these objects, or asks what remains to it.
+    pub fn ask_for(&mut self, objects: &[u32]) {
+        let (task, handle) = (self.runner(), if objects.is_empty() { 0 } else { self.random.pick(objects) });
+        let call = self.random.pick(&[Call::Read { task, handle }, Call::Remaining { task, handle }]);
+        self.call(&call);
     }
 
     pub fn read_now(&mut self, handle: u32) {

@@ -3,18 +3,25 @@
 use crate::call::Kind;
 use crate::tasks::Tasks;
 
-/// E2: local or global. Only a local one goes by its setter.
+/// E2: local or global. A local one goes by its setter's time, a global one waits with its setter.
 #[derive(Clone, Copy, Debug, PartialEq, Eq)]
 pub enum Expiration {
     Local { setter: u8, due: u64 },
-    Global { due: u64 },
+    Global { setter: Setter, due: u64 },
+}
+
+/// E19, E21: who set a global expiration; departed for good from its leave on.
+#[derive(Clone, Copy, Debug, PartialEq, Eq, PartialOrd, Ord)]
+pub enum Setter {
+    Task(u8),
+    Departed,
 }
 
 /// L6: an expiration as it is compared.
 #[derive(Clone, Copy, Debug, PartialEq, Eq, PartialOrd, Ord)]
 pub enum Remaining {
     Local { setter: u8, units: u64 },
-    Global { units: u64 },
+    Global { setter: Setter, units: u64 },
 }
 
 impl Expiration {
@@ -23,7 +30,7 @@ impl Expiration {
         let extension = u64::from(extension);
         match kind {
             Kind::Local => Expiration::Local { setter, due: tasks.clock(setter) + extension + 1 },
-            Kind::Global => Expiration::Global { due: tasks.global() + extension + 2 },
+            Kind::Global => Expiration::Global { setter: Setter::Task(setter), due: tasks.global() + extension + 2 },
         }
     }
 
@@ -31,7 +38,7 @@ impl Expiration {
     pub fn is_due(&self, tasks: &Tasks) -> bool {
         match *self {
             Expiration::Local { setter, due } => tasks.clock(setter) == due,
-            Expiration::Global { due } => tasks.global() == due,
+            Expiration::Global { due, .. } => tasks.global() == due,
         }
     }
 
@@ -39,10 +46,32 @@ impl Expiration {
         matches!(*self, Expiration::Local { setter, .. } if setter == task)
     }
 
+    /// E20: after an advance, and before it is asked whether it is due. Tells whether it was put off.
+    pub fn put_off(&mut self, tasks: &Tasks) -> bool {
+        match self {
+            Expiration::Global { setter: Setter::Task(setter), due } if tasks.is_waiting(*setter) => {
+                *due += 1;
+                true
+            }
+            _ => false,
+        }
+    }
+
+    /// E21: at a leave. Tells whether the leaver was its setter.
+    pub fn depart(&mut self, leaver: u8) -> bool {
+        match self {
+            Expiration::Global { setter, .. } if *setter == Setter::Task(leaver) => {
+                *setter = Setter::Departed;
+                true
+            }
+            _ => false,
+        }
+    }
+
     fn remaining(&self, tasks: &Tasks) -> Remaining {
         match *self {
             Expiration::Local { setter, due } => Remaining::Local { setter, units: due - tasks.clock(setter) },
-            Expiration::Global { due } => Remaining::Global { units: due - tasks.global() },
+            Expiration::Global { setter, due } => Remaining::Global { setter, units: due - tasks.global() },
         }
     }
 }

@@ -29,6 +29,8 @@ pub enum Profile {
     Remaining,
     /// Objects refreshed together: of all sizes, with some that do not stand, and up to all 256 expirations.
     Batch,
+    /// Setters of global expirations that wait through advances, leave, and are followed by others of their number.
+    Waiting,
     /// Arguments at the ends of their ranges.
     Edges,
     /// Damaged lines among good ones.
@@ -37,7 +39,7 @@ pub enum Profile {
     Noise,
 }
 
-pub const PROFILES: [Profile; 13] = [
+pub const PROFILES: [Profile; 14] = [
     Profile::Everyday,
     Profile::Crowd,
     Profile::SmallFlood,
@@ -48,6 +50,7 @@ pub const PROFILES: [Profile; 13] = [
     Profile::Reading,
     Profile::Remaining,
     Profile::Batch,
+    Profile::Waiting,
     Profile::Edges,
     Profile::Damage,
     Profile::Noise,
@@ -102,6 +105,7 @@ fn phase(draft: &mut Draft, profile: Profile) {
         Profile::Reading => reading(draft),
         Profile::Remaining => remaining(draft),
         Profile::Batch => batch(draft),
+        Profile::Waiting => waiting(draft),
         Profile::Edges => edges(draft),
         Profile::Damage => damage(draft),
         Profile::Noise => noise(draft),
@@ -314,6 +318,57 @@ fn batch_at_the_brim(draft: &mut Draft) {
     draft.batch_mixed(2, 0);
     draft.batch_mixed(5, 0);
     draft.call(&Call::Report);
+}
+
+/// Each task makes an object that goes by global time. One of them waits or leaves, maybe by a call that brings an advance,
+/// and now and then another one too; time goes on, they come back, and all objects are asked for until they are gone.
+fn waiting(draft: &mut Draft) {
+    let tasks = 2 + draft.random.below(3);
+    draft.gather(tasks);
+    let extension = draft.random.pick(&[0, 0, 0, 1, 1, 3, LONGEST_EXTENSION]);
+    let objects: Vec<_> = (0..tasks as u8).filter_map(|task| draft.make_global(task, extension)).collect();
+    objects.iter().for_each(|&handle| draft.refresh_by(tasks, extension, handle));
+    let rounds = usize::from(extension) + 2;
+    for _ in 0..draft.random.below(rounds) {
+        draft.round();
+    }
+    let setter = draft.random.below(tasks) as u8;
+    if draft.random.one_in(2) {
+        draft.round_but(setter);
+    }
+    wait_or_leave(draft, setter, extension);
+    if draft.random.one_in(3) {
+        let task = draft.random.below(tasks) as u8;
+        draft.call(&Call::Block { task });
+    }
+    for _ in 0..draft.random.below(rounds + 2) {
+        draft.round();
+        draft.ask_for(&objects);
+    }
+    draft.gather(tasks);
+    for _ in 0..rounds + 1 {
+        draft.ask_for(&objects);
+        draft.round();
+    }
+}
+
+/// It waits, leaves, leaves while it waits, or has another of its number wait, which has set an expiration too.
+fn wait_or_leave(draft: &mut Draft, setter: u8, extension: u8) {
+    let (block, leave) = (Call::Block { task: setter }, Call::Leave { task: setter });
+    match draft.random.below(5) {
+        0 => draft.call(&leave),
+        1 => {
+            draft.call(&block);
+            draft.call(&leave);
+        }
+        2 => {
+            draft.call(&leave);
+            draft.call(&Call::Join { task: setter });
+            draft.make_global(setter, extension);
+            draft.call(&block);
+        }
+        _ => draft.call(&block),
+    }
 }
 
 fn edges(draft: &mut Draft) {

@@ -144,11 +144,15 @@ impl Book {
         }
     }
 
-    /// Follows an accepted call; `handle` is the one that a make gave.
-    fn follow(&mut self, call: &Call, tasks: &Tasks, handle: u32) {
+    /// Follows an accepted call, from the heap's answer and its tasks.
+    fn follow(&mut self, call: &Call, tasks: &Tasks, Told { handle, advanced }: Told) {
         match *call {
-            Call::Leave { task } => self.keep(|expiration| !expiration.is_local_of(task) && !expiration.is_due(tasks)),
-            Call::Block { .. } | Call::Tick { .. } => self.keep(|expiration| !expiration.is_due(tasks)),
+            Call::Leave { task } => {
+                self.keep(|expiration| !expiration.is_local_of(task));
+                self.change(|expiration| _ = expiration.depart(task));
+                self.expire(tasks, advanced);
+            }
+            Call::Block { .. } | Call::Tick { .. } => self.expire(tasks, advanced),
             Call::Make { task, kind, extension, length } => {
                 let expirations = vec![Expiration::set(tasks, task, kind, extension)];
                 self.objects.insert(handle, Entry { length, expirations });
@@ -165,6 +169,18 @@ impl Book {
 
     fn set(&mut self, handle: u32, expiration: Expiration) {
         self.objects.entry(handle).and_modify(|entry| entry.expirations.push(expiration));
+    }
+
+    /// As in the ledger: what an advance puts off is put off, and then what is due goes.
+    fn expire(&mut self, tasks: &Tasks, advanced: bool) {
+        if advanced {
+            self.change(|expiration| _ = expiration.put_off(tasks));
+        }
+        self.keep(|expiration| !expiration.is_due(tasks));
+    }
+
+    fn change(&mut self, change: impl Fn(&mut Expiration)) {
+        self.objects.values_mut().flat_map(|entry| &mut entry.expirations).for_each(change);
     }
 
     /// Keeps these expirations, and the objects that still have one.
@@ -192,6 +208,23 @@ impl Book {
     }
 }
 
+/// What the book takes from an answer of the heap: the handle that a make gave, and whether global time advanced.
+#[derive(Clone, Copy, Debug, Default)]
+struct Told {
+    handle: u32,
+    advanced: bool,
+}
+
+impl Told {
+    fn by(accepted: Accepted) -> Told {
+        match accepted {
+            Accepted::Handle(handle) => Told { handle, ..Told::default() },
+            Accepted::Advanced(advanced) => Told { advanced, ..Told::default() },
+            _ => Told::default(),
+        }
+    }
+}
+
 /// The heap with its book beside it.
 #[derive(Clone, Debug)]
 pub struct Judge {
@@ -206,15 +239,11 @@ impl Judge {
 
     /// Feeds one call; false if it is a use out of time or bounds, after which nothing more is to be told.
     pub fn is_in_time(&mut self, call: &Call) -> bool {
-        let (refusal, handle) = match self.heap.call(call) {
-            Err(refusal) => (Some(refusal), 0),
-            Ok(Accepted::Handle(handle)) => (None, handle),
-            Ok(_) => (None, 0),
-        };
-        match refusal {
-            None | Some(Refusal::RangeAboveLength) if self.book.is_out(call) => return false,
-            None => self.book.follow(call, &self.heap.tasks, handle),
-            Some(_) => {}
+        let told = self.heap.call(call).map(Told::by);
+        match told {
+            Ok(_) | Err(Refusal::RangeAboveLength) if self.book.is_out(call) => return false,
+            Ok(told) => self.book.follow(call, &self.heap.tasks, told),
+            Err(_) => {}
         }
         true
     }

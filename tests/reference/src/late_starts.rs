@@ -8,9 +8,10 @@ const MAKE: Call = Call::Make { task: 0, kind: Kind::Local, extension: 0, length
 const TICK: Call = Call::Tick { task: 0 };
 const READ: Call = Call::Read { task: 0, handle: 1 };
 
-/// A ledger that can be set to a late clock of task 0 or a late count.
+/// A ledger that can be set to a late clock of task 0, a late global time or a late count.
 pub trait LateStart: Model {
     fn clock_and_given(&mut self) -> (&mut u64, &mut u32);
+    fn global_mut(&mut self) -> &mut u64;
 }
 
 fn started<L: LateStart>(clock: u64, given: u32) -> L {
@@ -30,6 +31,23 @@ fn local_expiration_set_at_the_highest_32_bit_clock<L: LateStart>() {
     assert_eq!(ledger.call(&TICK), Ok(Accepted::Advanced(true)));
     assert_eq!(ledger.call(&READ), Err(Refusal::ObjectGone));
     assert_eq!(*ledger.clock_and_given().0 as u32, 0);
+}
+
+/// Order 4: what waits is put off beyond a global time of 32 bits, and what counts goes there.
+fn a_setter_waits_across_the_highest_32_bit_global_time<L: LateStart>() {
+    let mut ledger: L = started(0, 0);
+    ledger.join(1).unwrap();
+    *ledger.global_mut() = u64::from(u32::MAX) - 1;
+    for task in [0, 1] {
+        ledger.make(task, Kind::Global, 0, 4).unwrap();
+    }
+    assert_eq!(ledger.block(0), Ok(Accepted::Advanced(false)));
+    for expected in [Ok(Accepted::Remaining(Lifetime { local: 0, global: 1 })), Err(Refusal::ObjectGone)] {
+        assert_eq!(ledger.tick(1), Ok(Accepted::Advanced(true)));
+        assert_eq!(ledger.remaining(1, 1), Ok(Accepted::Remaining(Lifetime { local: 0, global: 2 })));
+        assert_eq!(ledger.remaining(1, 2), expected);
+    }
+    assert_eq!(*ledger.global_mut() as u32, 0);
 }
 
 fn after_the_highest_handle_all_are_given<L: LateStart>() {
@@ -55,6 +73,7 @@ fn all_handles_given_is_told_after_a_bad_length_and_before_a_full_store<L: LateS
 
 fn all<L: LateStart>() {
     local_expiration_set_at_the_highest_32_bit_clock::<L>();
+    a_setter_waits_across_the_highest_32_bit_global_time::<L>();
     after_the_highest_handle_all_are_given::<L>();
     all_handles_given_is_told_after_a_bad_length_and_before_a_full_store::<L>();
 }

@@ -43,17 +43,18 @@ impl Model for Ledger {
         Ok(Accepted::Done)
     }
 
-    /// T12, and E9: the task's local expirations end.
+    /// T12, E9 and E21: the task's local expirations end, and of its global ones it is departed.
     fn leave(&mut self, task: u8) -> Answer<'static> {
         let advanced = self.tasks.leave(task)?;
         self.end(|expiration, _| expiration.is_local_of(task));
-        self.expire();
+        self.change(|expiration, _| _ = expiration.depart(task));
+        self.expire(advanced);
         Ok(Accepted::Advanced(advanced))
     }
 
     fn block(&mut self, task: u8) -> Answer<'static> {
         let advanced = self.tasks.block(task)?;
-        self.expire();
+        self.expire(advanced);
         Ok(Accepted::Advanced(advanced))
     }
 
@@ -64,7 +65,7 @@ impl Model for Ledger {
 
     fn tick(&mut self, task: u8) -> Answer<'static> {
         let advanced = self.tasks.tick(task)?;
-        self.expire();
+        self.expire(advanced);
         Ok(Accepted::Advanced(advanced))
     }
 
@@ -131,7 +132,7 @@ impl Model for Ledger {
             match left {
                 Remaining::Local { setter, units } if setter == task => most.local = most.local.max(units as u8),
                 Remaining::Local { .. } => {}
-                Remaining::Global { units } => most.global = most.global.max(units as u8),
+                Remaining::Global { units, .. } => most.global = most.global.max(units as u8),
             }
         }
         Ok(Accepted::Remaining(most))
@@ -191,11 +192,19 @@ impl Ledger {
         self.objects.iter().map(show).collect()
     }
 
-    // Expirations that go.
+    // Expirations that change and that go.
 
-    /// E8, E11: what is due ends, after a tick and after an advance.
-    fn expire(&mut self) {
+    /// E8, E11: what is due ends, after a tick and after an advance. E20: what an advance puts off is put off first.
+    fn expire(&mut self, advanced: bool) {
+        if advanced {
+            self.change(|expiration, tasks| _ = expiration.put_off(tasks));
+        }
         self.end(|expiration, tasks| expiration.is_due(tasks));
+    }
+
+    fn change(&mut self, change: impl Fn(&mut Expiration, &Tasks)) {
+        let expirations = self.objects.iter_mut().flat_map(|object| &mut object.expirations);
+        expirations.for_each(|expiration| change(expiration, &self.tasks));
     }
 
     /// Ends these expirations, and with its last one an object (O3).
@@ -266,5 +275,9 @@ impl Ledger {
 impl crate::late_starts::LateStart for Ledger {
     fn clock_and_given(&mut self) -> (&mut u64, &mut u32) {
         (self.tasks.clock_mut(0), &mut self.given)
+    }
+
+    fn global_mut(&mut self) -> &mut u64 {
+        self.tasks.global_mut()
     }
 }

@@ -143,6 +143,11 @@ impl Tasks {
     pub fn clock_mut(&mut self, task: u8) -> &mut u64 {
         &mut self.entries[usize::from(task)].clock
     }
+
+    #[cfg(test)]
+    pub fn global_mut(&mut self) -> &mut u64 {
+        &mut self.global
+    }
 }
 
 /// 1, by T1.

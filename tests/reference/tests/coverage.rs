@@ -2,7 +2,7 @@
 
 mod census;
 
-use census::{batch, remaining, Census, OPERATIONS};
+use census::{batch, remaining, waiting, Census, OPERATIONS};
 use reference::generate::{script, script_of, Profile, PROFILES};
 use reference::script::LIMIT;
 
@@ -25,6 +25,9 @@ fn all_is_met() {
     }
     for ((name, _), count) in batch::SITUATIONS.iter().zip(census.batch) {
         assert!(count >= 50, "batch, {name}");
+    }
+    for ((name, _), count) in waiting::SITUATIONS.iter().zip(census.waiting) {
+        assert!(count >= 50, "waiting, {name}");
     }
     assert_eq!((census.most_small, census.most_large, census.most_expirations), (64, 32, 256));
     assert_eq!(census.most_running, 16);
@@ -70,11 +73,12 @@ fn each_profile_meets_its_own() {
             Profile::Reading => census.longest_output > 800_000,
             Profile::Remaining => census.remaining.iter().all(|&count| count > 20),
             Profile::Batch => census.batch.iter().all(|&count| count > 5) && census.accepted[11] > 500,
+            Profile::Waiting => census.waiting.iter().all(|&count| count > 20),
             Profile::Edges => least(&[1, 3, 6, 7, 11, 13]) > 100 && census.empty_writes.min(census.whole_writes) > 10,
             Profile::Damage => least(&[16, 17, 18, 19]) > 100,
             Profile::Noise => least(&[16, 17, 18]) > 100,
         };
-        assert!(met, "{profile:?} {:?} {:?} {:?}", census.accepted, census.refused, census.batch);
+        assert!(met, "{profile:?} {:?} {:?} {:?}", census.accepted, census.refused, census.waiting);
     }
 }
 

@@ -83,6 +83,36 @@ fn what_goes() {
 }
 
 #[test]
+fn what_is_put_off_and_who_departed() {
+    let made = "0103 0104 060301000004 060301000004 060301000004 060401050004";
+    assert_eq!(
+        last_words(&format!("{made} 0504 0303")),
+        "block of task 3: it waits; global time advances to 1; expirations of objects 1 to 3 are put off"
+    );
+    assert_eq!(
+        last_words(&format!("{made} 0304 0503")),
+        "tick of task 3: global time advances to 1; an expiration of object 4 is put off"
+    );
+    assert_eq!(
+        last_words(&format!("{made} 0503 0504 0304 0503")),
+        "tick of task 3: global time advances to 2; an expiration of object 4 is put off; objects 1 to 3 are gone"
+    );
+    assert_eq!(
+        last_words(&format!("{made} 0204")),
+        "leave of task 4: it is absent, and departed as the setter of 1 global expiration; global time waits for task 3"
+    );
+    assert_eq!(
+        last_words(&format!("{made} 0303 0504 0203")),
+        "leave of task 3: it is absent, and departed as the setter of 3 global expirations; global time waits for task 4"
+    );
+    assert_eq!(
+        last_words(&format!("{made} 0204 0104 0304 0503")),
+        "tick of task 3: global time advances to 1",
+        "it departed"
+    );
+}
+
+#[test]
 fn since_when_an_object_is_gone_and_with_what() {
     let read = "080100000001";
     for (script, gone) in [
@@ -111,6 +141,16 @@ fn since_when_an_object_is_gone_and_with_what() {
         (
             "0101 0102 060101000004 0501 0502 0501 0302",
             "gone at line 7 with its last expiration, set by task 1 at line 3",
+        ),
+        // Put off while its setter waited.
+        (
+            "0101 0102 060201000004 0302 0501 0501 0402 0501 0502 0501 0502",
+            "gone at line 11 with its last expiration, set by task 2 at line 3 and put off by 2 advances",
+        ),
+        // Put off, and on its way again when its setter left.
+        (
+            "0101 0102 060201000004 0302 0501 0202 0501 0501",
+            "gone at line 8 with its last expiration, set by task 2, departed, at line 3 and put off by 1 advance",
         ),
     ] {
         assert_eq!(last_words(&format!("{script} {read}")), format!("task 1, read of object 1: {gone}"), "{script}");
@@ -304,7 +344,7 @@ fn the_weekend() {
     let page = fs::read_to_string(document("WEEKEND.md")).unwrap();
     let (_, words) = page.split_once("## In words").unwrap();
     let quoted: Vec<_> = words.lines().filter_map(|line| line.strip_prefix("    ")).collect();
-    assert_eq!(quoted.len(), 3);
+    assert_eq!(quoted.len(), 4);
     for line in quoted {
         assert!(text.lines().any(|written| written == line), "{line}");
     }

@@ -175,6 +175,22 @@ fn a_batch_is_a_use() {
     assert_eq!(check(&[&full[..], &[batch(&[2; 31]), batch(&[2; 33]), batch(&[2, 3])]].concat()), None);
 }
 
+/// What a task has set by global time stands while it waits, by the book as by the ledger, but not once it has left.
+#[test]
+fn a_setter_that_waits_comes_back_in_time() {
+    let (task, handle) = (0, 1);
+    let make = Call::Make { task, kind: Kind::Global, extension: 0, length: 4 };
+    let (block, resume, leave, join) =
+        (Call::Block { task }, Call::Resume { task }, Call::Leave { task }, Call::Join { task });
+    let (tick, read) = (Call::Tick { task: 1 }, Call::Read { task, handle });
+    let list = |then: &[Call<'static>]| [&[join, Call::Join { task: 1 }, make][..], then].concat();
+    assert_eq!(check(&list(&[block, tick, tick, tick, resume, read])), None);
+    assert_eq!(check(&list(&[tick, block, tick, tick, resume, read])), None);
+    assert_eq!(check(&list(&[block, tick, leave, tick, join, read])), None);
+    assert_eq!(check(&list(&[block, tick, leave, tick, tick, join, read])), Some(9));
+    assert_eq!(check(&list(&[leave, join, block, tick, tick, resume, read])), Some(9));
+}
+
 #[test]
 fn a_refused_range_of_a_gone_object_is_a_use_out_of_time() {
     let (task, handle) = (0, 1);

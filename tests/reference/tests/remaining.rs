@@ -105,7 +105,7 @@ const ROWS: &[(&str, &[Row])] = &[
         ],
     ),
     (
-        "while a task waits its local clock stands, and global time goes on",
+        "while a task waits its local clock stands, and what it has set by global time is put off",
         &[
             (1, "0100", "00"),
             (1, "0101", "00"),
@@ -114,9 +114,9 @@ const ROWS: &[(&str, &[Row])] = &[
             (1, "0300", "0000"),
             (2, "0501", "0001"),
             (1, "0B0000000001", "04"),
-            (1, "0B0100000001", "000002"),
+            (1, "0B0100000001", "000004"),
             (1, "0400", "00"),
-            (1, "0B0000000001", "000302"),
+            (1, "0B0000000001", "000304"),
         ],
     ),
 ];

@@ -1,5 +1,6 @@
 -- Blocks are released where anything has ended.
 use borrow.Author.Needs.{needs}
+use Rattle.expirations.proofs.PutOff.{late-table}
 use Rattle.expirations.proofs.Tables.{ends-some, ends-none}
 use Rattle.expirations.proofs.end.Statement.{statement}
 use Rattle.expirations.proofs.end.Tie as tie
@@ -7,13 +8,19 @@ use Rattle.expirations.proofs.end.Tie as tie
 returns : tie.Need-returns
 returns c =
     let ended = c .before .before .before .before .before in
-    let pre = ended .before .before .pre in
-    ends-some (ended .end-due .ensures) (pre .2) (pre .1) (c .before .before .before .before .if1 .taken) (c .before .before .flags-of .ensures) (c .keep-named .ensures)
+    let put-off = ended .before .before .before in
+    let deserted = put-off .before .before .before in
+    let start = deserted .before .before in
+    let (sized, late) = late-table (start .args .t) (start .args .tasks) (start .pre .2) (deserted .desert .ensures) (put-off .put-off .ensures) in
+    ends-some (ended .end-due .ensures) sized late (start .pre .1) (c .before .before .before .before .if1 .taken) (c .before .before .flags-of .ensures) (c .keep-named .ensures)
 
 returns-2 : tie.Need-returns-2
 returns-2 c =
-    let pre = c .before .before .before .pre in
-    ends-none (c .before .end-due .ensures) (pre .2) (pre .1) (c .if1 .left)
+    let put-off = c .before .before .before .before in
+    let deserted = put-off .before .before .before in
+    let start = deserted .before .before in
+    let (sized, late) = late-table (start .args .t) (start .args .tasks) (start .pre .2) (deserted .desert .ensures) (put-off .put-off .ensures) in
+    ends-none (c .before .end-due .ensures) sized late (start .pre .1) (c .if1 .left)
 
 pub end-spec : {M : Type 1} → statement M
-end-spec = tie.close (tie.spec (λ c κs. search needs) (λ c κs. search needs) (λ c κs. search needs) returns returns-2)
+end-spec = tie.close (tie.spec (λ c κs. search needs) (λ c κs. search needs) (λ c κs. search needs) (λ c κs. search needs) (λ c κs. search needs) returns returns-2)

@@ -19,6 +19,7 @@ entry-for-spec =
     (λ c. search needs)
     (λ c. search needs)
     (λ c. search needs)
+    (λ c. search needs)
     (λ c κs. search needs)
     (λ c. rw (c .before .before .enum-told .given .1, c .wrapping-add-u32 .ensures))
     (λ c. rw (c .before .enum-told2 .given .1, c .wrapping-add-u322 .ensures)))

@@ -3,7 +3,8 @@
 //!
 //! One task measures the water level each turn. The sensor of another takes its time over the rain, so that this task
 //! blocks until it is ready. The radio sends both. Nobody frees anything: when the rain's sensor is late, its last
-//! reading goes by itself, and the radio says that it is too old.
+//! reading goes by itself, and the radio says that it is too old. For this the radio sets how long the rain's readings
+//! last, since what a task has set by global time waits with it.
 
 #![no_std]
 #![no_main]
@@ -66,15 +67,16 @@ impl Station {
 
     /// For the radio in this turn: a global expiration, and no longer than need be.
     fn measure_level(&mut self, turn: u16) -> Result<(), Refusal> {
-        self.level = self.make(LEVEL, 0, 1000 + turn)?;
+        self.level = self.make(LEVEL, Kind::Global, 1000 + turn)?;
         self.pool.tick(LEVEL)?;
         Ok(())
     }
 
-    /// For four turns. Then the sensor begins again, and the others do not wait for this task.
+    /// For four turns of the radio. Then the sensor begins again, and the others do not wait for this task.
     fn measure_rain(&mut self, turn: u16) -> Result<(), Refusal> {
         self.pool.resume(RAIN)?;
-        self.rain = self.make(RAIN, 2, 2 * turn)?;
+        self.rain = self.make(RAIN, Kind::Local, 2 * turn)?;
+        self.pool.refresh(RADIO, Kind::Local, 3, self.rain)?;
         self.pool.tick(RAIN)?;
         self.pool.block(RAIN)?;
         Ok(())
@@ -88,8 +90,8 @@ impl Station {
         Ok(())
     }
 
-    fn make(&mut self, task: u8, extension: u8, reading: u16) -> Result<Handle, Refusal> {
-        let handle = self.pool.make(task, Kind::Global, extension, 2)?;
+    fn make(&mut self, task: u8, kind: Kind, reading: u16) -> Result<Handle, Refusal> {
+        let handle = self.pool.make(task, kind, 0, 2)?;
         self.pool.write(task, handle, 0, &reading.to_be_bytes())?;
         Ok(handle)
     }

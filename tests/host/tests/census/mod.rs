@@ -2,7 +2,8 @@
 
 use host_tests::reading::figures;
 use plain::limits::EXPIRATIONS;
-use plain::record::{Pool, FREE, GLOBAL, LOCAL};
+use plain::limits::TASKS;
+use plain::record::{Pool, DEPARTED, FREE, GLOBAL, LOCAL, WAITING};
 use reference::call::{Accepted, Answer, Call};
 
 /// The operations, and the refusals by number, 0 to 20.
@@ -23,6 +24,11 @@ pub struct Census {
     /// Accepted calls of remaining, and batches, for an object whose expirations are due after a counter has gone round.
     pub remaining_across: usize,
     pub batches_across: usize,
+    /// Advances that put an expiration off, and one that is due after global time has gone round; and the most that stood
+    /// of departed setters.
+    pub put_off: usize,
+    pub put_off_across: usize,
+    pub most_departed: usize,
     pub most: (u8, u8, u16),
 }
 
@@ -48,6 +54,19 @@ impl Census {
         let figures = figures(pool);
         let (small, large, expirations) = self.most;
         self.most = (small.max(figures.small), large.max(figures.large), expirations.max(figures.expirations));
+        let departed = pool.clocks.iter().filter(|&&clock| clock == DEPARTED).count();
+        self.most_departed = self.most_departed.max(departed);
+    }
+
+    /// From the record after an advance.
+    pub fn note_advance(&mut self, pool: &Pool) {
+        let waits = |clock: u8| {
+            let setter = usize::from(clock.wrapping_sub(GLOBAL));
+            setter < TASKS && pool.tasks[setter].state == WAITING
+        };
+        let put_off = || pool.clocks.iter().zip(&pool.dues).filter(|(&clock, _)| waits(clock));
+        self.put_off += usize::from(put_off().next().is_some());
+        self.put_off_across += usize::from(put_off().any(|(_, &due)| due < pool.global));
     }
 
     pub fn add(&mut self, other: &Census) {
@@ -62,6 +81,9 @@ impl Census {
         self.global_wraps += other.global_wraps;
         self.remaining_across += other.remaining_across;
         self.batches_across += other.batches_across;
+        self.put_off += other.put_off;
+        self.put_off_across += other.put_off_across;
+        self.most_departed = self.most_departed.max(other.most_departed);
         let (small, large, expirations) = self.most;
         self.most = (small.max(other.most.0), large.max(other.most.1), expirations.max(other.most.2));
     }
@@ -74,7 +96,8 @@ impl Census {
         println!("of batches {:?}", self.refused_by[11]);
         println!("wraps of clocks {}, of global time {}", self.clock_wraps, self.global_wraps);
         println!("remaining asked across them {}, batches {}", self.remaining_across, self.batches_across);
-        println!("most small, large, expirations {:?}", self.most);
+        println!("advances that put off {}, across them {}", self.put_off, self.put_off_across);
+        println!("most small, large, expirations {:?}, of departed setters {}", self.most, self.most_departed);
     }
 }
 
@@ -83,7 +106,7 @@ pub fn is_due_across(pool: &Pool, handle: u32) -> bool {
     (0..EXPIRATIONS).any(|i| {
         let now = match pool.clocks[i] {
             FREE => return false,
-            GLOBAL => pool.global,
+            GLOBAL.. => pool.global,
             clock => pool.tasks[usize::from(clock - LOCAL)].clock,
         };
         pool.handles[usize::from(pool.named[i])] == handle && pool.dues[i] < now

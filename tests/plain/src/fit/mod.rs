@@ -7,7 +7,7 @@ pub use handles::spread;
 use crate::limits::{
     BLOCKS, GLOBAL_EXTRA, LARGE_SIZE, LOCAL_EXTRA, LONGEST_EXTENSION, SMALL_BLOCKS, SMALL_SIZE, TASKS,
 };
-use crate::record::{Pool, TaskEntry, ABSENT, FREE, GLOBAL, GROUP, LOCAL, RUNNING, WAITING};
+use crate::record::{Pool, TaskEntry, ABSENT, DEPARTED, FREE, GLOBAL, GROUP, LOCAL, RUNNING, WAITING};
 
 /// For each number that a byte can be, whether an expiration in use names it as its block: not 0 if so.
 type Named = [u8; 256];
@@ -35,7 +35,7 @@ fn fit_tasks(tasks: &[TaskEntry; TASKS]) -> bool {
     pending | !ticked
 }
 
-/// Each expiration lies ahead of a clock that goes on. The blocks are only noted here, so that one comparison
+/// Each expiration lies ahead of a clock that goes on, and its setter is there or departed. The blocks are only noted here, so that one comparison
 /// tells both that each named block is in use and that each block in use is named.
 #[inline(never)] // In one piece with the others it takes some 450 instructions more.
 fn fit_expirations(pool: &Pool, named: &mut Named) -> bool {
@@ -67,14 +67,13 @@ const UNITS: [u64; 256] = units();
 
 impl Spans {
     fn of(pool: &Pool) -> Spans {
-        let mut spans = Spans { first: [0; 256], units: UNITS };
+        let mut spans = Spans { first: [pool.global.wrapping_add(1); 256], units: UNITS };
         for (clock, task) in (usize::from(LOCAL)..).zip(&pool.tasks) {
+            let is_there = u64::from(task.state != ABSENT);
             spans.first[clock] = task.clock.wrapping_add(1);
-            if task.state == ABSENT {
-                spans.units[clock] = 0;
-            }
+            spans.units[clock] *= is_there;
+            spans.units[clock + usize::from(GLOBAL - LOCAL)] *= is_there;
         }
-        spans.first[usize::from(GLOBAL)] = pool.global.wrapping_add(1);
         spans
     }
 
@@ -124,8 +123,9 @@ const fn units() -> [u64; 256] {
     let mut task = 0;
     while task < TASKS {
         units[LOCAL as usize + task] = LONGEST_EXTENSION as u64 + LOCAL_EXTRA as u64;
+        units[GLOBAL as usize + task] = LONGEST_EXTENSION as u64 + GLOBAL_EXTRA as u64;
         task += 1;
     }
-    units[GLOBAL as usize] = LONGEST_EXTENSION as u64 + GLOBAL_EXTRA as u64;
+    units[DEPARTED as usize] = LONGEST_EXTENSION as u64 + GLOBAL_EXTRA as u64;
     units
 }

@@ -140,12 +140,11 @@ pub fn remaining(pool: &Pool, task: u8, handle: u32) -> Result<Lifetime, u8> {
             continue;
         }
         for i in 0..GROUP {
-            let units = |goes_by: u8, now: u32| {
-                let counts = (clocks[i] == goes_by) & (blocks[i] == block);
-                u8::from(counts) * (dues[i] as u8).wrapping_sub(now as u8)
+            let units = |counts: bool, now: u32| {
+                u8::from(counts & (blocks[i] == block)) * (dues[i] as u8).wrapping_sub(now as u8)
             };
-            most.local = most.local.max(units(LOCAL + task, clock));
-            most.global = most.global.max(units(GLOBAL, pool.global));
+            most.local = most.local.max(units(clocks[i] == LOCAL + task, clock));
+            most.global = most.global.max(units(clocks[i] >= GLOBAL, pool.global));
         }
     }
     Ok(most)
@@ -238,7 +237,7 @@ fn set(pool: &mut Pool, clock: u32, with: (u8, u8, u8), block: usize) -> Result<
 fn due_after(pool: &Pool, clock: u32, (task, kind, extension): (u8, u8, u8)) -> (u8, u32) {
     match kind {
         0 => (LOCAL + task, clock.wrapping_add(u32::from(extension) + LOCAL_EXTRA)),
-        _ => (GLOBAL, pool.global.wrapping_add(u32::from(extension) + GLOBAL_EXTRA)),
+        _ => (GLOBAL + task, pool.global.wrapping_add(u32::from(extension) + GLOBAL_EXTRA)),
     }
 }
 

@@ -1,7 +1,7 @@
-//! The calls on tasks, the advance test, and the expirations that they end.
+//! The calls on tasks, the advance test, and the expirations that they put off and end.
 
 use crate::limits::TASKS;
-use crate::record::{Pool, TaskEntry, ABSENT, ABSENT_TASK, FREE, GLOBAL, GROUP, LOCAL, RUNNING, WAITING};
+use crate::record::{Pool, TaskEntry, ABSENT, ABSENT_TASK, DEPARTED, FREE, GLOBAL, GROUP, LOCAL, RUNNING, WAITING};
 use crate::refusals::{NO_SUCH_TASK, TASK_ABSENT, TASK_PRESENT, TASK_RUNNING, TASK_WAITING};
 
 pub fn join(pool: &mut Pool, task: u8) -> Result<(), u8> {
@@ -20,7 +20,7 @@ pub fn leave(pool: &mut Pool, task: u8) -> Result<bool, u8> {
         return Err(TASK_ABSENT);
     }
     *entry = ABSENT_TASK;
-    let ended = end(pool, LOCAL + task, |_| true);
+    let ended = depart(pool, task);
     Ok(settle(pool, ended))
 }
 
@@ -47,7 +47,7 @@ pub fn tick(pool: &mut Pool, task: u8) -> Result<bool, u8> {
     entry.clock = entry.clock.wrapping_add(1);
     entry.ticked = 1;
     let now = entry.clock;
-    let ended = end(pool, LOCAL + task, |due| due == now);
+    let ended = end(pool, |clock, due| (clock == LOCAL + task) & (due == now));
     Ok(settle(pool, ended))
 }
 
@@ -74,7 +74,8 @@ fn settle(pool: &mut Pool, mut ended: bool) -> bool {
         let now = pool.global.wrapping_add(1);
         pool.global = now;
         pool.tasks.iter_mut().for_each(|task| task.ticked = 0);
-        ended |= end(pool, GLOBAL, |due| due == now);
+        put_off(pool);
+        ended |= end(pool, |clock, due| (clock >= GLOBAL) & (due == now));
     }
     if ended {
         free_blocks(pool);
@@ -99,10 +100,43 @@ fn all_ticked(tasks: &[TaskEntry; TASKS]) -> bool {
     running & !pending
 }
 
-/// Ends the expirations of this clock that are over, and tells whether there were any. Each group is asked before it is
-/// changed: most calls end none.
-fn end(pool: &mut Pool, ending: u8, is_over: impl Fn(u32) -> bool) -> bool {
-    let ends = |clock: u8, due: u32| (clock == ending) & is_over(due);
+/// What a leaver has set: its local expirations end, and of its global ones the setter is departed. Tells whether any ended.
+fn depart(pool: &mut Pool, leaver: u8) -> bool {
+    let (local, global) = (LOCAL + leaver, GLOBAL + leaver);
+    let mut ended = false;
+    for clock in &mut pool.clocks {
+        ended |= *clock == local;
+        *clock = if *clock == global { DEPARTED } else { *clock };
+        *clock = if *clock == local { FREE } else { *clock };
+    }
+    ended
+}
+
+/// More than there are codes of clocks.
+const CODES: usize = 64;
+
+/// Puts off by one the global expirations of setters that wait.
+fn put_off(pool: &mut Pool) {
+    let mut delays = [0; CODES];
+    for (delay, task) in delays[usize::from(GLOBAL)..].iter_mut().zip(&pool.tasks) {
+        *delay = u32::from(task.state == WAITING);
+    }
+    if delays == [0; CODES] {
+        return;
+    }
+    let groups = pool.clocks.as_chunks::<GROUP>().0.iter();
+    for (clocks, dues) in groups.zip(pool.dues.as_chunks_mut::<GROUP>().0) {
+        if *clocks == [FREE; GROUP] {
+            continue;
+        }
+        for i in 0..GROUP {
+            dues[i] = dues[i].wrapping_add(delays[usize::from(clocks[i]) % CODES]);
+        }
+    }
+}
+
+/// Ends these expirations, and tells whether there were any. Each group is asked before it is changed: most calls end none.
+fn end(pool: &mut Pool, ends: impl Fn(u8, u32) -> bool) -> bool {
     let mut ended = false;
     let groups = pool.clocks.as_chunks_mut::<GROUP>().0.iter_mut();
     for (clocks, dues) in groups.zip(pool.dues.as_chunks::<GROUP>().0) {

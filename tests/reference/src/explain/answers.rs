@@ -47,7 +47,7 @@ fn kind_words(kind: Kind, extension: u8) -> String {
 pub fn told(watch: &Watch, call: &Call, change: &Change) -> String {
     match *call {
         Call::Join { .. } => "it runs, from local time 0 on".into(),
-        Call::Leave { .. } => format!("it is absent; {}", time(watch, change)),
+        Call::Leave { .. } => format!("it is absent{}; {}", departed(change), time(watch, change)),
         Call::Block { .. } => format!("it waits; {}", time(watch, change)),
         Call::Resume { .. } => format!("it runs again, after it waited since line {}", change.before),
         Call::Tick { .. } => time(watch, change),
@@ -69,17 +69,37 @@ pub fn told(watch: &Watch, call: &Call, change: &Change) -> String {
     }
 }
 
-/// Whether global time advances or for whom it waits, and what goes.
+/// What a leaver leaves behind.
+fn departed(change: &Change) -> String {
+    match change.departed {
+        0 => String::new(),
+        count => format!(", and departed as the setter of {}", counted(count, "global expiration")),
+    }
+}
+
+/// Whether global time advances or for whom it waits, and what is put off and what goes.
 fn time(watch: &Watch, change: &Change) -> String {
     let time = if watch.advanced == watch.line {
         format!("global time advances to {}", watch.ledger.tasks().global())
     } else {
         awaited(watch)
     };
-    match change.gone.len() {
-        0 => time,
-        1 => format!("{time}; {} is gone", listed("object", &change.gone)),
-        _ => format!("{time}; {} are gone", listed("object", &change.gone)),
+    time + &put_off(&change.put_off) + &gone(&change.gone)
+}
+
+fn put_off(objects: &[u32]) -> String {
+    match objects.len() {
+        0 => String::new(),
+        1 => format!("; an expiration of {} is put off", listed("object", objects)),
+        _ => format!("; expirations of {} are put off", listed("object", objects)),
+    }
+}
+
+fn gone(objects: &[u32]) -> String {
+    match objects.len() {
+        0 => String::new(),
+        1 => format!("; {} is gone", listed("object", objects)),
+        _ => format!("; {} are gone", listed("object", objects)),
     }
 }
 

@@ -52,7 +52,7 @@ pub fn shown_line(line: &[u8]) -> String {
 pub fn due(expiration: Expiration) -> String {
     match expiration {
         Expiration::Local { setter, due } => format!("local time {due} of task {setter}"),
-        Expiration::Global { due } => format!("global time {due}"),
+        Expiration::Global { due, .. } => format!("global time {due}"),
     }
 }
 

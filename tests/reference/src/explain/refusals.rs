@@ -3,6 +3,7 @@
 use crate::call::{Call, Refusal};
 use crate::explain::answers::store_name;
 use crate::explain::phrases::{counted, listed};
+use crate::explain::trail::Set;
 use crate::explain::watch::Watch;
 use crate::limits::{LARGEST_BATCH, LONGEST, LONGEST_EXTENSION, MOST_EXPIRATIONS, TASKS};
 use crate::tasks::State;
@@ -102,11 +103,17 @@ fn gone(watch: &Watch, call: &Call) -> String {
         1 => String::new(),
         more => format!("; {} more gone", counted(more - 1, "object")),
     };
-    let (line, last) = (first.line, first.last);
-    format!(
-        "{which}gone at line {line} with its last expiration, set by task {} at line {}{others}",
-        last.setter, last.line
-    )
+    format!("{which}gone at line {} with its last expiration, {}{others}", first.line, origin(&first.last))
+}
+
+/// Who set an expiration and where, and what became of it.
+fn origin(set: &Set) -> String {
+    let departed = if set.is_departed() { ", departed," } else { "" };
+    let put_off = match set.put_off {
+        0 => String::new(),
+        count => format!(" and put off by {}", counted(count, "advance")),
+    };
+    format!("set by task {}{departed} at line {}{put_off}", set.setter, set.line)
 }
 
 fn past_the_end(watch: &Watch, call: &Call) -> String {

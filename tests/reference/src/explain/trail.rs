@@ -1,8 +1,10 @@
-//! Who set each expiration and where, and with which of them each object went. The ledger keeps neither.
+//! Who set each expiration and where, how often it was put off, and with which of them each object went. The ledger keeps
+//! none of this.
 
 use std::collections::BTreeMap;
 
-use crate::expiration::Expiration;
+use crate::expiration::{Expiration, Setter};
+use crate::tasks::Tasks;
 
 /// An expiration with its origin. Lines count from 1.
 #[derive(Clone, Copy, Debug)]
@@ -10,6 +12,15 @@ pub struct Set {
     pub setter: u8,
     pub line: usize,
     pub expiration: Expiration,
+    /// How many advances have put it off.
+    pub put_off: usize,
+}
+
+impl Set {
+    /// Whether its setter departed.
+    pub fn is_departed(&self) -> bool {
+        matches!(self.expiration, Expiration::Global { setter: Setter::Departed, .. })
+    }
 }
 
 /// The line at which an object went, and the last of its expirations.
@@ -43,6 +54,23 @@ impl Trail {
 
     pub fn set(&mut self, handle: u32, set: Set) {
         self.standing.entry(handle).or_default().push(set);
+    }
+
+    /// From its leave on the leaver is departed. Tells how many global expirations it has set.
+    pub fn depart(&mut self, leaver: u8) -> usize {
+        let sets = self.standing.values_mut().flatten();
+        sets.filter_map(|set| set.expiration.depart(leaver).then_some(())).count()
+    }
+
+    /// Puts off what an advance puts off, and gives the handles of the objects.
+    pub fn put_off(&mut self, tasks: &Tasks) -> Vec<u32> {
+        let put_off = |set: &mut Set| {
+            let more = usize::from(set.expiration.put_off(tasks));
+            set.put_off += more;
+            more
+        };
+        let some = |sets: &mut Vec<Set>| sets.iter_mut().map(put_off).sum::<usize>() > 0;
+        self.standing.iter_mut().filter_map(|(&handle, sets)| some(sets).then_some(handle)).collect()
     }
 
     /// Ends these expirations at this line. Gives the handles of the objects that go with their last one; where several

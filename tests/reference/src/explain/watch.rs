@@ -22,6 +22,10 @@ pub struct Watch {
 pub struct Change {
     /// The objects that went with it.
     pub gone: Vec<u32>,
+    /// The objects of which it put an expiration off.
+    pub put_off: Vec<u32>,
+    /// How many global expirations have lost their setter with it.
+    pub departed: usize,
     /// The line since which its task had been in the state before; 0 from the start on.
     pub before: usize,
 }
@@ -36,12 +40,15 @@ impl Watch {
     pub fn call(&mut self, call: &Call) -> Result<Change, Refusal> {
         let time = self.ledger.tasks().global();
         self.ledger.call(call)?;
-        if self.ledger.tasks().global() != time {
+        let advanced = self.ledger.tasks().global() != time;
+        if advanced {
             self.advanced = self.line;
         }
         let before = self.note_state(call);
         self.note_expirations(call);
-        Ok(Change { gone: self.end_expirations(call), before })
+        let departed = self.depart(call);
+        let put_off = if advanced { self.trail.put_off(self.ledger.tasks()) } else { Vec::new() };
+        Ok(Change { gone: self.end_expirations(call), put_off, departed, before })
     }
 
     /// Gives the line since which the task had been in its state.
@@ -69,12 +76,19 @@ impl Watch {
 
     fn note(&mut self, handle: u32, setter: u8, kind: Kind, extension: u8) {
         let expiration = self.expiration(setter, kind, extension);
-        self.trail.set(handle, Set { setter, line: self.line, expiration });
+        self.trail.set(handle, Set { setter, line: self.line, expiration, put_off: 0 });
     }
 
     /// The expiration that is set now.
     pub fn expiration(&self, setter: u8, kind: Kind, extension: u8) -> Expiration {
         Expiration::set(self.ledger.tasks(), setter, kind, extension)
+    }
+
+    fn depart(&mut self, call: &Call) -> usize {
+        match *call {
+            Call::Leave { task } => self.trail.depart(task),
+            _ => 0,
+        }
     }
 
     fn end_expirations(&mut self, call: &Call) -> Vec<u32> {

@@ -1,5 +1,6 @@
 //! The pool's rules and refusals 1 to 13 and 20, by schedules and slots.
 
+use super::globals::Globals;
 use super::objects::Objects;
 use super::schedule::Schedule;
 use super::tasks::Tasks;
@@ -15,7 +16,7 @@ pub struct Ledger {
     given: u32,
     objects: Objects,
     local: [Schedule; TASKS],
-    global: Schedule,
+    global: Globals,
 }
 
 impl Model for Ledger {
@@ -26,7 +27,7 @@ impl Model for Ledger {
             given: 0,
             objects: Objects::none(),
             local: Default::default(),
-            global: Schedule::default(),
+            global: Globals::default(),
         }
     }
 
@@ -40,6 +41,7 @@ impl Model for Ledger {
         for slot in self.local[usize::from(task)].take_all() {
             self.objects.release(slot);
         }
+        self.global.depart(task);
         self.expire_global(advanced)
     }
 
@@ -112,7 +114,7 @@ impl Model for Ledger {
         let slot = self.check_standing(handle)?;
         Ok(Accepted::Remaining(Lifetime {
             local: self.local[usize::from(task)].longest(slot, self.tasks.clock(task)),
-            global: self.global.longest(slot, self.tasks.global()),
+            global: self.global.longest(slot),
         }))
     }
 
@@ -172,10 +174,10 @@ impl Ledger {
         self.objects.order().iter().map(show).collect()
     }
 
-    /// After an advance the global expirations that are due go.
+    /// After an advance the global expirations that are due go; it does not count for those whose setter waits.
     fn expire_global(&mut self, advanced: bool) -> Answer<'static> {
         if advanced {
-            for slot in self.global.take_due(self.tasks.global()) {
+            for slot in self.global.advance(self.tasks.waiting()) {
                 self.objects.release(slot);
             }
         }
@@ -191,10 +193,7 @@ impl Ledger {
                 let due = self.tasks.clock(task) + extension + 1;
                 self.local[usize::from(task)].set(due, slot);
             }
-            Kind::Global => {
-                let due = self.tasks.global() + extension + 2;
-                self.global.set(due, slot);
-            }
+            Kind::Global => self.global.set(task, extension + 2, slot),
         }
     }
 
@@ -218,8 +217,7 @@ impl Ledger {
             let remaining = self.local[usize::from(setter)].remaining(slot, self.tasks.clock(setter));
             remaining.map(move |units| Remaining::Local { setter, units })
         });
-        let global = self.global.remaining(slot, self.tasks.global());
-        local.chain(global.map(|units| Remaining::Global { units })).collect()
+        local.chain(self.global.remaining(slot)).collect()
     }
 }
 
@@ -227,5 +225,9 @@ impl Ledger {
 impl crate::late_starts::LateStart for Ledger {
     fn clock_and_given(&mut self) -> (&mut u64, &mut u32) {
         (self.tasks.clock_mut(0), &mut self.given)
+    }
+
+    fn global_mut(&mut self) -> &mut u64 {
+        self.tasks.global_mut()
     }
 }

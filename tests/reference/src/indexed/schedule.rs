@@ -36,6 +36,15 @@ impl Schedule {
         self.ring[..used].iter_mut().flat_map(|due| due.drain(..))
     }
 
+    /// Takes out everything, with what remains to it.
+    pub fn take_apart(&mut self, now: u64) -> impl Iterator<Item = (u64, u8)> + '_ {
+        let used = if self.count == 0 { 0 } else { RING };
+        self.count = 0;
+        let units = move |at: usize| (at + RING - place(now)) as u64 % RING as u64;
+        let ring = self.ring[..used].iter_mut().enumerate();
+        ring.flat_map(move |(at, due)| due.drain(..).map(move |slot| (units(at), slot)))
+    }
+
     /// What remains to each expiration of the object in this slot.
     pub fn remaining(&self, slot: u8, now: u64) -> impl Iterator<Item = u64> + '_ {
         (1..RING as u64).flat_map(move |units| {

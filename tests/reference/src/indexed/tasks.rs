@@ -24,6 +24,11 @@ impl Tasks {
         self.global
     }
 
+    /// The tasks that wait, a bit for each.
+    pub fn waiting(&self) -> u16 {
+        self.waiting
+    }
+
     /// The tasks as the ledger has them.
     pub fn entries(&self) -> [Task; TASKS] {
         std::array::from_fn(|task| {
@@ -122,6 +127,11 @@ impl Tasks {
     #[cfg(test)]
     pub fn clock_mut(&mut self, task: u8) -> &mut u64 {
         &mut self.clocks[usize::from(task)]
+    }
+
+    #[cfg(test)]
+    pub fn global_mut(&mut self) -> &mut u64 {
+        &mut self.global
     }
 }
 

@@ -2,11 +2,13 @@
 
 pub mod batch;
 pub mod remaining;
+pub mod waiting;
 
 use reference::call::{Accepted, Answer, Call, Model, Refusal};
 use reference::frame::decode;
 use reference::ledger::Ledger;
 use reference::script::{lines, run};
+use waiting::{Before, Setters};
 
 /// Each operation and the refusals that its frames and calls may give, in the order of the tests. The ledger gives neither
 /// 14 nor 15.
@@ -45,6 +47,7 @@ pub struct Census {
     pub longest_output: usize,
     pub remaining: [usize; remaining::SITUATIONS.len()],
     pub batch: [usize; batch::SITUATIONS.len()],
+    pub waiting: [usize; waiting::SITUATIONS.len()],
 }
 
 impl Census {
@@ -57,13 +60,18 @@ impl Census {
     fn take(&mut self, script: &[u8]) {
         self.longest_output = self.longest_output.max(run(script).len());
         let (mut ledger, mut room) = (Ledger::fresh(), vec![0; script.len()]);
+        let mut setters = Setters::default();
         for line in lines(script) {
             match decode(line, &mut room) {
                 Err(refusal) => self.note_frame(line, refusal),
                 Ok(call) => {
                     batch::note(&mut self.batch, &call, &ledger);
+                    let before = Before::of(&call, &ledger);
                     let answer = ledger.call(&call);
                     self.note(&call, answer);
+                    if answer.is_ok() {
+                        setters.note(&mut self.waiting, &call, before, &ledger);
+                    }
                     self.note_state(&ledger);
                     remaining::note(&mut self.remaining, &call, &ledger);
                 }
@@ -123,6 +131,9 @@ impl Census {
         }
         for ((name, _), count) in batch::SITUATIONS.iter().zip(self.batch) {
             println!("batch, {name}: {count}");
+        }
+        for ((name, _), count) in waiting::SITUATIONS.iter().zip(self.waiting) {
+            println!("waiting, {name}: {count}");
         }
     }
 }

@@ -44,7 +44,7 @@ pub fn note(met: &mut [usize; SITUATIONS.len()], call: &Call, ledger: &Ledger) {
         match *left {
             Remaining::Local { setter, units } if setter == task => asked.own.push(units),
             Remaining::Local { units, .. } => asked.others.push(units),
-            Remaining::Global { units } => asked.global.push(units),
+            Remaining::Global { units, .. } => asked.global.push(units),
         }
     }
     for (met, (_, holds)) in met.iter_mut().zip(SITUATIONS) {

@@ -1,6 +1,7 @@
 //! Lists of calls that stay in time because of how they are made, or go out once. In each round all
 //! use comes first and then every task ticks once, so that each clock, and global time, is the number
-//! of the round.
+//! of the round. But for one task that may wait for the round: what it has set lasts a round longer, by
+//! its clock, which stands, and by global time, since it is put off.
 
 use std::ops::RangeInclusive;
 
@@ -40,7 +41,12 @@ pub fn random_kind(random: &mut Random) -> Kind {
 struct Planned {
     handle: u32,
     length: u16,
-    /// The last round in which it may be used.
+}
+
+/// An expiration: the place of its object, who has set it, and the last round in which it stands.
+struct Lasting {
+    place: usize,
+    setter: u8,
     last: usize,
 }
 
@@ -51,8 +57,7 @@ pub struct Plan {
     round: usize,
     given: u32,
     objects: Vec<Planned>,
-    /// The last round of each expiration.
-    expirations: Vec<usize>,
+    expirations: Vec<Lasting>,
 }
 
 impl Plan {
@@ -68,16 +73,39 @@ impl Plan {
             for _ in 0..self.random.below(10) {
                 self.step();
             }
-            self.end_round();
+            if self.tasks > 1 && self.random.one_in(3) {
+                self.end_round_waiting();
+            } else {
+                self.end_round();
+            }
         }
     }
 
     fn end_round(&mut self) {
-        let first = self.random.below(16) as u8;
-        self.list.extend((0..self.tasks).map(|step| Call::Tick { task: (first % self.tasks + step) % self.tasks }));
+        let first = self.random.below(16) as u8 % self.tasks;
+        self.list.extend((0..self.tasks).map(|step| Call::Tick { task: (first + step) % self.tasks }));
+        self.next_round();
+    }
+
+    /// One task waits from before the ticks on, or brings the advance by its block.
+    fn end_round_waiting(&mut self) {
+        let task = self.task();
+        let ticks = (1..self.tasks).map(|step| Call::Tick { task: (task + step) % self.tasks });
+        let block = [Call::Block { task }];
+        if self.random.one_in(2) {
+            self.list.extend(block.into_iter().chain(ticks));
+        } else {
+            self.list.extend(ticks.chain(block));
+        }
+        self.list.push(Call::Resume { task });
+        self.expirations.iter_mut().filter(|one| one.setter == task).for_each(|one| one.last += 1);
+        self.next_round();
+    }
+
+    fn next_round(&mut self) {
         self.round += 1;
         let round = self.round;
-        self.expirations.retain(|&last| last >= round);
+        self.expirations.retain(|one| one.last >= round);
     }
 
     fn step(&mut self) {
@@ -102,15 +130,23 @@ impl Plan {
         self.round + usize::from(extension) + more
     }
 
+    fn set(&mut self, place: usize, setter: u8, kind: Kind, extension: u8) {
+        let last = self.last(kind, extension);
+        self.expirations.push(Lasting { place, setter, last });
+    }
+
+    fn stands(&self, place: usize) -> bool {
+        self.expirations.iter().any(|one| one.place == place)
+    }
+
     fn standing(&self, lengths: RangeInclusive<u16>) -> usize {
-        let round = self.round;
-        self.objects.iter().filter(|object| object.last >= round && lengths.contains(&object.length)).count()
+        let objects = self.objects.iter().enumerate();
+        objects.filter(|&(place, object)| self.stands(place) && lengths.contains(&object.length)).count()
     }
 
     /// The place of an object that may be used in this round.
     fn any_standing(&mut self) -> Option<usize> {
-        let stands = |place: &usize| self.objects[*place].last >= self.round;
-        let places: Vec<_> = (0..self.objects.len()).filter(stands).collect();
+        let places: Vec<_> = (0..self.objects.len()).filter(|&place| self.stands(place)).collect();
         (!places.is_empty()).then(|| self.random.pick(&places))
     }
 
@@ -126,10 +162,9 @@ impl Plan {
 
     fn make_now(&mut self, task: u8, kind: Kind, extension: u8, length: u16) {
         self.list.push(Call::Make { task, kind, extension, length });
-        let last = self.last(kind, extension);
         self.given += 1;
-        self.objects.push(Planned { handle: self.given, length, last });
-        self.expirations.push(last);
+        self.set(self.objects.len(), task, kind, extension);
+        self.objects.push(Planned { handle: self.given, length });
     }
 
     fn refresh(&mut self) {
@@ -143,11 +178,8 @@ impl Plan {
     }
 
     fn refresh_now(&mut self, place: usize, task: u8, kind: Kind, extension: u8) {
-        let last = self.last(kind, extension);
-        let object = &mut self.objects[place];
-        object.last = object.last.max(last);
-        self.list.push(Call::Refresh { task, kind, extension, handle: object.handle });
-        self.expirations.push(last);
+        self.list.push(Call::Refresh { task, kind, extension, handle: self.objects[place].handle });
+        self.set(place, task, kind, extension);
     }
 
     /// Some objects that stand, one or the other of them named twice.
@@ -162,12 +194,7 @@ impl Plan {
     }
 
     fn batch_now(&mut self, places: &[usize], task: u8, kind: Kind, extension: u8) {
-        let last = self.last(kind, extension);
-        for &place in places {
-            let object = &mut self.objects[place];
-            object.last = object.last.max(last);
-            self.expirations.push(last);
-        }
+        places.iter().for_each(|&place| self.set(place, task, kind, extension));
         let handles: Vec<_> = places.iter().map(|&place| self.objects[place].handle).collect();
         self.list.push(Call::Batch { task, kind, extension, handles: kept(&handles) });
     }
@@ -183,7 +210,7 @@ impl Plan {
     fn write(&mut self) {
         let task = self.task();
         if let Some(place) = self.any_standing() {
-            let Planned { handle, length, .. } = self.objects[place];
+            let Planned { handle, length } = self.objects[place];
             let offset = self.random.below(usize::from(length)) as u8;
             let count = self.random.below(usize::from(length) - usize::from(offset) + 2);
             let bytes = some_bytes(&mut self.random, count.min(256));
@@ -240,7 +267,7 @@ impl Plan {
         self.make_room();
         self.make_now(task, kind, extension, 4);
         let place = self.objects.len() - 1;
-        while self.objects[place].last >= self.round {
+        while self.stands(place) {
             self.end_round();
         }
         let handle = self.objects[place].handle;

@@ -1,4 +1,4 @@
--- None is due where no clock is the global one; else entry by entry.
+-- None is due where no clock goes by the global time; else entry by entry.
 use Prim.Native.Nat.{_≤_, _-_}
 use native.Mathlib.Omega.{arith}
 use borrow.Author.Needs.{needs}
@@ -22,9 +22,8 @@ any-global-spec =
     (tie.spec
     Inv-loop
     μ-loop
-    (λ c. omega arith)
     (λ c κs. search needs)
-    (λ c. asked-unless (c .before .has-byte .ensures) (not-true _ (c .if1 .taken)) (λ k. global-clock (c .before .before .args .global) _ _))
+    (λ c. asked-unless (c .before .any-global-clock .ensures) (not-true _ (c .if1 .taken)) (λ k. global-clock (c .before .before .args .global) _ _))
     (λ c. omega arith)
     (λ c. (omega arith, asked-start _ _))
     (λ c. omega arith)

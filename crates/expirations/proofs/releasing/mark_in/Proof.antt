@@ -19,7 +19,7 @@ loop-again-2 : tie.Need-loop-again-2 Inv-loop μ-loop
 loop-again-2 c =
     let l = c .before .before .before .before .before .before .loop in
     let dated = sym (c .before .before .before .is-dated .ensures) ∙ not-false _ (c .before .before .if2 .left) in
-    (omega arith, flags-turn (l .inv .1) dated (c .flag-for .ensures .so))
+    (omega arith, flags-turn (l .inv .1) dated (c .place-for .ensures .so))
 
 pub mark-in-spec : {M : Type 1} → statement M
 mark-in-spec =

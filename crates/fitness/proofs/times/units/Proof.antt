@@ -1,22 +1,19 @@
--- The units of the first tasks stand at their codes.
+-- The units of the first tasks stand at both their codes.
 use Prim.Native.Nat.{_-_}
 use native.Mathlib.Omega.{arith}
 use borrow.Author.Needs.{needs}
-use Rattle.lists.proofs.Filling.{Laid, laid-start, laid-turn}
-use Rattle.fitness.proofs.Within.{unitsAt, unitsStart, units-end}
+use Rattle.fitness.proofs.Within.{UnitsTo, units-start, units-turn, units-end}
 use Rattle.fitness.proofs.times.units.Statement.{statement}
 use Rattle.fitness.proofs.times.units.Tie as tie
 
 abbrev Inv-loop : tie.InvT-loop
-Inv-loop tasks out₀ i₀ out i = Laid 0 (unitsAt tasks) 16 16 unitsStart i out
+Inv-loop tasks out₀ i₀ out i = UnitsTo tasks i out
 
 abbrev μ-loop : tie.MeasureT-loop
 μ-loop tasks out₀ i₀ out i = 16 - i
 
 loop-again : tie.Need-loop-again Inv-loop μ-loop
-loop-again c =
-    let l = c .before .before .before in
-    rw (c .units-of .ensures) (laid-turn 0 (unitsAt (l .before .before .args .t1)) 16 16 (l .loop .inv) (search needs) (omega (arith, c .before .before .loop-test .taken)))
+loop-again c = rw (c .before .units-of .ensures, c .units-of2 .ensures) (units-turn (c .before .before .before .before .loop .inv) (search needs))
 
 pub units-spec : {M : Type 1} → statement M
 units-spec =
@@ -26,9 +23,11 @@ units-spec =
     μ-loop
     (λ c. search needs)
     (λ c. search needs)
+    (λ c. units-start)
     (λ c. search needs)
     (λ c. search needs)
-    (λ c. laid-start 0 _ 16 16 _)
+    (λ c κs. search needs)
+    (λ c. search needs)
     (λ c. search needs)
     (λ c. search needs)
     (λ c κs. search needs)

@@ -1,7 +1,6 @@
 -- By the one test.
 use borrow.Author.Needs.{needs}
 use mathlib.Core.Path.{sym, _∙_}
-use Rattle.ledger.proofs.Figures.{at-capacity}
 use Rattle.fitness.proofs.times.units_of.Statement.{statement}
 use Rattle.fitness.proofs.times.units_of.Tie as tie
 
@@ -10,7 +9,5 @@ units-of-spec =
     tie.close
     (tie.spec
     (λ c κs. search needs)
-    (λ c. search needs)
-    (λ c. search needs)
     (λ c. rw (sym (c .before .is-absent .ensures) ∙ c .if1 .taken))
-    (λ c. rw (at-capacity, sym (c .before .before .is-absent .ensures) ∙ c .before .if1 .left)))
+    (λ c. rw (sym (c .before .is-absent .ensures) ∙ c .if1 .left)))

@@ -1,0 +1,97 @@
+-- The claim of E20 and E21 (order 4 of document 02): waiting eats none of a task's global expirations, over any advance and in four rows.
+use Prim.Native.Nat.{ℕ, _-_}
+use mathlib.Core.Bool.{Bool, true, false}
+use mathlib.Core.List.{List, [], _∷_}
+use mathlib.Core.Path.{_≡_}
+use lib.ListN.{length}
+use Rattle.lists.specs.Tests.{All}
+use Rattle.ledger.specs.Tasks.{Clocks, taskAt, isWaiting, advances, clocksAfter}
+use Rattle.ledger.specs.Expirations.{byGlobal, departed, remaining, putOff}
+use Rattle.ledger.specs.Kept.{ClocksKept}
+use Rattle.ledger.specs.Ledger.{fresh}
+use Rattle.ledger.specs.Rows.{join, leave, block, resume, tick, make, read, remaining as left, refused, done, standsStill, advanced, handle, zeros, lasts, _⇒_, _⨾_, Row, _runs_clockReads_, RowHolds}
+use Rattle.ledger.specs.declared.Event.{Event}
+use Rattle.ledger.specs.declared.Kind.the-variants.{Local, Global}
+
+unfoldable pub waitingEdges : List Row
+waitingEdges =
+    -- 1. The setter waits through two advances: its global expiration has what it had, and then counts on. Its local one is not put off.
+    fresh runs
+    join 0 ⇒ done ⨾
+    join 1 ⇒ done ⨾
+    make 0 Global 0 4 ⇒ handle 1 ⨾
+    make 0 Local 0 4 ⇒ handle 2 ⨾
+    block 0 ⇒ standsStill ⨾
+    tick 1 ⇒ advanced ⨾
+    tick 1 ⇒ advanced ⨾
+    left 1 1 ⇒ lasts 0 2 ⨾
+    resume 0 ⇒ done ⨾
+    read 0 1 ⇒ zeros 4 ⨾
+    left 0 2 ⇒ lasts 1 0 ⨾
+    tick 0 ⇒ standsStill ⨾
+    tick 1 ⇒ advanced ⨾
+    left 0 1 ⇒ lasts 0 1 ⨾
+    left 0 2 ⇒ refused 12
+    clockReads 1 ∷
+    -- 2. The setter's own block makes the advance at which its expiration would be due: it is put off first.
+    fresh runs
+    join 0 ⇒ done ⨾
+    join 1 ⇒ done ⨾
+    make 0 Global 0 4 ⇒ handle 1 ⨾
+    tick 0 ⇒ standsStill ⨾
+    tick 1 ⇒ advanced ⨾
+    left 1 1 ⇒ lasts 0 1 ⨾
+    tick 1 ⇒ standsStill ⨾
+    block 0 ⇒ advanced ⨾
+    left 1 1 ⇒ lasts 0 1
+    clockReads 1 ∷
+    -- 3. The setter leaves while it waits: from then on its expiration counts.
+    fresh runs
+    join 0 ⇒ done ⨾
+    join 1 ⇒ done ⨾
+    make 0 Global 0 4 ⇒ handle 1 ⨾
+    block 0 ⇒ standsStill ⨾
+    tick 1 ⇒ advanced ⨾
+    leave 0 ⇒ standsStill ⨾
+    left 1 1 ⇒ lasts 0 2 ⨾
+    tick 1 ⇒ advanced ⨾
+    left 1 1 ⇒ lasts 0 1 ⨾
+    tick 1 ⇒ advanced ⨾
+    read 1 1 ⇒ refused 12
+    clockReads 0 ∷
+    -- 4. The setter leaves, and another of its number joins and waits: that is not the setter.
+    fresh runs
+    join 0 ⇒ done ⨾
+    join 1 ⇒ done ⨾
+    make 0 Global 0 4 ⇒ handle 1 ⨾
+    leave 0 ⇒ standsStill ⨾
+    join 0 ⇒ done ⨾
+    block 0 ⇒ standsStill ⨾
+    tick 1 ⇒ advanced ⨾
+    left 1 1 ⇒ lasts 0 1 ⨾
+    tick 1 ⇒ advanced ⨾
+    read 1 1 ⇒ refused 12
+    clockReads 0 ∷
+    []
+
+-- An event that makes the global time advance, and a global expiration of this setter by the clocks after it
+module _ (event : Event) (task : ℕ) (clocks : Clocks) (setter at : ℕ) where
+  abbrev pub unitsAfter : ℕ
+  unitsAfter = let after = clocksAfter event task clocks in remaining after (putOff (advances event task clocks) after (byGlobal setter at))
+
+  abbrev pub unitsBefore : ℕ
+  unitsBefore = remaining clocks (byGlobal setter at)
+
+pub record WaitingEatsNothing : Type 0 where
+  -- E20: where the setter waits after the event, all units are left,
+  pub waits : (event : Event) (task : ℕ) (clocks : Clocks) (setter at : ℕ) → advances event task clocks ≡ true
+      → isWaiting (taskAt (clocksAfter event task clocks) setter .state) ≡ true
+      → unitsAfter event task clocks setter at ≡ unitsBefore event task clocks setter at
+  -- and else one goes;
+  pub counts : (event : Event) (task : ℕ) (clocks : Clocks) (setter at : ℕ) → advances event task clocks ≡ true
+      → isWaiting (taskAt (clocksAfter event task clocks) setter .state) ≡ false
+      → unitsAfter event task clocks setter at ≡ unitsBefore event task clocks setter at - 1
+  -- E21: a departed setter never waits
+  pub gone : (clocks : Clocks) → ClocksKept clocks → isWaiting (taskAt clocks departed .state) ≡ false
+  pub four : length waitingEdges ≡ 4
+  pub rows : All RowHolds waitingEdges
