@@ -46,7 +46,7 @@ kept-settled {m} {xs} c o x =
     }
 
 -- an object that stands is one of the ledger's
-owned-by : (m : Memory) (xs : List Expiration) → Kept (record { memory = m; expirations = xs }) → (handle : ℕ) → stands xs handle ≡ true
+pub owned-by : (m : Memory) (xs : List Expiration) → Kept (record { memory = m; expirations = xs }) → (handle : ℕ) → stands xs handle ≡ true
     → isListed handle (m .objects) ≡ true
 owned-by m xs k handle s = found (isOf handle) (λ x e h. rw (eqb-true (x .handle) handle e) at (h .owned)) xs s (k .expirations .each)
 
@@ -91,7 +91,7 @@ kept-request L k (Use call) new = by (verdictOn L call new) refl
     by none e = kept-carried (L .memory) (L .expirations) call new (passed (L .memory) (L .expirations) (testsOf call new) e) k
     by (some r) e = k
 
-kept-after : (ss : List Sent) (L : Ledger) → Kept L → Kept (afterAll L ss)
+pub kept-after : (ss : List Sent) (L : Ledger) → Kept L → Kept (afterAll L ss)
 unfolding afterAll
 kept-after [] L k = k
 kept-after (s ∷ ss) L k = kept-after ss (afterRequest L (s .request) (s .bytes)) (kept-request L k (s .request) (s .bytes))

@@ -47,7 +47,7 @@ unfolding allTicked
 started ts task t n h e = let l : task < length ts = rw n (leb-false taskCount task h) in rw (all-false, and-false)
 
 -- a task neither absent nor waiting is running
-running : (s : State) → isAbsent s ≡ false → isWaiting s ≡ false → isRunning s ≡ true
+pub running : (s : State) → isAbsent s ≡ false → isWaiting s ≡ false → isRunning s ≡ true
 running Absent a w = sym a
 running Running a w = refl
 running Waiting a w = sym w

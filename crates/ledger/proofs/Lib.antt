@@ -10,5 +10,12 @@ pub mod KeptExpirations
 pub mod Kept
 pub mod Remaining
 pub mod Awaited
+pub mod Following
+pub mod Setting
+pub mod Outlives
+pub mod OutlivesTicks
+pub mod Rounds
+pub mod GoneAfterRounds
+pub mod OutlivesRows
 pub mod Batches
 pub mod LongBatches

@@ -10,7 +10,9 @@ pub mod Awaited
 pub mod Heap
 pub mod Compared
 pub mod Kept
+pub mod Outlives
 pub mod Rows
 pub mod Edges
 pub mod MoreEdges
 pub mod PutOff
+pub mod OutlivesRows

@@ -1,3 +1,4 @@
 pub mod Sizes
 pub mod ByValue
 pub mod Demands
+pub mod Outlives

@@ -1,0 +1,70 @@
+-- The trials of order 7 hold: the checker computes one test over the table, and what passes it holds.
+use mathlib.Core.Bool.{Bool, _&&_}
+use mathlib.Core.List.{[], _∷_, map}
+use mathlib.Core.Path.{refl}
+use lib.Dec.{T, eqb, eqb→eq}
+use lib.ListN.{length}
+use Rattle.lists.specs.Blocks.{overwritten}
+use Rattle.lists.specs.Tests.{all}
+use Rattle.lists.proofs.Tests.{both, sameBy, sameBy→eq, all→All}
+use Rattle.ledger.specs.Limits.{limits, lastHandle}
+use Rattle.ledger.specs.Tasks.{freshClocks, moved, allTicked, tasksAfter, advances, clocksAfter}
+use Rattle.ledger.specs.Expirations.{byGlobal, dueAfter, remaining, putOff, deserted, lasting, setOnEach}
+use Rattle.ledger.specs.Objects.{freshMemory, objectAt, written, memoryAfter, expirationsAfter, handlesOf}
+use Rattle.ledger.specs.Refusals.{testsOf, verdict}
+use Rattle.ledger.specs.Ledger.{fresh, next, afterAll}
+use Rattle.ledger.specs.Outlives.{moveOf, moveIn, setIn, followed, isTickOf, countOf, Setting, isRound, isFree, Stretch, areRounds}
+use Rattle.ledger.specs.OutlivesRows.{Part, Trial, trials, sorts, allCalls, datesOf, ledgerOf, TrialHolds, TrialsHold, ClaimsApply}
+use Rattle.ledger.specs.Rows.{join, tick, make}
+use Rattle.ledger.specs.declared.Kind.the-variants.{Global}
+
+-- a trial's three equations as a test
+passes : Trial → Bool
+passes t =
+    sameBy eqb (sorts (ledgerOf t) (datesOf t) (t .parts)) (map (λ (r : Part). r .sort) (t .parts))
+    && (eqb (countOf (isTickOf 0) (ledgerOf t) (allCalls t)) (t .ticks) && eqb (length (followed (ledgerOf t) (allCalls t) (datesOf t))) (t .left))
+
+passing-holds : (t : Trial) → T (passes t) → TrialHolds t
+unfolding passes
+passing-holds t p =
+    let (parts, rest) = both (sameBy eqb (sorts (ledgerOf t) (datesOf t) (t .parts)) (map (λ (r : Part). r .sort) (t .parts))) _ p in
+    let (ticks, left) = both (eqb (countOf (isTickOf 0) (ledgerOf t) (allCalls t)) (t .ticks)) _ rest in
+    record { parts = sameBy→eq eqb eqb→eq _ _ parts; ticks = eqb→eq _ _ ticks; left = eqb→eq _ _ left }
+
+all-pass : T (all passes trials)
+unfolding passes trials fresh next afterAll testsOf verdict moveOf moveIn setIn followed countOf isRound isFree
+    freshMemory objectAt written overwritten memoryAfter expirationsAfter handlesOf setOnEach dueAfter remaining putOff deserted lasting
+    freshClocks moved allTicked tasksAfter advances clocksAfter
+    limits lastHandle
+all-pass = tt
+
+pub trials-hold : TrialsHold
+trials-hold = all→All passes passing-holds trials all-pass
+
+-- task 0 makes an object with a global expiration of extension 1, two tasks being there
+setting : Setting
+unfolding fresh next afterAll testsOf verdict setIn freshMemory memoryAfter expirationsAfter dueAfter freshClocks moved allTicked tasksAfter advances clocksAfter limits lastHandle lasting
+setting =
+    record {
+      earlier = join 0 ∷ join 1 ∷ [];
+      call = make 0 Global 1 4;
+      setter = 0;
+      extension = 1;
+      date = record { handle = 1; due = byGlobal 0 3 };
+      due = refl;
+      front = [];
+      back = [];
+      among = refl;
+    }
+
+pub claims-apply : ClaimsApply
+unfolding setting fresh next afterAll testsOf verdict moveOf moveIn setIn followed countOf isRound isFree areRounds
+    freshMemory memoryAfter expirationsAfter dueAfter remaining putOff lasting
+    freshClocks moved allTicked tasksAfter advances clocksAfter
+    limits lastHandle
+claims-apply =
+    let round : Stretch = record { between = []; round = tick 0 ∷ tick 1 ∷ [] } in
+    record {
+      ticks = (setting, tick 0 ∷ tick 1 ∷ [], refl, refl);
+      rounds = (setting, round ∷ round ∷ round ∷ [], refl, refl);
+    }

@@ -1,0 +1,160 @@
+-- The rules U, order 7 of document 02, over every list of calls: a global expiration (01: common date) outlives the ticks that it was set for, and is gone after its rounds.
+use Prim.Native.Nat.{ℕ, _+_, _≤_}
+use mathlib.Core.Bool.{Bool, true, false, cond, not, _&&_, _||_}
+use mathlib.Core.List.{List, [], _∷_, _++_}
+use mathlib.Core.Option.{Option, none, some}
+use mathlib.Core.Path.{_≡_}
+use lib.Dec.{eqb, ltb}
+use lib.ListN.{length}
+use Rattle.lists.specs.Tests.{any, all}
+use Rattle.lists.specs.Tables.{allFrom}
+use Rattle.ledger.specs.Tasks.{Task, Clocks, taskAt, absentTask, isRunning, isWaiting, isTested, advances, clocksAfter}
+use Rattle.ledger.specs.Expirations.{DueTime, byLocal, byGlobal, departed, Expiration, dueAfter, lasting}
+use Rattle.ledger.specs.Objects.{stands, expirationsAfter}
+use Rattle.ledger.specs.Ledger.{Ledger, Sent, fresh, afterBy, verdictOn, afterRequest, afterAll}
+use Rattle.ledger.specs.Kept.{isOwned}
+use Rattle.ledger.specs.declared.Kind.the-variants.{Global}
+use Rattle.ledger.specs.declared.Event.{Event}
+use Rattle.ledger.specs.declared.Event.the-variants.{Join, Leave, Block, Resume, Tick}
+use Rattle.ledger.specs.declared.Call.{Call}
+use Rattle.ledger.specs.declared.Call.the-variants.{Schedule, Make, Refresh, Read, Write, Batch}
+use Rattle.ledger.specs.declared.Request.{Request}
+use Rattle.ledger.specs.declared.Request.the-variants.{Use, Report, Remaining}
+
+-- U1: the event that a call is, where it is one and accepted. Only accepted calls count, as ticks and leaves, joins and resumes.
+pub record Move : Type 0 where
+  pub event : Event
+  pub task : ℕ
+
+unfoldable pub moveOf : Call → Option Move
+moveOf (Schedule event task) = some (record { event = event; task = task })
+moveOf (Make task kind extension size) = none
+moveOf (Refresh task kind extension handle) = none
+moveOf (Read task handle) = none
+moveOf (Write task handle offset) = none
+moveOf (Batch task kind extension) = none
+
+unfoldable pub moveIn : Ledger → Request → List ℕ → Option Move
+moveIn L (Use call) new = afterBy (verdictOn L call new) (moveOf call) none
+moveIn L Report new = none
+moveIn L (Remaining task handle) new = none
+
+-- U2: An expiration has no name, so it is followed by the ledger's rule, which comes in two parts: those that a call sets, as of a list that had none,
+unfoldable pub setIn : Ledger → Request → List ℕ → List Expiration
+setIn L (Use call) new = afterBy (verdictOn L call new) (expirationsAfter call new (L .memory) []) []
+setIn L Report new = []
+setIn L (Remaining task handle) new = []
+
+-- and what it leaves of the earlier ones, which goes by its event alone.
+abbrev pub leftBy : Clocks → Option Move → List Expiration → List Expiration
+leftBy clocks none xs = xs
+leftBy clocks (some v) xs = lasting (v .event) (v .task) (advances (v .event) (v .task) clocks) (clocksAfter (v .event) (v .task) clocks) xs
+
+abbrev pub leftIn : Ledger → Request → List ℕ → List Expiration → List Expiration
+leftIn L request new xs = leftBy (L .memory .clocks) (moveIn L request new) xs
+
+abbrev pub afterSent : Ledger → Sent → Ledger
+afterSent L s = afterRequest L (s .request) (s .bytes)
+
+-- U3: what a list of calls leaves of these. To follow one expiration is to follow a list that has it alone:
+unfoldable pub followed : Ledger → List Sent → List Expiration → List Expiration
+followed L [] xs = xs
+followed L (s ∷ ss) xs = followed (afterSent L s) ss (leftIn L (s .request) (s .bytes) xs)
+
+pub record Following : Type 0 where
+  -- the two parts together are the ledger's rule,
+  pub parts : (L : Ledger) (request : Request) (new : List ℕ)
+      → afterRequest L request new .expirations ≡ setIn L request new ++ leftIn L request new (L .expirations)
+  -- and what is left of a list is what is left of each of its parts.
+  pub apart : (L : Ledger) (ss : List Sent) (xs ys : List Expiration) → followed L ss (xs ++ ys) ≡ followed L ss xs ++ followed L ss ys
+  -- From fresh on, who is departed is absent.
+  pub gone : (ss : List Sent) → taskAt (afterAll fresh ss .memory .clocks) departed ≡ absentTask
+
+-- U4: how many accepted events of a list are of some sort: the ticks of one task, its leaves, and the joins and resumes of all, which no advance test follows (T14)
+abbrev pub isTickOf : ℕ → Event → ℕ → Bool
+isTickOf who Join task = false
+isTickOf who Leave task = false
+isTickOf who Block task = false
+isTickOf who Resume task = false
+isTickOf who Tick task = eqb who task
+
+abbrev pub isLeaveOf : ℕ → Event → ℕ → Bool
+isLeaveOf who Join task = false
+isLeaveOf who Leave task = eqb who task
+isLeaveOf who Block task = false
+isLeaveOf who Resume task = false
+isLeaveOf who Tick task = false
+
+abbrev pub isStart : Event → ℕ → Bool
+isStart event task = not (isTested event)
+
+abbrev pub isOne : (Event → ℕ → Bool) → Option Move → Bool
+isOne sort none = false
+isOne sort (some v) = sort (v .event) (v .task)
+
+unfoldable pub countOf : (Event → ℕ → Bool) → Ledger → List Sent → ℕ
+countOf sort L [] = 0
+countOf sort L (s ∷ ss) = cond (isOne sort (moveIn L (s .request) (s .bytes))) 1 0 + countOf sort (afterSent L s) ss
+
+-- U5: A make, refresh or batch sets a global expiration with an extension e, after any calls from fresh on; it is one of those that the call sets.
+pub record Setting : Type 0 where
+  pub earlier : List Sent
+  pub call : Sent
+  pub setter : ℕ
+  pub extension : ℕ
+  pub date : Expiration
+  pub due : date .due ≡ dueAfter (afterAll fresh earlier .memory .clocks) setter Global extension
+  pub front : List Expiration
+  pub back : List Expiration
+  pub among : setIn (afterAll fresh earlier) (call .request) (call .bytes) ≡ front ++ (date ∷ back)
+
+abbrev pub whenSet : Setting → Ledger
+whenSet d = afterSent (afterAll fresh (d .earlier)) (d .call)
+
+-- U6, the first claim: whatever is called then, while the setter has not left and has made at most e ticks since, this expiration stands, and its object with it.
+abbrev pub OutlivesTicks : Type 0
+OutlivesTicks =
+    (d : Setting) (ss : List Sent) → countOf (isLeaveOf (d .setter)) (whenSet d) ss ≡ 0 → countOf (isTickOf (d .setter)) (whenSet d) ss ≤ d .extension
+    → (stands (followed (whenSet d) ss (d .date ∷ [])) (d .date .handle) ≡ true) × (isOwned (afterAll (whenSet d) ss .memory .objects) (d .date) ≡ true)
+
+-- U7: A round: nobody joins or resumes in it, some task runs at its end, and every task that runs then has ticked in it.
+unfoldable pub isRound : Ledger → List Sent → Bool
+isRound L ss =
+    let tasks = afterAll L ss .memory .clocks .tasks in
+    eqb (countOf isStart L ss) 0
+    && any (λ (t : Task). isRunning (t .state)) tasks
+    && allFrom 0 (λ (task : ℕ) (t : Task). not (isRunning (t .state)) || ltb 0 (countOf (isTickOf task) L ss)) tasks
+
+-- U8: The setter is waiting. One that has left is departed (E21) and does not wait, whoever has its number since.
+abbrev pub isHeld : Clocks → DueTime → Bool
+isHeld clocks (byLocal setter at) = isWaiting (taskAt clocks setter .state)
+isHeld clocks (byGlobal setter at) = isWaiting (taskAt clocks setter .state)
+
+-- after no call of a list does the setter of any that is followed wait
+unfoldable pub isFree : Ledger → List Sent → List Expiration → Bool
+isFree L [] xs = true
+isFree L (s ∷ ss) xs =
+    let left = leftIn L (s .request) (s .bytes) xs in
+    all (λ (x : Expiration). not (isHeld (afterSent L s .memory .clocks) (x .due))) left && isFree (afterSent L s) ss left
+
+-- U9: rounds that do not overlap, each after any calls; in none of them is the setter waiting
+pub record Stretch : Type 0 where
+  pub between : List Sent
+  pub round : List Sent
+
+unfoldable pub callsOf : List Stretch → List Sent → List Sent
+callsOf [] rest = rest
+callsOf (r ∷ rs) rest = r .between ++ (r .round ++ callsOf rs rest)
+
+unfoldable pub areRounds : Ledger → List Expiration → List Stretch → Bool
+areRounds L xs [] = true
+areRounds L xs (r ∷ rs) =
+    let start = afterAll L (r .between) in
+    let left = followed L (r .between) xs in
+    isRound start (r .round) && isFree start (r .round) left && areRounds (afterAll start (r .round)) (followed start (r .round) left) rs
+
+-- U10, the second claim: after e + 2 of them this expiration is gone, and stays so.
+abbrev pub GoneAfterRounds : Type 0
+GoneAfterRounds =
+    (d : Setting) (rs : List Stretch) (rest : List Sent) → length rs ≡ d .extension + 2 → areRounds (whenSet d) (d .date ∷ []) rs ≡ true
+    → followed (whenSet d) (callsOf rs rest) (d .date ∷ []) ≡ []

@@ -1,0 +1,68 @@
+-- U12, order 7 of the pool, over lists of calls: statements about all that the calls' contracts allow, and so about this code.
+use Prim.Native.Nat.{ℕ, _+_, _≤_}
+use mathlib.Core.Bool.{true}
+use mathlib.Core.List.{List, [], _∷_, _++_, map, List·Permᴰ}
+use mathlib.Core.Path.{_≡_}
+use lib.ListN.{length}
+use Rattle.ledger.specs.Expirations.{Expiration}
+use Rattle.ledger.specs.Objects.{Reply}
+use Rattle.ledger.specs.Ledger.{Ledger, Sent, fresh, afterAll}
+use Rattle.ledger.specs.Compared.{shown}
+use Rattle.ledger.specs.Outlives.{setIn, leftIn, afterSent, followed, isTickOf, isLeaveOf, countOf, Setting, whenSet, Stretch, callsOf, areRounds}
+use Rattle.ledger.specs.declared.Answer.the-variants.{Refused}
+use Rattle.ledger.specs.declared.Call.the-variants.{Read}
+use Rattle.ledger.specs.declared.Refusal.the-variants.{ObjectGone}
+use Rattle.ledger.specs.declared.Request.the-variants.{Use}
+use Rattle.record.specs.Reading.{freshPool, wholeSmall, wholeLarge, recordView}
+use Rattle.record.specs.Tables.{tablesOf}
+use Rattle.record.specs.declared.Pool.{Pool}
+use Rattle.calls.specs.Contract.{Obeys}
+use Rattle.pool.specs.Demands.{Runs}
+
+-- A list of calls from a fresh pool, with stores of 01's lengths: one of them sets a global expiration, and more follow.
+pub record SetRun (d : Setting) (ss : List Sent) (p′ : Pool) (small′ large′ : List ℕ) : Type 0 where
+  pub small : List ℕ
+  pub large : List ℕ
+  pub smallWhole : length small ≡ wholeSmall
+  pub largeWhole : length large ≡ wholeLarge
+  pub replies : List Reply
+  pub runs : Runs freshPool small large (d .earlier ++ (d .call ∷ ss)) replies p′ small′ large′
+
+-- what a list of calls leaves of the expirations that it sets itself
+unfoldable pub followedNew : Ledger → List Sent → List Expiration
+followedNew L [] = []
+followedNew L (s ∷ ss) = followedNew (afterSent L s) ss ++ followed (afterSent L s) ss (setIn L (s .request) (s .bytes))
+
+-- all the others: what is left of those that stood beside the one that was set, and of those set since
+abbrev pub beside : Setting → List Expiration
+beside d =
+    let L = afterAll fresh (d .earlier) in
+    d .back ++ leftIn L (d .call .request) (d .call .bytes) (L .expirations)
+
+abbrev pub othersOf : Setting → List Sent → List Expiration
+othersOf d ss = followedNew (whenSet d) ss ++ followed (whenSet d) ss (d .front ++ beside d)
+
+-- the record has these expirations and no other, in some order (L8), by the ledger's clocks
+abbrev pub Shows : Pool → List ℕ → List ℕ → Ledger → List Expiration → Type 0
+Shows p small large L xs = List·Permᴰ (recordView (tablesOf p) small large .expirations) (map (shown (L .memory .clocks)) xs)
+
+-- To follow an expiration in the ledger is to follow it in the record,
+abbrev pub PoolFollows : Type 0
+PoolFollows =
+    (d : Setting) (ss : List Sent) (p′ : Pool) (small′ large′ : List ℕ) → SetRun d ss p′ small′ large′
+    → Shows p′ small′ large′ (afterAll (whenSet d) ss) (followed (whenSet d) ss (d .date ∷ []) ++ othersOf d ss)
+
+-- so the first claim (U6): while the setter has not left and has made at most e ticks since, no read of the object is answered 12,
+abbrev pub PoolOutlivesTicks : Type 0
+PoolOutlivesTicks =
+    (d : Setting) (ss : List Sent) (p′ : Pool) (small′ large′ : List ℕ) → SetRun d ss p′ small′ large′
+    → countOf (isLeaveOf (d .setter)) (whenSet d) ss ≡ 0 → countOf (isTickOf (d .setter)) (whenSet d) ss ≤ d .extension
+    → (task : ℕ) (y : Reply) (p″ : Pool) (small″ large″ : List ℕ) → Obeys (Use (Read task (d .date .handle))) [] p′ small′ large′ y p″ small″ large″
+    → y .answer ≡ Refused ObjectGone → ⊥
+
+-- and the second (U10): after e + 2 rounds, in none of which the setter waits, the record has the others alone.
+abbrev pub PoolGoneAfterRounds : Type 0
+PoolGoneAfterRounds =
+    (d : Setting) (rs : List Stretch) (rest : List Sent) (p′ : Pool) (small′ large′ : List ℕ) → SetRun d (callsOf rs rest) p′ small′ large′
+    → length rs ≡ d .extension + 2 → areRounds (whenSet d) (d .date ∷ []) rs ≡ true
+    → Shows p′ small′ large′ (afterAll (whenSet d) (callsOf rs rest)) (othersOf d (callsOf rs rest))
