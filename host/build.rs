@@ -3,5 +3,6 @@
 mod link;
 
 fn main() {
-    link::library("..");
+    let archive = link::library("..");
+    println!("cargo:rustc-env=RAMSUMMER_ARCHIVE={}", archive.display());
 }

@@ -5,23 +5,27 @@
  * for another task, so their expirations are global: due once every running task has ticked twice. Task 0 also keeps
  * the last scan that is whole, with a reading of every sensor: it refreshes all of them by one call, and only where they
  * would be gone at the next look. What the task with the dead sensor has asked it for nobody refreshes: it is put off
- * for as long as the task waits, and is there when the task comes back.
+ * for as long as the task waits, and is there when the task comes back. And the calibration of the site must not lapse at
+ * all: it is pinned, and released when the site is taken down.
  */
 #include <stdbool.h>
 #include <stdio.h>
 #include <string.h>
 
-#include "ramsummer.h"
+#include "ramsummer_peaks.h"
 #include "ramsummer_text.h"
 
 /* The sensor of WAITER gives nothing in the cycles FIRST_DEAD to LAST_DEAD. */
 enum { READER = 0, WAITER = 7, CYCLES = 10, FIRST_DEAD = 3, LAST_DEAD = 8, READINGS = 4 * 16 + 6 * 15, LENGTH = 4 };
+enum { ZERO = 250 }; /* where the gauge begins, in centimetres */
 
 static ramsummer_pool pool;
 static uint8_t small[RAMSUMMER_SMALL], large[RAMSUMMER_LARGE];
 static uint32_t newest[RAMSUMMER_TASKS]; /* the newest reading of each task */
 static uint32_t whole[RAMSUMMER_TASKS];  /* the last ones that are all of one cycle */
 static uint32_t request;                 /* what WAITER asks its sensor */
+static uint32_t calibration;             /* ZERO in two bytes, the high one first */
+static ramsummer_peaks peaks;            /* the most that stood at a time: what the pool has to have room for */
 
 /* A pool's record and stores, as make, read and write take them. */
 #define POOL &pool, small, sizeof small, large, sizeof large
@@ -37,10 +41,15 @@ static void sense(uint8_t task, uint8_t cycle, uint8_t reading[LENGTH]) {
     reading[3] = level & 0xFF;
 }
 
+/* A new object, and the peaks are kept. */
+static uint8_t make(uint8_t task, uint8_t kind, uint16_t length, uint32_t *handle) {
+    return ramsummer_peaks_after(&peaks, &pool, ramsummer_make(POOL, task, kind, 0, length, handle));
+}
+
 /* The task makes a block and writes its reading to it. */
 static uint8_t write_reading(uint8_t task, uint8_t cycle) {
     uint8_t reading[LENGTH];
-    uint8_t refusal = ramsummer_make(POOL, task, RAMSUMMER_GLOBAL, 0, LENGTH, &newest[task]);
+    uint8_t refusal = make(task, RAMSUMMER_GLOBAL, LENGTH, &newest[task]);
     if (refusal) return refusal;
     sense(task, cycle, reading);
     return ramsummer_write(POOL, task, newest[task], 0, reading, LENGTH);
@@ -65,7 +74,8 @@ static uint8_t keep(bool *refreshed) {
     if (refusal) return refusal;
     *refreshed = global <= 1;
     if (!*refreshed) return RAMSUMMER_DONE;
-    return ramsummer_refresh_all(&pool, READER, RAMSUMMER_GLOBAL, 1, whole, RAMSUMMER_TASKS);
+    refusal = ramsummer_refresh_all(&pool, READER, RAMSUMMER_GLOBAL, 1, whole, RAMSUMMER_TASKS);
+    return ramsummer_peaks_after(&peaks, &pool, refusal);
 }
 
 /* One cycle of the tasks at work. Read says how many readings task 0 has read as they were written, refreshed whether
@@ -86,7 +96,7 @@ static uint8_t run(uint8_t cycle, unsigned *read, bool *refreshed) {
 /* Its request would last two advances; while it waits it lasts. */
 static uint8_t ask_and_wait(uint8_t cycle) {
     uint8_t advanced;
-    uint8_t refusal = ramsummer_make(POOL, WAITER, RAMSUMMER_GLOBAL, 0, 1, &request);
+    uint8_t refusal = make(WAITER, RAMSUMMER_GLOBAL, 1, &request);
     if (!refusal) refusal = ramsummer_write(POOL, WAITER, request, 0, &cycle, 1);
     if (!refusal) refusal = ramsummer_block(&pool, WAITER, &advanced);
     return refusal;
@@ -118,6 +128,14 @@ static uint8_t watch(void) {
     return refusal;
 }
 
+/* Nobody refreshes it, and no time ends it. */
+static uint8_t calibrate(void) {
+    const uint8_t zero[2] = {ZERO >> 8, ZERO & 0xFF};
+    uint8_t refusal = make(READER, RAMSUMMER_PINNED, sizeof zero, &calibration);
+    if (refusal) return refusal;
+    return ramsummer_write(POOL, READER, calibration, 0, zero, sizeof zero);
+}
+
 static uint8_t print_cycle(uint8_t cycle, unsigned read, bool refreshed) {
     uint8_t small_objects, large_objects;
     uint16_t expirations;
@@ -129,11 +147,28 @@ static uint8_t print_cycle(uint8_t cycle, unsigned read, bool refreshed) {
     return refusal ? refusal : watch();
 }
 
+/* The calibration is as on the first day, and its block comes back. */
+static uint8_t take_down(void) {
+    uint8_t found[2], small_objects, large_objects;
+    uint16_t expirations;
+    uint32_t given;
+    size_t count;
+    uint8_t refusal = ramsummer_read(POOL, READER, calibration, found, sizeof found, &count);
+    if (refusal) return refusal;
+    printf("          the calibration stands: the gauge begins at %d cm\n", found[0] << 8 | found[1]);
+    refusal = ramsummer_release(&pool, READER, calibration);
+    if (!refusal) refusal = ramsummer_report(&pool, &small_objects, &large_objects, &expirations, &given);
+    if (!refusal) printf("          it is released: %d blocks in use\n", small_objects);
+    return refusal;
+}
+
 /* All cycles from a fresh pool, up to the first refusal. Total is the count of readings. */
 static uint8_t log_all(bool with_block, unsigned *total) {
     uint8_t refusal = ramsummer_fresh(&pool), task, cycle;
     *total = 0;
+    if (!refusal) refusal = ramsummer_peaks_reset(&peaks, &pool);
     for (task = 0; task < RAMSUMMER_TASKS && !refusal; task++) refusal = ramsummer_join(&pool, task);
+    if (!refusal) refusal = calibrate();
     for (cycle = 1; cycle <= CYCLES && !refusal; cycle++) {
         unsigned read = 0;
         bool refreshed;
@@ -143,6 +178,8 @@ static uint8_t log_all(bool with_block, unsigned *total) {
         else refusal = print_cycle(cycle, read, refreshed);
         *total += read;
     }
+    if (!refusal) refusal = take_down();
+    printf("peaks: small %d, large %d, expirations %d\n", peaks.small_objects, peaks.large_objects, peaks.expirations);
     return refusal;
 }
 

@@ -4,9 +4,10 @@
 //! for another task, so their expirations are global: due once every running task has ticked twice. Task 0 also keeps
 //! the last scan that is whole, with a reading of every sensor: it refreshes all of them by one call, and only where they
 //! would be gone at the next look. What the task with the dead sensor has asked it for nobody refreshes: it is put off
-//! for as long as the task waits, and is there when the task comes back.
+//! for as long as the task waits, and is there when the task comes back. And the calibration of the site must not lapse at
+//! all: it is pinned, and released when the site is taken down.
 
-use ramsummer::{Handle, Kind, Pool, Refusal};
+use ramsummer::{Gauged, Handle, Kind, Pool, Refusal};
 use std::ops::RangeInclusive;
 use std::process::ExitCode;
 
@@ -16,16 +17,19 @@ const WAITER: u8 = 7;
 const CYCLES: u8 = 10;
 const DEAD: RangeInclusive<u8> = 3..=8; // the cycles in which the sensor of WAITER gives nothing
 const READINGS: usize = 4 * 16 + 6 * 15; // of all cycles
+const ZERO: u16 = 250; // where the gauge begins, in centimetres
 
 /// A reading of each task.
 type Scan = [Handle; TASKS as usize];
 
-/// The pool, the newest reading of each task, the last ones that are all of one cycle, and what WAITER asks its sensor.
+/// The pool with its peaks, the newest reading of each task, the last ones that are all of one cycle, what WAITER asks its
+/// sensor, and the calibration.
 struct Logger {
-    pool: Pool,
+    pool: Gauged<Pool>,
     newest: Scan,
     whole: Scan,
     request: Handle,
+    calibration: Handle,
 }
 
 fn main() -> ExitCode {
@@ -39,23 +43,48 @@ fn main() -> ExitCode {
     }
 }
 
-/// All cycles from a fresh pool, up to the first refusal. Gives the count of readings.
+/// From a fresh pool; at the end the most that stood at a time, which is what the pool has to have room for.
 fn log(with_block: bool) -> Result<usize, Refusal> {
-    let none = [Handle::from(0); TASKS as usize];
-    let mut logger = Logger { pool: Pool::new(), newest: none, whole: none, request: Handle::from(0) };
+    let (pool, none) = (Gauged::over(Pool::new()), Handle::from(0));
+    let scan = [none; TASKS as usize];
+    let mut logger = Logger { pool, newest: scan, whole: scan, request: none, calibration: none };
+    let total = log_all(&mut logger, with_block);
+    println!("peaks: {}", logger.pool.peaks());
+    total
+}
+
+/// All cycles, up to the first refusal. Gives the count of readings.
+fn log_all(logger: &mut Logger, with_block: bool) -> Result<usize, Refusal> {
     for task in 0..TASKS {
         logger.pool.join(task)?;
     }
+    calibrate(logger)?;
     let mut total = 0;
     for cycle in 1..=CYCLES {
         if with_block {
-            wait_or_go_on(&mut logger, cycle)?;
+            wait_or_go_on(logger, cycle)?;
         }
-        let (read, refreshed) = run(&mut logger, cycle).inspect_err(|refusal| print_refusal(cycle, *refusal))?;
+        let (read, refreshed) = run(logger, cycle).inspect_err(|refusal| print_refusal(cycle, *refusal))?;
         print_cycle(&logger.pool, cycle, read, refreshed)?;
         total += read;
     }
+    take_down(logger)?;
     Ok(total)
+}
+
+/// Nobody refreshes it, and no time ends it.
+fn calibrate(Logger { pool, calibration, .. }: &mut Logger) -> Result<(), Refusal> {
+    *calibration = pool.make(READER, Kind::Pinned, 0, 2)?;
+    pool.write(READER, *calibration, 0, &ZERO.to_be_bytes())
+}
+
+/// The calibration is as on the first day, and its block comes back.
+fn take_down(Logger { pool, calibration, .. }: &mut Logger) -> Result<(), Refusal> {
+    let found = pool.read_to_vec(READER, *calibration)?;
+    println!("          the calibration stands: the gauge begins at {} cm", u16::from_be_bytes([found[0], found[1]]));
+    pool.release(READER, *calibration)?;
+    println!("          it is released: {} blocks in use", pool.report()?.small);
+    Ok(())
 }
 
 /// The cure: global time goes on without a task that waits. Its request would last two advances; while it waits it lasts.
@@ -97,7 +126,7 @@ fn run(Logger { pool, newest, whole, .. }: &mut Logger, cycle: u8) -> Result<(us
 
 /// Task 0 looks at the scan once a cycle, and refreshes it where it would be gone an advance later. Its readings live
 /// and lapse together, so that one of them tells for all.
-fn keep(pool: &mut Pool, scan: &Scan) -> Result<bool, Refusal> {
+fn keep(pool: &mut Gauged<Pool>, scan: &Scan) -> Result<bool, Refusal> {
     let would_go = pool.remaining(READER, scan[0])?.global <= 1;
     if would_go {
         pool.refresh_all(READER, Kind::Global, 1, scan)?;

@@ -10,7 +10,7 @@ fn main() -> Result<(), Refusal> {
     println!("{}", String::from_utf8_lossy(&found));
     pool.tick(0)?; // the block comes back by itself
     match pool.read_to_vec(0, handle) {
-        Ok(_) => unreachable!("its last expiration has passed"),
+        Ok(_) => unreachable!("its last expiration has ended"),
         Err(refusal) => println!("refused with {}: {refusal}", refusal.number()),
     }
     Ok(())

@@ -5,7 +5,13 @@
  *   - each pointer is non-null and aligned, also where its count is 0, and leads to as many bytes as its length says;
  *   - what two pointers of one call lead to does not overlap;
  *   - a pool and its stores are used by one thread at a time.
- * All the rest is tested: any record, any bytes and any number may be passed, and what is wrong is refused.
+ * All the rest is tested: any record, any bytes and any number may be passed, and what is wrong is refused. A task, a
+ * kind, an extension, a length and an offset may be any unsigned or int: the types below are the library's own, and a
+ * number that they cannot hold is refused as too large, and not cut (ramsummer_wide.h, which is included at the end).
+ *
+ * No call takes a const record. Read, write, report, remaining and awaited are proved to leave it as it was; but every
+ * entry of the library is lent the record for itself alone (`&mut` in the proved source), so that it must not lie in
+ * read-only memory, and nobody may look at it meanwhile. All else that a call only reads is const.
  *
  * Each call returns 0 where it was carried out, else the number of its refusal (enum ramsummer_answer). After a
  * refusal the pool, the stores and what the pointers lead to are as before; ramsummer_frame alone also writes the
@@ -32,14 +38,15 @@ extern "C" {
 #define RAMSUMMER_TASKS 16         /* tasks are 0 to 15 */
 #define RAMSUMMER_STORE_BLOCKS 96  /* 64 of the small store, then 32 of the large one */
 #define RAMSUMMER_EXPIRATIONS 256  /* as many stand at most, in all */
-#define RAMSUMMER_MAX_EXTENSION 30 /* the longest extension of an expiration */
+#define RAMSUMMER_MAX_EXTENSION 30 /* the longest extension of an expiration; one that is pinned has 0 */
 #define RAMSUMMER_LARGEST_BATCH 32 /* the most objects that one call refreshes */
 
-/* By which time an expiration is due. */
+/* By which time an expiration is due, if by any. */
 enum ramsummer_kind {
     RAMSUMMER_LOCAL = 0, /* the task's own clock: due after extension + 1 of its ticks */
-    RAMSUMMER_GLOBAL = 1 /* the common time of all running tasks: due after extension + 2 advances, of which those do
-                          * not count that come while its setter waits */
+    RAMSUMMER_GLOBAL = 1, /* the common time of all running tasks: due after extension + 2 advances, of which those do
+                           * not count that come while its setter waits */
+    RAMSUMMER_PINNED = 2  /* none: it stands until ramsummer_release. Only make sets it, with extension 0 */
 };
 
 /* What a call returns. */
@@ -50,21 +57,23 @@ enum ramsummer_answer {
     RAMSUMMER_TASK_ABSENT = 3,          /* the task has not joined */
     RAMSUMMER_TASK_WAITING = 4,         /* the task waits: it has not resumed */
     RAMSUMMER_TASK_RUNNING = 5,         /* resume: the task is running */
-    RAMSUMMER_EXTENSION_TOO_LONG = 6,   /* extension above 30 */
+    RAMSUMMER_EXTENSION_TOO_LONG = 6,   /* extension above 30, or above 0 where the kind is pinned */
     RAMSUMMER_LENGTH_OUT_OF_RANGE = 7,  /* length 0 or above 256 */
     RAMSUMMER_HANDLES_SPENT = 8,        /* all 4,294,967,295 handles are given */
     RAMSUMMER_NO_FREE_BLOCK = 9,        /* no free block in the store for this length */
     RAMSUMMER_NO_FREE_EXPIRATION = 10,  /* 256 expirations stand, or a batch would make them more */
     RAMSUMMER_HANDLE_NOT_GIVEN = 11,    /* handle 0, or above the count given */
-    RAMSUMMER_OBJECT_GONE = 12,         /* the object's last expiration has passed */
+    RAMSUMMER_OBJECT_GONE = 12,         /* the object's last expiration has ended */
     RAMSUMMER_OUTSIDE_OBJECT = 13,      /* write: offset plus count above the object's length */
     RAMSUMMER_WRONG_STORE_LENGTH = 14,  /* a store is not RAMSUMMER_SMALL or RAMSUMMER_LARGE long */
     RAMSUMMER_NOT_WELL_FORMED = 15,     /* the record is damaged; tested first by every call but fresh */
     RAMSUMMER_NOT_HEXADECIMAL = 16,     /* frame: not all pairs of digits 0-9, A-F */
     RAMSUMMER_UNKNOWN_OPERATION = 17,   /* frame: no or an unknown operation */
     RAMSUMMER_WRONG_FRAME_LENGTH = 18,  /* frame: wrong length for its operation */
-    RAMSUMMER_UNKNOWN_KIND = 19,        /* kind above 1; tested before all else */
+    RAMSUMMER_UNKNOWN_KIND = 19,        /* kind above 2; tested before all else */
     RAMSUMMER_BATCH_OUT_OF_RANGE = 20,  /* a batch of no object, or of more than 32 */
+    RAMSUMMER_ONLY_MAKE_PINS = 21,      /* a refresh or a batch of kind pinned */
+    RAMSUMMER_NOT_PINNED = 22,          /* release: the object stands, and is not pinned, or no longer */
     RAMSUMMER_BUFFER_TOO_SHORT = 255    /* read, frame: no room for the answer */
 };
 
@@ -80,8 +89,8 @@ typedef struct ramsummer_task_entry {
  *
  * Store block i has the object handles[i] of lengths[i] bytes; handle 0 is a free one. Expiration i belongs to the
  * object in store block named[i], and is due when the clock clocks[i] reads dues[i]: 16 + t is the local time of task t,
- * 32 + t global time where task t set it, 48 global time where its setter has left since, and 0 a free entry. The other
- * fields of a free one of either have no meaning and may hold anything.
+ * 32 + t global time where task t set it, 48 global time where its setter has left since, 49 none where it is pinned, and
+ * then dues[i] is 0; and 0 a free entry. The other fields of a free one of either have no meaning and may hold anything.
  */
 typedef struct ramsummer_pool {
     ramsummer_task_entry tasks[RAMSUMMER_TASKS];
@@ -144,7 +153,7 @@ RAMSUMMER_CHECKED uint8_t ramsummer_resume(ramsummer_pool *pool, uint8_t task);
 /* One unit of the task's local time; once all running tasks have ticked, one of global time. Advanced as for leave. */
 RAMSUMMER_CHECKED uint8_t ramsummer_tick(ramsummer_pool *pool, uint8_t task, uint8_t *advanced);
 
-/* A new object of zero bytes with one expiration. Handle is set to its number. */
+/* A new object of zero bytes with one expiration, which pins it where the kind says so. Handle is set to its number. */
 RAMSUMMER_CHECKED uint8_t ramsummer_make(ramsummer_pool *pool, uint8_t *small_store, size_t small_length,
                                          uint8_t *large_store, size_t large_length, uint8_t task, uint8_t kind,
                                          uint8_t extension, uint16_t length, uint32_t *handle);
@@ -158,12 +167,17 @@ RAMSUMMER_CHECKED uint8_t ramsummer_refresh(ramsummer_pool *pool, uint8_t task, 
 RAMSUMMER_CHECKED uint8_t ramsummer_refresh_all(ramsummer_pool *pool, uint8_t task, uint8_t kind, uint8_t extension,
                                                 const uint32_t *handles, size_t count);
 
+/* Ends what pins the object, whoever pinned it. It stands on where another expiration does, else its store block is free
+ * at once. */
+RAMSUMMER_CHECKED uint8_t ramsummer_release(ramsummer_pool *pool, uint8_t task, uint32_t handle);
+
 /* The object's bytes go to the start of out, and count says how many; the rest of out stays. */
 RAMSUMMER_CHECKED uint8_t ramsummer_read(ramsummer_pool *pool, const uint8_t *small_store, size_t small_length,
                                          const uint8_t *large_store, size_t large_length, uint8_t task, uint32_t handle,
                                          uint8_t *out, size_t out_length, size_t *count);
 
-/* Replaces count bytes of the object from offset on. */
+/* Replaces count bytes of the object from offset on. An offset above 255 lies outside every object, also where count is
+ * 0. */
 RAMSUMMER_CHECKED uint8_t ramsummer_write(ramsummer_pool *pool, uint8_t *small_store, size_t small_length,
                                           uint8_t *large_store, size_t large_length, uint8_t task, uint32_t handle,
                                           uint8_t offset, const uint8_t *bytes, size_t count);
@@ -174,7 +188,7 @@ RAMSUMMER_CHECKED uint8_t ramsummer_report(ramsummer_pool *pool, uint8_t *small_
 
 /* How long the object stands without a refresh. Local is set to the ticks of this task until the last of its local
  * expirations is due, global to the advances until the last global one is, whoever set it, where its setter does not
- * wait meanwhile; 0 where there is none. */
+ * wait meanwhile; 0 where there is none. What pins the object adds to neither. */
 RAMSUMMER_CHECKED uint8_t ramsummer_remaining(ramsummer_pool *pool, uint8_t task, uint32_t handle, uint8_t *local,
                                               uint8_t *global);
 
@@ -188,7 +202,7 @@ RAMSUMMER_CHECKED uint8_t ramsummer_frame(ramsummer_pool *pool, uint8_t *small_s
                                           uint8_t *large_store, size_t large_length, const uint8_t *line,
                                           size_t line_length, uint8_t *out, size_t out_length, size_t *count);
 
-#undef RAMSUMMER_CHECKED
+#include "ramsummer_wide.h"
 
 #ifdef __cplusplus
 }

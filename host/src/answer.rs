@@ -25,8 +25,8 @@ impl fmt::Display for Report {
     }
 }
 
-/// How long an object stands without a refresh. It is gone when both figures have come to 0, and no other task has a
-/// local expiration on it.
+/// How long an object stands without a refresh. It is gone when both figures have come to 0, unless another task has a
+/// local expiration on it, or it is pinned: what pins it adds to neither figure.
 #[derive(Clone, Copy, Debug, Default, PartialEq, Eq)]
 #[non_exhaustive]
 pub struct Remaining {

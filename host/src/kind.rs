@@ -1,6 +1,6 @@
-//! The two kinds of expirations.
+//! The three kinds of expirations.
 
-/// By which time an expiration is due.
+/// By which time an expiration is due, if by any.
 #[repr(u8)]
 #[derive(Clone, Copy, Debug, PartialEq, Eq, PartialOrd, Ord, Hash)]
 #[non_exhaustive]
@@ -12,6 +12,9 @@ pub enum Kind {
     /// running task has to tick: for what others use too. Advances while its setter waits do not count; those after its
     /// setter has left do.
     Global = 1,
+    /// By no time (document 02: a kept date): it stands until a [`release`](crate::Pool::release), over every tick, advance
+    /// and leave. Only [`make`](crate::Pool::make) sets it, with extension 0: for what must not lapse.
+    Pinned = 2,
 }
 
 impl Kind {

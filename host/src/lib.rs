@@ -2,7 +2,8 @@
 //!
 //! Sixteen tasks take blocks for readings and never hand them back. An object carries *expirations*; a task extends its
 //! life by a refresh, and its block returns when the last expiration has passed. Time moves by the tasks' ticks: each
-//! task has its own *local time*, and *global time* advances once every running task has ticked.
+//! task has its own *local time*, and *global time* advances once every running task has ticked. What must not lapse is
+//! made *pinned*: it stands until a task releases it.
 //!
 #![cfg_attr(feature = "alloc", doc = "```")]
 #![cfg_attr(not(feature = "alloc"), doc = "```ignore")]
@@ -98,6 +99,7 @@ mod answer;
 mod handle;
 pub mod image;
 mod kind;
+mod peaks;
 mod pool;
 mod record;
 mod refusal;
@@ -108,6 +110,7 @@ mod tasks;
 pub use answer::{Answer, Remaining, Report};
 pub use handle::Handle;
 pub use kind::Kind;
+pub use peaks::{Gauged, Peaks};
 pub use pool::{Pool, LARGE, LARGEST_BATCH, LINE, LONGEST, SMALL};
 pub use record::{Record, TaskEntry, EXPIRATIONS, RECORD, STORE_BLOCKS, TASKS};
 pub use refusal::Refusal;

@@ -169,7 +169,8 @@ where
         sys::tick(self.record.borrow_mut(), task)
     }
 
-    /// A new object of `length` zero bytes, 1 to [`LONGEST`], with one expiration. The extension is 0 to 30.
+    /// A new object of `length` zero bytes, 1 to [`LONGEST`], with one expiration. The extension is 0 to 30, and 0
+    /// where the object is pinned, which is until its [`release`](Pool::release).
     ///
     /// ```
     /// # use ramsummer::*;
@@ -187,7 +188,7 @@ where
         sys::make(record, small, large, task, kind, extension, length)
     }
 
-    /// One more expiration for the object; those that it has stay. The extension is 0 to 30.
+    /// One more expiration for the object; those that it has stay. The extension is 0 to 30. It pins nothing.
     ///
     /// ```
     /// # use ramsummer::*;
@@ -227,6 +228,34 @@ where
     /// ```
     pub fn refresh_all(&mut self, task: u8, kind: Kind, extension: u8, handles: &[Handle]) -> Result<(), Refusal> {
         sys::refresh_all(self.record.borrow_mut(), task, kind, extension, handles)
+    }
+
+    /// Ends what pins the object, whoever pinned it. It stands on where another expiration does; else its store block is
+    /// free at once.
+    ///
+    /// What is pinned takes a store block and one of the expirations until then. Its handle is the only way to release
+    /// it: it has to be kept as long.
+    ///
+    /// ```
+    /// # use ramsummer::*;
+    /// # let mut pool = Pool::over(Record::fresh(), [0; SMALL], [0; LARGE]);
+    /// pool.join(0)?;
+    /// pool.join(1)?;
+    /// let calibration = pool.make(0, Kind::Pinned, 0, 4)?;
+    /// pool.leave(0)?;
+    /// for _ in 0..1000 {
+    ///     pool.tick(1)?;
+    /// }
+    /// assert_eq!(pool.report()?.small, 1); // it outlives its maker and all time
+    /// pool.release(1, calibration)?;
+    /// assert_eq!(pool.report()?.small, 0);
+    ///
+    /// let reading = pool.make(1, Kind::Local, 0, 4)?;
+    /// assert_eq!(pool.release(1, reading), Err(Refusal::NotPinned));
+    /// # Ok::<(), Refusal>(())
+    /// ```
+    pub fn release(&mut self, task: u8, handle: Handle) -> Result<(), Refusal> {
+        sys::release(self.record.borrow_mut(), task, handle)
     }
 
     /// The object's bytes, copied to the start of `out`; the rest of `out` stays.

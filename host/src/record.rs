@@ -51,12 +51,12 @@ pub struct Record {
     /// The length of the object in each store block.
     pub lengths: [u16; STORE_BLOCKS],
     /// The clock that each expiration goes by, and who set it: 16 and the number of a task for the task's local time, 32
-    /// and the number of the task that set it for global time, 48 for global time where the setter has left since, and 0
-    /// where the entry is free. (A call's [`Kind`](crate::Kind) is another number.)
+    /// and the number of the task that set it for global time, 48 for global time where the setter has left since, 49 for
+    /// none where it is pinned, and 0 where the entry is free. (A call's [`Kind`](crate::Kind) is another number.)
     pub clocks: [u8; EXPIRATIONS],
     /// The store block with the object that each expiration belongs to.
     pub named: [u8; EXPIRATIONS],
-    /// What the clock of each expiration reads when it is due.
+    /// What the clock of each expiration reads when it is due; 0 where it is pinned.
     pub dues: [u32; EXPIRATIONS],
 }
 

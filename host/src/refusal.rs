@@ -26,7 +26,7 @@ pub enum Refusal {
     TaskWaiting = 4,
     /// Resume: the task is running.
     TaskRunning = 5,
-    /// Extension above 30.
+    /// Extension above 30, or above 0 where the kind is [`Pinned`](crate::Kind::Pinned).
     ExtensionTooLong = 6,
     /// Length 0 or above 256.
     LengthOutOfRange = 7,
@@ -38,7 +38,7 @@ pub enum Refusal {
     NoFreeExpiration = 10,
     /// Handle 0, or above the count given.
     HandleNotGiven = 11,
-    /// The object's last expiration has passed.
+    /// The object's last expiration has ended.
     ObjectGone = 12,
     /// Write: offset plus count above the object's length.
     OutsideObject = 13,
@@ -52,10 +52,14 @@ pub enum Refusal {
     UnknownOperation = 17,
     /// Frame: wrong length for its operation.
     WrongFrameLength = 18,
-    /// Frame: kind above 1.
+    /// Frame: kind above 2.
     UnknownKind = 19,
     /// A batch of no object, or of more than [`LARGEST_BATCH`](crate::LARGEST_BATCH).
     BatchOutOfRange = 20,
+    /// A refresh or a batch of kind [`Pinned`](crate::Kind::Pinned).
+    OnlyMakePins = 21,
+    /// Release: the object stands, and is not pinned, or no longer.
+    NotPinned = 22,
     /// Read, frame: no room for the answer in the caller's buffer. It is no refusal of the documents.
     BufferTooShort = 255,
 }
@@ -83,6 +87,8 @@ impl Refusal {
         Refusal::WrongFrameLength,
         Refusal::UnknownKind,
         Refusal::BatchOutOfRange,
+        Refusal::OnlyMakePins,
+        Refusal::NotPinned,
         Refusal::BufferTooShort,
     ];
 
@@ -103,21 +109,23 @@ impl Refusal {
             Refusal::TaskAbsent => "the task has not joined",
             Refusal::TaskWaiting => "the task is waiting",
             Refusal::TaskRunning => "the task is running",
-            Refusal::ExtensionTooLong => "the extension is above 30",
+            Refusal::ExtensionTooLong => "the extension is above 30, or above 0 for what is pinned",
             Refusal::LengthOutOfRange => "the length is 0 or above 256",
             Refusal::HandlesSpent => "all handles are given",
             Refusal::NoFreeBlock => "no block is free in the store for this length",
             Refusal::NoFreeExpiration => "256 expirations may stand, and no more",
             Refusal::HandleNotGiven => "the handle was never given",
-            Refusal::ObjectGone => "the object is gone: its last expiration has passed",
+            Refusal::ObjectGone => "the object is gone: its last expiration has ended",
             Refusal::OutsideObject => "the bytes reach beyond the object's end",
             Refusal::WrongStoreLength => "a store has the wrong length",
             Refusal::NotWellFormed => "the record is not well-formed",
             Refusal::NotHexadecimal => "the frame is not hexadecimal, two digits for a byte",
             Refusal::UnknownOperation => "the frame names no known operation",
             Refusal::WrongFrameLength => "the frame has the wrong length for its operation",
-            Refusal::UnknownKind => "the kind is neither local nor global",
+            Refusal::UnknownKind => "the kind is none of local, global and pinned",
             Refusal::BatchOutOfRange => "the batch has no object, or more than 32",
+            Refusal::OnlyMakePins => "only a make pins an object",
+            Refusal::NotPinned => "the object is not pinned",
             Refusal::BufferTooShort => "the buffer is too short for the answer",
         }
     }

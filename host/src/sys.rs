@@ -37,6 +37,7 @@ extern "C" {
         handles: *const u32,
         count: usize,
     ) -> u8;
+    fn ramsummer_release(pool: &mut Record, task: u8, handle: u32) -> u8;
     fn ramsummer_read(
         pool: &mut Record,
         small: *const u8,
@@ -175,6 +176,11 @@ pub(crate) fn refresh_all(
     outcome(unsafe {
         ramsummer_refresh_all(pool, task, kind.number(), extension, handles.as_ptr().cast(), handles.len())
     })
+}
+
+pub(crate) fn release(pool: &mut Record, task: u8, handle: Handle) -> Result<(), Refusal> {
+    // SAFETY: one pointer, from a reference.
+    outcome(unsafe { ramsummer_release(pool, task, handle.into()) })
 }
 
 /// How many bytes of `out` the object has filled.

@@ -42,12 +42,12 @@ fn call(pool: &mut Pool, random: &mut Random) -> (String, String) {
     let nothing = |()| String::new();
     let flag = |advanced| format!("{:02X}", u8::from(advanced));
     let task = random.byte(4);
-    let kind = if random.below(2) == 0 { Kind::Local } else { Kind::Global };
-    let extension = random.byte(6);
+    let kind = [Kind::Local, Kind::Global, Kind::Local, Kind::Global, Kind::Pinned][random.below(5) as usize];
+    let extension = if kind == Kind::Pinned { random.byte(2) } else { random.byte(6) };
     let handle = u32::from(random.byte(2)).wrapping_add(pool.record().given).wrapping_sub(random.below(12) as u32);
     let named = Handle::from(handle);
     let dated = format!("{task:02X}{:02X}{extension:02X}", kind.number());
-    match random.below(29) {
+    match random.below(32) {
         0 => (format!("01{task:02X}"), line(pool.join(task), nothing)),
         1 => (format!("02{task:02X}"), line(pool.leave(task), flag)),
         2 => (format!("03{task:02X}"), line(pool.block(task), flag)),
@@ -81,6 +81,7 @@ fn call(pool: &mut Pool, random: &mut Random) -> (String, String) {
             let objects: String = handles.iter().map(|handle| format!("{handle:08X}")).collect();
             (format!("0C{dated}{objects}"), line(pool.refresh_all(task, kind, extension, &named), nothing))
         }
+        28..=30 => (format!("0D{task:02X}{handle:08X}"), line(pool.release(task, named), nothing)),
         _ => {
             let figures = line(pool.report(), |report| {
                 format!("{:02X}{:02X}{:04X}{:08X}", report.small, report.large, report.expirations, report.given)
@@ -116,9 +117,9 @@ fn typed_calls_and_frames_do_the_same() {
         seen.insert((frame[..2].to_string(), expected[..2].to_string()));
     }
     let done = seen.iter().filter(|(_, answer)| answer == "00").count();
-    assert_eq!(done, 12, "each operation was carried out");
+    assert_eq!(done, 13, "each operation was carried out");
     let refusals: BTreeSet<_> =
         seen.iter().map(|(_, answer)| answer.as_str()).filter(|answer| *answer != "00").collect();
-    let expected = ["01", "02", "03", "04", "05", "06", "07", "09", "0B", "0C", "0D", "14"];
+    let expected = ["01", "02", "03", "04", "05", "06", "07", "09", "0B", "0C", "0D", "14", "15", "16"];
     assert!(refusals.is_superset(&expected.into()), "{refusals:?}");
 }

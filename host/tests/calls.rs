@@ -129,6 +129,47 @@ fn the_size_of_a_batch_is_tested() {
     refused(&mut pool, Refusal::ExtensionTooLong, |pool| pool.refresh_all(0, Kind::Local, 31, &[Handle::from(9)]));
 }
 
+/// Over more time than any other expiration has, and a leave of its maker; then another task releases it.
+#[test]
+fn a_pinned_object_stands_until_it_is_released() {
+    let mut pool = pool();
+    pool.resume(1).unwrap();
+    let handle = pool.make(1, Kind::Pinned, 0, 4).unwrap();
+    pool.write(0, handle, 0, &[1, 2, 3, 4]).unwrap();
+    pool.leave(1).unwrap();
+    for _ in 0..100 {
+        assert_eq!(pool.tick(0), Ok(true));
+    }
+    assert_eq!(pool.read_to_vec(0, handle).unwrap(), [1, 2, 3, 4]);
+    assert_eq!(pool.remaining(0, handle).unwrap(), left(0, 0));
+    pool.refresh(0, Kind::Local, 0, handle).unwrap();
+    pool.release(0, handle).unwrap();
+    assert_eq!(figures(&pool), (1, 0, 1, 1));
+    refused(&mut pool, Refusal::NotPinned, |pool| pool.release(0, handle));
+    pool.tick(0).unwrap();
+    refused(&mut pool, Refusal::ObjectGone, |pool| pool.release(0, handle));
+    let alone = pool.make(0, Kind::Pinned, 0, 40).unwrap();
+    pool.release(0, alone).unwrap();
+    assert_eq!(figures(&pool), (0, 0, 0, 2));
+}
+
+#[test]
+fn only_a_make_pins() {
+    let mut pool = pool();
+    let handle = pool.make(0, Kind::Local, 0, 4).unwrap();
+    for extension in [1, 30, 31, 255] {
+        refused(&mut pool, Refusal::ExtensionTooLong, |pool| pool.make(0, Kind::Pinned, extension, 4));
+    }
+    for extension in [0, 1, 31] {
+        for handle in [handle, Handle::from(9)] {
+            refused(&mut pool, Refusal::OnlyMakePins, |pool| pool.refresh(0, Kind::Pinned, extension, handle));
+            refused(&mut pool, Refusal::OnlyMakePins, |pool| pool.refresh_all(0, Kind::Pinned, extension, &[handle]));
+        }
+        refused(&mut pool, Refusal::BatchOutOfRange, |pool| pool.refresh_all(0, Kind::Pinned, extension, &[]));
+    }
+    refused(&mut pool, Refusal::NotPinned, |pool| pool.release(0, handle));
+}
+
 #[test]
 fn the_calls_say_whether_global_time_advanced() {
     let mut pool = pool();
@@ -194,6 +235,7 @@ fn tasks_are_tested() {
         refused(&mut pool, refusal, |pool| pool.read_to_vec(task, handle));
         refused(&mut pool, refusal, |pool| pool.write(task, handle, 0, &[1]));
         refused(&mut pool, refusal, |pool| pool.remaining(task, handle));
+        refused(&mut pool, refusal, |pool| pool.release(task, handle));
     }
 }
 
@@ -216,6 +258,7 @@ fn arguments_are_tested() {
         refused(&mut pool, Refusal::HandleNotGiven, |pool| pool.refresh(0, Kind::Local, 0, handle));
         refused(&mut pool, Refusal::HandleNotGiven, |pool| pool.refresh_all(0, Kind::Local, 0, &[handle]));
         refused(&mut pool, Refusal::HandleNotGiven, |pool| pool.remaining(0, handle));
+        refused(&mut pool, Refusal::HandleNotGiven, |pool| pool.release(0, handle));
     }
     pool.write(0, handle, 4, &[]).unwrap();
     refused(&mut pool, Refusal::OutsideObject, |pool| pool.write(0, handle, 4, &[1]));
@@ -262,6 +305,7 @@ fn stores_of_another_length_are_refused() {
         refused(&mut pool, Refusal::WrongStoreLength, |pool| pool.write(16, handle, 0, &[]));
         refused(&mut pool, Refusal::NoSuchTask, |pool| pool.tick(16));
         refused(&mut pool, Refusal::NoSuchTask, |pool| pool.remaining(16, handle));
+        refused(&mut pool, Refusal::NoSuchTask, |pool| pool.release(16, handle));
         refused(&mut pool, Refusal::NoSuchTask, |pool| pool.refresh_all(16, Kind::Local, 0, &[handle]));
     }
 }
@@ -282,6 +326,7 @@ fn a_damaged_record_is_refused_until_it_is_fresh() {
     refused(&mut pool, Refusal::NotWellFormed, |pool| pool.write(16, handle, 0, &[]));
     refused(&mut pool, Refusal::NotWellFormed, |pool| pool.report());
     refused(&mut pool, Refusal::NotWellFormed, |pool| pool.remaining(16, handle));
+    refused(&mut pool, Refusal::NotWellFormed, |pool| pool.release(16, handle));
     refused(&mut pool, Refusal::NotWellFormed, |pool| pool.refresh_all(16, Kind::Local, 0, &[]));
     assert_eq!(pool.to_string(), "the record is not well-formed");
     pool.fresh();
@@ -313,6 +358,11 @@ fn the_record_shows_objects_and_expirations() {
     pool.leave(0).unwrap();
     pool.join(0).unwrap();
     assert_eq!(pool.record().clocks[global], 48);
+    let pinned = pool.make(0, Kind::Pinned, 0, 4).unwrap();
+    let record = pool.record().clone();
+    let entry = record.clocks.iter().position(|clock| *clock == 49).unwrap();
+    assert_eq!(record.handles[usize::from(record.named[entry])], u32::from(pinned));
+    assert_eq!(record.dues[entry], 0);
 }
 
 #[test]
@@ -344,7 +394,7 @@ fn what_else_stands_in_free_entries_has_no_meaning() {
     let handle = pool.make(0, Kind::Local, 0, 2).unwrap();
     assert_eq!(pool.read_to_vec(0, handle).unwrap(), [0, 0]);
     assert_eq!(figures(&pool), (1, 0, 1, 1));
-    for clock in [1, 15, 16 + 1, 32 + 1, 48, 49, 255] {
+    for clock in [1, 15, 16 + 1, 32 + 1, 48, 49, 50, 255] {
         let mut record = Record::fresh();
         record.clocks[9] = clock;
         let mut pool: Pool = Pool::over(record.into(), vec![0; SMALL].into(), vec![0; LARGE].into());
@@ -384,5 +434,5 @@ fn a_pool_can_be_printed_and_sent_to_a_thread() {
 #[test]
 fn a_refusal_is_an_error() {
     let error: Box<dyn std::error::Error> = Refusal::ObjectGone.into();
-    assert_eq!(error.to_string(), "the object is gone: its last expiration has passed");
+    assert_eq!(error.to_string(), "the object is gone: its last expiration has ended");
 }

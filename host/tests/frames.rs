@@ -73,6 +73,31 @@ fn objects_that_are_refreshed_together() {
     assert_eq!(answer(&mut pool, &format!("0C000000{}00", "00000001".repeat(100_000))), "12");
 }
 
+/// It stands over ticks, and goes with its release or, where it has another expiration, later.
+#[test]
+fn objects_that_are_pinned_until_they_are_released() {
+    let mut pool = Pool::new();
+    for (frame, expected) in [
+        ("0100", "00"),
+        ("060002010004", "06"),
+        ("060002000004", "0000000001"),
+        ("060002000004", "0000000002"),
+        ("0700000000000002", "00"),
+        ("0700020000000001", "15"),
+        ("0C00020000000001", "15"),
+        ("0B0000000001", "000000"),
+        ("0D0000000001", "00"),
+        ("0D0000000001", "0C"),
+        ("0D0000000002", "00"),
+        ("0D0000000002", "16"),
+        ("0A", "000100000100000002"),
+        ("0500", "0001"),
+        ("0A", "000000000000000002"),
+    ] {
+        assert_eq!(answer(&mut pool, frame), expected, "{frame}");
+    }
+}
+
 #[test]
 fn refused_frames_change_nothing() {
     let mut pool = Pool::new();
@@ -84,14 +109,16 @@ fn refused_frames_change_nothing() {
         ("0100\n", "10"),
         ("", "11"),
         ("00", "11"),
-        ("0D", "11"),
+        ("0E", "11"),
         ("01", "12"),
         ("0B", "12"),
         ("0B00000001", "12"),
         ("0C0000", "12"),
         ("0C000000000000", "12"),
-        ("060002000004", "13"),
-        ("0C000200", "13"),
+        ("0D", "12"),
+        ("0D000000000100", "12"),
+        ("060003000004", "13"),
+        ("0C000300", "13"),
         ("0110", "01"),
         ("0500", "03"),
     ] {

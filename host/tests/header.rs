@@ -41,6 +41,7 @@ fn claims() -> Vec<(String, usize)> {
         ("RAMSUMMER_DONE", 0),
         ("RAMSUMMER_LOCAL", Kind::Local.number().into()),
         ("RAMSUMMER_GLOBAL", Kind::Global.number().into()),
+        ("RAMSUMMER_PINNED", Kind::Pinned.number().into()),
         ("sizeof(ramsummer_task_entry)", size_of::<TaskEntry>()),
         ("sizeof(ramsummer_pool)", size_of::<Record>()),
         ("offsetof(ramsummer_task_entry, state)", offset_of!(TaskEntry, state)),
@@ -94,10 +95,12 @@ fn the_headers_have_the_numbers_and_sentences_of_this_crate() {
 
 #[test]
 fn the_headers_compile_as_c_and_as_cpp() {
-    let source = written("include.c", "#include \"ramsummer_image.h\"\n#include \"ramsummer_text.h\"\n");
+    let companions = ["image", "peaks", "text"].map(|name| format!("#include \"ramsummer_{name}.h\"\n"));
+    let source = written("include.c", &companions.concat());
     for (language, standard) in [("c", "c99"), ("c", "c11"), ("c++", "c++98"), ("c++", "c++11"), ("c++", "c++17")] {
         let standard = format!("-std={standard}");
-        let options = ["-Wall", "-Wextra", "-Werror", "-pedantic", "-fsyntax-only", "-x", language, &standard];
+        let warnings = ["-Wall", "-Wextra", "-Wconversion", "-Wsign-conversion", "-Werror", "-pedantic"];
+        let options = [&warnings[..], &["-fsyntax-only", "-x", language, &standard]].concat();
         let Some(checked) = cc(&[&options[..], &[source.to_str().unwrap()]].concat()) else { return };
         let said = String::from_utf8_lossy(&checked.stderr);
         if said.contains("cc1plus") {
@@ -119,10 +122,10 @@ fn the_compiler_warns_of_an_answer_that_nobody_looks_at() {
         let Some(checked) = cc(&options) else { return };
         assert_eq!(checked.status.success(), !is_warned_of, "{}", String::from_utf8_lossy(&checked.stderr));
     }
-    let header = include_str!("../include/ramsummer.h");
-    let entries =
-        header.lines().filter(|line| line.contains("uint8_t ramsummer_") && !line.contains("ramsummer_fresh("));
-    assert_eq!(entries.filter(|line| !line.starts_with("RAMSUMMER_CHECKED ")).count(), 0);
+    let headers = concat!(include_str!("../include/ramsummer.h"), include_str!("../include/ramsummer_wide.h"));
+    let is_never_refused = |line: &str| line.contains("ramsummer_fresh(") || line.contains("ramsummer_to_byte(");
+    let calls = headers.lines().filter(|line| line.contains("uint8_t ramsummer_") && !is_never_refused(line));
+    assert_eq!(calls.filter(|line| !line.starts_with("RAMSUMMER_CHECKED ")).count(), 0);
 }
 
 #[test]
@@ -137,6 +140,6 @@ fn the_refusals_are_those_of_the_documents() {
 fn numbers_and_refusals_go_both_ways() {
     for number in 0..=255 {
         let back = Refusal::from_number(number).map(Refusal::number);
-        assert_eq!(back, matches!(number, 1..=20 | 255).then_some(number));
+        assert_eq!(back, matches!(number, 1..=22 | 255).then_some(number));
     }
 }

@@ -1,12 +1,13 @@
 //! include/ramsummer_image.h writes the images that this crate reads, and the other way round, byte for byte.
 
+use in_c::{built, host, scratch};
 use lives::Random;
 use ramsummer::image::{restore, save, save_with_stores, Fault, RECORD_ALONE, VERSION, WITH_STORES};
 use ramsummer::{Record, LARGE, RECORD, SMALL};
 use std::fs::{self, File};
-use std::path::{Path, PathBuf};
 use std::process::Command;
 
+mod in_c;
 mod lives;
 
 /// So many bytes of chance.
@@ -16,30 +17,9 @@ fn bytes<const N: usize>(random: &mut Random) -> [u8; N] {
     bytes
 }
 
-fn host() -> &'static Path {
-    Path::new(env!("CARGO_MANIFEST_DIR"))
-}
-
-fn scratch(name: &str) -> PathBuf {
-    Path::new(env!("CARGO_TARGET_TMPDIR")).join(name)
-}
-
-/// The program of this source, or none where there is no compiler.
-fn built(name: &str, source: &Path) -> Option<PathBuf> {
-    let binary = scratch(name);
-    let mut cc = Command::new("cc");
-    cc.args(["-std=c99", "-Wall", "-Wextra", "-Wconversion", "-Werror", "-pedantic", "-O1", "-I"]);
-    let Ok(said) = cc.arg(host().join("include")).arg(source).arg("-o").arg(&binary).output() else {
-        eprintln!("cc is not here: the images in C were left out");
-        return None;
-    };
-    assert!(said.status.success(), "{}", String::from_utf8_lossy(&said.stderr));
-    Some(binary)
-}
-
 /// What tests/image.c says to this input.
 fn told(name: &str, input: &[u8], arguments: &[&str]) -> Option<Vec<u8>> {
-    let binary = built(name, &host().join("tests/image.c"))?;
+    let binary = built(name, &host().join("tests/image.c"), "c99")?;
     let file = scratch(&format!("{name}.in"));
     fs::write(&file, input).unwrap();
     let output = Command::new(binary).args(arguments).stdin(File::open(file).unwrap()).output().unwrap();
@@ -112,7 +92,7 @@ fn the_header_has_the_numbers_and_sentences_of_this_crate() {
     }
     let source = scratch("image_header.c");
     fs::write(&source, text + "return 0;\n}\n").unwrap();
-    let Some(binary) = built("image_header", &source) else { return };
+    let Some(binary) = built("image_header", &source, "c99") else { return };
     let printed = String::from_utf8(Command::new(binary).output().unwrap().stdout).unwrap();
     let values = values.iter().map(|(_, value)| value.to_string());
     let expected: Vec<String> = values.chain(Fault::ALL.map(|fault| fault.to_string())).collect();

@@ -1,7 +1,7 @@
 //! What docs/RESTART.md says of tasks that come back, held on pools that calls lead to.
 
 use lives::pools;
-use ramsummer::{image, Kind, Pool, Record, Refusal, Report, TASKS};
+use ramsummer::{image, Handle, Kind, Pool, Record, Refusal, Report, TASKS};
 
 mod lives;
 
@@ -25,6 +25,12 @@ fn restarted() -> impl Iterator<Item = Pool> {
 /// The local expirations of a task.
 fn local(record: &Record, task: u8) -> usize {
     record.clocks.iter().filter(|&&clock| clock == 16 + task).count()
+}
+
+/// The objects that are pinned.
+fn pinned(record: &Record) -> Vec<Handle> {
+    let entries = record.clocks.iter().zip(record.named).filter(|(&clock, _)| clock == 49);
+    entries.map(|(_, block)| Handle::from(record.handles[usize::from(block)])).collect()
 }
 
 #[test]
@@ -64,16 +70,21 @@ fn or_it_goes_on_and_everything_of_it_is_as_it_was() {
     }
 }
 
-/// Without the stores: no object stands after 32 ticks of one task, once all have left; and no handle is given again.
+/// Without the stores: no object stands after 32 ticks of one task, once all have left and what is pinned is released; and no
+/// handle is given again.
 #[test]
 fn a_pool_without_its_stores_is_empty_after_32_ticks() {
-    let mut longest = 0;
+    let (mut longest, mut released) = (0, 0);
     for mut pool in restarted() {
         let given = pool.record().given;
         for task in 0..TASKS as u8 {
             let _ = pool.leave(task);
         }
         pool.join(0).unwrap();
+        for handle in pinned(pool.record()) {
+            pool.release(0, handle).unwrap();
+            released += 1;
+        }
         for ticks in 1..=32 {
             assert_eq!(pool.tick(0), Ok(true));
             if pool.report().unwrap().small > 0 {
@@ -86,7 +97,7 @@ fn a_pool_without_its_stores_is_empty_after_32_ticks() {
         let handle = pool.make(0, Kind::Local, 0, 1).unwrap();
         assert_eq!(u32::from(handle), given + 1);
     }
-    assert!(longest > 28); // so that fewer ticks would not do
+    assert!(longest > 28 && released > 100); // so that fewer ticks would not do
 }
 
 /// An image that is older than the last calls gives their handles again.

@@ -35,6 +35,7 @@ fn c_form(parameter: &str) -> Vec<String> {
         "uint8_t" => "u8",
         "uint16_t" => "u16",
         "uint32_t" => "u32",
+        "unsigned" => "c_uint",
         other => panic!("{other} in {parameter}"),
     };
     vec![format!("{pointer}{value}")]
@@ -71,7 +72,7 @@ fn source() -> Option<String> {
 
 #[test]
 fn the_header_and_the_crate_agree() {
-    assert_eq!(header().len(), 15);
+    assert_eq!(header().len(), 16);
     assert_eq!(signatures(include_str!("../src/sys.rs"), "fn", rust_form), header());
 }
 
@@ -81,4 +82,23 @@ fn the_header_and_the_proved_source_agree() {
         Some(source) => assert_eq!(signatures(&source, "fn", source_form), header()),
         None => eprintln!("crates/ramsummer is not here: its entries were not compared with the header"),
     }
+}
+
+/// Each entry that takes a number narrower than an int is called by a function that takes it wide, under its name.
+#[test]
+fn no_entry_is_left_that_cuts_an_int() {
+    let text = include_str!("../include/ramsummer_wide.h");
+    let mut functions = signatures(text, "uint8_t", c_form);
+    functions.retain(|name, _| name.ends_with("_wide"));
+    let is_narrow = |kind: &String| kind == "u8" || kind == "u16";
+    for (name, narrow) in header().into_iter().filter(|(_, kinds)| kinds.iter().any(is_narrow)) {
+        let wide = functions.remove(&format!("{name}_wide")).unwrap_or_else(|| panic!("{name} cuts an int"));
+        let is_passed = |(wide, narrow)| match is_narrow(narrow) {
+            true => wide == "c_uint" || wide == "usize",
+            false => wide == narrow,
+        };
+        assert!(wide.len() == narrow.len() && wide.iter().zip(&narrow).all(is_passed), "{name}: {wide:?}");
+        assert!(text.contains(&format!("\n#define ramsummer_{name} ramsummer_{name}_wide\n")), "{name}");
+    }
+    assert!(functions.is_empty(), "{functions:?}");
 }

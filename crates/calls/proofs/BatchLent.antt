@@ -35,7 +35,7 @@ use Rattle.calls.proofs.Lent.{lent-typed}
 use Rattle.calls.proofs.Outcomes.{batch-refused, batch-done}
 
 module _ {h : Head} {hs ls cs ns ds : List ℕ} (types : HeadTyped h) (sized : Sized hs ls cs ns ds) (task : ℕ) (kind : Kind) (extension : ℕ) (new : List ℕ)
-    (plan : BatchPlan) (so : PlansBatch task extension (handlesOf new) h hs (standingOf cs) plan) where
+    (plan : BatchPlan) (so : PlansBatch task kind extension (handlesOf new) h hs (standingOf cs) plan) where
   of-entries : Typed (tablesOf (pooled h hs ls cs ns ds))
   of-entries = lent-typed h hs ls cs ns ds types (sized .blocks) (sized .entries)
 
@@ -47,10 +47,10 @@ module _ {h : Head} {hs ls cs ns ds : List ℕ} (types : HeadTyped h) (sized : S
   missing : isMissing (blocksOf hs ls) ≡ isMissingIn hs
   missing = fun-ext (λ (handle : ℕ). ap (leb blockEntries) (places handle))
 
-  verdict-of : batchVerdict task extension (handlesOf new) (tablesOf (pooled h hs ls cs ns ds)) ≡ plan .verdict
+  verdict-of : batchVerdict task kind extension (handlesOf new) (tablesOf (pooled h hs ls cs ns ds)) ≡ plan .verdict
   unfolding batchVerdict tablesOf tablesBy
   verdict-of =
-      ap (λ (gone : ℕ → Bool). batchVerdictBy task extension (handlesOf new) (h .tasks) (h .given) gone (standingIn (entriesOf cs ns ds))) missing
+      ap (λ (gone : ℕ → Bool). batchVerdictBy task kind extension (handlesOf new) (h .tasks) (h .given) gone (standingIn (entriesOf cs ns ds))) missing
       ∙ rw (so .verdict, standing-of (sized .entries))
 
   pub batch-kept : isWellFormed (pooled h hs ls cs ns ds) ≡ true → {why : Refusal} → plan .verdict ≡ Refused why
@@ -58,8 +58,8 @@ module _ {h : Head} {hs ls cs ns ds : List ℕ} (types : HeadTyped h) (sized : S
   batch-kept w e small large = batch-refused _ of-entries w small large task kind extension new _ (verdict-of ∙ e)
 
   module _ (v : plan .verdict ≡ Accepted) where
-    renewable : Renewable task extension (handlesOf new) (tablesOf (pooled h hs ls cs ns ds))
-    renewable = batch-takes task extension (handlesOf new) _ (verdict-of ∙ v)
+    renewable : Renewable task kind extension (handlesOf new) (tablesOf (pooled h hs ls cs ns ds))
+    renewable = batch-takes task kind extension (handlesOf new) _ (verdict-of ∙ v)
 
     -- the blocks of the plan are those of the objects
     blocks-of : take (plan .count) (plan .blocks) ≡ map (λ (handle : ℕ). placeOf handle (blocksOf hs ls)) (handlesOf new)

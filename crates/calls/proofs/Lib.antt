@@ -9,6 +9,7 @@ pub mod Meets
 pub mod Served
 pub mod MadeLent
 pub mod RefreshLent
+pub mod ReleaseLent
 pub mod BatchLent
 pub mod WriteLent
 pub mod MakeLent

@@ -39,7 +39,7 @@ use Rattle.calls.proofs.RefreshLent.{room-left}
 
 module _ {h : Head} (hs ls cs : List ℕ) {ns ds : List ℕ} (types : HeadTyped h) (sized : Sized hs ls cs ns ds) {small large : List ℕ}
     {task : ℕ} {kind : Kind} {extension size : ℕ} (ready : Ready (Use (Make task kind extension size)) (pooled h hs ls cs ns ds) small large)
-    {plan : Plan} (so : plan ≡ makePlan task extension size h (freePlaceIn size hs) (standingOf cs)) where
+    {plan : Plan} (so : plan ≡ makePlan task kind extension size h (freePlaceIn size hs) (standingOf cs)) where
   of-entries : Typed (tablesOf (pooled h hs ls cs ns ds))
   of-entries = lent-typed h hs ls cs ns ds types (sized .blocks) (sized .entries)
 
@@ -47,10 +47,10 @@ module _ {h : Head} (hs ls cs : List ℕ) {ns ds : List ℕ} (types : HeadTyped 
   unfolding makePlan tablesOf tablesBy
   planned-place = rw so (free-place-of hs ls (sized .blocks .of-handles) (sized .blocks .of-lengths) size)
 
-  verdict-of : makeVerdict task extension size (tablesOf (pooled h hs ls cs ns ds)) ≡ plan .verdict
+  verdict-of : makeVerdict task kind extension size (tablesOf (pooled h hs ls cs ns ds)) ≡ plan .verdict
   verdict-of =
       rw (so, standing-of (sized .entries), tables-of h hs ls cs ns ds)
-      (sym (make-planned hs ls (sized .blocks .of-handles) (sized .blocks .of-lengths) h (entriesOf cs ns ds) task extension size))
+      (sym (make-planned hs ls (sized .blocks .of-handles) (sized .blocks .of-lengths) h (entriesOf cs ns ds) task kind extension size))
 
   pub make-refused-lent : {why : Refusal} → plan .verdict ≡ Refused why
       → Makes task kind extension size (pooled h hs ls cs ns ds) small large (outcomeOf (record { answer = RefusedAnswer why; head = h }) hs ls cs ns ds) small large
@@ -58,7 +58,7 @@ module _ {h : Head} (hs ls cs : List ℕ) {ns ds : List ℕ} (types : HeadTyped 
 
   module _ (v : plan .verdict ≡ Accepted) where
     taken : Taken task extension size (tablesOf (pooled h hs ls cs ns ds))
-    taken = make-takes task extension size (tablesOf (pooled h hs ls cs ns ds)) of-entries (verdict-of ∙ v)
+    taken = make-takes task kind extension size (tablesOf (pooled h hs ls cs ns ds)) of-entries (verdict-of ∙ v)
 
     at-free : plan .place ≡ freePlace size (blocksOf hs ls)
     unfolding tablesOf tablesBy
@@ -68,7 +68,7 @@ module _ {h : Head} (hs ls cs : List ℕ) {ns ds : List ℕ} (types : HeadTyped 
     unfolding makePlan
     room =
         let (task-ok, v₁) = both-accept (taskVerdict task (h .tasks)) _ (rw so at v) in
-        let (extension-ok, v₂) = both-accept (extensionVerdict extension) _ v₁ in
+        let (extension-ok, v₂) = both-accept (extensionVerdict kind extension) _ v₁ in
         let (size-ok, v₃) = both-accept (refuseIf (eqb size 0 || ltb largeSize size) LengthOutOfRange) _ v₂ in
         let (given-ok, v₄) = both-accept (refuseIf (leb lastHandle (h .given)) HandlesSpent) _ v₃ in
         both-accept (refuseIf (leb (endFor size) (freePlaceIn size hs)) NoFreeBlock) _ v₄ .1

@@ -72,8 +72,8 @@ module _ {task handle : ℕ} {p : Pool} {small large : List ℕ} {f : Found} (l 
 -- make, refused or carried out
 module _ {task : ℕ} {kind : Kind} {extension size : ℕ} {p : Pool} {small large : List ℕ} (types : Typed (tablesOf p))
     (ready : Ready (Use (Make task kind extension size)) p small large) where
-  pub place-known : makeVerdict task extension size (tablesOf p) ≡ Accepted → freePlace size (tablesOf p .blocks) < blockCount
-  place-known v = omega (arith, all-blocks, make-takes task extension size (tablesOf p) types v .block .listed, types .blocks)
+  pub place-known : makeVerdict task kind extension size (tablesOf p) ≡ Accepted → freePlace size (tablesOf p .blocks) < blockCount
+  place-known v = omega (arith, all-blocks, make-takes task kind extension size (tablesOf p) types v .block .listed, types .blocks)
 
   pub block-in : (block : ℕ) → block < blockCount → InBlock small large block (sizeOf block)
   block-in block known =
@@ -81,7 +81,7 @@ module _ {task : ℕ} {kind : Kind} {extension size : ℕ} {p : Pool} {small lar
       record { known = known; small-whole = small-whole; large-whole = large-whole; within = omega arith }
 
   -- refused: no block is taken
-  pub make-kept : (why : Refusal) → makeVerdict task extension size (tablesOf p) ≡ Refused why
+  pub make-kept : (why : Refusal) → makeVerdict task kind extension size (tablesOf p) ≡ Refused why
       → Makes task kind extension size p small large (record { answer = RefusedAnswer why; pool = p }) small large
   make-kept why v =
       refused-makes task kind extension size p small large why (make-refused p types (ready .fit) small large (ready .whole refl) task kind extension size why v)
@@ -89,7 +89,7 @@ module _ {task : ℕ} {kind : Kind} {extension size : ℕ} {p : Pool} {small lar
   -- accepted: the block is cleared
   pub make-cleared : {p′ : Pool} (place : ℕ) → place ≡ freePlace size (tablesOf p .blocks) → getD (p .handles) place 0 ≡ 0 → getD (p′ .handles) place 0 ≡ p .given + 1
       → tablesOf p′ ≡ madePool task kind extension size (tablesOf p)
-      → makeVerdict task extension size (tablesOf p) ≡ Accepted → {small′ large′ : List ℕ}
+      → makeVerdict task kind extension size (tablesOf p) ≡ Accepted → {small′ large′ : List ℕ}
       → small′ ≡ smallAfter place 0 (replicate (sizeOf place) 0) small → large′ ≡ largeAfter place 0 (replicate (sizeOf place) 0) large
       → Makes task kind extension size p small large (record { answer = Handle (p .given + 1); pool = p′ }) small′ large′
   make-cleared {p′} place at free holds left v s l =

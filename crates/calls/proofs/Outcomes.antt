@@ -11,7 +11,7 @@ use Rattle.ledger.specs.Refusals.{asRefusal}
 use Rattle.ledger.specs.declared.Kind.{Kind}
 use Rattle.ledger.specs.declared.Answer.the-variants.{Done, Handle, Bytes}
 use Rattle.ledger.specs.declared.Answer.the-variants.{Refused as RefusedAnswer}
-use Rattle.ledger.specs.declared.Call.the-variants.{Make, Refresh, Read, Write, Batch}
+use Rattle.ledger.specs.declared.Call.the-variants.{Make, Refresh, Read, Write, Batch, Release}
 use Rattle.ledger.specs.declared.Refusal.{Refusal}
 use Rattle.ledger.specs.declared.Request.the-variants.{Use}
 use Rattle.ledger.specs.declared.Verdict.the-variants.{Accepted, Refused}
@@ -22,14 +22,15 @@ use Rattle.record.specs.Pools.{isWellFormed, Reads}
 use Rattle.record.specs.declared.Pool.{Pool}
 use Rattle.record.proofs.Facts.{fit-parts}
 use Rattle.record.proofs.Exists.{every-fit-record-reads}
-use Rattle.steps.specs.Objects.{placeOf, freePlace, makeVerdict, refreshVerdict, readVerdict, writeVerdict, batchVerdict, madePool, refreshedPool, batchedPool}
+use Rattle.steps.specs.Objects.{placeOf, freePlace, makeVerdict, refreshVerdict, readVerdict, writeVerdict, batchVerdict, releaseVerdict, madePool, refreshedPool, batchedPool, releasedPool}
 use Rattle.steps.proofs.Chosen.{make-takes}
 use Rattle.steps.proofs.Finding.{blockOf, every-object-stands}
 use Rattle.steps.proofs.StoreBytes.{made-bytes}
 use Rattle.steps.proofs.Staying.{same-stays, make-stays, refresh-stays}
-use Rattle.steps.proofs.Verdicts.{make-verdict, refresh-verdict, read-verdict, write-verdict, batch-verdict}
+use Rattle.steps.proofs.Verdicts.{make-verdict, refresh-verdict, read-verdict, write-verdict, batch-verdict, release-verdict}
 use Rattle.steps.proofs.ObjectsFollow.{same-given, make-fits, make-reads, refresh-fits, refresh-reads, read-bytes, write-sizes, write-reads}
 use Rattle.steps.proofs.Batches.{batch-fits, batch-reads, batch-stays}
+use Rattle.steps.proofs.Releases.{release-fits, release-reads, release-stays}
 use Rattle.calls.specs.Contract.{areWhole, Obeys}
 use Rattle.calls.proofs.Promises.{refused-obeys, carried-obeys}
 
@@ -40,14 +41,14 @@ module _ (p : Pool) (types : Typed (tablesOf p)) (w : isWellFormed p ≡ true) (
 
   -- refresh, whatever the stores
   module _ (task : ℕ) (kind : Kind) (extension handle : ℕ) where
-    pub refresh-refused : (r : Refusal) → refreshVerdict task extension handle (tablesOf p) ≡ Refused r
+    pub refresh-refused : (r : Refusal) → refreshVerdict task kind extension handle (tablesOf p) ≡ Refused r
         → Obeys (Use (Refresh task kind extension handle)) [] p small large (plain (RefusedAnswer r)) p small large
     refresh-refused r v =
         refused-obeys _ [] p small large w (λ s. absurd (false≢true s)) r
         (λ L reads. refresh-verdict types (fit-parts (tablesOf p) w) reads task kind extension handle [] ∙ ap asRefusal v)
 
     pub refresh-done : {p′ : Pool} → tablesOf p′ ≡ refreshedPool task kind extension handle (tablesOf p)
-        → refreshVerdict task extension handle (tablesOf p) ≡ Accepted
+        → refreshVerdict task kind extension handle (tablesOf p) ≡ Accepted
         → Obeys (Use (Refresh task kind extension handle)) [] p small large (plain Done) p′ small large
     unfolding replyTo
     refresh-done {p′} left v =
@@ -58,14 +59,14 @@ module _ (p : Pool) (types : Typed (tablesOf p)) (w : isWellFormed p ≡ true) (
 
   -- batch, whatever the stores
   module _ (task : ℕ) (kind : Kind) (extension : ℕ) (new : List ℕ) where
-    pub batch-refused : (r : Refusal) → batchVerdict task extension (handlesOf new) (tablesOf p) ≡ Refused r
+    pub batch-refused : (r : Refusal) → batchVerdict task kind extension (handlesOf new) (tablesOf p) ≡ Refused r
         → Obeys (Use (Batch task kind extension)) new p small large (plain (RefusedAnswer r)) p small large
     batch-refused r v =
         refused-obeys _ new p small large w (λ s. absurd (false≢true s)) r
         (λ L reads. batch-verdict types (fit-parts (tablesOf p) w) reads task kind extension new ∙ ap asRefusal v)
 
     pub batch-done : {p′ : Pool} → tablesOf p′ ≡ batchedPool task kind extension (handlesOf new) (tablesOf p)
-        → batchVerdict task extension (handlesOf new) (tablesOf p) ≡ Accepted
+        → batchVerdict task kind extension (handlesOf new) (tablesOf p) ≡ Accepted
         → Obeys (Use (Batch task kind extension)) new p small large (plain Done) p′ small large
     unfolding replyTo
     batch-done {p′} left v =
@@ -73,6 +74,23 @@ module _ (p : Pool) (types : Typed (tablesOf p)) (w : isWellFormed p ≡ true) (
         (λ L reads. batch-verdict types (fit-parts (tablesOf p) w) reads task kind extension new ∙ ap asRefusal v)
         (λ L reads. refl) (λ L reads. rw left (batch-reads w types reads task kind extension new v))
         (rw left (batch-fits w types (some .1) task kind extension new v)) (rw left (batch-stays task kind extension (handlesOf new) (tablesOf p))) (refl, refl)
+
+  -- release, whatever the stores
+  module _ (task handle : ℕ) where
+    pub release-refused : (r : Refusal) → releaseVerdict task handle (tablesOf p) ≡ Refused r
+        → Obeys (Use (Release task handle)) [] p small large (plain (RefusedAnswer r)) p small large
+    release-refused r v =
+        refused-obeys _ [] p small large w (λ s. absurd (false≢true s)) r
+        (λ L reads. release-verdict types (fit-parts (tablesOf p) w) reads task handle [] ∙ ap asRefusal v)
+
+    pub release-done : {p′ : Pool} → tablesOf p′ ≡ releasedPool handle (tablesOf p) → releaseVerdict task handle (tablesOf p) ≡ Accepted
+        → Obeys (Use (Release task handle)) [] p small large (plain Done) p′ small large
+    unfolding replyTo
+    release-done {p′} left v =
+        carried-obeys _ [] p small large w (λ s. absurd (false≢true s)) (plain Done) p′ small large refl
+        (λ L reads. release-verdict types (fit-parts (tablesOf p) w) reads task handle [] ∙ ap asRefusal v)
+        (λ L reads. refl) (λ L reads. rw left (release-reads w types reads task handle v))
+        (rw left (release-fits w types (some .1) task handle v)) (rw left (release-stays handle (tablesOf p))) (refl, refl)
 
   -- the calls that test 14 first
   module _ (whole : areWhole small large ≡ true) where
@@ -83,20 +101,20 @@ module _ (p : Pool) (types : Typed (tablesOf p)) (w : isWellFormed p ≡ true) (
     large-whole = and-eq-true-iff (isWholeSmall small) (isWholeLarge large) .0 whole .1
 
     module _ (task : ℕ) (kind : Kind) (extension size : ℕ) where
-      pub make-refused : (r : Refusal) → makeVerdict task extension size (tablesOf p) ≡ Refused r
+      pub make-refused : (r : Refusal) → makeVerdict task kind extension size (tablesOf p) ≡ Refused r
           → Obeys (Use (Make task kind extension size)) [] p small large (plain (RefusedAnswer r)) p small large
       make-refused r v =
           refused-obeys _ [] p small large w (λ s. whole) r
           (λ L reads. make-verdict types (fit-parts (tablesOf p) w) reads task kind extension size [] ∙ ap asRefusal v)
 
       pub make-done : {p′ : Pool} → tablesOf p′ ≡ madePool task kind extension size (tablesOf p)
-          → makeVerdict task extension size (tablesOf p) ≡ Accepted
+          → makeVerdict task kind extension size (tablesOf p) ≡ Accepted
           → (let zeros : List ℕ = replicate (sizeOf (freePlace size (tablesOf p .blocks))) 0 in
           Obeys (Use (Make task kind extension size)) [] p small large (plain (Handle (p .given + 1))) p′
           (smallAfter (freePlace size (tablesOf p .blocks)) 0 zeros small) (largeAfter (freePlace size (tablesOf p .blocks)) 0 zeros large))
       unfolding replyTo tablesOf tablesBy
       make-done {p′} left v =
-          let taken = make-takes task extension size (tablesOf p) types v in
+          let taken = make-takes task kind extension size (tablesOf p) types v in
           let listed : freePlace size (tablesOf p .blocks) < blockEntries = omega (arith, taken .block .listed, types .blocks) in
           let bytes = made-bytes small large small-whole large-whole _ listed in
           carried-obeys _ [] p small large w (λ s. whole) (plain (Handle (p .given + 1))) p′ _ _ refl

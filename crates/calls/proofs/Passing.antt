@@ -22,7 +22,7 @@ use Rattle.record.specs.WellFormed.{isFitDue, isFitEntry}
 use Rattle.record.specs.declared.TaskEntry.{TaskEntry}
 use Rattle.record.specs.declared.GlobalTime.{GlobalTime}
 use Rattle.record.specs.declared.Due.{Due}
-use Rattle.record.specs.declared.Due.the-variants.{Free, Local, Global, Unknown}
+use Rattle.record.specs.declared.Due.the-variants.{Free, Local, Global, Pinned, Unknown}
 use Rattle.record.proofs.Facts.{fit-local, fit-global}
 use Rattle.steps.specs.Events.{nextTime, movedEntry, untickedEntry, movedTasks, advancedTasks, advancedTime, leaverOf, lateEntry, isLasting, keptEntry, passedEntry}
 use Rattle.steps.proofs.Late.{lateDue, late-due, late-none}
@@ -126,6 +126,7 @@ module _ (event : Event) (task : ℕ) (tasks : List TaskEntry) (global : GlobalT
         let apart = eqb-false s task other in
         rw (other, other-leaver event task s (f .known) apart, other-clock s apart, lt-ltb 0 _ (f .ahead)))
     lasting-as used (Global s at) fit = global-lasts advanced _ (at .0) global (fit-global (getD tasks s absentEntry) global used s at fit .ahead)
+    lasting-as used (Pinned due) fit = refl
     lasting-as used Unknown fit = refl
 
     -- so the entries after it are those that the record's sweep leaves
@@ -155,6 +156,7 @@ module _ (task : ℕ) (tasks : List TaskEntry) (global : GlobalTime) (sixteen : 
       (λ own. rw (own, ← eqb-true s task own, ne-eqb (leftAt (at .0) (getD tasks s absentEntry .clock .0)) 0 (λ z. omega (arith, f .ahead))))
       (λ other. rw other)
   unending used (Global s at) fit = refl
+  unending used (Pinned due) fit = refl
   unending used Unknown fit = refl
 
   entry-stays : (blocks : List BlockEntry) (e : ExpirationEntry) → isFitEntry tasks global blocks e ≡ true → endedEntry (passingOf task blocked) e ≡ e

@@ -19,7 +19,7 @@ use Rattle.record.specs.Pools.{isWellFormed}
 use Rattle.record.specs.Reading.{HeadTyped, Typed}
 use Rattle.record.specs.Tables.{Sized, blocksOf, tablesBy, tablesOf, lent, pooled, blockEntries, expirationEntries}
 use Rattle.record.specs.declared.Head.{Head}
-use Rattle.steps.specs.Objects.{placeOf, taskVerdict, extensionVerdict, handleVerdict, roomVerdict, refreshVerdict}
+use Rattle.steps.specs.Objects.{placeOf, taskVerdict, kindVerdict, extensionVerdict, handleVerdict, roomVerdict, refreshVerdict}
 use Rattle.steps.proofs.Chosen.{both-accept, not-refused, place-listed, task-known}
 use Rattle.objects.specs.Outcomes.{foundIn}
 use Rattle.objects.specs.declared.Found.{Found}
@@ -40,7 +40,7 @@ pub room-left : (n : ℕ) → roomVerdict n ≡ Accepted → n < expirationEntri
 room-left n v = omega (arith, leb-false (limits .expirations) n (not-refused _ _ v), allowed .most-expirations)
 
 module _ {h : Head} {hs ls cs ns ds : List ℕ} (types : HeadTyped h) (sized : Sized hs ls cs ns ds) (task : ℕ) (kind : Kind) (extension handle : ℕ) (f : Found)
-    (so : f ≡ foundIn false (refreshVerdict task extension handle) task handle (lent h hs ls cs ns ds)) where
+    (so : f ≡ foundIn false (refreshVerdict task kind extension handle) task handle (lent h hs ls cs ns ds)) where
   of-entries : Typed (tablesOf (pooled h hs ls cs ns ds))
   of-entries = lent-typed h hs ls cs ns ds types (sized .blocks) (sized .entries)
 
@@ -51,7 +51,7 @@ module _ {h : Head} {hs ls cs ns ds : List ℕ} (types : HeadTyped h) (sized : S
       (rw (tables-of h hs ls cs ns ds) (found-refused false task handle (lent h hs ls cs ns ds) _ (sym so ∙ e)))
 
   module _ {block count : ℕ} {life : Life} (at : f ≡ At block count life) where
-    accepted : (refreshVerdict task extension handle (lent h hs ls cs ns ds) ≡ Accepted) × (placeOf handle (lent h hs ls cs ns ds .blocks) ≡ block)
+    accepted : (refreshVerdict task kind extension handle (lent h hs ls cs ns ds) ≡ Accepted) × (placeOf handle (lent h hs ls cs ns ds .blocks) ≡ block)
     accepted = let (v, place, size) = found-accepted false task handle (lent h hs ls cs ns ds) _ (sym so ∙ at) in (v, place)
 
     pub refresh-set : isWellFormed (pooled h hs ls cs ns ds) ≡ true → {cs′ ns′ ds′ : List ℕ}
@@ -70,8 +70,9 @@ module _ {h : Head} {hs ls cs ns ds : List ℕ} (types : HeadTyped h) (sized : S
         let p = lent h hs ls cs ns ds in
         let (v, place) = accepted in
         let (task-ok, v₁) = both-accept (taskVerdict task (h .tasks)) _ v in
-        let (extension-ok, v₂) = both-accept (extensionVerdict extension) _ v₁ in
-        let (found, room) = both-accept (handleVerdict handle p) _ v₂ in (
+        let (kind-ok, v₂) = both-accept (kindVerdict kind) _ v₁ in
+        let (extension-ok, v₃) = both-accept (extensionVerdict kind extension) _ v₂ in
+        let (found, room) = both-accept (handleVerdict handle p) _ v₃ in (
           rw (standing-of (sized .entries)) (room-left _ room),
           task-known task (h .tasks) task-ok,
           rw (← place) (place-listed handle (h .given) (placeOf handle (blocksOf hs ls)) found),

@@ -12,7 +12,7 @@ use Rattle.ledger.specs.Refusals.{testsOf}
 use Rattle.ledger.specs.Ledger.{Ledger, reply, next, replyToRequest, afterRequest}
 use Rattle.ledger.specs.declared.Answer.{Answer}
 use Rattle.ledger.specs.declared.Answer.the-variants.{Refused as RefusedAnswer}
-use Rattle.ledger.specs.declared.Call.the-variants.{Schedule, Make, Refresh, Read, Write, Batch}
+use Rattle.ledger.specs.declared.Call.the-variants.{Schedule, Make, Refresh, Read, Write, Batch, Release}
 use Rattle.ledger.specs.declared.Event.{Event}
 use Rattle.ledger.specs.declared.Event.the-variants.{Join, Leave, Block, Resume, Tick}
 use Rattle.ledger.specs.declared.Kind.{Kind}
@@ -78,6 +78,7 @@ nothing-beyond (Use (Refresh task kind extension handle)) new p small large why 
 nothing-beyond (Use (Read task handle)) new p small large why = tt
 nothing-beyond (Use (Write task handle offset)) new p small large why = λ d. absurd (true≢false (ap isRefusal d))
 nothing-beyond (Use (Batch task kind extension)) new p small large why = tt
+nothing-beyond (Use (Release task handle)) new p small large why = tt
 nothing-beyond Report new p small large why = tt
 nothing-beyond (Remaining task handle) new p small large why = tt
 
@@ -102,6 +103,11 @@ module _ (new : List ℕ) (p : Pool) (small large : List ℕ) where
   pub batch-serves : (task : ℕ) (kind : Kind) (extension : ℕ) (answer : Answer) (p′ : Pool) → FollowsWith (Use (Batch task kind extension)) new p answer p′
       → Serves (Use (Batch task kind extension)) new p small large (withoutBytes answer p′) small large
   batch-serves task kind extension answer p′ f = serves-plain tt (f small large)
+
+  pub release-serves : (task handle : ℕ) (answer : Answer) (p′ : Pool) → Follows (Use (Release task handle)) p answer p′
+      → Serves (Use (Release task handle)) new p small large (withoutBytes answer p′) small large
+  unfolding reply next testsOf memoryAfter expirationsAfter
+  release-serves task handle answer p′ f = serves-plain tt (whatever-bytes new (λ L. refl) (λ L. refl) (f small large))
 
   pub report-serves : (answer : Answer) → Follows Report p answer p → Serves Report new p small large (withoutBytes answer p) small large
   report-serves answer f = serves-plain tt (whatever-bytes new (λ L. refl) (λ L. refl) (f small large))

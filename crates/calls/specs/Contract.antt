@@ -10,7 +10,7 @@ use Rattle.ledger.specs.Ledger.{Ledger, replyToRequest, afterRequest}
 use Rattle.ledger.specs.declared.Kind.{Kind}
 use Rattle.ledger.specs.declared.Answer.{Answer}
 use Rattle.ledger.specs.declared.Answer.the-variants.{Refused, Done, Handle, Bytes}
-use Rattle.ledger.specs.declared.Call.the-variants.{Schedule, Make, Refresh, Read, Write, Batch}
+use Rattle.ledger.specs.declared.Call.the-variants.{Schedule, Make, Refresh, Read, Write, Batch, Release}
 use Rattle.ledger.specs.declared.Life.{Life}
 use Rattle.ledger.specs.declared.Refusal.{Refusal}
 use Rattle.ledger.specs.declared.Refusal.the-variants.{WrongStoreLength, NotWellFormed}
@@ -36,6 +36,7 @@ isStored (Use (Refresh task kind extension handle)) = false
 isStored (Use (Read task handle)) = true
 isStored (Use (Write task handle offset)) = true
 isStored (Use (Batch task kind extension)) = false
+isStored (Use (Release task handle)) = false
 isStored Report = false
 isStored (Remaining task handle) = false
 

@@ -5,7 +5,7 @@ use mathlib.Core.Path.{_≡_}
 use Rattle.ledger.specs.Objects.{Reply}
 use Rattle.ledger.specs.declared.Answer.{Answer}
 use Rattle.ledger.specs.declared.Answer.the-variants.{Done, Handle}
-use Rattle.ledger.specs.declared.Call.the-variants.{Schedule, Make, Refresh, Read, Write, Batch}
+use Rattle.ledger.specs.declared.Call.the-variants.{Schedule, Make, Refresh, Read, Write, Batch, Release}
 use Rattle.ledger.specs.declared.Request.{Request}
 use Rattle.ledger.specs.declared.Request.the-variants.{Use, Report, Remaining}
 use Rattle.stores.specs.Places.{InBlock, smallAfter, largeAfter}
@@ -33,6 +33,7 @@ Beyond (Use (Write task handle offset)) new p small large answer p′ small′ l
     answer ≡ Done
     → (small′ ≡ smallAfter (placeIn handle (p .handles)) offset new small) × (large′ ≡ largeAfter (placeIn handle (p .handles)) offset new large)
 Beyond (Use (Batch task kind extension)) new p small large answer p′ small′ large′ = Unit
+Beyond (Use (Release task handle)) new p small large answer p′ small′ large′ = Unit
 Beyond Report new p small large answer p′ small′ large′ = Unit
 Beyond (Remaining task handle) new p small large answer p′ small′ large′ = Unit
 

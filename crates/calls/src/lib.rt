@@ -3,12 +3,13 @@
 ghost use mathlib.Core.Bool.{true};
 ghost use mathlib.Core.Path.{_≡_};
 ghost use lib.ListN.{length};
-ghost use Rattle.ledger.specs.declared.Call.the-variants.{Schedule, Make, Refresh, Write, Batch};
+ghost use Rattle.ledger.specs.declared.Call.the-variants.{Schedule, Make, Refresh, Write, Batch, Release};
 ghost use Rattle.ledger.specs.declared.Request.the-variants.{Use, Remaining};
 ghost use Rattle.record.specs.Pools.{isWellFormed};
 ghost use Rattle.record.specs.Tables.{pooled, SizedEntries, Sized, blockEntries};
 ghost use Rattle.calls.specs.Contract.{Ready, FollowsWith, Follows, Makes, Writes};
 ghost use Rattle.calls.specs.Engine.{refusedBy, withGiven, outcomeOf, FollowsBeside};
+use expirations;
 use expirations::Passing;
 use expirations::end;
 use expirations::set;
@@ -21,6 +22,7 @@ use ledger::Verdict;
 use objects::Found;
 use objects::find_for_read;
 use objects::find_for_refresh;
+use objects::find_for_release;
 use objects::find_for_write;
 use objects::plan_batch;
 use objects::plan_make;
@@ -138,7 +140,7 @@ pub fn make(
     requires { ⌜ Sized (now handles) (now lengths) (now clocks) (now named) (now dues) × Ready (Use (Make task kind extension size)) (pooled h (now handles) (now lengths) (now clocks) (now named) (now dues)) (now small) (now large) ⌝ }
     ensures { λ r. ⌜ Sized (now (handles .exit)) (now (lengths .exit)) (now (clocks .exit)) (now (named .exit)) (now (dues .exit)) × Makes task kind extension size (pooled h (now (handles .entry)) (now (lengths .entry)) (now (clocks .entry)) (now (named .entry)) (now (dues .entry))) (now (small .entry)) (now (large .entry)) (outcomeOf r (now (handles .exit)) (now (lengths .exit)) (now (clocks .exit)) (now (named .exit)) (now (dues .exit))) (now (small .exit)) (now (large .exit)) ⌝ }
 {
-    let plan = plan_make(h, handles, standing(clocks), task, extension, size);
+    let plan = plan_make(h, handles, standing(clocks), task, kind, extension, size);
     let verdict = plan.verdict;
     let place = plan.place;
     let Verdict::Accepted = verdict else {
@@ -179,6 +181,7 @@ pub fn refresh<'a>(
         named,
         dues,
         task,
+        kind,
         extension,
         handle,
     ) {
@@ -192,6 +195,39 @@ pub fn refresh<'a>(
             life: _,
         } => {
             set(h, kind, task, extension, block, clocks, named, dues);
+            Step {
+                answer: Answer::Done,
+                head: h,
+            }
+        }
+    }
+}
+
+// E24: ends the pinned expiration of an object.
+pub fn release<'a>(
+    h: Head,
+    handles: &mut [u32; BLOCK_COUNT],
+    lengths: &'a [u16; BLOCK_COUNT],
+    clocks: &mut [u8; EXPIRATION_COUNT],
+    named: &'a [u8; EXPIRATION_COUNT],
+    dues: &'a [u32; EXPIRATION_COUNT],
+    task: u8,
+    handle: u32,
+) -> Step
+    requires { ⌜ Sized (now handles) (now lengths) (now clocks) (now named) (now dues) × (isWellFormed (pooled h (now handles) (now lengths) (now clocks) (now named) (now dues)) ≡ true) ⌝ }
+    ensures { λ r. ⌜ Sized (now (handles .exit)) (now (lengths .entry)) (now (clocks .exit)) (now (named .entry)) (now (dues .entry)) × Follows (Use (Release task handle)) (pooled h (now (handles .entry)) (now (lengths .entry)) (now (clocks .entry)) (now (named .entry)) (now (dues .entry))) (r .answer) (pooled (r .head) (now (handles .exit)) (now (lengths .entry)) (now (clocks .exit)) (now (named .entry)) (now (dues .entry))) ⌝ }
+{
+    match find_for_release(h, handles, lengths, clocks, named, dues, task, handle) {
+        Found::Refused(why) => Step {
+            answer: Answer::Refused(why),
+            head: h,
+        },
+        Found::At {
+            block,
+            length: _,
+            life: _,
+        } => {
+            expirations::release(block, handles, clocks, named);
             Step {
                 answer: Answer::Done,
                 head: h,
@@ -216,7 +252,7 @@ pub fn batch<'a>(
     requires { ⌜ Sized (now handles) (now lengths) (now clocks) (now named) (now dues) × (isWellFormed (pooled h (now handles) (now lengths) (now clocks) (now named) (now dues)) ≡ true) ⌝ }
     ensures { λ r. ⌜ SizedEntries (now (clocks .exit)) (now (named .exit)) (now (dues .exit)) × FollowsWith (Use (Batch task kind extension)) (now (bytes .entry)) (pooled h (now (handles .entry)) (now (lengths .entry)) (now (clocks .entry)) (now (named .entry)) (now (dues .entry))) (r .answer) (pooled (r .head) (now (handles .entry)) (now (lengths .entry)) (now (clocks .exit)) (now (named .exit)) (now (dues .exit))) ⌝ }
 {
-    let plan = plan_batch(h, handles, standing(clocks), task, extension, bytes);
+    let plan = plan_batch(h, handles, standing(clocks), task, kind, extension, bytes);
     let verdict = plan.verdict;
     let blocks = plan.blocks;
     let Verdict::Accepted = verdict else {

@@ -1,6 +1,6 @@
 // The calls that change the record, on lent columns: 15 first, then 14 where a store is touched, and then the call itself. Who lends them never looks at the record again.
 ghost use mathlib.Core.Path.{_≡_};
-ghost use Rattle.ledger.specs.declared.Call.the-variants.{Schedule, Refresh, Batch};
+ghost use Rattle.ledger.specs.declared.Call.the-variants.{Schedule, Refresh, Batch, Release};
 ghost use Rattle.ledger.specs.declared.Request.the-variants.{Use};
 ghost use Rattle.record.specs.Tables.{pooled, Sized, SizedEntries};
 ghost use Rattle.calls.specs.Contract.{FollowsWith, Follows, Makes};
@@ -83,6 +83,28 @@ pub fn make(
         extension,
         size,
     )
+}
+
+pub fn release<'a>(
+    h: Head,
+    handles: &mut [u32; BLOCK_COUNT],
+    lengths: &'a [u16; BLOCK_COUNT],
+    clocks: &mut [u8; EXPIRATION_COUNT],
+    named: &'a [u8; EXPIRATION_COUNT],
+    dues: &'a [u32; EXPIRATION_COUNT],
+    task: u8,
+    handle: u32,
+) -> Step
+    requires { ⌜ Sized (now handles) (now lengths) (now clocks) (now named) (now dues) ⌝ }
+    ensures { λ r. ⌜ Sized (now (handles .exit)) (now (lengths .entry)) (now (clocks .exit)) (now (named .entry)) (now (dues .entry)) × Follows (Use (Release task handle)) (pooled h (now (handles .entry)) (now (lengths .entry)) (now (clocks .entry)) (now (named .entry)) (now (dues .entry))) (r .answer) (pooled (r .head) (now (handles .exit)) (now (lengths .entry)) (now (clocks .exit)) (now (named .entry)) (now (dues .entry))) ⌝ }
+{
+    if !is_well_formed(h, handles, lengths, clocks, named, dues) {
+        return Step {
+            answer: Answer::Refused(Refusal::NotWellFormed),
+            head: h,
+        };
+    }
+    calls::release(h, handles, lengths, clocks, named, dues, task, handle)
 }
 
 pub fn refresh<'a>(

@@ -9,7 +9,7 @@ use Rattle.ledger.specs.Ledger.{reply, next}
 use Rattle.ledger.specs.declared.Answer.{Answer}
 use Rattle.ledger.specs.declared.Answer.the-variants.{Counted}
 use Rattle.ledger.specs.declared.Call.{Call}
-use Rattle.ledger.specs.declared.Call.the-variants.{Schedule, Make, Refresh, Read, Write, Batch}
+use Rattle.ledger.specs.declared.Call.the-variants.{Schedule, Make, Refresh, Read, Write, Batch, Release}
 use Rattle.ledger.specs.declared.Event.{Event}
 use Rattle.ledger.specs.declared.Kind.{Kind}
 use Rattle.ledger.specs.declared.Request.{Request}
@@ -33,7 +33,7 @@ use Rattle.calls.specs.declared.Step.{Step}
 use Rattle.dispatch.specs.declared.Done.{Done}
 use Rattle.expirations.proofs.Counting.{standing-of}
 use Rattle.calls.proofs.Reported.{report-obeys}
-use Rattle.calls.proofs.Served.{whatever-bytes, serves-plain, schedule-serves, refresh-serves, batch-serves, make-serves, write-serves, report-serves, life-serves}
+use Rattle.calls.proofs.Served.{whatever-bytes, serves-plain, schedule-serves, refresh-serves, batch-serves, release-serves, make-serves, write-serves, report-serves, life-serves}
 use Rattle.calls.proofs.WriteLent.{read-locates}
 
 -- a read gives back where its object is
@@ -83,6 +83,11 @@ module _ (new : List ℕ) {h : Head} {hs ls cs ns ds : List ℕ} (sized : Sized 
         record { blocks = sized .blocks; entries = entries },
         refresh-serves new _ small large task kind extension handle (s .answer) _ f,
       )
+
+  pub release-arm : {task handle : ℕ} → call ≡ Release task handle → {s : Step} {hs′ cs′ : List ℕ}
+      → Sized hs′ ls cs′ ns ds × Follows (Use (Release task handle)) (pooled h hs ls cs ns ds) (s .answer) (pooled (s .head) hs′ ls cs′ ns ds)
+      → r ≡ withoutBytes (s .answer) (s .head) → Served (Use call) new h hs ls cs ns ds small large r hs′ ls cs′ ns ds small large
+  release-arm {task} {handle} is {s} (sized′, f) so = rw (is, so) (sized′, release-serves new _ small large task handle (s .answer) _ f)
 
   pub batch-arm : {task : ℕ} {kind : Kind} {extension : ℕ} → call ≡ Batch task kind extension → {s : Step} {cs′ ns′ ds′ : List ℕ}
       → SizedEntries cs′ ns′ ds′

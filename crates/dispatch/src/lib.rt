@@ -1,4 +1,4 @@
-// The one dispatch: a call of the twelve by its request, on a head by value and lent tables and stores.
+// The one dispatch: a call of the thirteen by its request, on a head by value and lent tables and stores.
 ghost use mathlib.Core.Path.{_≡_};
 ghost use Rattle.ledger.specs.declared.Request.the-variants.{Use};
 ghost use Rattle.record.specs.Tables.{pooled, Sized};
@@ -8,6 +8,7 @@ ghost use Rattle.dispatch.specs.Done.{withoutBytes, whereFound, givenBac
 use calls::batch;
 use calls::make;
 use calls::refresh;
+use calls::release;
 use calls::remaining;
 use calls::schedule;
 use calls::write;
@@ -183,10 +184,16 @@ fn serve(
             let head = step.head;
             without_bytes(answer, head)
         }
+        Call::Release { task, handle } => {
+            let step = release(h, handles, lengths, clocks, named, dues, task, handle);
+            let answer = step.answer;
+            let head = step.head;
+            without_bytes(answer, head)
+        }
     }
 }
 
-// One call of the twelve, by its request. The bytes are those of a write or a batch; other calls leave them aside.
+// One call of the thirteen, by its request. The bytes are those of a write or a batch; other calls leave them aside.
 pub fn call(
     h: Head,
     handles: &mut [u32; BLOCK_COUNT],

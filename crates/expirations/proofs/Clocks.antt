@@ -7,9 +7,9 @@ use borrow.Author.Tests.{eqb-true, eq-eqb, ne-eqb, leb-true, le-leb, lt-leb, lt-
 use lib.Dec.{eqb, leb, ltb}
 use Rattle.lists.proofs.Cases.{by-test, refuted}
 use Rattle.ledger.specs.Limits.{taskCount}
-use Rattle.record.specs.Codes.{isGlobalClock, dueBy, isDueLocal, isDueGlobal, localCode, globalCode}
+use Rattle.record.specs.Codes.{isGlobalClock, dueBy, isDueLocal, isDueGlobal, localCode, globalCode, pinnedCode}
 use Rattle.record.specs.declared.Due.{Due}
-use Rattle.record.specs.declared.Due.the-variants.{Free, Local, Global, Unknown}
+use Rattle.record.specs.declared.Due.the-variants.{Free, Local, Global, Pinned, Unknown}
 use Rattle.record.specs.declared.GlobalTime.{GlobalTime}
 use Rattle.record.proofs.Asked.{asked-local, asked-global}
 use Rattle.expirations.specs.Ending.{isEnding, isEndingLocal}
@@ -25,6 +25,7 @@ module _ (t : Passing) where
   by-either Free = sym (and-false (t .advanced))
   by-either (Local setter at) = rw (and-false (t .advanced)) (sym (or-false _))
   by-either (Global setter at) = refl
+  by-either (Pinned due) = sym (and-false (t .advanced))
   by-either Unknown = sym (and-false (t .advanced))
 
   module _ (clock due : ℕ) where
@@ -54,7 +55,10 @@ module _ (t : Passing) where
       let least = leb-true localCode clock (and-eq-true-iff _ _ .0 l .0) in
       let same = eqb-true (clock - localCode) (t .task) (and-eq-true-iff _ _ .0 (rw (z, g, l) at e) .0) in
       eq-eqb clock (localCode + t .task) (omega arith))
-      (λ l. absurd (false≢true (rw (z, g, l) at e)))))
+      (λ l.
+      by-test (eqb clock pinnedCode)
+      (λ p. absurd (false≢true (rw (z, g, l, p) at e)))
+      (λ p. absurd (false≢true (rw (z, g, l, p) at e))))))
 
   module _ (known : t .task < taskCount) where
     own-due : (due : ℕ) → dueBy (localCode + t .task) due ≡ Local (t .task) (record { 0 = due })

@@ -4,5 +4,6 @@ pub mod Counting
 pub mod Setting
 pub mod Flags
 pub mod Tables
+pub mod Pins
 pub mod PutOff
 pub mod Longest

@@ -11,7 +11,7 @@ use lib.Seq.{take-suc}
 use Rattle.lists.proofs.First.{first-set, count-first}
 use Rattle.lists.proofs.Tables.{map-set}
 use Rattle.ledger.specs.declared.Kind.{Kind}
-use Rattle.ledger.specs.declared.Kind.the-variants.{Local, Global}
+use Rattle.ledger.specs.declared.Kind.the-variants.{Local, Global, Pinned}
 use Rattle.record.specs.Codes.{localCode, globalCode}
 use Rattle.record.specs.Tables.{ExpirationEntry, entriesOf, SizedEntries, expirationEntries, Tables}
 use Rattle.record.specs.declared.GlobalTime.{GlobalTime}
@@ -32,12 +32,14 @@ module _ (tasks : List TaskEntry) (global : GlobalTime) where
   pub made-used : (kind : Kind) (task extension block : ℕ) {e : Entry} → e ≡ entryFor tasks global kind task extension block → isFree (e .clock) ≡ false
   made-used Local task extension block made = rw made (ne-eqb (localCode + task) 0 (omega arith))
   made-used Global task extension block made = rw made (ne-eqb (globalCode + task) 0 (omega arith))
+  made-used Pinned task extension block made = rw made
 
   -- and on any block it is the same but for that
   made-on : (kind : Kind) (task extension block : ℕ) {e : Entry} → e ≡ entryFor tasks global kind task extension block
       → onBlock e ≡ entryFor tasks global kind task extension
   made-on Local task extension block made = ap onBlock made
   made-on Global task extension block made = ap onBlock made
+  made-on Pinned task extension block made = ap onBlock made
 
 module _ {e : Entry} {clocks named dues clocks′ named′ dues′ : List ℕ} (s : SizedEntries clocks named dues) (z : Sets e clocks named dues clocks′ named′ dues′) where
   -- the clocks after one is set

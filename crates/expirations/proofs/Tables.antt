@@ -4,15 +4,15 @@ use native.Mathlib.Omega.{arith}
 use mathlib.Core.Bool.{Bool, true, false, cond, _||_}
 use mathlib.Core.List.{List, [], _∷_, map}
 use mathlib.Core.Path.{_≡_, refl, sym, _∙_, ap}
-use borrow.Author.Tests.{eqb-true, le-leb, lt-leb, lt-ltb, le-ltb}
+use borrow.Author.Tests.{eqb-true, eqb-false, ne-eqb, leb-true, leb-false, le-leb, lt-leb, lt-ltb, le-ltb}
 use lib.Dec.{eqb, leb}
 use lib.ListN.{length, getD, length-map, List·getD-map}
 use lib.Seq.{ext-getD}
 use Rattle.lists.specs.Tables.{mapFrom}
 use Rattle.lists.specs.Tests.{any}
-use Rattle.lists.proofs.Cases.{by-test, or-right}
+use Rattle.lists.proofs.Cases.{by-test, cond-same, or-right}
 use Rattle.lists.proofs.Tables.{length-mapFrom}
-use Rattle.record.specs.Codes.{dueBy, dueOf, isDated, freeBlock, freeEntry, freedBlock, freedEntry, localCode, globalCode, departedCode}
+use Rattle.record.specs.Codes.{dueBy, dueOf, isDated, freeBlock, freeEntry, freedBlock, freedEntry, localCode, globalCode, departedCode, pinnedCode}
 use Rattle.record.specs.Tables.{ExpirationEntry, blockEntry, expirationEntry, blocksOf, entriesOf, SizedEntries, blockEntries, expirationEntries, byteValues}
 use Rattle.record.specs.WellFormed.{isNaming}
 use Rattle.record.specs.declared.TaskEntry.{TaskEntry}
@@ -70,12 +70,21 @@ dated-clock clock due =
     split clock globalCode
     (λ l.
     let low = lt-leb globalCode clock l in
-    let below = le-leb clock departedCode (omega arith) in
-    by-test (leb localCode clock) (λ m. rw (z, low, lt-ltb clock globalCode l, m, below)) (λ m. rw (z, low, m)))
+    let below = le-leb clock pinnedCode (omega arith) in
+    by-test (leb localCode clock)
+    (λ m. rw (z, low, lt-ltb clock globalCode l, m, below))
+    (λ m. rw (z, low, m, ne-eqb clock pinnedCode (λ e. omega arith))))
     (λ l.
     let least = le-leb localCode clock (omega arith) in
     let high = le-leb globalCode clock l in
-    by-test (leb clock departedCode) (λ m. rw (z, high, least, m)) (λ m. rw (z, high, m, least, le-ltb clock globalCode l))))
+    by-test (leb clock departedCode)
+    (λ m. rw (z, high, least, m, le-leb clock pinnedCode (omega (arith, leb-true clock departedCode m))))
+    (λ m.
+    by-test (eqb clock pinnedCode)
+    (λ p. rw (eqb-true clock pinnedCode p))
+    (λ p.
+    let above = lt-leb clock pinnedCode (omega (arith, leb-false clock departedCode m, eqb-false clock pinnedCode p)) in
+    rw (z, high, m, least, le-ltb clock globalCode l, p, above)))))
 
 -- what a test of the entries finds, by a test of their numbers at each place
 module _ {cs ns ds : List ℕ} (sized : SizedEntries cs ns ds) where
@@ -85,7 +94,7 @@ module _ {cs ns ds : List ℕ} (sized : SizedEntries cs ns ds) where
   pub entry-of : (k : ℕ) → getD (entriesOf cs ns ds) k freeEntry ≡ expirationEntry (getD cs k 0) (getD ns k 0) (getD ds k 0)
   entry-of = entry-at cs ns ds (sized .of-clocks) (sized .of-named) (sized .of-dues)
 
-  asked-entries : (p : ExpirationEntry → Bool) {q : ℕ → Bool} {r : Bool}
+  pub asked-entries : (p : ExpirationEntry → Bool) {q : ℕ → Bool} {r : Bool}
       → ((k : ℕ) → q k ≡ p (expirationEntry (getD cs k 0) (getD ns k 0) (getD ds k 0))) → Asked q 0 expirationEntries r → r ≡ any p (entriesOf cs ns ds)
   asked-entries p f s = asked-any p freeEntry (entriesOf cs ns ds) size-of (asked-same s (λ k l m. f k ∙ ap p (sym (entry-of k))))
 
@@ -101,7 +110,7 @@ kept-entry true handle size = refl
 kept-entry false handle size = refl
 
 -- the blocks after their handles are kept by the flags
-released : {cs ns hs hs′ : List ℕ} {flags : List Bool} (ls ds : List ℕ) → Flags cs ns expirationEntries flags → Changed 0 (keptByFlag flags) 0 blockEntries hs hs′
+pub released : {cs ns hs hs′ : List ℕ} {flags : List Bool} (ls ds : List ℕ) → Flags cs ns expirationEntries flags → Changed 0 (keptByFlag flags) 0 blockEntries hs hs′
     → SizedEntries cs ns ds → length hs ≡ blockEntries → length ls ≡ blockEntries → blocksOf hs′ ls ≡ mapFrom 0 (keptBlock (entriesOf cs ns ds)) (blocksOf hs ls)
 released {cs} {ns} {hs} {hs′} {flags} ls ds s z sized h l =
     let xs = entriesOf cs ns ds in
@@ -120,23 +129,35 @@ ended-entry : (ends : Bool) (clock block due : ℕ)
 ended-entry true clock block due = refl
 ended-entry false clock block due = refl
 
+-- the table after the clocks of all are made anew
+module _ {f : ℕ → ℕ → ℕ} {cs ns ds cs′ : List ℕ} (s : Changed 0 f 0 expirationEntries cs cs′) (sized : SizedEntries cs ns ds) where
+  pub sized-after : SizedEntries cs′ ns ds
+  sized-after = record { of-clocks = s .size ∙ sized .of-clocks; of-named = sized .of-named; of-dues = sized .of-dues }
+
+  -- where those of entries that pass are freed
+  pub freed-entries : (p : ExpirationEntry → Bool) → ((k clock : ℕ) → f k clock ≡ cond (p (expirationEntry clock (getD ns k 0) (getD ds k 0))) 0 clock)
+      → entriesOf cs′ ns ds ≡ map (λ (e : ExpirationEntry). cond (p e) (freedEntry e) e) (entriesOf cs ns ds)
+  freed-entries p e =
+      let xs = entriesOf cs ns ds in
+      let size = size-of sized-after in
+      let kept : ExpirationEntry → ExpirationEntry = λ x. cond (p x) (freedEntry x) x in
+      let x : ℕ → ExpirationEntry = λ k. expirationEntry (getD cs k 0) (getD ns k 0) (getD ds k 0) in
+      ext-getD freeEntry (entriesOf cs′ ns ds) (map kept xs)
+      (size ∙ sym (length-map xs kept ∙ size-of sized))
+      (λ k m.
+      entry-of sized-after k
+      ∙ rw (s .inside k (omega arith) (omega arith), e k (getD cs k 0)) (ended-entry (p (x k)) (getD cs k 0) (getD ns k 0) (getD ds k 0))
+      ∙ ap kept (sym (entry-of sized k))
+      ∙ sym (List·getD-map kept xs k freeEntry)
+      ∙ ap (getD (map kept xs) k) (cond-same (p freeEntry) freeEntry))
+
 module _ {t : Passing} {cs ns ds cs′ : List ℕ} {r : Bool} (s : Ended t ds 0 expirationEntries cs cs′ r) (sized : SizedEntries cs ns ds) where
   sized′ : SizedEntries cs′ ns ds
-  sized′ = record { of-clocks = s .changed .size ∙ sized .of-clocks; of-named = sized .of-named; of-dues = sized .of-dues }
+  sized′ = sized-after (s .changed) sized
 
   -- the entries after what is over is ended
   ended-entries : entriesOf cs′ ns ds ≡ map (endedEntry t) (entriesOf cs ns ds)
-  unfolding dueBy
-  ended-entries =
-      let xs = entriesOf cs ns ds in
-      let size = size-of sized′ in
-      ext-getD freeEntry (entriesOf cs′ ns ds) (map (endedEntry t) xs)
-      (size ∙ sym (length-map xs (endedEntry t) ∙ size-of sized))
-      (λ k m.
-      entry-of sized′ k
-      ∙ rw (s .changed .inside k (omega arith) (omega arith)) (ended-entry (isEndingAt t cs ds k) (getD cs k 0) (getD ns k 0) (getD ds k 0))
-      ∙ ap (endedEntry t) (sym (entry-of sized k))
-      ∙ sym (List·getD-map (endedEntry t) xs k freeEntry))
+  ended-entries = freed-entries (s .changed) sized (λ (e : ExpirationEntry). isEnding t (dueOf e)) (λ k clock. refl)
 
   -- and whether any was
   ended-any : r ≡ any (λ (e : ExpirationEntry). isEnding t (dueOf e)) (entriesOf cs ns ds)

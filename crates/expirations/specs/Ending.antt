@@ -10,7 +10,7 @@ use Rattle.lists.specs.Tables.{mapFrom}
 use Rattle.record.specs.Codes.{dueBy, dueOf, leftAt, isDueGlobal, freedEntry}
 use Rattle.record.specs.Tables.{ExpirationEntry, blocksOf, entriesOf, blockEntries, expirationEntries}
 use Rattle.record.specs.declared.Due.{Due}
-use Rattle.record.specs.declared.Due.the-variants.{Free, Local, Global, Unknown}
+use Rattle.record.specs.declared.Due.the-variants.{Free, Local, Global, Pinned, Unknown}
 use Rattle.record.specs.declared.GlobalTime.{GlobalTime}
 use Rattle.record.specs.declared.TaskEntry.{TaskEntry}
 use Rattle.steps.specs.Events.{keptBlock}
@@ -23,6 +23,7 @@ abbrev pub isEnding : Passing → Due → Bool
 isEnding t Free = false
 isEnding t (Local setter at) = eqb setter (t .task) && (t .leaves || eqb (leftAt (at .0) (t .local .0)) 0)
 isEnding t (Global setter at) = t .advanced && eqb (leftAt (at .0) (t .global .0)) 0
+isEnding t (Pinned due) = false
 isEnding t Unknown = false
 
 abbrev pub endedEntry : Passing → ExpirationEntry → ExpirationEntry
@@ -33,6 +34,7 @@ abbrev pub isEndingLocal : Passing → Due → Bool
 isEndingLocal t Free = false
 isEndingLocal t (Local setter at) = isEnding t (Local setter at)
 isEndingLocal t (Global setter at) = false
+isEndingLocal t (Pinned due) = false
 isEndingLocal t Unknown = false
 
 -- and of the entry at a place

@@ -4,4 +4,5 @@ pub mod Setting
 pub mod Late
 pub mod Ending
 pub mod Releasing
+pub mod Pinning
 pub mod Remaining

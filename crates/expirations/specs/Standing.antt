@@ -7,7 +7,7 @@ use lib.ListN.{getD}
 use Rattle.lists.specs.Tests.{count}
 use Rattle.lists.specs.Tables.{firstFrom}
 use Rattle.record.specs.Tables.{expirationEntries}
-use Rattle.record.specs.Codes.{localCode, departedCode, isGlobalClock}
+use Rattle.record.specs.Codes.{localCode, pinnedCode, isGlobalClock}
 
 -- the entries of a half, whose count a byte can hold, and of a group that is asked at once; and the groups
 abbrev pub halfSize : ℕ
@@ -31,9 +31,9 @@ standingOf clocks = count isUsedClock clocks
 abbrev pub freeIn : List ℕ → ℕ
 freeIn clocks = firstFrom 0 (λ (clock : ℕ). eqb clock 0) clocks
 
--- the clock of an expiration: of a task, or the global time
+-- the clock of an expiration: of a task, the global time, or none where it is pinned
 abbrev pub isDatedClock : ℕ → Bool
-isDatedClock clock = leb localCode clock && leb clock departedCode
+isDatedClock clock = leb localCode clock && leb clock pinnedCode
 
 -- what the entry at a place has
 abbrev pub isByteAt : ℕ → List ℕ → ℕ → Bool

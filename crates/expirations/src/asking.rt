@@ -7,9 +7,9 @@ ghost use Rattle.record.specs.Tables.{expirationEntries};
 ghost use Rattle.expirations.specs.Places.{Asked, PlaceFor};
 ghost use Rattle.expirations.specs.Standing.{standingOf, freeIn, isDatedClock, isByteAt, isDatedAt, isGlobalClockAt, halfSize, groupSize};
 use record::EXPIRATION_COUNT;
-use record::codes::DEPARTED;
 use record::codes::FREE;
 use record::codes::LOCAL;
+use record::codes::PINNED;
 use record::codes::is_global;
 
 // Entries of which a byte can hold the count.
@@ -78,7 +78,7 @@ pub fn free_entry(clocks: &[u8; EXPIRATION_COUNT]) -> usize
 pub fn is_dated(clock: u8) -> bool
     ensures { λ r. ⌜ r ≡ isDatedClock clock ⌝ }
 {
-    (LOCAL <= clock) & (clock <= DEPARTED)
+    (LOCAL <= clock) & (clock <= PINNED)
 }
 
 // The place of a byte, a clock or the number of a block, in a table that has one for each.

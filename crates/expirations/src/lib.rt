@@ -1,5 +1,5 @@
 // How expirations (01: dates) are kept: a table of entries, of which those with clock 0 are free. A call knows how many stand and how
-// long the object in a block has left, sets one on a block or one on each of a batch's, and has an event end those that are over; where an entry stands is known here alone.
+// long the object in a block has left, sets one on a block or one on each of a batch's, ends the pinned one of a block, and has an event end those that are over; where an entry stands is known here alone.
 ghost use Prim.Native.Nat.{_+_, _≤_, _<_};
 ghost use mathlib.Core.Path.{_≡_};
 ghost use lib.ListN.{length, take};
@@ -12,6 +12,7 @@ ghost use Rattle.record.specs.Tables.{SizedEntries, blockEntries, expirationEnt
 mod asking;
 mod ending;
 mod late;
+mod pinning;
 mod releasing;
 mod remaining;
 
@@ -25,6 +26,8 @@ use late::put_off;
 use ledger::Kind;
 use ledger::LARGEST_BATCH;
 use ledger::TASK_COUNT;
+pub use pinning::is_pinned;
+pub use pinning::release;
 use record::BLOCK_COUNT;
 use record::EXPIRATION_COUNT;
 use record::GlobalTime;
@@ -33,6 +36,7 @@ use record::LocalTime;
 use record::TaskEntry;
 use record::codes::GLOBAL;
 use record::codes::LOCAL;
+use record::codes::PINNED;
 use releasing::flags_of;
 use releasing::keep_named;
 pub use remaining::remaining_life;
@@ -53,7 +57,7 @@ pub struct Entry {
     pub due: u32,
 }
 
-// The entry of an expiration that a task sets now on a block, due by the clock of its kind.
+// The entry of an expiration that a task sets now on a block, due by the clock of its kind; a pinned one never is.
 fn entry_for(
     tasks: [TaskEntry; TASK_COUNT],
     global: GlobalTime,
@@ -78,6 +82,11 @@ fn entry_for(
             clock: GLOBAL + task,
             block: block as u8,
             due: wrapping_add_u32(global.0, extension as u32 + 2),
+        },
+        Kind::Pinned => Entry {
+            clock: PINNED,
+            block: block as u8,
+            due: 0,
         },
     }
 }

@@ -68,6 +68,7 @@ fn units_by(q: Query, due: Due) -> Units
             local: 0,
             global: global_left(at, now),
         },
+        Due::Pinned(_) => NONE,
         Due::Unknown => NONE,
     }
 }

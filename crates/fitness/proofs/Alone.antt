@@ -4,7 +4,7 @@ use native.Mathlib.Omega.{arith}
 use mathlib.Core.Bool.{Bool, true, false, true≢false, false≢true, _&&_, and-eq-true-iff}
 use mathlib.Core.List.{List}
 use mathlib.Core.Path.{_≡_, refl, sym, _∙_}
-use borrow.Author.Tests.{eqb-true, ne-eqb, ltb-true, ltb-false, le-leb, leb-true}
+use borrow.Author.Tests.{eqb-true, eqb-false, ne-eqb, ltb-true, ltb-false, le-leb, leb-true}
 use lib.Dec.{eqb, leb, ltb}
 use lib.ListN.{length, getD}
 use Rattle.lists.specs.Tests.{all}
@@ -17,23 +17,28 @@ use Rattle.record.specs.WellFormed.{isFitDue, isNaming}
 use Rattle.record.specs.declared.TaskEntry.{TaskEntry}
 use Rattle.record.specs.declared.GlobalTime.{GlobalTime}
 use Rattle.record.specs.declared.Due.{Due}
-use Rattle.record.specs.declared.Due.the-variants.{Free, Local, Global, Unknown}
+use Rattle.record.specs.declared.Due.the-variants.{Free, Local, Global, Pinned, Unknown}
 use Rattle.record.proofs.Columns.{length-entries, entry-at}
-use Rattle.fitness.specs.Checks.{isCodedBy, isCoded, CodedTimes, isTimely, slotBy, Slots, isByte, Marks, Names}
+use Rattle.fitness.specs.Checks.{isCodedBy, isCoded, CodedTimes, isTimely, slotBy, isByte, Flags, Names}
 use Rattle.fitness.proofs.Named.{isFitAlone}
 
--- a code that there is and that is not the global time's
-not-global : (clock : ℕ) → leb clock 48 ≡ true → isGlobalClock clock ≡ false → ltb clock 32 ≡ true
-not-global clock most g =
-    by-test (ltb clock 32) (λ t. t) (λ t. absurd (true≢false (rw (le-leb 32 clock (ltb-false clock 32 t), most) at g)))
+-- a code that there is and that is neither the global time's nor a pinned expiration's
+not-global : (clock : ℕ) → leb clock 49 ≡ true → eqb clock 49 ≡ false → isGlobalClock clock ≡ false → ltb clock 32 ≡ true
+not-global clock most p g =
+    by-test (ltb clock 32)
+    (λ t. t)
+    (λ t.
+    let last : leb clock 48 ≡ true = le-leb clock 48 (omega (arith, leb-true clock 49 most, eqb-false clock 49 p)) in
+    absurd (true≢false (rw (le-leb 32 clock (ltb-false clock 32 t), last) at g)))
 
 -- a code that there is not
-unknown : (clock block : ℕ) → eqb clock 0 ≡ false → isGlobalClock clock ≡ false → (leb 16 clock && ltb clock 32) ≡ false → isCodedBy clock block ≡ false
-unknown clock block z g l =
+unknown : (clock block : ℕ) → eqb clock 0 ≡ false → eqb clock 49 ≡ false → isGlobalClock clock ≡ false → (leb 16 clock && ltb clock 32) ≡ false
+    → isCodedBy clock block ≡ false
+unknown clock block z p g l =
     refuted (isCodedBy clock block)
     (λ t.
-    let (least, most, _) = and₃ (leb 16 clock) (leb clock 48) (ltb block 96) (rw z at t) in
-    false≢true (sym l ∙ rw (least, not-global clock most g)))
+    let (least, most, _) = and₃ (leb 16 clock) (leb clock 49) (ltb block 96) (rw z at t) in
+    false≢true (sym l ∙ rw (least, not-global clock most p g)))
 
 -- the test of the block apart from the others
 block-apart : (setter : TaskEntry) (global : GlobalTime) (used : Bool) (due : Due) → isDated due ≡ true
@@ -43,6 +48,7 @@ block-apart setter global true due d = refl
 block-apart setter global false Free d = absurd (false≢true d)
 block-apart setter global false (Local task at) d = refl
 block-apart setter global false (Global task at) d = refl
+block-apart setter global false (Pinned due) d = refl
 block-apart setter global false Unknown d = refl
 
 module _ (tasks : List TaskEntry) (global : GlobalTime) where
@@ -52,9 +58,13 @@ module _ (tasks : List TaskEntry) (global : GlobalTime) where
       by-test (eqb (e .clock) 0)
       (λ z. rw (eqb-true (e .clock) 0 z))
       (λ z.
+      by-test (eqb (e .clock) 49)
+      (λ p. rw (eqb-true (e .clock) 49 p))
+      (λ p.
       by-test (isGlobalClock (e .clock))
       (λ g.
-      let (least, most) = and-eq-true-iff (leb 32 (e .clock)) (leb (e .clock) 48) .0 g in
+      let (least, last) = and-eq-true-iff (leb 32 (e .clock)) (leb (e .clock) 48) .0 g in
+      let most : leb (e .clock) 49 ≡ true = le-leb (e .clock) 49 (omega (arith, leb-true (e .clock) 48 last)) in
       rw
       (z, g, most, le-leb 16 (e .clock) (omega (arith, leb-true 32 (e .clock) least)))
       (block-apart (getD tasks (e .clock - 32) absentEntry) global (ltb (e .block) 96) (Global (e .clock - 32) (record { 0 = e .due })) refl))
@@ -62,19 +72,19 @@ module _ (tasks : List TaskEntry) (global : GlobalTime) where
       by-test (leb 16 (e .clock) && ltb (e .clock) 32)
       (λ l.
       let (least, below) = and-eq-true-iff (leb 16 (e .clock)) (ltb (e .clock) 32) .0 l in
-      let most : leb (e .clock) 48 ≡ true = le-leb (e .clock) 48 (omega (arith, ltb-true (e .clock) 32 below)) in
+      let most : leb (e .clock) 49 ≡ true = le-leb (e .clock) 49 (omega (arith, ltb-true (e .clock) 32 below)) in
       rw (z, g, least, below, most) (block-apart (getD tasks (e .clock - 16) absentEntry) global (ltb (e .block) 96) (Local (e .clock - 16) (record { 0 = e .due })) refl))
-      (λ l. rw (unknown (e .clock) (e .block) z g l, z, g, l))))
+      (λ l. rw (unknown (e .clock) (e .block) z p g l, z, p, g, l)))))
 
   pub by-parts : (xs : List ExpirationEntry) → all (isFitAlone tasks global) xs ≡ (all isCoded xs && all (isTimely tasks global) xs)
   by-parts = all-two isCoded (isTimely tasks global) (isFitAlone tasks global) alone-parts
 
 -- a code that there is
-code-below : (clock block : ℕ) → isCodedBy clock block ≡ true → clock < 49
+code-below : (clock block : ℕ) → isCodedBy clock block ≡ true → clock < 50
 code-below clock block e =
     by-test (eqb clock 0)
     (λ z. omega (arith, eqb-true clock 0 z))
-    (λ z. omega (arith, leb-true clock 48 (and₃ (leb 16 clock) (leb clock 48) (ltb block 96) (rw z at e) .1)))
+    (λ z. omega (arith, leb-true clock 49 (and₃ (leb 16 clock) (leb clock 49) (ltb block 96) (rw z at e) .1)))
 
 -- an entry sets the flag of the block that it names, and of no other
 names-slot : (clock block due k : ℕ) → isCodedBy clock block ≡ true → k < 96 → eqb (slotBy clock block) k ≡ (isDated (dueBy clock due) && eqb block k)
@@ -83,11 +93,14 @@ names-slot clock block due k e h =
     by-test (eqb clock 0)
     (λ z. rw (z, ne-eqb 255 k (omega arith)))
     (λ z.
+    by-test (eqb clock 49)
+    (λ p. rw (eqb-true clock 49 p))
+    (λ p.
     by-test (isGlobalClock clock)
     (λ g. rw (z, g))
     (λ g.
-    let (least, most, _) = and₃ (leb 16 clock) (leb clock 48) _ (rw z at e) in
-    rw (z, g, least, not-global clock most g)))
+    let (least, most, _) = and₃ (leb 16 clock) (leb clock 49) _ (rw z at e) in
+    rw (z, g, least, not-global clock most p g))))
 
 module _ {clocks named dues : List ℕ} (s : SizedEntries clocks named dues) (coded : all isCoded (entriesOf clocks named dues) ≡ true) where
   size : length (entriesOf clocks named dues) ≡ 256
@@ -106,13 +119,13 @@ module _ {clocks named dues : List ℕ} (s : SizedEntries clocks named dues) (co
         of-dues = s .of-dues;
       }
 
-  pub names-by : {slots : List ℕ} {flags : List Bool} → Slots clocks named slots → Marks slots flags → Names flags (entriesOf clocks named dues)
-  names-by {slots} m f =
+  pub names-by : {flags : List Bool} → Flags clocks named flags → Names flags (entriesOf clocks named dues)
+  names-by f =
       record {
         so = λ k h.
-            f .so k (omega arith)
-            ∙ any-pairs (isByte k) (isNaming k) 0 freeEntry slots (entriesOf clocks named dues) (m .size ∙ sym size)
+            f .marks .so k (omega arith)
+            ∙ any-pairs (isByte k) (isNaming k) 0 freeEntry (f .bytes) (entriesOf clocks named dues) (f .slots .size ∙ sym size)
             (λ i l.
-            let within : i < 256 = omega (arith, m .size) in
-            rw (m .so i within, entry i) (names-slot (getD clocks i 0) (getD named i 0) (getD dues i 0) k (known i within) h));
+            let within : i < 256 = omega (arith, f .slots .size) in
+            rw (f .slots .so i within, entry i) (names-slot (getD clocks i 0) (getD named i 0) (getD dues i 0) k (known i within) h));
       }

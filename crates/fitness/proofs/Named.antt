@@ -21,7 +21,7 @@ use Rattle.record.specs.declared.TaskEntry.{TaskEntry}
 use Rattle.record.specs.Tables.{BlockEntry, ExpirationEntry}
 use Rattle.record.specs.declared.GlobalTime.{GlobalTime}
 use Rattle.record.specs.declared.Due.{Due}
-use Rattle.record.specs.declared.Due.the-variants.{Free, Local, Global, Unknown}
+use Rattle.record.specs.declared.Due.the-variants.{Free, Local, Global, Pinned, Unknown}
 
 -- an entry by itself: it names a block that there is
 abbrev pub isFitAlone : List TaskEntry → GlobalTime → ExpirationEntry → Bool
@@ -36,6 +36,8 @@ fit-by setter global true after (Local task at) f e = rw (f refl refl) e
 fit-by setter global false after (Local task at) f e = absurd (false≢true e)
 fit-by setter global true after (Global task at) f e = rw (f refl refl) e
 fit-by setter global false after (Global task at) f e = absurd (false≢true e)
+fit-by setter global true after (Pinned due) f e = rw (f refl refl) e
+fit-by setter global false after (Pinned due) f e = absurd (false≢true e)
 fit-by setter global before after Unknown f e = e
 
 -- and what it says of it holds
@@ -47,6 +49,8 @@ fit-says setter global true (Local task at) e d = refl
 fit-says setter global false (Local task at) e d = e
 fit-says setter global true (Global task at) e d = refl
 fit-says setter global false (Global task at) e d = e
+fit-says setter global true (Pinned due) e d = refl
+fit-says setter global false (Pinned due) e d = e
 fit-says setter global used Unknown e d = absurd (false≢true d)
 
 -- one block: z is whether it is free, n whether it is named, s whether its length and its handle are fit

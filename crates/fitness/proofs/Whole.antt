@@ -1,6 +1,6 @@
 -- The parts of the test in their order, each of which alone can refuse a record.
 use Prim.Native.Nat.{ℕ}
-use mathlib.Core.Bool.{Bool, true, false, _&&_}
+use mathlib.Core.Bool.{Bool, true, false, _&&_, and-true, and-false}
 use mathlib.Core.List.{List, map}
 use mathlib.Core.Path.{_≡_, sym, ap, _∙_}
 use lib.ListN.{length}
@@ -9,7 +9,7 @@ use Rattle.lists.specs.Tables.{allFrom}
 use Rattle.ledger.specs.Tasks.{allTicked}
 use Rattle.record.specs.Codes.{taskOf}
 use Rattle.record.specs.Tables.{BlockEntry, ExpirationEntry, blocksOf, entriesOf, tablesBy, lent, Sized}
-use Rattle.record.specs.WellFormed.{isFitTask, isFitEntry, isFitBlock, isDistinct, isWellFormed}
+use Rattle.record.specs.WellFormed.{isFitTask, isFitEntry, isFitBlock, isDistinct, isPinnedOnce, isWellFormed}
 use Rattle.record.specs.declared.Head.{Head}
 use Rattle.record.proofs.Columns.{length-blocks, handles-of}
 use Rattle.fitness.specs.Checks.{isCoded, isTimely, Names, isFitBlockIn}
@@ -39,7 +39,8 @@ module _ (h : Head) {handles lengths clocks named dues : List ℕ} (sized : Size
     all-have-ticked e = rw (tasks, e)
 
     module _ (unticked : allTicked (map taskOf (h .tasks)) ≡ false) where
-      rest : isFit ≡ (all (isFitEntry (h .tasks) (h .global) blocks) xs && allFrom 0 (isFitBlock (h .given) xs) blocks && isDistinct handles)
+      rest : isFit
+          ≡ (all (isFitEntry (h .tasks) (h .global) blocks) xs && allFrom 0 (isFitBlock (h .given) xs) blocks && isDistinct handles && isPinnedOnce xs)
       unfolding isWellFormed tablesBy
       rest = rw (tasks, unticked, handles-of handles lengths (sized .blocks .of-handles) (sized .blocks .of-lengths))
 
@@ -58,6 +59,6 @@ module _ (h : Head) {handles lengths clocks named dues : List ℕ} (sized : Size
 
         -- past all tests of expirations
         pub by-blocks : {flags : List Bool} → all (isTimely (h .tasks) (h .global)) xs ≡ true → Names flags xs
-            → isFit ≡ (allFrom 0 (isFitBlockIn (h .given) flags) blocks && isDistinct handles)
+            → isFit ≡ (allFrom 0 (isFitBlockIn (h .given) flags) blocks && isDistinct handles && isPinnedOnce xs)
         by-blocks e names =
-            rest ∙ ap (λ (b : Bool). b && isDistinct handles) (named-right (h .tasks) (h .global) (h .given) blocks xs size names (alone ∙ e))
+            rest ∙ ap (λ (b : Bool). b && isDistinct handles && isPinnedOnce xs) (named-right (h .tasks) (h .global) (h .given) blocks xs size names (alone ∙ e))

@@ -1,13 +1,13 @@
 -- Tables by clock: an entry is within its clock's units exactly where it is due in time and its setter is not absent.
-use Prim.Native.Nat.{ℕ, _+_, _-_, _%_, _≤_, _<_}
+use Prim.Native.Nat.{ℕ, suc, _+_, _-_, _%_, _≤_, _<_}
 use native.Mathlib.Omega.{arith}
 use mathlib.Core.Bool.{Bool, true, false, cond, not, _&&_, and-eq-true-iff}
 use mathlib.Core.List.{List, [], _∷_}
 use mathlib.Core.Logic.{_≢_}
 use mathlib.Core.Path.{_≡_, refl, ap, _∙_}
-use borrow.Author.Tests.{eqb-true, eqb-false, ne-eqb, lt-ltb, le-ltb, ltb-true, ltb-false, le-leb, lt-leb, leb-true, leb-false}
+use borrow.Author.Tests.{eqb-true, eqb-false, eq-eqb, ne-eqb, lt-ltb, le-ltb, ltb-true, ltb-false, le-leb, lt-leb, leb-true, leb-false}
 use lib.Dec.{eqb, leb, ltb}
-use lib.ListN.{length, getD, set, replicate, length-set, getD-replicate, List·getD-eq-default}
+use lib.ListN.{length, getD, set, replicate, length-set, length-replicate, getD-replicate, List·getD-eq-default}
 use lib.Seq.{getD-set-same, getD-set-other}
 use Rattle.lists.specs.Tests.{all}
 use Rattle.lists.proofs.All.{all-getD}
@@ -16,13 +16,14 @@ use Rattle.lists.proofs.Filling.{Laid}
 use Rattle.ledger.specs.Limits.{counterRange, limits}
 use Rattle.ledger.proofs.Figures.{allowed, at-capacity}
 use Rattle.ledger.specs.Tasks.{isAbsent}
-use Rattle.record.specs.Codes.{stateOf, isGlobalClock, dueBy, leftAt, absentEntry}
+use Rattle.record.specs.Codes.{stateOf, isGlobalClock, dueBy, leftAt, absentEntry, freeEntry}
 use Rattle.record.specs.Reading.{HeadTyped}
-use Rattle.record.specs.Tables.{ExpirationEntry}
+use Rattle.record.specs.Tables.{ExpirationEntry, entriesOf}
 use Rattle.record.specs.WellFormed.{isAhead, isFitDue}
 use Rattle.record.specs.declared.GlobalTime.{GlobalTime}
 use Rattle.record.specs.declared.Head.{Head}
 use Rattle.record.specs.declared.TaskEntry.{TaskEntry}
+use Rattle.record.proofs.Columns.{length-entries, entry-at}
 use Rattle.fitness.specs.Checks.{leftFrom, nextLocal, nextGlobal, noTime, Firsts, unitsOf, Units, isWithin, isTimely}
 use Rattle.fitness.specs.declared.times.Time.{Time}
 use Rattle.fitness.specs.declared.times.Time.the-variants.{Local, Global}
@@ -35,20 +36,25 @@ abbrev pub unitsAt : List TaskEntry → ℕ → ℕ → ℕ
 unitsAt tasks most t = unitsOf most (getD tasks t absentEntry .state)
 
 pub firsts-end : {tasks : List TaskEntry} {global : GlobalTime} (last : Time) → last ≡ nextGlobal global → {i : ℕ} {out : List Time}
-    → Laid noTime (nextOf tasks) 16 16 (replicate 49 last) i out → 16 ≤ i → Firsts tasks global out
+    → Laid noTime (nextOf tasks) 16 16 (set (replicate 50 last) 49 noTime) i out → 16 ≤ i → Firsts tasks global out
 firsts-end last e m h =
     record {
       by-task = λ t l. m .so t (omega arith);
-      by-global = λ k a b. m .rest k (λ t l e. absurd (omega arith)) ∙ getD-replicate 49 k last noTime (omega arith) ∙ e;
+      by-global = λ k a b.
+          m .rest k (λ t l e. absurd (omega arith))
+          ∙ getD-set-other (replicate 50 last) 49 k noTime noTime (λ e. absurd (omega arith))
+          ∙ getD-replicate 50 k last noTime (omega arith)
+          ∙ e;
+      by-pinned = m .rest 49 (λ t l e. absurd (omega arith)) ∙ getD-set-same (replicate 50 last) 49 noTime noTime (rw length-replicate (omega arith));
     }
 
--- the table before the tasks: a free entry's units, and those of a departed setter
+-- the table before the tasks: a free entry's units, those of a departed setter and those of a pinned one
 abbrev unitsStart : List ℕ
-unitsStart = set (set (replicate 49 0) 0 4294967296) 48 32
+unitsStart = set (set (set (replicate 50 0) 0 4294967296) 48 32) 49 1
 
 -- those of the first tasks stand at both their codes, and elsewhere what stood there before
 pub record UnitsTo (tasks : List TaskEntry) (i : ℕ) (out : List ℕ) : Type 0 where
-  pub size : length out ≡ 49
+  pub size : length out ≡ 50
   pub by-task : (t : ℕ) → t < i → getD out (t + 16) 0 ≡ unitsAt tasks 31 t
   pub by-global : (t : ℕ) → t < i → getD out (t + 32) 0 ≡ unitsAt tasks 32 t
   pub rest : (k : ℕ) → ((t : ℕ) → t < 32 → k ≢ t + 16) → getD out k 0 ≡ getD unitsStart k 0
@@ -60,7 +66,7 @@ module _ {tasks : List TaskEntry} {i : ℕ} {out : List ℕ} (m : UnitsTo tasks 
   pub units-turn : i < 16 → UnitsTo tasks (i + 1) (set (set out (i + 16) (unitsAt tasks 31 i)) (i + 32) (unitsAt tasks 32 i))
   units-turn h =
       let locals = set out (i + 16) (unitsAt tasks 31 i) in
-      let size : length locals ≡ 49 = simp length-set (m .size) in
+      let size : length locals ≡ 50 = simp length-set (m .size) in
       record {
         size = simp length-set (m .size);
         by-task = λ t l.
@@ -89,12 +95,14 @@ module _ {tasks : List TaskEntry} {i : ℕ} {out : List ℕ} (m : UnitsTo tasks 
         free = m .rest 0 (λ t l e. absurd (omega arith));
         unknown = λ k a b.
             m .rest k (λ t l e. absurd (omega arith))
-            ∙ getD-set-other (set (replicate 49 0) 0 4294967296) 48 k 32 0 (λ e. absurd (omega arith))
-            ∙ getD-set-other (replicate 49 0) 0 k 4294967296 0 (λ e. absurd (omega arith))
-            ∙ getD-replicate 49 k 0 0 (omega arith);
+            ∙ getD-set-other (set (set (replicate 50 0) 0 4294967296) 48 32) 49 k 1 0 (λ e. absurd (omega arith))
+            ∙ getD-set-other (set (replicate 50 0) 0 4294967296) 48 k 32 0 (λ e. absurd (omega arith))
+            ∙ getD-set-other (replicate 50 0) 0 k 4294967296 0 (λ e. absurd (omega arith))
+            ∙ getD-replicate 50 k 0 0 (omega arith);
         by-task = λ t l. rw at-capacity (m .by-task t (omega arith));
         by-global = λ t l. rw at-capacity (m .by-global t (omega arith));
         by-departed = rw at-capacity (m .rest 48 (λ t l e. absurd (omega arith)));
+        by-pinned = m .rest 49 (λ t l e. absurd (omega arith));
       }
 
 left-below : (due : ℕ) (first : Time) → leftFrom due first < counterRange
@@ -124,9 +132,24 @@ units-ahead : (due now most : ℕ) (absent : Bool) → now < counterRange → mo
 units-ahead due now most true n m = le-ltb (leftAt due ((now + 1) % counterRange)) 0 (omega arith)
 units-ahead due now most false n m = ahead-next due now most n m
 
+-- from 0 on there are as many units as the number says
+none-left : (due : ℕ) → due < counterRange → ltb (leftAt due 0) 1 ≡ eqb due 0
+unfolding counterRange
+none-left due below =
+    same-test _ _
+    (λ e. eq-eqb due 0 (omega (arith, ltb-true (leftAt due 0) 1 e)))
+    (λ e. lt-ltb (leftAt due 0) 1 (omega (arith, eqb-true due 0 e)))
+
 few : limits .extension + 2 < counterRange
 unfolding counterRange
 few = omega (arith, allowed .most-extension)
+
+-- the due numbers of entries are those of their column
+pub dues-below : (clocks named dues : List ℕ) → length clocks ≡ 256 → length named ≡ 256 → length dues ≡ 256
+    → ((k : ℕ) → k < 256 → getD dues k 0 < counterRange)
+    → (k : ℕ) → k < length (entriesOf clocks named dues) → getD (entriesOf clocks named dues) k freeEntry .due < counterRange
+dues-below clocks named dues a b d below k l =
+    rw (entry-at clocks named dues a b d k) (below k (omega (arith, length-entries clocks named dues a b d)))
 
 module _ {h : Head} (typed : HeadTyped h) {firsts : List Time} {units : List ℕ} (f : Firsts (h .tasks) (h .global) firsts) (u : Units (h .tasks) units) where
   -- the task that an entry's code is of, where the codes of the tasks start at a
@@ -161,21 +184,29 @@ module _ {h : Head} (typed : HeadTyped h) {firsts : List Time} {units : List ℕ
   departed-timely e d =
       rw (d, u .by-departed, f .by-global 48 (omega arith) (omega arith)) (ahead-next (e .due) (h .global .0) (limits .extension + 2) (typed .global) few)
 
-  -- by a code that is no clock's
-  no-units : (k : ℕ) → eqb k 0 ≡ false → isGlobalClock k ≡ false → (leb 16 k && ltb k 32) ≡ false → getD units k 0 ≡ 0
-  no-units k z g l =
+  -- a pinned one has the number 0
+  pinned-timely : (e : ExpirationEntry) → e .due < counterRange → e .clock ≡ 49 → isWithin firsts units e ≡ isTimely (h .tasks) (h .global) e
+  unfolding isFitDue dueBy
+  pinned-timely e below p = rw (p, u .by-pinned, f .by-pinned) (none-left (e .due) below)
+
+  -- by a code that there is not
+  no-units : (k : ℕ) → eqb k 0 ≡ false → eqb k 49 ≡ false → isGlobalClock k ≡ false → (leb 16 k && ltb k 32) ≡ false → getD units k 0 ≡ 0
+  no-units k z p g l =
       by-test (ltb k 16)
       (λ t. u .unknown k (omega (arith, eqb-false k 0 z)) (ltb-true k 16 t))
       (λ t.
       let not-local : 32 ≤ k = ltb-false k 32 (rw (le-leb 16 k (ltb-false k 16 t)) at l) in
-      List·getD-eq-default units 0 {n = k} (omega (arith, u .size, leb-false k 48 (rw (le-leb 32 k not-local) at g))))
+      List·getD-eq-default units 0 {n = k} (omega (arith, u .size, eqb-false k 49 p, leb-false k 48 (rw (le-leb 32 k not-local) at g))))
 
-  timely : (e : ExpirationEntry) → isWithin firsts units e ≡ isTimely (h .tasks) (h .global) e
+  timely : (e : ExpirationEntry) → e .due < counterRange → isWithin firsts units e ≡ isTimely (h .tasks) (h .global) e
   unfolding isFitDue dueBy
-  timely e =
+  timely e below =
       by-test (eqb (e .clock) 0)
       (λ z. rw (eqb-true (e .clock) 0 z, u .free) (lt-ltb _ counterRange (left-below (e .due) (getD firsts 0 noTime))))
       (λ z.
+      by-test (eqb (e .clock) 49)
+      (λ p. pinned-timely e below (eqb-true (e .clock) 49 p))
+      (λ p.
       by-test (isGlobalClock (e .clock))
       (λ g.
       let (least, most) = and-eq-true-iff (leb 32 (e .clock)) (leb (e .clock) 48) .0 g in
@@ -187,8 +218,9 @@ module _ {h : Head} (typed : HeadTyped h) {firsts : List Time} {units : List ℕ
       (λ l.
       let (least, below) = and-eq-true-iff (leb 16 (e .clock)) (ltb (e .clock) 32) .0 l in
       local-timely e (leb-true 16 (e .clock) least) (ltb-true (e .clock) 32 below))
-      (λ l. rw (no-units (e .clock) z g l, z, g, l) (le-ltb (leftFrom (e .due) (getD firsts (e .clock) noTime)) 0 (omega arith)))))
+      (λ l. rw (no-units (e .clock) z p g l, z, p, g, l) (le-ltb (leftFrom (e .due) (getD firsts (e .clock) noTime)) 0 (omega arith))))))
 
-  pub all-timely : (xs : List ExpirationEntry) → all (isWithin firsts units) xs ≡ all (isTimely (h .tasks) (h .global)) xs
-  all-timely [] = refl
-  all-timely (x ∷ xs) = rw (timely x, all-timely xs)
+  pub all-timely : (xs : List ExpirationEntry) → ((k : ℕ) → k < length xs → getD xs k freeEntry .due < counterRange)
+      → all (isWithin firsts units) xs ≡ all (isTimely (h .tasks) (h .global)) xs
+  all-timely [] below = refl
+  all-timely (x ∷ xs) below = rw (timely x (below 0 (omega arith)), all-timely xs (λ k l. below (suc k) (omega arith)))

@@ -9,7 +9,7 @@ use Rattle.lists.specs.Tests.{any, all}
 use Rattle.lists.specs.Filled.{Filled}
 use Rattle.ledger.specs.Limits.{counterRange, limits, taskCount}
 use Rattle.ledger.specs.Tasks.{isAbsent}
-use Rattle.record.specs.Codes.{stateOf, dueOf, setterOf, leftAt, absentEntry, localCode, globalCode, departedCode}
+use Rattle.record.specs.Codes.{stateOf, dueOf, setterOf, leftAt, absentEntry, localCode, globalCode, departedCode, pinnedCode}
 use Rattle.record.specs.WellFormed.{isFitDue, isNaming, isSizedFor}
 use Rattle.record.specs.Tables.{BlockEntry, ExpirationEntry, entriesOf, blockEntries, expirationEntries, byteValues}
 use Rattle.record.specs.declared.GlobalTime.{GlobalTime}
@@ -19,9 +19,9 @@ use Rattle.record.specs.declared.TaskEntry.{TaskEntry}
 use Rattle.fitness.specs.declared.times.Time.{Time}
 use Rattle.fitness.specs.declared.times.Time.the-variants.{Local, Global}
 
--- a free entry, or one that goes by a clock that there is and names a block that there is
+-- a free entry, or one that has a code that there is and names a block that there is
 abbrev pub isCodedBy : ℕ → ℕ → Bool
-isCodedBy clock block = eqb clock 0 || (leb localCode clock && leb clock departedCode && ltb block blockEntries)
+isCodedBy clock block = eqb clock 0 || (leb localCode clock && leb clock pinnedCode && ltb block blockEntries)
 
 abbrev pub isCoded : ExpirationEntry → Bool
 isCoded e = isCodedBy (e .clock) (e .block)
@@ -54,13 +54,19 @@ isByte k byte = eqb byte k
 pub record Marks (bytes : List ℕ) (flags : List Bool) : Type 0 where
   pub so : (k : ℕ) → k < byteValues → getD flags k false ≡ any (isByte k) bytes
 
+-- which flags the entries set
+pub record Flags (clocks named : List ℕ) (flags : List Bool) : Type 0 where
+  pub bytes : List ℕ
+  pub slots : Slots clocks named bytes
+  pub marks : Marks bytes flags
+
 -- the flags say which blocks there are among the entries
 pub record Names (named : List Bool) (xs : List ExpirationEntry) : Type 0 where
   pub so : (k : ℕ) → k < blockEntries → getD named k false ≡ any (isNaming k) xs
 
--- the codes of clocks as indices: that of a departed setter is the last that there is
+-- the codes as indices: that of a pinned expiration is the last that there is
 abbrev pub codeCount : ℕ
-codeCount = departedCode + 1
+codeCount = pinnedCode + 1
 
 -- clocks whose codes there are
 pub record Codes (clocks : List ℕ) : Type 0 where
@@ -84,6 +90,11 @@ leftFrom due (Global at) = leftAt due (at .0)
 abbrev pub isWithinBy : ℕ → Time → ℕ → Bool
 isWithinBy units first due = ltb (leftFrom due first) units
 
+-- of a due number that the counters can have
+pub record WithinBy (units : ℕ) (first : Time) (due : ℕ) (r : Bool) : Type 0 where
+  pub so : r ≡ isWithinBy units first due
+  pub below : due < counterRange
+
 -- the first times that lie ahead
 abbrev pub nextLocal : LocalTime → Time
 nextLocal now = Local (record { 0 = (now .0 + 1) % counterRange })
@@ -94,12 +105,13 @@ nextGlobal now = Global (record { 0 = (now .0 + 1) % counterRange })
 abbrev pub noTime : Time
 noTime = Local (record { 0 = 0 })
 
--- By each clock the first time that lies ahead,
+-- By each clock the first time that lies ahead, and 0 for a pinned expiration, which has none,
 pub record Firsts (tasks : List TaskEntry) (global : GlobalTime) (r : List Time) : Type 0 where
   pub by-task : (t : ℕ) → t < taskCount → getD r (t + localCode) noTime ≡ nextLocal (getD tasks t absentEntry .clock)
   pub by-global : (k : ℕ) → globalCode ≤ k → k ≤ departedCode → getD r k noTime ≡ nextGlobal global
+  pub by-pinned : getD r pinnedCode noTime ≡ noTime
 
--- and the units in which its expirations may be due: all of a free entry, none of an absent task nor by a code that is no clock's.
+-- and the units in which its expirations may be due: all of a free entry, none of an absent task nor by a code that there is not.
 abbrev pub unitsOf : ℕ → ℕ → ℕ
 unitsOf most state = cond (isAbsent (stateOf state)) 0 most
 
@@ -110,14 +122,16 @@ pub record Units (tasks : List TaskEntry) (r : List ℕ) : Type 0 where
   pub by-task : (t : ℕ) → t < taskCount → getD r (t + localCode) 0 ≡ unitsOf (limits .extension + 1) (getD tasks t absentEntry .state)
   pub by-global : (t : ℕ) → t < taskCount → getD r (t + globalCode) 0 ≡ unitsOf (limits .extension + 2) (getD tasks t absentEntry .state)
   pub by-departed : getD r departedCode 0 ≡ limits .extension + 2
+  pub by-pinned : getD r pinnedCode 0 ≡ 1
 
 -- an entry by such tables
 abbrev pub isWithin : List Time → List ℕ → ExpirationEntry → Bool
 isWithin firsts units e = isWithinBy (getD units (e .clock) 0) (getD firsts (e .clock) noTime) (e .due)
 
--- whatever blocks the entries name
+-- whatever blocks the entries name; the due numbers are such as the counters can have
 pub record AllWithin (firsts : List Time) (units clocks dues : List ℕ) (r : Bool) : Type 0 where
   pub so : (named : List ℕ) → length named ≡ expirationEntries → r ≡ all (isWithin firsts units) (entriesOf clocks named dues)
+  pub below : (k : ℕ) → k < expirationEntries → getD dues k 0 < counterRange
 
 -- an entry by W6 to W8 and W14, which say when it is due and who set it, apart from the block that it names
 abbrev pub isTimely : List TaskEntry → GlobalTime → ExpirationEntry → Bool

@@ -2,22 +2,22 @@
 ghost use Prim.Native.Nat.{_<_};
 ghost use mathlib.Core.Path.{_≡_};
 ghost use Rattle.record.specs.Tables.{expirationEntries};
-ghost use Rattle.fitness.specs.Checks.{isCodedBy, SizedCodes, AllCoded, IndexOf, Codes, CodeAt, slotBy, Slots, Marks};
+ghost use Rattle.fitness.specs.Checks.{isCodedBy, SizedCodes, AllCoded, IndexOf, Codes, CodeAt, slotBy, Slots, Marks, Flags};
 use record::BLOCK_COUNT;
 use record::BYTE_VALUES;
 use record::EXPIRATION_COUNT;
-use record::codes::DEPARTED;
 use record::codes::FREE;
 use record::codes::LOCAL;
+use record::codes::PINNED;
 
 // The flag that an entry sets that names no block.
 const NO_BLOCK: u8 = 255;
 
-// A free entry, or one that goes by a clock that there is and names a block that there is.
+// A free entry, or one that has a code that there is and names a block that there is.
 fn is_coded(clock: u8, block: u8) -> bool
     ensures { λ r. ⌜ r ≡ isCodedBy clock block ⌝ }
 {
-    (clock == FREE) | ((LOCAL <= clock) & (clock <= DEPARTED) & ((block as usize) < BLOCK_COUNT))
+    (clock == FREE) | ((LOCAL <= clock) & (clock <= PINNED) & ((block as usize) < BLOCK_COUNT))
 }
 
 pub fn all_coded<'a>(clocks: &'a [u8; EXPIRATION_COUNT], named: &'a [u8; EXPIRATION_COUNT]) -> bool
@@ -31,13 +31,13 @@ pub fn all_coded<'a>(clocks: &'a [u8; EXPIRATION_COUNT], named: &'a [u8; EXPIRAT
     fit
 }
 
-fn index_of(byte: u8) -> usize
+pub fn index_of(byte: u8) -> usize
     ensures { λ r. ⌜ IndexOf byte r ⌝ }
 {
     byte as usize
 }
 
-// The code of an expiration's clock, which there is.
+// The code of an expiration, which there is.
 pub fn code_at(clocks: &[u8; EXPIRATION_COUNT], i: usize) -> usize
     requires { ⌜ Codes (now clocks) × (i < expirationEntries) ⌝ }
     ensures { λ r. ⌜ CodeAt (now (clocks .entry)) i r ⌝ }
@@ -51,7 +51,7 @@ fn slot_for(clock: u8, block: u8) -> u8
     if clock == FREE { NO_BLOCK } else { block }
 }
 
-pub fn slots<'a>(
+fn slots<'a>(
     clocks: &'a [u8; EXPIRATION_COUNT],
     named: &'a [u8; EXPIRATION_COUNT],
 ) -> [u8; EXPIRATION_COUNT]
@@ -66,7 +66,7 @@ pub fn slots<'a>(
 }
 
 // Which bytes there are.
-pub fn marks(bytes: [u8; EXPIRATION_COUNT]) -> [bool; BYTE_VALUES]
+fn marks(bytes: [u8; EXPIRATION_COUNT]) -> [bool; BYTE_VALUES]
     ensures { λ r. ⌜ Marks bytes r ⌝ }
 {
     let mut out = [false; BYTE_VALUES];
@@ -75,4 +75,15 @@ pub fn marks(bytes: [u8; EXPIRATION_COUNT]) -> [bool; BYTE_VALUES]
         out[at] = true;
     }
     out
+}
+
+// Which blocks there are among the entries. The bytes end here: what comes later takes their stack.
+pub fn flags_of<'a>(
+    clocks: &'a [u8; EXPIRATION_COUNT],
+    named: &'a [u8; EXPIRATION_COUNT],
+) -> [bool; BYTE_VALUES]
+    requires { ⌜ SizedCodes (now clocks) (now named) ⌝ }
+    ensures { λ r. ⌜ Flags (now (clocks .entry)) (now (named .entry)) r ⌝ }
+{
+    marks(slots(clocks, named))
 }

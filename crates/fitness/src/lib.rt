@@ -1,18 +1,19 @@
-// The test of well-formedness (01: a fit record) on lent tables, in parts, each one pass: tasks; expirations by themselves; blocks by who names them; handles.
+// The test of well-formedness (01: a fit record) on lent tables, in parts, each one pass: tasks; expirations by themselves; the pinned ones; blocks by who names them; handles.
 ghost use mathlib.Core.Path.{_≡_};
 ghost use Rattle.record.specs.Tables.{lent, Sized};
 ghost use Rattle.record.specs.WellFormed.{isWellFormed};
 
 mod blocks;
 mod codes;
+mod pins;
 mod times;
 
 use blocks::check_blocks;
 use codes::all_coded;
-use codes::marks;
-use codes::slots;
+use codes::flags_of;
 use handles::distinct;
 use handles::used_of;
+use pins::pinned_once;
 use record::BLOCK_COUNT;
 use record::EXPIRATION_COUNT;
 use record::Head;
@@ -45,10 +46,10 @@ pub fn is_well_formed<'a>(
     if !all_timely(h, clocks, dues) {
         return false;
     }
-    let flags = marks(slots(clocks, named));
+    let flags = flags_of(clocks, named);
     let used = used_of(handles);
     if !check_blocks(h.given, flags, used, handles, lengths) {
         return false;
     }
-    distinct(handles, &used)
+    distinct(handles, &used) & pinned_once(clocks, named)
 }

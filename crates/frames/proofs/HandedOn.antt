@@ -8,7 +8,7 @@ use borrow.Author.Tests.{leb-true, leb-false}
 use lib.Dec.{leb}
 use lib.ListN.{length, drop, length-drop}
 use Rattle.lists.proofs.Cases.{by-test}
-use Rattle.ledger.specs.declared.Call.the-variants.{Schedule, Make, Refresh, Read, Write, Batch}
+use Rattle.ledger.specs.declared.Call.the-variants.{Schedule, Make, Refresh, Read, Write, Batch, Release}
 use Rattle.ledger.specs.declared.Request.{Request}
 use Rattle.ledger.specs.declared.Request.the-variants.{Use, Report, Remaining}
 use Rattle.ledger.specs.Ledger.{Ledger, replyToRequest, afterRequest}
@@ -46,6 +46,7 @@ module _ (L : Ledger) where
       let long : largestBatch < length (handlesOf handed) = rw (handles-count handed, length-drop) (omega arith) in
       let also : largestBatch < length (handlesOf bytes) = rw (handles-count bytes) (omega arith) in
       (long-reply L task kind extension handed bytes long also, long-next L task kind extension handed bytes long also))
+  enough (Use (Release task handle)) bytes = whole (Use (Release task handle)) bytes
   enough Report bytes = whole Report bytes
   enough (Remaining task handle) bytes = whole (Remaining task handle) bytes
 

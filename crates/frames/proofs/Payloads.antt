@@ -17,7 +17,7 @@ use Rattle.ledger.specs.declared.Refusal.{Refusal}
 use Rattle.ledger.specs.declared.Request.{Request}
 use Rattle.ledger.specs.Limits.{largeSize}
 use Rattle.text.specs.Fields.{fieldsAt}
-use Rattle.frames.specs.Frames.{Operation, schedule, make, refresh, read, write, report, remaining, batch, widthsOf, headSize, Tail, bytesUpTo, anyHandles, tailOf, isTail, mostHandleBytes, isSizeOf, handedOn, kindOf, withKind, requestOf, frameWith, frameAs, operations, operationIn, frameBy, frameIn, frameOf, lastBytes, payloadOf, Decodes, operationOf}
+use Rattle.frames.specs.Frames.{Operation, schedule, make, refresh, read, write, report, remaining, batch, release, widthsOf, headSize, Tail, bytesUpTo, anyHandles, tailOf, isTail, mostHandleBytes, isSizeOf, handedOn, kindOf, withKind, requestOf, frameWith, frameAs, operations, operationIn, frameBy, frameIn, frameOf, lastBytes, payloadOf, Decodes, operationOf}
 use Rattle.text.specs.Hex.{isHex, bytesOf}
 use Rattle.frames.specs.declared.Frame.{Frame}
 use Rattle.frames.specs.declared.requests.KindByte.{KindByte}
@@ -48,6 +48,7 @@ most-handed write = omega arith
 most-handed report = omega arith
 most-handed remaining = omega arith
 most-handed batch = omega arith
+most-handed release = omega arith
 
 pub handed-on : (tail : Tail) (count : ℕ) → isTail tail count ≡ true → (handedOn tail count ≤ mostHanded tail) × (handedOn tail count ≤ count)
 handed-on (bytesUpTo most) count e = (leb-true count most e, omega arith)
@@ -69,6 +70,7 @@ module _ {request : Request} where
   operation-of report values e = cc
   operation-of remaining values e = cc
   operation-of batch values e = with-kind batch (kindOf (getD values 1 0)) _ (λ kind. refl) e
+  operation-of release values e = cc
 
 -- what the size of a frame shows that gives a request: the bytes after its fields may follow, and so many of them are handed on
 record Brought (size : ℕ) (o : Operation) (count : ℕ) : Type 0 where

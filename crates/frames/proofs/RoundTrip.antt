@@ -9,13 +9,13 @@ use lib.ListN.{length, length-append}
 use lib.Seq.{drop-at}
 use Rattle.lists.specs.Tests.{All}
 use Rattle.lists.proofs.All.{all-append}
-use Rattle.ledger.specs.declared.Call.the-variants.{Schedule, Make, Refresh, Read, Write, Batch}
+use Rattle.ledger.specs.declared.Call.the-variants.{Schedule, Make, Refresh, Read, Write, Batch, Release}
 use Rattle.ledger.specs.declared.Event.the-variants.{Join, Leave, Block, Resume, Tick}
-use Rattle.ledger.specs.declared.Kind.the-variants.{Local, Global}
+use Rattle.ledger.specs.declared.Kind.the-variants.{Local, Global, Pinned}
 use Rattle.ledger.specs.declared.Request.{Request}
 use Rattle.ledger.specs.declared.Request.the-variants.{Use, Report, Remaining}
 use Rattle.text.specs.Fields.{inFields, FitFields}
-use Rattle.frames.specs.Frames.{Operation, schedule, make, refresh, read, write, report, remaining, batch, operations, operationNumber, operationIn, widthsOf, headSize, tailOf, isTail, handedOn, requestOf, frameAs, frameBy, frameIn, frameOf, lastBytes, payloadOf, operationOf, valuesOf, lineOf, RoundTrip}
+use Rattle.frames.specs.Frames.{Operation, schedule, make, refresh, read, write, report, remaining, batch, release, operations, operationNumber, operationIn, widthsOf, headSize, tailOf, isTail, handedOn, requestOf, frameAs, frameBy, frameIn, frameOf, lastBytes, payloadOf, operationOf, valuesOf, lineOf, RoundTrip}
 use Rattle.text.specs.Hex.{isHex, bytesOf}
 use Rattle.frames.specs.declared.Frame.{Frame}
 use Rattle.text.proofs.Digits.{hex-hex, bytes-hex}
@@ -37,18 +37,23 @@ found write = (refl, omega arith)
 found report = (refl, omega arith)
 found remaining = (refl, omega arith)
 found batch = (refl, omega arith)
+found release = (refl, omega arith)
 
 -- its fields' values make the request
 same-request : (request : Request) → requestOf (operationOf request) (valuesOf request) ≡ some request
 same-request (Use (Schedule event task)) = refl
 same-request (Use (Make task Local extension length)) = refl
 same-request (Use (Make task Global extension length)) = refl
+same-request (Use (Make task Pinned extension length)) = refl
 same-request (Use (Refresh task Local extension handle)) = refl
 same-request (Use (Refresh task Global extension handle)) = refl
+same-request (Use (Refresh task Pinned extension handle)) = refl
 same-request (Use (Read task handle)) = refl
 same-request (Use (Write task handle offset)) = refl
 same-request (Use (Batch task Local extension)) = refl
 same-request (Use (Batch task Global extension)) = refl
+same-request (Use (Batch task Pinned extension)) = refl
+same-request (Use (Release task handle)) = refl
 same-request Report = refl
 same-request (Remaining task handle) = refl
 

@@ -13,20 +13,20 @@ use Rattle.lists.specs.Tests.{All}
 use Rattle.frames.specs.declared.Frame.{Frame}
 use Rattle.frames.specs.declared.requests.KindByte.{KindByte}
 use Rattle.frames.specs.declared.requests.KindByte.the-variants.{Known, Unknown}
-use Rattle.ledger.specs.declared.Call.the-variants.{Schedule, Make, Refresh, Read, Write, Batch}
+use Rattle.ledger.specs.declared.Call.the-variants.{Schedule, Make, Refresh, Read, Write, Batch, Release}
 use Rattle.ledger.specs.declared.Event.{Event}
 use Rattle.ledger.specs.declared.Event.the-variants.{Join, Leave, Block, Resume, Tick}
 use Rattle.ledger.specs.declared.Kind.{Kind}
-use Rattle.ledger.specs.declared.Kind.the-variants.{Local, Global}
+use Rattle.ledger.specs.declared.Kind.the-variants.{Local, Global, Pinned}
 use Rattle.ledger.specs.declared.Refusal.the-variants.{NotHexadecimal, UnknownOperation, WrongFrameLength, UnknownKind}
 use Rattle.ledger.specs.declared.Request.{Request}
 use Rattle.ledger.specs.declared.Request.the-variants.{Use, Report, Remaining}
 use Rattle.ledger.specs.Limits.{largeSize, largestBatch}
 
--- the twelve operations; five of them are the events of a task
+-- the thirteen operations; five of them are the events of a task
 pub data Operation : Type 0 where
   schedule : Event → Operation
-  make refresh read write report remaining batch : Operation
+  make refresh read write report remaining batch release : Operation
 
 abbrev pub operationNumber : Operation → ℕ
 operationNumber (schedule Join) = 1
@@ -41,10 +41,11 @@ operationNumber write = 9
 operationNumber report = 10
 operationNumber remaining = 11
 operationNumber batch = 12
+operationNumber release = 13
 
 abbrev pub operations : List Operation
 operations =
-    schedule Join ∷ schedule Leave ∷ schedule Block ∷ schedule Resume ∷ schedule Tick ∷ make ∷ refresh ∷ read ∷ write ∷ report ∷ remaining ∷ batch ∷ []
+    schedule Join ∷ schedule Leave ∷ schedule Block ∷ schedule Resume ∷ schedule Tick ∷ make ∷ refresh ∷ read ∷ write ∷ report ∷ remaining ∷ batch ∷ release ∷ []
 
 -- the one of these with a number, or none
 abbrev pub operationIn : List Operation → ℕ → Option Operation
@@ -69,6 +70,8 @@ widthsOf report = []
 widthsOf remaining = 1 ∷ 4 ∷ []
 -- F12: task, kind, extension
 widthsOf batch = 1 ∷ 1 ∷ 1 ∷ []
+-- F13: task, handle
+widthsOf release = 1 ∷ 4 ∷ []
 
 -- operation and fields
 abbrev pub headSize : Operation → ℕ
@@ -90,6 +93,7 @@ tailOf report = bytesUpTo 0
 tailOf remaining = bytesUpTo 0
 -- F12: the handles of the objects
 tailOf batch = anyHandles
+tailOf release = bytesUpTo 0
 
 -- F12: the bytes of a handle
 abbrev pub handleWidth : ℕ
@@ -119,7 +123,7 @@ handedOn anyHandles count = min count mostHandleBytes
 
 -- F21: a kind by its byte; R19 where it is unknown
 abbrev pub kindOf : ℕ → KindByte
-kindOf number = cond (eqb number 0) (Known Local) (cond (eqb number 1) (Known Global) Unknown)
+kindOf number = cond (eqb number 0) (Known Local) (cond (eqb number 1) (Known Global) (cond (eqb number 2) (Known Pinned) Unknown))
 
 abbrev pub withKind : KindByte → (Kind → Request) → Option Request
 withKind (Known kind) request = some (request kind)
@@ -137,6 +141,7 @@ requestOf write values = some (Use (Write (getD values 0 0) (getD values 1 0) (g
 requestOf report values = some Report
 requestOf remaining values = some (Remaining (getD values 0 0) (getD values 1 0))
 requestOf batch values = withKind (kindOf (getD values 1 0)) (λ (kind : Kind). Use (Batch (getD values 0 0) kind (getD values 2 0)))
+requestOf release values = some (Use (Release (getD values 0 0) (getD values 1 0)))
 
 abbrev pub frameWith : Option Request → ℕ → Frame
 frameWith none count = Frame.Refused UnknownKind
@@ -187,12 +192,14 @@ operationOf (Use (Refresh task kind extension handle)) = refresh
 operationOf (Use (Read task handle)) = read
 operationOf (Use (Write task handle offset)) = write
 operationOf (Use (Batch task kind extension)) = batch
+operationOf (Use (Release task handle)) = release
 operationOf Report = report
 operationOf (Remaining task handle) = remaining
 
 abbrev pub kindNumber : Kind → ℕ
 kindNumber Local = 0
 kindNumber Global = 1
+kindNumber Pinned = 2
 
 abbrev pub valuesOf : Request → List ℕ
 valuesOf (Use (Schedule event task)) = task ∷ []
@@ -201,6 +208,7 @@ valuesOf (Use (Refresh task kind extension handle)) = task ∷ kindNumber kind �
 valuesOf (Use (Read task handle)) = task ∷ handle ∷ []
 valuesOf (Use (Write task handle offset)) = task ∷ handle ∷ offset ∷ []
 valuesOf (Use (Batch task kind extension)) = task ∷ kindNumber kind ∷ extension ∷ []
+valuesOf (Use (Release task handle)) = task ∷ handle ∷ []
 valuesOf Report = []
 valuesOf (Remaining task handle) = task ∷ handle ∷ []
 

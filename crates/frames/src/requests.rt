@@ -19,7 +19,7 @@ ghost use mathlib.Core.Bool.{true};
 ghost use mathlib.Core.Path.{_≡_};
 ghost use lib.ListN.{length};
 ghost use Rattle.ledger.specs.Limits.{largeSize};
-ghost use Rattle.frames.specs.Frames.{Decodes, kindOf, frameAs, frameIn, frameOf, schedule, make, refresh, read, write, report, remaining, batch};
+ghost use Rattle.frames.specs.Frames.{Decodes, kindOf, frameAs, frameIn, frameOf, schedule, make, refresh, read, write, report, remaining, batch, release};
 ghost use Rattle.text.specs.Hex.{isHex, bytesOf};
 
 // F21: the kind that a byte names.
@@ -34,6 +34,7 @@ pub fn kind_of(number: u8) -> KindByte
     match number {
         0 => KindByte::Known(Kind::Local),
         1 => KindByte::Known(Kind::Global),
+        2 => KindByte::Known(Kind::Pinned),
         _ => KindByte::Unknown,
     }
 }
@@ -199,6 +200,19 @@ fn batch(line: &[u8]) -> Frame
     )
 }
 
+// F13: task, handle.
+fn release(line: &[u8]) -> Frame
+    requires { ⌜ isHex (now line) ≡ true ⌝ }
+    ensures { λ r. ⌜ r ≡ frameAs release (bytesOf (now (line .entry))) ⌝ }
+{
+    if line.len() / 2 != 6 {
+        return Frame::Refused(Refusal::WrongFrameLength);
+    }
+    let task = byte_at(line, 1);
+    let handle = word_at(line, 2);
+    Frame::Request(Request::Use(Call::Release { task, handle }), 0)
+}
+
 // By the operation's number; R17 where there is none.
 fn frame_in(line: &[u8]) -> Frame
     requires { ⌜ isHex (now line) ≡ true ⌝ }
@@ -220,6 +234,7 @@ fn frame_in(line: &[u8]) -> Frame
         10 => report(line),
         11 => remaining(line),
         12 => batch(line),
+        13 => release(line),
         _ => Frame::Refused(Refusal::UnknownOperation),
     }
 }

@@ -14,7 +14,7 @@ use Rattle.ledger.specs.Objects.{Memory, memoryAfter, expirationsAfter}
 use Rattle.ledger.specs.Ledger.{Ledger, Sent, settled, afterBy, verdictOn, next, afterRequest, afterAll}
 use Rattle.ledger.specs.Awaited.{isAwaited, awaitedOf, isNobodyAwaited, isAccepted, isLastAwaited, isRoundEnd, roundsEnded, globalOf, Awaited}
 use Rattle.ledger.specs.declared.Call.{Call}
-use Rattle.ledger.specs.declared.Call.the-variants.{Schedule, Make, Refresh, Read, Write, Batch}
+use Rattle.ledger.specs.declared.Call.the-variants.{Schedule, Make, Refresh, Read, Write, Batch, Release}
 use Rattle.ledger.specs.declared.Event.{Event}
 use Rattle.ledger.specs.declared.Refusal.{Refusal}
 use Rattle.ledger.specs.declared.Request.{Request}
@@ -44,6 +44,7 @@ carried (Refresh task kind extension handle) new m = omega arith
 carried (Read task handle) new m = omega arith
 carried (Write task handle offset) new m = omega arith
 carried (Batch task kind extension) new m = omega arith
+carried (Release task handle) new m = omega arith
 
 one : (L : Ledger) (request : Request) (new : List ℕ) → globalOf (afterRequest L request new) ≡ globalOf L + cond (isRoundEnd L request new) 1 0
 unfolding next

@@ -15,7 +15,7 @@ use Rattle.lists.proofs.Counts.{any-map, not-any-not}
 use Rattle.lists.proofs.All.{all-every, all-imp, all-append, all-map, all-widened}
 use Rattle.lists.proofs.Filters.{filter-map-filter, filter-filter, filter-filter-append, any-filter}
 use Rattle.ledger.specs.Tasks.{Clocks, isTested}
-use Rattle.ledger.specs.Expirations.{DueTime, Expiration, isOf, isSetBy, putOff, deserted, eachDue, stillLive, lasting, setOnEach}
+use Rattle.ledger.specs.Expirations.{DueTime, Expiration, isOf, isSetBy, putOff, deserted, eachDue, stillLive, lasting, released, setOnEach}
 use Rattle.ledger.specs.Objects.{Object, Memory, Reply, freshMemory, objectAt, written, stands, standing, replyTo, memoryAfter, expirationsAfter, handlesOf}
 use Rattle.ledger.specs.Refusals.{testsOf}
 use Rattle.ledger.specs.Ledger.{settled, fresh, verdictOn, replyBy, afterBy, reply, next, replies}
@@ -24,7 +24,7 @@ use Rattle.ledger.specs.declared.Refusal.{Refusal}
 use Rattle.ledger.specs.declared.Answer.{Answer}
 use Rattle.ledger.specs.declared.Answer.the-variants.{Refused, Done, Advanced, Handle, Bytes, Counted, Lasts}
 use Rattle.ledger.specs.declared.Call.{Call}
-use Rattle.ledger.specs.declared.Call.the-variants.{Schedule, Make, Refresh, Read, Write, Batch}
+use Rattle.ledger.specs.declared.Call.the-variants.{Schedule, Make, Refresh, Read, Write, Batch, Release}
 use Rattle.ledger.specs.declared.Event.{Event}
 use Rattle.ledger.specs.declared.Event.the-variants.{Join, Leave, Block, Resume, Tick}
 use Rattle.ledger.proofs.Verdicts.{isOwn, isOwnVerdict, isClear, isOrdered, Agree, Compared, alike, apart, compared, heap-not-own}
@@ -56,6 +56,7 @@ ordered (Refresh task kind extension handle) new = refl
 ordered (Read task handle) new = refl
 ordered (Write task handle offset) new = refl
 ordered (Batch task kind extension) new = refl
+ordered (Release task handle) new = refl
 
 -- the shared tests come out the same of ledger and heap: but for 13, they look at no object
 agreed : (m : Memory) (xs : List Expiration) (call : Call) (new : List ℕ) → Agree (swept xs m) xs m (testsOf call new)
@@ -66,11 +67,12 @@ agreed m xs (Schedule Block task) new = search
 agreed m xs (Schedule Resume task) new = search
 agreed m xs (Schedule Tick task) new = search
 agreed m xs (Make task kind extension size) new = (refl, (refl, (refl, (refl, (refl, (refl, λ b e. tt))))))
-agreed m xs (Refresh task kind extension handle) new = (refl, (refl, (refl, (refl, (refl, λ g e. tt)))))
+agreed m xs (Refresh task kind extension handle) new = (refl, (refl, (refl, (refl, (refl, (refl, λ g e. tt))))))
 agreed m xs (Read task handle) new = (refl, (refl, (refl, (refl, λ g. tt))))
 agreed m xs (Write task handle offset) new =
     (refl, (refl, (refl, (refl, λ g. (rw (at-standing xs handle (m .objects) (not-false _ g)), tt)))))
-agreed m xs (Batch task kind extension) new = (refl, (refl, (refl, (refl, (refl, (refl, λ g e. tt))))))
+agreed m xs (Batch task kind extension) new = (refl, (refl, (refl, (refl, (refl, (refl, (refl, λ g e. tt)))))))
+agreed m xs (Release task handle) new = (refl, (refl, (refl, (refl, λ g. (refl, tt)))))
 
 -- no test of the pool's own holds exactly when the book finds the use in time and in bounds
 clear : (m : Memory) (xs : List Expiration) (call : Call) (new : List ℕ)
@@ -86,6 +88,7 @@ clear m xs (Refresh task kind extension handle) new = simp (Bool·not-not, not-l
 clear m xs (Read task handle) new = simp (Bool·not-not, and-true)
 clear m xs (Write task handle offset) new = simp (Bool·not-not, and-true)
 clear m xs (Batch task kind extension) new = rw (not-any-not (stands xs) (handlesOf new)) (simp (not-ltb, and-true))
+clear m xs (Release task handle) new = simp (Bool·not-not, and-true)
 
 -- what a call answers depends on nothing that is swept away
 same-reply : (m : Memory) (xs : List Expiration) (call : Call) (new : List ℕ) → isInTimeAndBounds m xs call new ≡ true
@@ -97,6 +100,7 @@ same-reply m xs (Refresh task kind extension handle) new e = refl
 same-reply m xs (Read task handle) new e = rw (at-standing xs handle (m .objects) e)
 same-reply m xs (Write task handle offset) new e = refl
 same-reply m xs (Batch task kind extension) new e = refl
+same-reply m xs (Release task handle) new e = refl
 
 -- the handles of the heap's objects are given
 Numbered : Memory → Type 0
@@ -131,6 +135,11 @@ each-stands due (h ∷ hs) xs e handle s =
     let (here, rest) = and-eq-true-iff (stands xs h) (all (stands xs) hs) .0 e in
     or-second (eqb h handle) (λ a. rw (sym (eqb-true h handle a)) here) (each-stands due hs _ (all-widened (stands xs) _ (λ n t. or-right (eqb h n) t) hs rest) handle s)
 
+-- a release sets none
+released-stands : (released-handle : ℕ) (xs : List Expiration) (handle : ℕ) → stands (released released-handle xs) handle ≡ true → stands xs handle ≡ true
+unfolding released
+released-stands gone xs handle s = any-filter (isOf handle) _ xs s
+
 -- a sweep changes nothing before one that leaves no more
 swept-twice : (xs ys : List Expiration) (os : List Object)
     → All (λ (o : Object). stands ys (o .handle) ≡ true → stands xs (o .handle) ≡ true) os
@@ -160,6 +169,8 @@ same-sweep m xs (Write task handle offset) new k e =
 same-sweep m xs (Batch task kind extension) new k e =
     let stand : all (stands xs) (handlesOf new) ≡ true = and-eq-true-iff _ _ .0 e .0 in
     rw (swept-twice xs _ (m .objects) (all-every _ (λ (o : Object). each-stands _ (handlesOf new) xs stand (o .handle)) (m .objects)))
+same-sweep m xs (Release task handle) new k e =
+    rw (swept-twice xs (released handle xs) (m .objects) (all-every _ (λ o. released-stands handle xs (o .handle)) (m .objects)))
 
 -- the heap's handles stay given
 numbered-after : (m : Memory) (call : Call) (new : List ℕ) → Numbered m → Numbered (memoryAfter call new m)
@@ -171,6 +182,7 @@ numbered-after m (Refresh task kind extension handle) new k = k
 numbered-after m (Read task handle) new k = k
 numbered-after m (Write task handle offset) new k = all-map _ (written handle offset new) (m .objects) k
 numbered-after m (Batch task kind extension) new k = k
+numbered-after m (Release task handle) new k = k
 
 numbered : (m : Memory) (call : Call) (new : List ℕ) → Numbered m → Numbered (heapNext m call new)
 unfolding heapNext
@@ -199,6 +211,7 @@ own-reply none (Refresh task kind extension handle) m = refl
 own-reply none (Read task handle) m = refl
 own-reply none (Write task handle offset) m = refl
 own-reply none (Batch task kind extension) m = refl
+own-reply none (Release task handle) m = refl
 
 -- A refusal of the pool's own is no answer of the heap's, and is not told alike where what is told shows it.
 module _ {X : Type 0} (tell : Reply → X) (isOwnTold : X → Bool)

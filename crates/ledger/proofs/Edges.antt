@@ -7,7 +7,7 @@ use Rattle.lists.specs.Tests.{all, All}
 use Rattle.lists.proofs.Tests.{both, sameBy, sameBy→eq, all→All}
 use Rattle.ledger.specs.Limits.{counterRange, limits, lastHandle}
 use Rattle.ledger.specs.Tasks.{freshClocks, moved, allTicked, tasksAfter, advances, clocksAfter}
-use Rattle.ledger.specs.Expirations.{dueAfter, remaining, putOff, deserted, lasting, setOnEach}
+use Rattle.ledger.specs.Expirations.{dueAfter, remaining, putOff, deserted, lasting, released, setOnEach}
 use Rattle.ledger.specs.Objects.{freshMemory, objectAt, written, replyTo, memoryAfter, expirationsAfter, handlesOf, usage}
 use Rattle.ledger.specs.Refusals.{testsOf, verdict}
 use Rattle.ledger.specs.Remaining.{remainingLife}
@@ -16,6 +16,7 @@ use Rattle.ledger.specs.Rows.{Row, answered, expected, clockAfter, RowHo
 use Rattle.ledger.specs.Edges.{edges, EdgesHold}
 use Rattle.ledger.specs.MoreEdges.{moreEdges, MoreEdgesHold}
 use Rattle.ledger.specs.PutOff.{waitingEdges}
+use Rattle.ledger.specs.Pinned.{pinnedEdges}
 
 -- a row's two equations as a test
 passes : Row → Bool
@@ -31,12 +32,12 @@ passing-holds row t =
     }
 
 -- the checker runs all calls of the tables
-all-pass : T (all passes edges) × T (all passes moreEdges) × T (all passes waitingEdges)
-unfolding passes edges moreEdges waitingEdges fresh reply next replies afterAll testsOf verdict
-    freshMemory objectAt written overwritten replyTo memoryAfter expirationsAfter handlesOf setOnEach usage dueAfter remaining remainingLife putOff deserted lasting
+all-pass : T (all passes edges) × T (all passes moreEdges) × T (all passes waitingEdges) × T (all passes pinnedEdges)
+unfolding passes edges moreEdges waitingEdges pinnedEdges fresh reply next replies afterAll testsOf verdict
+    freshMemory objectAt written overwritten replyTo memoryAfter expirationsAfter handlesOf setOnEach usage dueAfter remaining remainingLife putOff deserted lasting released
     freshClocks moved allTicked tasksAfter advances clocksAfter
     limits lastHandle counterRange
-all-pass = (tt, tt, tt)
+all-pass = (tt, tt, tt, tt)
 
 pub edges-hold : EdgesHold
 unfolding edges
@@ -47,3 +48,6 @@ more-edges-hold = all→All passes passing-holds moreEdges (all-pass .1)
 
 pub waiting-edges-hold : All RowHolds waitingEdges
 waiting-edges-hold = all→All passes passing-holds waitingEdges (all-pass .2)
+
+pub pinned-edges-hold : All RowHolds pinnedEdges
+pinned-edges-hold = all→All passes passing-holds pinnedEdges (all-pass .3)

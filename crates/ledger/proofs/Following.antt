@@ -8,13 +8,13 @@ use mathlib.Core.Path.{_≡_, refl, sym, ap, _∙_}
 use lib.ListN.{length, List·getD-eq-default}
 use Rattle.lists.proofs.Filters.{filter-append}
 use Rattle.ledger.specs.Tasks.{Clocks, taskAt, absentTask, advances, clocksAfter}
-use Rattle.ledger.specs.Expirations.{DueTime, departed, Expiration, stillLive, dueAfter, lasting, setOnEach}
+use Rattle.ledger.specs.Expirations.{DueTime, departed, Expiration, stillLive, dueAfter, lasting, released, setOnEach}
 use Rattle.ledger.specs.Objects.{Memory, memoryAfter, expirationsAfter, handlesOf}
 use Rattle.ledger.specs.Refusals.{testsOf}
-use Rattle.ledger.specs.Ledger.{Ledger, Sent, fresh, settled, afterBy, verdictOn, next, afterRequest, afterAll}
-use Rattle.ledger.specs.Outlives.{Move, moveOf, moveIn, setIn, leftBy, leftIn, afterSent, followed, Following}
+use Rattle.ledger.specs.Ledger.{Ledger, Sent, fresh, settled, afterBy, verdictOn, next, afterRequest, afterSent, afterAll}
+use Rattle.ledger.specs.Outlives.{Move, neither, happens, releases, moveOf, moveIn, setIn, leftBy, leftIn, followed, Following}
 use Rattle.ledger.specs.declared.Call.{Call}
-use Rattle.ledger.specs.declared.Call.the-variants.{Schedule, Make, Refresh, Read, Write, Batch}
+use Rattle.ledger.specs.declared.Call.the-variants.{Schedule, Make, Refresh, Read, Write, Batch, Release}
 use Rattle.ledger.specs.declared.Event.{Event}
 use Rattle.ledger.specs.declared.Event.the-variants.{Join, Leave, Block, Resume, Tick}
 use Rattle.ledger.specs.declared.Refusal.{Refusal}
@@ -44,13 +44,17 @@ lasting-none Resume task advanced clocks = refl
 lasting-none Leave task advanced clocks = refl
 lasting-none Tick task advanced clocks = refl
 
-left-append : (clocks : Clocks) (v : Option Move) (xs ys : List Expiration) → leftBy clocks v (xs ++ ys) ≡ leftBy clocks v xs ++ leftBy clocks v ys
-left-append clocks none xs ys = refl
-left-append clocks (some v) xs ys = lasting-append (v .event) (v .task) _ _ xs ys
+left-append : (clocks : Clocks) (v : Move) (xs ys : List Expiration) → leftBy clocks v (xs ++ ys) ≡ leftBy clocks v xs ++ leftBy clocks v ys
+unfolding released
+left-append clocks neither xs ys = refl
+left-append clocks (happens event task) xs ys = lasting-append event task _ _ xs ys
+left-append clocks (releases handle) xs ys = filter-append _ xs ys
 
-pub left-none : (clocks : Clocks) (v : Option Move) → leftBy clocks v [] ≡ []
-left-none clocks none = refl
-left-none clocks (some v) = lasting-none (v .event) (v .task) _ _
+pub left-none : (clocks : Clocks) (v : Move) → leftBy clocks v [] ≡ []
+unfolding released
+left-none clocks neither = refl
+left-none clocks (happens event task) = lasting-none event task _ _
+left-none clocks (releases handle) = refl
 
 -- those of a batch stand before the earlier ones
 set-append : (due : DueTime) (handles : List ℕ) (xs : List Expiration) → setOnEach due handles xs ≡ setOnEach due handles [] ++ xs
@@ -62,13 +66,14 @@ set-append due (h ∷ hs) xs =
 
 carried : (call : Call) (new : List ℕ) (m : Memory) (xs : List Expiration)
     → expirationsAfter call new m xs ≡ expirationsAfter call new m [] ++ leftBy (m .clocks) (moveOf call) xs
-unfolding expirationsAfter moveOf
+unfolding expirationsAfter moveOf released
 carried (Schedule event task) new m xs = ap (λ (zs : List Expiration). zs ++ lasting event task (advances event task (m .clocks)) (clocksAfter event task (m .clocks)) xs) (sym (lasting-none event task _ _))
 carried (Make task kind extension size) new m xs = refl
 carried (Refresh task kind extension handle) new m xs = refl
 carried (Read task handle) new m xs = refl
 carried (Write task handle offset) new m xs = refl
 carried (Batch task kind extension) new m xs = set-append (dueAfter (m .clocks) task kind extension) (handlesOf new) xs
+carried (Release task handle) new m xs = refl
 
 parts : (L : Ledger) (request : Request) (new : List ℕ)
     → afterRequest L request new .expirations ≡ setIn L request new ++ leftIn L request new (L .expirations)
@@ -79,7 +84,7 @@ parts L (Use call) new = by (verdictOn L call new)
   where
     by : (v : Option Refusal)
         → afterBy v (settled (memoryAfter call new (L .memory)) (expirationsAfter call new (L .memory) (L .expirations))) L .expirations
-        ≡ afterBy v (expirationsAfter call new (L .memory) []) [] ++ leftBy (L .memory .clocks) (afterBy v (moveOf call) none) (L .expirations)
+        ≡ afterBy v (expirationsAfter call new (L .memory) []) [] ++ leftBy (L .memory .clocks) (afterBy v (moveOf call) neither) (L .expirations)
     by none = carried call new (L .memory) (L .expirations)
     by (some r) = refl
 
@@ -99,14 +104,16 @@ pub following : Following
 following = record { parts = parts; apart = apart; gone = gone }
 
 -- the clocks after a call go by its event too
-abbrev pub clocksBy : Clocks → Option Move → Clocks
-clocksBy clocks none = clocks
-clocksBy clocks (some v) = clocksAfter (v .event) (v .task) clocks
+abbrev pub clocksBy : Clocks → Move → Clocks
+clocksBy clocks neither = clocks
+clocksBy clocks (happens event task) = clocksAfter event task clocks
+clocksBy clocks (releases handle) = clocks
 
 -- and an event has passed its tests
-abbrev pub MovePassed : Ledger → List ℕ → Option Move → Type 0
-MovePassed L new none = Unit
-MovePassed L new (some v) = Passed (L .memory) (L .expirations) (Schedule (v .event) (v .task)) new
+abbrev pub MovePassed : Ledger → List ℕ → Move → Type 0
+MovePassed L new neither = Unit
+MovePassed L new (happens event task) = Passed (L .memory) (L .expirations) (Schedule event task) new
+MovePassed L new (releases handle) = Unit
 
 clocks-carried : (call : Call) (new : List ℕ) (m : Memory) → memoryAfter call new m .clocks ≡ clocksBy (m .clocks) (moveOf call)
 unfolding memoryAfter moveOf
@@ -116,6 +123,7 @@ clocks-carried (Refresh task kind extension handle) new m = refl
 clocks-carried (Read task handle) new m = refl
 clocks-carried (Write task handle offset) new m = refl
 clocks-carried (Batch task kind extension) new m = refl
+clocks-carried (Release task handle) new m = refl
 
 pub clocks-moved : (L : Ledger) (request : Request) (new : List ℕ)
     → afterRequest L request new .memory .clocks ≡ clocksBy (L .memory .clocks) (moveIn L request new)
@@ -126,7 +134,7 @@ clocks-moved L (Use call) new = by (verdictOn L call new)
   where
     by : (v : Option Refusal)
         → afterBy v (settled (memoryAfter call new (L .memory)) (expirationsAfter call new (L .memory) (L .expirations))) L .memory .clocks
-        ≡ clocksBy (L .memory .clocks) (afterBy v (moveOf call) none)
+        ≡ clocksBy (L .memory .clocks) (afterBy v (moveOf call) neither)
     by none = clocks-carried call new (L .memory)
     by (some r) = refl
 
@@ -138,6 +146,7 @@ call-passed L (Refresh task kind extension handle) new c = tt
 call-passed L (Read task handle) new c = tt
 call-passed L (Write task handle offset) new c = tt
 call-passed L (Batch task kind extension) new c = tt
+call-passed L (Release task handle) new c = tt
 
 pub move-passed : (L : Ledger) (request : Request) (new : List ℕ) → MovePassed L new (moveIn L request new)
 unfolding moveIn
@@ -145,6 +154,6 @@ move-passed L Report new = tt
 move-passed L (Remaining task handle) new = tt
 move-passed L (Use call) new = by (verdictOn L call new) refl
   where
-    by : (v : Option Refusal) → verdictOn L call new ≡ v → MovePassed L new (afterBy v (moveOf call) none)
+    by : (v : Option Refusal) → verdictOn L call new ≡ v → MovePassed L new (afterBy v (moveOf call) neither)
     by none e = call-passed L call new (passed (L .memory) (L .expirations) (testsOf call new) e)
     by (some r) e = tt

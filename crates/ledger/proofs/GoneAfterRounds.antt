@@ -1,9 +1,8 @@
 -- Order 7, the second claim: no call puts a global expiration further ahead than it was, and a round in which its setter never waits brings it one nearer.
 use Prim.Native.Nat.{ℕ, _+_, _-_, _≤_, _<_}
 use native.Mathlib.Omega.{arith}
-use mathlib.Core.Bool.{Bool, true, false, cond, not, _&&_, and-eq-true-iff}
+use mathlib.Core.Bool.{Bool, true, false, cond, not, _&&_, _||_, and-eq-true-iff}
 use mathlib.Core.List.{List, [], _∷_, _++_}
-use mathlib.Core.Option.{Option, none, some}
 use mathlib.Core.Path.{_≡_, refl, sym, ap, subst, _∙_}
 use borrow.Author.Tests.{ltb-true, not-true}
 use lib.Dec.{ltb}
@@ -12,11 +11,11 @@ use Rattle.lists.specs.Tests.{all, filter, All}
 use Rattle.lists.proofs.All.{all-imp, all-both, all-filter, all-map, all-true}
 use Rattle.lists.proofs.Cases.{and₃}
 use Rattle.ledger.specs.Tasks.{Clocks, advances, clocksAfter}
-use Rattle.ledger.specs.Expirations.{DueTime, byLocal, byGlobal, Expiration, dueAfter, remaining, isLive, isSetBy, putOff, deserted, eachDue, stillLive, lasting}
-use Rattle.ledger.specs.Ledger.{Ledger, Sent, afterAll}
+use Rattle.ledger.specs.Expirations.{DueTime, byLocal, byGlobal, pinned, Expiration, dueAfter, remaining, isPinned, isLive, isSetBy, isPinOf, putOff, deserted, eachDue, stillLive, lasting, released}
+use Rattle.ledger.specs.Ledger.{Ledger, Sent, afterSent, afterAll}
 use Rattle.ledger.specs.Awaited.{globalOf}
 use Rattle.ledger.specs.Kept.{Kept}
-use Rattle.ledger.specs.Outlives.{Move, moveIn, leftBy, leftIn, afterSent, followed, isHeld, isFree, isRound, Stretch, callsOf, areRounds, whenSet, GoneAfterRounds}
+use Rattle.ledger.specs.Outlives.{Move, neither, happens, releases, moveIn, leftBy, leftIn, followed, isHeld, isFree, isRound, Stretch, callsOf, areRounds, whenSet, GoneAfterRounds}
 use Rattle.ledger.specs.declared.Event.{Event}
 use Rattle.ledger.specs.declared.Event.the-variants.{Join, Leave, Block, Resume, Tick}
 use Rattle.ledger.proofs.Kept.{kept-after}
@@ -28,15 +27,18 @@ use Rattle.ledger.proofs.Rounds.{round-advances}
 abbrev Latest : ℕ → DueTime → Type 0
 Latest most (byLocal setter at) = ⊥
 Latest most (byGlobal setter at) = at ≤ most
+Latest most pinned = ⊥
 
 -- and is still ahead now
 abbrev Ends : ℕ → ℕ → DueTime → Type 0
 Ends now most (byLocal setter at) = ⊥
 Ends now most (byGlobal setter at) = (now < at) × (at ≤ most)
+Ends now most pinned = ⊥
 
 ends-latest : (now most : ℕ) (due : DueTime) → Ends now most due → Latest most due
 ends-latest now most (byLocal setter at) h = h
 ends-latest now most (byGlobal setter at) (ahead, latest) = latest
+ends-latest now most pinned h = h
 
 -- the latest time of one that is left by an event: one later where an advance found its setter waiting
 abbrev latestBy : Bool → Clocks → ℕ → DueTime → ℕ
@@ -47,20 +49,24 @@ put-latest : (advanced : Bool) (clocks : Clocks) (most : ℕ) (due : DueTime) �
 unfolding putOff
 put-latest advanced clocks most (byLocal setter at) h = h
 put-latest advanced clocks most (byGlobal setter at) h = omega arith
+put-latest advanced clocks most pinned h = h
 
 deserted-latest : (task most : ℕ) (due : DueTime) → Latest most due → Latest most (deserted task due)
 unfolding deserted
 deserted-latest task most (byLocal setter at) h = h
 deserted-latest task most (byGlobal setter at) h = h
+deserted-latest task most pinned h = h
 
-live-ends : (clocks : Clocks) (most : ℕ) (due : DueTime) → ltb 0 (remaining clocks due) ≡ true → Latest most due → Ends (clocks .global) most due
+live-ends : (clocks : Clocks) (most : ℕ) (due : DueTime) → (isPinned due || ltb 0 (remaining clocks due)) ≡ true → Latest most due → Ends (clocks .global) most due
 unfolding remaining
 live-ends clocks most (byLocal setter at) e h = h
 live-ends clocks most (byGlobal setter at) e h = (omega (arith, ltb-true 0 (at - clocks .global) e), h)
+live-ends clocks most pinned e h = h
 
 same-ends : (now most : ℕ) (due : DueTime) → Ends now most due → Ends now (most + 0) due
 same-ends now most (byLocal setter at) h = h
 same-ends now most (byGlobal setter at) h = omega (arith, h)
+same-ends now most pinned h = h
 
 -- the ones that an advance test leaves
 still-ends : (advanced : Bool) (clocks : Clocks) (most : ℕ) (xs : List Expiration) → All (λ (x : Expiration). Latest most (x .due)) xs
@@ -86,28 +92,33 @@ lasting-ends clocks task most Leave xs h =
     (all-filter others (λ x e k. deserted-latest task most (x .due) (ends-latest (clocks .global) most (x .due) k)) xs h))
 
 -- one call, by its event
-abbrev advancedBy : Clocks → Option Move → Bool
-advancedBy clocks none = false
-advancedBy clocks (some v) = advances (v .event) (v .task) clocks
+abbrev advancedBy : Clocks → Move → Bool
+advancedBy clocks neither = false
+advancedBy clocks (happens event task) = advances event task clocks
+advancedBy clocks (releases handle) = false
 
 abbrev AllEnd : ℕ → ℕ → List Expiration → Type 0
 AllEnd now most xs = All (λ (x : Expiration). Ends now most (x .due)) xs
 
-left-ends : (clocks : Clocks) (most : ℕ) (v : Option Move) (xs : List Expiration) → AllEnd (clocks .global) most xs
+left-ends : (clocks : Clocks) (most : ℕ) (v : Move) (xs : List Expiration) → AllEnd (clocks .global) most xs
     → All (λ (x : Expiration). Ends (clocksBy clocks v .global) (latestBy (advancedBy clocks v) (clocksBy clocks v) most (x .due)) (x .due)) (leftBy clocks v xs)
-left-ends clocks most none xs h = all-imp (λ x k. same-ends (clocks .global) most (x .due) k) xs h
-left-ends clocks most (some v) xs h = lasting-ends clocks (v .task) most (v .event) xs h
+unfolding released
+left-ends clocks most neither xs h = all-imp (λ x k. same-ends (clocks .global) most (x .due) k) xs h
+left-ends clocks most (happens event task) xs h = lasting-ends clocks task most event xs h
+left-ends clocks most (releases handle) xs h = all-filter (λ (x : Expiration). not (isPinOf handle x)) (λ x e k. same-ends (clocks .global) most (x .due) k) xs h
 
 ends-later : (now most later : ℕ) (due : DueTime) → most ≤ later → Ends now most due → Ends now later due
 ends-later now most later (byLocal setter at) l h = h
 ends-later now most later (byGlobal setter at) l h = omega (arith, h)
+ends-later now most later pinned l h = h
 
 -- no call puts them further ahead,
-no-further : (clocks : Clocks) (ahead : ℕ) (v : Option Move) (held : Bool)
+no-further : (clocks : Clocks) (ahead : ℕ) (v : Move) (held : Bool)
     → clocks .global + ahead + cond (advancedBy clocks v && held) 1 0 ≤ clocksBy clocks v .global + ahead
 unfolding clocksAfter
-no-further clocks ahead none held = omega arith
-no-further clocks ahead (some v) held = by (advances (v .event) (v .task) clocks) held
+no-further clocks ahead neither held = omega arith
+no-further clocks ahead (releases handle) held = omega arith
+no-further clocks ahead (happens event task) held = by (advances event task clocks) held
   where
     by : (advanced waits : Bool) → clocks .global + ahead + cond (advanced && waits) 1 0 ≤ cond advanced (clocks .global + 1) (clocks .global) + ahead
     by true true = omega arith
@@ -167,6 +178,7 @@ over now (x ∷ xs) (h, hs) = absurd (never (x .due) h)
     never : (due : DueTime) → Ends now (now + 0) due → ⊥
     never (byLocal setter at) k = k
     never (byGlobal setter at) k = omega (arith, k)
+    never pinned k = k
 
 gone : (rs : List Stretch) (rest : List Sent) (L : Ledger) (xs : List Expiration) → Kept L → AllEnd (globalOf L) (globalOf L + length rs) xs → areRounds L xs rs ≡ true
     → followed L (callsOf rs rest) xs ≡ []

@@ -13,16 +13,17 @@ use Rattle.ledger.specs.Expirations.{Expiration, isOf}
 use Rattle.ledger.specs.Objects.{Object, Memory, freshMemory, stands, written, memoryAfter, expirationsAfter, handlesOf}
 use Rattle.ledger.specs.Refusals.{testsOf}
 use Rattle.ledger.specs.Ledger.{Ledger, Sent, fresh, settled, afterBy, verdictOn, next, afterRequest, afterAll}
-use Rattle.ledger.specs.Kept.{TaskKept, ClocksKept, ObjectsKept, ExpirationsKept, Kept}
+use Rattle.ledger.specs.Kept.{TaskKept, ClocksKept, ObjectsKept, ExpirationsKept, PinsKept, Kept}
 use Rattle.ledger.specs.declared.Call.{Call}
-use Rattle.ledger.specs.declared.Call.the-variants.{Schedule, Make, Refresh, Read, Write, Batch}
+use Rattle.ledger.specs.declared.Call.the-variants.{Schedule, Make, Refresh, Read, Write, Batch, Release}
 use Rattle.ledger.specs.declared.Refusal.{Refusal}
 use Rattle.ledger.specs.declared.Request.{Request}
 use Rattle.ledger.specs.declared.Request.the-variants.{Use, Report, Remaining}
 use Rattle.ledger.proofs.Passed.{Passed, passed}
+use Rattle.ledger.proofs.KeptPins.{pins-carried}
 use Rattle.ledger.proofs.KeptTasks.{absent-kept, clocks-after}
 use Rattle.ledger.proofs.KeptObjects.{objects-settled, objects-made, objects-written}
-use Rattle.ledger.proofs.KeptExpirations.{isListed, expirations-after, reowned, expirations-settled, expirations-set, expirations-set-each}
+use Rattle.ledger.proofs.KeptExpirations.{isListed, expirations-after, reowned, expirations-settled, expirations-released, expirations-set, expirations-set-each}
 
 pub kept-fresh : Kept fresh
 unfolding fresh freshMemory freshClocks allTicked
@@ -31,17 +32,19 @@ kept-fresh =
       clocks = record { sixteen = refl; tasks = all-replicate TaskKept taskCount absent-kept; unticked = refl };
       objects = record { each = tt; ascending = tt; numbers = zero-le; small = zero-le; large = zero-le };
       expirations = record { each = tt; room = zero-le };
+      pins = λ handle. refl;
       standing = tt;
     }
 
 -- what is kept but for objects without an expiration is kept whole once these are gone
 kept-settled : {m : Memory} {xs : List Expiration} → ClocksKept (m .clocks) → ObjectsKept (m .given) (m .objects)
-    → ExpirationsKept (m .clocks) (m .objects) xs → Kept (settled m xs)
-kept-settled {m} {xs} c o x =
+    → ExpirationsKept (m .clocks) (m .objects) xs → PinsKept (m .pinned) xs → Kept (settled m xs)
+kept-settled {m} {xs} c o x p =
     record {
       clocks = c;
       objects = objects-settled xs o;
       expirations = expirations-settled x;
+      pins = p;
       standing = all-filter (λ (o : Object). stands xs (o .handle)) (λ o e k. e) (m .objects) (o .each);
     }
 
@@ -57,28 +60,34 @@ unfolding testsOf memoryAfter expirationsAfter written
 kept-carried m xs (Schedule event task) new c k =
     kept-settled (clocks-after m xs new task event c (k .clocks)) (k .objects)
     (expirations-after m xs new task event c (k .expirations))
+    (pins-carried m xs (Schedule event task) new tt (k .pins))
 kept-carried m xs (Make task kind extension size) new c k =
     let (exists, (present, (active, (short, (range, (spent, (block, (room, end)))))))) = c in
     kept-settled (k .clocks) (objects-made size range spent block (k .objects))
     (expirations-set task kind extension (m .given + 1) present short (leb-false _ _ room)
     (rw (any-append, eq-eqb (m .given + 1) (m .given + 1) refl, or-true))
     (reowned (λ x e o. rw (any-append, o)) (k .expirations)))
+    (pins-carried m xs (Make task kind extension size) new tt (k .pins))
 kept-carried m xs (Refresh task kind extension handle) new c k =
-    let (exists, (present, (active, (short, (given, (gone, (room, end))))))) = c in
+    let (exists, (present, (active, (lasts, (short, (given, (gone, (room, end)))))))) = c in
     kept-settled (k .clocks) (k .objects)
     (expirations-set task kind extension handle present short (leb-false _ _ room)
     (owned-by m xs k handle (not-false _ gone))
     (k .expirations))
-kept-carried m xs (Read task handle) new c k = kept-settled (k .clocks) (k .objects) (k .expirations)
+    (pins-carried m xs (Refresh task kind extension handle) new lasts (k .pins))
+kept-carried m xs (Read task handle) new c k = kept-settled (k .clocks) (k .objects) (k .expirations) (k .pins)
 kept-carried m xs (Write task handle offset) new c k =
     let (exists, (present, (active, (given, (gone, (outside, end)))))) = c in
     kept-settled (k .clocks) (objects-written handle offset new outside (k .objects))
-    (reowned (λ x e o. rw any-map o) (k .expirations))
+    (reowned (λ x e o. rw any-map o) (k .expirations)) (k .pins)
 kept-carried m xs (Batch task kind extension) new c k =
-    let (exists, (present, (active, (range, (short, (given, (gone, (room, end)))))))) = c in
+    let (exists, (present, (active, (range, (lasts, (short, (given, (gone, (room, end))))))))) = c in
     kept-settled (k .clocks) (k .objects)
     (expirations-set-each task kind extension present short (handlesOf new) xs (ltb-false _ _ room)
     (all-imp (λ h e. owned-by m xs k h (not-false _ e)) (handlesOf new) (none→All _ (handlesOf new) gone)) (k .expirations))
+    (pins-carried m xs (Batch task kind extension) new lasts (k .pins))
+kept-carried m xs (Release task handle) new c k =
+    kept-settled (k .clocks) (k .objects) (expirations-released handle (k .expirations)) (pins-carried m xs (Release task handle) new tt (k .pins))
 
 pub kept-request : (L : Ledger) → Kept L → (request : Request) (new : List ℕ) → Kept (afterRequest L request new)
 unfolding next

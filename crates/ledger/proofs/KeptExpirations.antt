@@ -2,10 +2,10 @@
 use Prim.Native.Nat.{ℕ, _+_, _-_, _≤_, _<_}
 use native.Mathlib.Nat.{le-trans}
 use native.Mathlib.Omega.{arith}
-use mathlib.Core.Bool.{Bool, true, false, true≢false, cond, not, _&&_, or-true}
+use mathlib.Core.Bool.{Bool, true, false, true≢false, cond, not, _&&_, _||_, or-true}
 use mathlib.Core.List.{List, [], _∷_}
 use mathlib.Core.Path.{_≡_, refl, sym, ap, _∙_}
-use borrow.Author.Tests.{ltb-true, ltb-false, leb-false, eqb-true, eqb-false, eq-eqb, not-true, not-false}
+use borrow.Author.Tests.{lt-ltb, ltb-false, leb-false, eqb-true, eqb-false, eq-eqb, not-true, not-false}
 use lib.Dec.{eqb, ltb}
 use lib.ListN.{length, getD, List·getD-map, length-map}
 use Rattle.lists.specs.Tests.{any, filter, All}
@@ -14,12 +14,12 @@ use Rattle.lists.proofs.All.{all-imp, all-both, all-filter, all-any, all-map, a
 use Rattle.lists.proofs.Counts.{any-left, length-filter}
 use Rattle.ledger.specs.Limits.{limits, taskCount}
 use Rattle.ledger.specs.Tasks.{Task, Clocks, taskAt, absentTask, isAbsent, isWaiting, isTested, moved, unticked, tasksAfter, advances, clocksAfter}
-use Rattle.ledger.specs.Expirations.{DueTime, byLocal, byGlobal, departed, Expiration, dueAfter, remaining, isLive, isSetBy, isOf, putOff, deserted, eachDue, stillLive, lasting, setOnEach}
+use Rattle.ledger.specs.Expirations.{DueTime, byLocal, byGlobal, pinned, departed, Expiration, dueAfter, remaining, isPinned, isLive, isSetBy, isOf, isPinOf, putOff, deserted, eachDue, stillLive, lasting, released, setOnEach}
 use Rattle.ledger.specs.Objects.{Object, Memory, stands, standing}
-use Rattle.ledger.specs.Refusals.{testsOf}
+use Rattle.ledger.specs.Refusals.{mostExtension, testsOf}
 use Rattle.ledger.specs.Kept.{Within, isOwned, ExpirationKept, ExpirationsKept}
 use Rattle.ledger.specs.declared.Kind.{Kind}
-use Rattle.ledger.specs.declared.Kind.the-variants.{Local, Global}
+use Rattle.ledger.specs.declared.Kind.the-variants.{Local, Global, Pinned}
 use Rattle.ledger.specs.declared.Event.{Event}
 use Rattle.ledger.specs.declared.Event.the-variants.{Join, Leave, Block, Resume, Tick}
 use Rattle.ledger.specs.declared.Call.the-variants.{Schedule}
@@ -36,10 +36,15 @@ put-within true true at now most h = omega (arith, h)
 put-within true false at now most h = omega (arith, h)
 put-within false waits at now most h = omega (arith, h)
 
--- who set it
+-- it is not due yet
+abbrev isAhead : Clocks → DueTime → Bool
+isAhead clocks due = isPinned due || ltb 0 (remaining clocks due)
+
+-- who set it: of a pinned one nobody is asked
 abbrev setterOf : DueTime → ℕ
 setterOf (byLocal setter at) = setter
 setterOf (byGlobal setter at) = setter
+setterOf pinned = departed
 
 module _ (m : Memory) (xs : List Expiration) (new : List ℕ) (task : ℕ) where
   -- the task before the event, and the clocks after it
@@ -82,21 +87,22 @@ module _ (m : Memory) (xs : List Expiration) (new : List ℕ) (task : ℕ) where
     put-within (advances event task (m .clocks)) (isWaiting (taskAt (after event) setter .state)) at (m .clocks .global) _ most,
     by-test (eqb setter departed) (λ d. rw d) (λ d. rw d (there-after event setter f (rw d at there))),
   )
+  within-after event pinned f h = tt
 
   -- an expiration that is still ahead after the event
   lasts : (event : Event) (x : Expiration) → Spares event (x .due) → ExpirationKept (m .clocks) (m .objects) x
-      → 1 ≤ remaining (after event) (put event (x .due)) → Lasts event (record { handle = x .handle; due = put event (x .due) })
+      → isAhead (after event) (put event (x .due)) ≡ true → Lasts event (record { handle = x .handle; due = put event (x .due) })
   lasts event x f k h = record { owned = k .owned; ahead = h; within = within-after event (x .due) f (k .within) }
 
   -- an event with an advance test leaves only those
   live : (event : Event) (ys : List Expiration) → length ys ≤ limits .expirations
-      → All (λ (x : Expiration). 1 ≤ remaining (after event) (put event (x .due)) → Lasts event (record { handle = x .handle; due = put event (x .due) })) ys
+      → All (λ (x : Expiration). isAhead (after event) (put event (x .due)) ≡ true → Lasts event (record { handle = x .handle; due = put event (x .due) })) ys
       → ExpirationsKept (after event) (m .objects) (stillLive (advances event task (m .clocks)) (after event) ys)
   live event ys r ks =
       let zs = eachDue (put event) ys in
       record {
         each =
-            all-filter {P = λ (x : Expiration). 1 ≤ remaining (after event) (x .due) → Lasts event x} (isLive (after event)) (λ x e k. k (ltb-true 0 _ e)) zs
+            all-filter {P = λ (x : Expiration). isLive (after event) x ≡ true → Lasts event x} (isLive (after event)) (λ x e k. k e) zs
             (all-map _ _ ys ks);
         room = le-trans (length-filter _ zs) (rw (length-map ys _) r);
       }
@@ -107,17 +113,19 @@ module _ (m : Memory) (xs : List Expiration) (new : List ℕ) (task : ℕ) where
       (at : ℕ) → LocalWithin before at → (moved event before .clock ≡ before .clock) × (isAbsent (moved event before .state) ≡ false)
 
   ahead-still : (event : Event) → isTested event ≡ false → Still event → (due : DueTime) → Within (m .clocks) due
-      → 1 ≤ remaining (m .clocks) due → 1 ≤ remaining (after event) due
+      → isAhead (m .clocks) due ≡ true → isAhead (after event) due ≡ true
   unfolding remaining clocksAfter tasksAfter advances
   ahead-still event e f (byLocal setter at) w h =
-      rw e (at-set (λ t. 1 ≤ at - t .clock) (m .clocks .tasks) task setter absentTask (λ q. rw (f at (rw q at w) .0, ← q) h) h)
+      rw e (at-set (λ t. ltb 0 (at - t .clock) ≡ true) (m .clocks .tasks) task setter absentTask (λ q. rw (f at (rw q at w) .0, ← q) h) h)
   ahead-still event e f (byGlobal setter at) w h = rw e h
+  ahead-still event e f pinned w h = refl
 
   -- and puts none off
   put-still : (event : Event) → isTested event ≡ false → (due : DueTime) → put event due ≡ due
   unfolding putOff advances
   put-still event e (byLocal setter at) = refl
   put-still event e (byGlobal setter at) = rw e (ap (byGlobal setter) (omega arith))
+  put-still event e pinned = refl
 
   still : (event : Event) → isTested event ≡ false → Still event → ExpirationsKept (m .clocks) (m .objects) xs
       → ExpirationsKept (after event) (m .objects) xs
@@ -145,17 +153,20 @@ module _ (m : Memory) (xs : List Expiration) (new : List ℕ) (task : ℕ) where
   left-others known (byLocal setter at) others own = true≢false (sym (eq-eqb setter task own) ∙ not-true _ others)
   left-others known (byGlobal setter at) others own =
       by-test (eqb setter task) (λ e. omega (arith, rw e at own, known)) (λ e. eqb-false setter task e (rw e at own))
+  left-others known pinned others own = omega (arith, own, known)
 
   -- and all within bounds
   left-within : task < departed → (due : DueTime) → Within (m .clocks) due → Within (m .clocks) (deserted task due)
   unfolding deserted remaining
   left-within known (byLocal setter at) h = h
   left-within known (byGlobal setter at) (most, there) = by-test (eqb setter task) (λ e. rw e (most, refl)) (λ e. rw e (most, there))
+  left-within known pinned h = tt
 
-  left-ahead : (due : DueTime) → 1 ≤ remaining (m .clocks) due → 1 ≤ remaining (m .clocks) (deserted task due)
+  left-ahead : (due : DueTime) → isAhead (m .clocks) due ≡ true → isAhead (m .clocks) (deserted task due) ≡ true
   unfolding deserted remaining
   left-ahead (byLocal setter at) h = h
   left-ahead (byGlobal setter at) h = h
+  left-ahead pinned h = refl
 
   left-kept : task < departed → (x : Expiration) → ExpirationKept (m .clocks) (m .objects) x
       → ExpirationKept (m .clocks) (m .objects) (record { handle = x .handle; due = deserted task (x .due) })
@@ -197,14 +208,15 @@ expirations-settled {os = os} =
 
 -- a due that a call sets is ahead and within bounds
 new-due : (clocks : Clocks) (task extension : ℕ) (kind : Kind) → isAbsent (taskAt clocks task .state) ≡ false
-    → extension ≤ limits .extension
-    → (1 ≤ remaining clocks (dueAfter clocks task kind extension)) × Within clocks (dueAfter clocks task kind extension)
+    → extension ≤ mostExtension kind
+    → (isAhead clocks (dueAfter clocks task kind extension) ≡ true) × Within clocks (dueAfter clocks task kind extension)
 unfolding dueAfter remaining
-new-due clocks task extension Local present h = (omega arith, (omega arith, present))
-new-due clocks task extension Global present h = (omega arith, (omega arith, rw (present, or-true)))
+new-due clocks task extension Local present h = (lt-ltb 0 (taskAt clocks task .clock + extension + 1 - taskAt clocks task .clock) (omega arith), (omega (arith, h), present))
+new-due clocks task extension Global present h = (lt-ltb 0 (clocks .global + extension + 2 - clocks .global) (omega arith), (omega (arith, h), rw (present, or-true)))
+new-due clocks task extension Pinned present h = (refl, tt)
 
 pub expirations-set : {clocks : Clocks} {os : List Object} {xs : List Expiration} (task : ℕ) (kind : Kind) (extension handle : ℕ)
-    → isAbsent (taskAt clocks task .state) ≡ false → ltb (limits .extension) extension ≡ false
+    → isAbsent (taskAt clocks task .state) ≡ false → ltb (mostExtension kind) extension ≡ false
     → length xs < limits .expirations
     → isOwned os (record { handle = handle; due = dueAfter clocks task kind extension }) ≡ true → ExpirationsKept clocks os xs
     → ExpirationsKept clocks os (record { handle = handle; due = dueAfter clocks task kind extension } ∷ xs)
@@ -218,7 +230,7 @@ isListed handle os = any (λ (o : Object). eqb handle (o .handle)) os
 
 -- and on each object of a batch, where there is room for all
 pub expirations-set-each : {clocks : Clocks} {os : List Object} (task : ℕ) (kind : Kind) (extension : ℕ)
-    → isAbsent (taskAt clocks task .state) ≡ false → ltb (limits .extension) extension ≡ false
+    → isAbsent (taskAt clocks task .state) ≡ false → ltb (mostExtension kind) extension ≡ false
     → (handles : List ℕ) (xs : List Expiration) → length xs + length handles ≤ limits .expirations
     → All (λ (handle : ℕ). isListed handle os ≡ true) handles
     → ExpirationsKept clocks os xs → ExpirationsKept clocks os (setOnEach (dueAfter clocks task kind extension) handles xs)
@@ -227,3 +239,11 @@ expirations-set-each task kind extension present short [] xs room owned k = k
 expirations-set-each task kind extension present short (h ∷ hs) xs room (owned, rest) k =
     expirations-set-each task kind extension present short hs _ (omega (arith, room)) rest
     (expirations-set task kind extension h present short (omega (arith, room)) owned k)
+
+-- a release ends the pinned one
+pub expirations-released : {clocks : Clocks} {os : List Object} {xs : List Expiration} (handle : ℕ) → ExpirationsKept clocks os xs
+    → ExpirationsKept clocks os (released handle xs)
+unfolding released
+expirations-released {xs = xs} handle k =
+    let others : Expiration → Bool = λ x. not (isPinOf handle x) in
+    record { each = all-filter others (λ x e h. h) xs (k .each); room = le-trans (length-filter others xs) (k .room) }

@@ -7,6 +7,7 @@ pub mod Passed
 pub mod KeptTasks
 pub mod KeptObjects
 pub mod KeptExpirations
+pub mod KeptPins
 pub mod Kept
 pub mod Remaining
 pub mod Awaited
@@ -17,5 +18,6 @@ pub mod OutlivesTicks
 pub mod Rounds
 pub mod GoneAfterRounds
 pub mod OutlivesRows
+pub mod Pinned
 pub mod Batches
 pub mod LongBatches

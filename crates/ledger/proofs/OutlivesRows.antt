@@ -9,7 +9,7 @@ use Rattle.lists.specs.Tests.{all}
 use Rattle.lists.proofs.Tests.{both, sameBy, sameBy→eq, all→All}
 use Rattle.ledger.specs.Limits.{limits, lastHandle}
 use Rattle.ledger.specs.Tasks.{freshClocks, moved, allTicked, tasksAfter, advances, clocksAfter}
-use Rattle.ledger.specs.Expirations.{byGlobal, dueAfter, remaining, putOff, deserted, lasting, setOnEach}
+use Rattle.ledger.specs.Expirations.{byGlobal, dueAfter, remaining, putOff, deserted, lasting, released, setOnEach}
 use Rattle.ledger.specs.Objects.{freshMemory, objectAt, written, memoryAfter, expirationsAfter, handlesOf}
 use Rattle.ledger.specs.Refusals.{testsOf, verdict}
 use Rattle.ledger.specs.Ledger.{fresh, next, afterAll}
@@ -33,7 +33,7 @@ passing-holds t p =
 
 all-pass : T (all passes trials)
 unfolding passes trials fresh next afterAll testsOf verdict moveOf moveIn setIn followed countOf isRound isFree
-    freshMemory objectAt written overwritten memoryAfter expirationsAfter handlesOf setOnEach dueAfter remaining putOff deserted lasting
+    freshMemory objectAt written overwritten memoryAfter expirationsAfter handlesOf setOnEach dueAfter remaining putOff deserted lasting released
     freshClocks moved allTicked tasksAfter advances clocksAfter
     limits lastHandle
 all-pass = tt

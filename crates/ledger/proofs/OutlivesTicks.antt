@@ -1,32 +1,33 @@
 -- Order 7, the first claim: over every list of calls a global expiration outlives the ticks of its setter that it was set for, and its object stands with it.
 use Prim.Native.Nat.{ℕ, _+_}
 use native.Mathlib.Omega.{arith}
-use mathlib.Core.Bool.{Bool, true, false, cond}
+use mathlib.Core.Bool.{Bool, true, false, cond, and-false}
 use mathlib.Core.List.{List, [], _∷_}
-use mathlib.Core.Option.{Option, none, some}
 use mathlib.Core.Path.{_≡_, refl, sym, ap, subst, _∙_}
 use borrow.Author.Tests.{eq-eqb}
 use Rattle.ledger.specs.Tasks.{Clocks}
-use Rattle.ledger.specs.Expirations.{DueTime, Expiration, dueAfter}
+use Rattle.ledger.specs.Expirations.{DueTime, Expiration, dueAfter, released}
 use Rattle.ledger.specs.Objects.{stands}
-use Rattle.ledger.specs.Ledger.{Ledger, Sent}
-use Rattle.ledger.specs.Outlives.{Move, moveIn, leftBy, afterSent, followed, isTickOf, isLeaveOf, isOne, countOf, whenSet, OutlivesTicks}
+use Rattle.ledger.specs.Ledger.{Ledger, Sent, afterSent}
+use Rattle.ledger.specs.Outlives.{Move, neither, happens, releases, moveIn, leftBy, followed, isTickOf, isLeaveOf, isOne, countOf, whenSet, OutlivesTicks}
 use Rattle.ledger.proofs.Following.{clocksBy, MovePassed, clocks-moved, move-passed}
 use Rattle.ledger.proofs.Setting.{set-now, object-stands}
 use Rattle.ledger.proofs.Outlives.{dateAt, Ahead, set-ahead, dueThen, kept-ahead, one-left}
 
 -- one call, by its event
-step : (L : Ledger) (new : List ℕ) (v : Option Move) → MovePassed L new v → (handle setter at ticks : ℕ) → isOne (isLeaveOf setter) v ≡ false
+step : (L : Ledger) (new : List ℕ) (v : Move) → MovePassed L new v → (handle setter at ticks : ℕ) → isOne (isLeaveOf setter) v ≡ false
     → Ahead (L .memory .clocks) setter at (cond (isOne (isTickOf setter) v) 1 0 + ticks)
     → (then : ℕ) × (leftBy (L .memory .clocks) v (dateAt handle setter at ∷ []) ≡ dateAt handle setter then ∷ []) × Ahead (clocksBy (L .memory .clocks) v) setter then ticks
-step L new none c handle setter at ticks stays k = (at, refl, record { present = k .present; ahead = omega (arith, k .ahead) })
-step L new (some v) c handle setter at ticks stays k =
+unfolding released
+step L new neither c handle setter at ticks stays k = (at, refl, record { present = k .present; ahead = omega (arith, k .ahead) })
+step L new (happens event task) c handle setter at ticks stays k =
     let m = L .memory in
-    let k′ = kept-ahead m (L .expirations) new (v .task) setter (v .event) at ticks c stays k in (
-      dueThen m (L .expirations) new (v .task) setter (v .event) at,
-      one-left m (L .expirations) new (v .task) setter (v .event) handle at stays (omega (arith, k′ .ahead)),
+    let k′ = kept-ahead m (L .expirations) new task setter event at ticks c stays k in (
+      dueThen m (L .expirations) new task setter event at,
+      one-left m (L .expirations) new task setter event handle at stays (omega (arith, k′ .ahead)),
       k′,
     )
+step L new (releases other) c handle setter at ticks stays k = (at, rw and-false, record { present = k .present; ahead = omega (arith, k .ahead) })
 
 -- none of a list is of a sort: neither its first, nor any later one
 pub none-first : (b : Bool) (n : ℕ) → cond b 1 0 + n ≡ 0 → (b ≡ false) × (n ≡ 0)

@@ -1,7 +1,7 @@
 -- The remaining life of an object: what one more expiration makes of it, and that it goes by what is shown of the expirations.
 use Prim.Native.Nat.{ℕ, _+_, _-_}
 use native.Mathlib.Omega.{arith}
-use mathlib.Core.Bool.{Bool, false, cond, _&&_}
+use mathlib.Core.Bool.{Bool, false, cond, _&&_, and-false}
 use mathlib.Core.List.{List, _∷_, map}
 use mathlib.Core.Path.{_≡_, refl, sym, _∙_}
 use borrow.Author.Tests.{eq-eqb}
@@ -11,12 +11,12 @@ use Rattle.lists.proofs.Cases.{by-test}
 use Rattle.lists.proofs.All.{all-every, all-imp, none→All}
 use Rattle.lists.proofs.Most.{most-filter, most-map, most-none, most-same}
 use Rattle.ledger.specs.Tasks.{Clocks, taskAt}
-use Rattle.ledger.specs.Expirations.{DueTime, byLocal, byGlobal, Expiration, dueAfter, remaining, isOf, isSetBy}
+use Rattle.ledger.specs.Expirations.{DueTime, byLocal, byGlobal, pinned, Expiration, dueAfter, remaining, isOf, isSetBy}
 use Rattle.ledger.specs.Objects.{stands}
-use Rattle.ledger.specs.Compared.{Left, localLeft, globalLeft, Shown, leftOf, shown}
+use Rattle.ledger.specs.Compared.{Left, localLeft, globalLeft, pinnedLeft, Shown, leftOf, shown}
 use Rattle.ledger.specs.Remaining.{isGlobal, mostLeft, remainingLife, extended}
 use Rattle.ledger.specs.declared.Kind.{Kind}
-use Rattle.ledger.specs.declared.Kind.the-variants.{Local, Global}
+use Rattle.ledger.specs.declared.Kind.the-variants.{Local, Global, Pinned}
 use Rattle.ledger.specs.declared.Life.{Life}
 
 -- one more expiration, set now: e + 1 ticks or e + 2 advances are left on it
@@ -30,6 +30,7 @@ set-extends Local task extension handle clocks xs =
 set-extends Global task extension handle clocks xs =
     let advances : clocks .global + extension + 2 - clocks .global ≡ extension + 2 = omega arith in
     rw (eq-eqb handle handle refl, advances)
+set-extends Pinned task extension handle clocks xs = rw (and-false (eqb handle handle))
 
 -- an object that does not stand, as one that is not made yet, has none left
 pub none-left : (task handle : ℕ) (clocks : Clocks) (xs : List Expiration) → stands xs handle ≡ false
@@ -46,10 +47,12 @@ none-left task handle clocks xs gone =
 abbrev pub localUnits : ℕ → Left → ℕ
 localUnits task (localLeft setter units) = cond (eqb setter task) units 0
 localUnits task (globalLeft setter units) = 0
+localUnits task pinnedLeft = 0
 
 abbrev pub globalUnits : Left → ℕ
 globalUnits (localLeft setter units) = 0
 globalUnits (globalLeft setter units) = units
+globalUnits pinnedLeft = 0
 
 -- the most of them, of the object with this handle
 abbrev pub mostShown : (Left → ℕ) → ℕ → List Shown → ℕ
@@ -68,11 +71,13 @@ local-units : (task : ℕ) (clocks : Clocks) (due : DueTime) → cond (isSetBy t
 unfolding leftOf
 local-units task clocks (byLocal setter at) = refl
 local-units task clocks (byGlobal setter at) = refl
+local-units task clocks pinned = refl
 
 global-units : (clocks : Clocks) (due : DueTime) → cond (isGlobal due) (remaining clocks due) 0 ≡ globalUnits (leftOf clocks due)
 unfolding leftOf
 global-units clocks (byLocal setter at) = refl
 global-units clocks (byGlobal setter at) = refl
+global-units clocks pinned = refl
 
 -- both
 abbrev pub shownLife : ℕ → ℕ → List Shown → Life

@@ -3,7 +3,6 @@ use Prim.Native.Nat.{ℕ, zero, suc, _+_, _≤_, _<_}
 use native.Mathlib.Omega.{arith}
 use mathlib.Core.Bool.{Bool, true, false, true≢false, false≢true, cond, not, _&&_, _||_, or-true}
 use mathlib.Core.List.{List, [], _∷_}
-use mathlib.Core.Option.{Option, none, some}
 use mathlib.Core.Path.{_≡_, refl, sym, subst, _∙_}
 use borrow.Author.Tests.{ltb-true, ltb-false, lt-ltb, eqb-true}
 use lib.Dec.{eqb, ltb}
@@ -13,10 +12,10 @@ use Rattle.lists.specs.Tables.{allFrom}
 use Rattle.lists.proofs.Cases.{by-test, and₃, or-right}
 use Rattle.lists.proofs.Tables.{allFrom-at, getD-set}
 use Rattle.ledger.specs.Tasks.{Task, Clocks, taskAt, absentTask, isRunning, moved, allTicked, tasksAfter, advances, clocksAfter}
-use Rattle.ledger.specs.Ledger.{Ledger, Sent, afterAll}
+use Rattle.ledger.specs.Ledger.{Ledger, Sent, afterSent, afterAll}
 use Rattle.ledger.specs.Awaited.{globalOf}
 use Rattle.ledger.specs.Kept.{Kept}
-use Rattle.ledger.specs.Outlives.{Move, moveIn, afterSent, isTickOf, isStart, isOne, countOf, isRound}
+use Rattle.ledger.specs.Outlives.{Move, neither, happens, releases, moveIn, isTickOf, isStart, isOne, countOf, isRound}
 use Rattle.ledger.specs.declared.Event.{Event}
 use Rattle.ledger.specs.declared.Event.the-variants.{Join, Leave, Block, Resume, Tick}
 use Rattle.ledger.proofs.Awaited.{awaited}
@@ -61,14 +60,15 @@ done-moved clocks event task who e h =
         rw (eqb-true who task self, List·getD-eq-default (clocks .tasks) absentTask (ltb-false _ _ past)))
 
 -- a call that advances nothing and starts nobody
-done-step : (clocks : Clocks) (v : Option Move) (who : ℕ) → clocksBy clocks v .global ≤ clocks .global → isOne isStart v ≡ false
+done-step : (clocks : Clocks) (v : Move) (who : ℕ) → clocksBy clocks v .global ≤ clocks .global → isOne isStart v ≡ false
     → (isDone (taskAt clocks who) || isOne (isTickOf who) v) ≡ true → isDone (taskAt (clocksBy clocks v) who) ≡ true
 unfolding clocksAfter
-done-step clocks none who l e h = or-false-right (isDone (taskAt clocks who)) h
-done-step clocks (some v) who l e h =
-    by-test (advances (v .event) (v .task) clocks)
+done-step clocks neither who l e h = or-false-right (isDone (taskAt clocks who)) h
+done-step clocks (happens event task) who l e h =
+    by-test (advances event task clocks)
     (λ a. let l′ : clocks .global + 1 ≤ clocks .global = rw a at l in absurd (omega arith))
-    (λ a. rw a (done-moved clocks (v .event) (v .task) who e h))
+    (λ a. rw a (done-moved clocks event task who e h))
+done-step clocks (releases handle) who l e h = or-false-right (isDone (taskAt clocks who)) h
 
 -- so it is over a list
 done-all : (who : ℕ) (ss : List Sent) (L : Ledger) → globalOf (afterAll L ss) ≤ globalOf L → countOf isStart L ss ≡ 0

@@ -8,16 +8,16 @@ use Rattle.lists.specs.Tests.{any, All}
 use Rattle.lists.proofs.Cases.{or-right}
 use Rattle.lists.proofs.Counts.{any-append}
 use Rattle.ledger.specs.Tasks.{Clocks, taskAt, isAbsent}
-use Rattle.ledger.specs.Expirations.{DueTime, Expiration, isOf, dueAfter, setOnEach}
+use Rattle.ledger.specs.Expirations.{DueTime, Expiration, isOf, dueAfter, released, setOnEach}
 use Rattle.ledger.specs.Objects.{Memory, stands, expirationsAfter, handlesOf}
 use Rattle.ledger.specs.Refusals.{testsOf}
-use Rattle.ledger.specs.Ledger.{Ledger, Sent, fresh, afterBy, verdictOn, afterAll}
+use Rattle.ledger.specs.Ledger.{Ledger, Sent, fresh, afterBy, verdictOn, afterSent, afterAll}
 use Rattle.ledger.specs.Kept.{Kept, isOwned}
-use Rattle.ledger.specs.Outlives.{Move, moveOf, moveIn, setIn, leftIn, afterSent, followed, Setting, whenSet}
+use Rattle.ledger.specs.Outlives.{Move, neither, moveOf, moveIn, setIn, leftIn, followed, Setting, whenSet}
 use Rattle.ledger.specs.declared.Kind.{Kind}
-use Rattle.ledger.specs.declared.Kind.the-variants.{Local, Global}
+use Rattle.ledger.specs.declared.Kind.the-variants.{Local, Global, Pinned}
 use Rattle.ledger.specs.declared.Call.{Call}
-use Rattle.ledger.specs.declared.Call.the-variants.{Schedule, Make, Refresh, Read, Write, Batch}
+use Rattle.ledger.specs.declared.Call.the-variants.{Schedule, Make, Refresh, Read, Write, Batch, Release}
 use Rattle.ledger.specs.declared.Refusal.{Refusal}
 use Rattle.ledger.specs.declared.Request.{Request}
 use Rattle.ledger.specs.declared.Request.the-variants.{Use, Report, Remaining}
@@ -26,15 +26,16 @@ use Rattle.ledger.proofs.Kept.{owned-by, kept-request, kept-after, kept
 use Rattle.ledger.proofs.Following.{clocks-moved, lasting-none, following}
 
 -- what an expiration that is set now tells: its setter is there, and its call moves no clock
-abbrev IsNew : Clocks → Option Move → Expiration → Type 0
+abbrev IsNew : Clocks → Move → Expiration → Type 0
 IsNew clocks v x =
-    (setter extension : ℕ) → x .due ≡ dueAfter clocks setter Global extension → (isAbsent (taskAt clocks setter .state) ≡ false) × (v ≡ none)
+    (setter extension : ℕ) → x .due ≡ dueAfter clocks setter Global extension → (isAbsent (taskAt clocks setter .state) ≡ false) × (v ≡ neither)
 
 same-setter : (clocks : Clocks) (task : ℕ) (kind : Kind) (extension setter e : ℕ) → dueAfter clocks task kind extension ≡ dueAfter clocks setter Global e
     → task ≡ setter
 unfolding dueAfter
 same-setter clocks task Local extension setter e d = cc
 same-setter clocks task Global extension setter e d = cc
+same-setter clocks task Pinned extension setter e d = cc
 
 set-each : (P : Expiration → Type 0) (due : DueTime) → ((handle : ℕ) → P (record { handle = handle; due = due })) → (handles : List ℕ) (xs : List Expiration)
     → All P xs → All P (setOnEach due handles xs)
@@ -43,7 +44,7 @@ set-each P due f [] xs k = k
 set-each P due f (h ∷ hs) xs k = set-each P due f hs _ (f h, k)
 
 all-new : (m : Memory) (xs : List Expiration) (call : Call) (new : List ℕ) → Passed m xs call new → All (IsNew (m .clocks) (moveOf call)) (expirationsAfter call new m [])
-unfolding expirationsAfter testsOf moveOf
+unfolding expirationsAfter testsOf moveOf released
 all-new m xs (Schedule event task) new c = rw (lasting-none event task _ _) tt
 all-new m xs (Make task kind extension size) new (exists, (there, c)) =
     (λ setter e d. (rw (same-setter (m .clocks) task kind extension setter e d) at there, refl), tt)
@@ -54,6 +55,7 @@ all-new m xs (Write task handle offset) new c = tt
 all-new m xs (Batch task kind extension) new (exists, (there, c)) =
     set-each _ (dueAfter (m .clocks) task kind extension)
     (λ h setter e d. (rw (same-setter (m .clocks) task kind extension setter e d) at there, refl)) (handlesOf new) [] tt
+all-new m xs (Release task handle) new c = tt
 
 new-in : (L : Ledger) (request : Request) (new : List ℕ) → All (IsNew (L .memory .clocks) (moveIn L request new)) (setIn L request new)
 unfolding setIn moveIn
@@ -62,7 +64,7 @@ new-in L (Remaining task handle) new = tt
 new-in L (Use call) new = by (verdictOn L call new) refl
   where
     by : (v : Option Refusal) → verdictOn L call new ≡ v
-        → All (IsNew (L .memory .clocks) (afterBy v (moveOf call) none)) (afterBy v (expirationsAfter call new (L .memory) []) [])
+        → All (IsNew (L .memory .clocks) (afterBy v (moveOf call) neither)) (afterBy v (expirationsAfter call new (L .memory) []) [])
     by none e = all-new (L .memory) (L .expirations) call new (passed (L .memory) (L .expirations) (testsOf call new) e)
     by (some r) e = tt
 

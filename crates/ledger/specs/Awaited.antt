@@ -10,7 +10,7 @@ use Rattle.lists.specs.Tests.{any}
 use Rattle.ledger.specs.Tasks.{Task, Clocks, isRunning, isTested, tasksAfter, advances}
 use Rattle.ledger.specs.Ledger.{Ledger, Sent, fresh, verdictOn, afterRequest, afterAll}
 use Rattle.ledger.specs.declared.Call.{Call}
-use Rattle.ledger.specs.declared.Call.the-variants.{Schedule, Make, Refresh, Read, Write, Batch}
+use Rattle.ledger.specs.declared.Call.the-variants.{Schedule, Make, Refresh, Read, Write, Batch, Release}
 use Rattle.ledger.specs.declared.Event.{Event}
 use Rattle.ledger.specs.declared.Refusal.{Refusal}
 use Rattle.ledger.specs.declared.Request.{Request}
@@ -43,6 +43,7 @@ isLastAwaited (Refresh task kind extension handle) clocks = false
 isLastAwaited (Read task handle) clocks = false
 isLastAwaited (Write task handle offset) clocks = false
 isLastAwaited (Batch task kind extension) clocks = false
+isLastAwaited (Release task handle) clocks = false
 
 -- such a call, accepted
 abbrev pub isRoundEnd : Ledger → Request → List ℕ → Bool

@@ -5,7 +5,7 @@ use mathlib.Core.List.{List, [], map, List·Permᴰ}
 use mathlib.Core.Path.{_≡_}
 use Rattle.ledger.specs.Limits.{counterRange}
 use Rattle.ledger.specs.Tasks.{Task, Clocks}
-use Rattle.ledger.specs.Expirations.{DueTime, byLocal, byGlobal, Expiration, remaining}
+use Rattle.ledger.specs.Expirations.{DueTime, byLocal, byGlobal, pinned, Expiration, remaining}
 use Rattle.ledger.specs.Objects.{Object}
 use Rattle.ledger.specs.Ledger.{Ledger}
 
@@ -16,10 +16,11 @@ wrapped n = n % counterRange
 abbrev pub wrappedTask : Task → Task
 wrappedTask t = record { state = t .state; ticked = t .ticked; clock = wrapped (t .clock) }
 
--- L6: an expiration by its kind, its setter or that it departed, and what remains
+-- L6: an expiration by its kind, its setter or that it departed, and what remains; of a pinned one there is no more
 pub data Left : Type 0 where
   localLeft : (setter units : ℕ) → Left
   globalLeft : (setter units : ℕ) → Left
+  pinnedLeft : Left
 
 pub record Shown : Type 0 where
   pub handle : ℕ
@@ -28,6 +29,7 @@ pub record Shown : Type 0 where
 unfoldable pub leftOf : Clocks → DueTime → Left
 leftOf clocks (byLocal setter at) = localLeft setter (remaining clocks (byLocal setter at))
 leftOf clocks (byGlobal setter at) = globalLeft setter (remaining clocks (byGlobal setter at))
+leftOf clocks pinned = pinnedLeft
 
 abbrev pub shown : Clocks → Expiration → Shown
 shown clocks x = record { handle = x .handle; left = leftOf clocks (x .due) }

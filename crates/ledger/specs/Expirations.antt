@@ -1,13 +1,13 @@
 -- The rules E: expirations (01: dates), local (01: own) and global (01: common), when they are due, what puts them off and what ends them.
 use Prim.Native.Nat.{ℕ, _+_, _-_}
-use mathlib.Core.Bool.{Bool, false, cond, not, _&&_}
+use mathlib.Core.Bool.{Bool, true, false, cond, not, _&&_, _||_}
 use mathlib.Core.List.{List, [], _∷_, map}
 use lib.Dec.{eqb, ltb}
 use Rattle.lists.specs.Tests.{filter}
 use Rattle.ledger.specs.Limits.{taskCount}
 use Rattle.ledger.specs.Tasks.{Clocks, taskAt, isWaiting}
 use Rattle.ledger.specs.declared.Kind.{Kind}
-use Rattle.ledger.specs.declared.Kind.the-variants.{Local, Global}
+use Rattle.ledger.specs.declared.Kind.the-variants.{Local, Global, Pinned}
 use Rattle.ledger.specs.declared.Event.{Event}
 use Rattle.ledger.specs.declared.Event.the-variants.{Join, Leave, Block, Resume, Tick}
 
@@ -15,6 +15,8 @@ use Rattle.ledger.specs.declared.Event.the-variants.{Join, Leave, Block,
 pub data DueTime : Type 0 where
   byLocal : (setter at : ℕ) → DueTime
   byGlobal : (setter at : ℕ) → DueTime
+  -- E22: or never: it is pinned (02: kept)
+  pinned : DueTime
 
 -- E21: the setter of a global one whose setter has left (01: "left"): no task has this number
 abbrev pub departed : ℕ
@@ -29,29 +31,39 @@ pub record Expiration : Type 0 where
 unfoldable pub dueAfter : Clocks → ℕ → Kind → ℕ → DueTime
 dueAfter clocks task Local extension = byLocal task (taskAt clocks task .clock + extension + 1)
 dueAfter clocks task Global extension = byGlobal task (clocks .global + extension + 2)
+dueAfter clocks task Pinned extension = pinned
 
--- E6: what remains (01: units left)
+-- E6: what remains (01: units left); a pinned one has no time
 unfoldable pub remaining : Clocks → DueTime → ℕ
 remaining clocks (byLocal setter at) = at - taskAt clocks setter .clock
 remaining clocks (byGlobal setter at) = at - clocks .global
+remaining clocks pinned = 0
 
--- E7: not due yet
+abbrev pub isPinned : DueTime → Bool
+isPinned (byLocal setter at) = false
+isPinned (byGlobal setter at) = false
+isPinned pinned = true
+
+-- E7, E22: not due yet
 abbrev pub isLive : Clocks → Expiration → Bool
-isLive clocks x = ltb 0 (remaining clocks (x .due))
+isLive clocks x = isPinned (x .due) || ltb 0 (remaining clocks (x .due))
 
 abbrev pub isSetBy : ℕ → DueTime → Bool
 isSetBy task (byLocal setter at) = eqb setter task
 isSetBy task (byGlobal setter at) = false
+isSetBy task pinned = false
 
 -- E20: what an advance makes of an expiration, by the clocks after the call: a global one whose setter waits is put off by one
 unfoldable pub putOff : Bool → Clocks → DueTime → DueTime
 putOff advanced clocks (byLocal setter at) = byLocal setter at
 putOff advanced clocks (byGlobal setter at) = byGlobal setter (at + cond (advanced && isWaiting (taskAt clocks setter .state)) 1 0)
+putOff advanced clocks pinned = pinned
 
 -- E21: what the leave of a task makes of one: where the task set it by the global time, its setter is departed for good
 unfoldable pub deserted : ℕ → DueTime → DueTime
 deserted task (byLocal setter at) = byLocal setter at
 deserted task (byGlobal setter at) = byGlobal (cond (eqb setter task) departed setter) at
+deserted task pinned = pinned
 
 -- the same expirations, due otherwise
 abbrev pub eachDue : (DueTime → DueTime) → List Expiration → List Expiration
@@ -73,6 +85,13 @@ lasting Tick task advanced clocks xs = stillLive advanced clocks xs
 -- the expiration is one of the object with this handle
 abbrev pub isOf : ℕ → Expiration → Bool
 isOf handle x = eqb (x .handle) handle
+
+-- E24: the expiration is pinned, and one of the object with this handle: a release ends it
+abbrev pub isPinOf : ℕ → Expiration → Bool
+isPinOf handle x = isOf handle x && isPinned (x .due)
+
+unfoldable pub released : ℕ → List Expiration → List Expiration
+released handle xs = filter (λ (x : Expiration). not (isPinOf handle x)) xs
 
 -- E18: one more expiration on each of these objects, one after the other: an object that is named twice gets two
 unfoldable pub setOnEach : DueTime → List ℕ → List Expiration → List Expiration

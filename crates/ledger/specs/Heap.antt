@@ -16,7 +16,7 @@ use Rattle.ledger.specs.Refusals.{testsOf, heapVerdict}
 use Rattle.ledger.specs.Ledger.{Sent, fresh, replies, replyBy, afterBy}
 use Rattle.ledger.specs.declared.Request.the-variants.{Use}
 use Rattle.ledger.specs.declared.Call.{Call}
-use Rattle.ledger.specs.declared.Call.the-variants.{Schedule, Make, Refresh, Read, Write, Batch}
+use Rattle.ledger.specs.declared.Call.the-variants.{Schedule, Make, Refresh, Read, Write, Batch, Release}
 use Rattle.ledger.specs.declared.Refusal.{Refusal}
 
 -- H3: the heap is a memory that never takes an object back.
@@ -29,7 +29,7 @@ heapReply m call new = replyBy (heapVerdictOn m call new) (replyTo call m)
 unfoldable pub heapNext : Memory → Call → List ℕ → Memory
 heapNext m call new = afterBy (heapVerdictOn m call new) (memoryAfter call new m) m
 
--- one of the ten calls on its way
+-- one of the eleven calls on its way
 pub record Used : Type 0 where
   pub call : Call
   pub bytes : List ℕ
@@ -43,7 +43,7 @@ heapReplies m (u ∷ us) = heapReply m (u .call) (u .bytes) ∷ heapReplies (hea
 unfoldable pub bookNext : Memory → List Expiration → Call → List ℕ → List Expiration
 bookNext m book call new = afterBy (heapVerdictOn m call new) (expirationsAfter call new m book) book
 
--- H9 to H13, H22: what a use asks of the book when the call comes: its objects stand, and a block and expirations are free
+-- H9 to H13, H22, H23: what a use asks of the book when the call comes: its objects stand, and a block and expirations are free
 unfoldable pub isInTimeAndBounds : Memory → List Expiration → Call → List ℕ → Bool
 isInTimeAndBounds m book (Schedule event task) new = true
 isInTimeAndBounds m book (Make task kind extension size) new =
@@ -55,11 +55,12 @@ isInTimeAndBounds m book (Write task handle offset) new = stands book handle
 isInTimeAndBounds m book (Batch task kind extension) new =
     let handles = handlesOf new in
     all (stands book) handles && leb (length book + length handles) (limits .expirations)
+isInTimeAndBounds m book (Release task handle) new = stands book handle
 
--- H14, H15: a call that the heap refuses is left aside, but not a write that runs past its object
+-- H14, H15, H24: a call that the heap refuses is left aside, but not a write that runs past its object nor a release of what is not pinned
 abbrev pub isLeftAside : Option Refusal → Bool
 isLeftAside none = false
-isLeftAside (some r) = not (eqb (numberOf r) 13)
+isLeftAside (some r) = not (eqb (numberOf r) 13 || eqb (numberOf r) 22)
 
 -- H17: all use of the list was in time and in bounds
 unfoldable pub allInTimeAndBounds : Memory → List Expiration → List Used → Bool
@@ -72,7 +73,7 @@ allInTimeAndBounds m book (u ∷ us) =
 abbrev pub sent : Used → Sent
 sent u = record { request = Use (u .call); bytes = u .bytes }
 
--- Demand 3: for every list of the ten calls, ledger and heap answer alike exactly when all use was in time and in bounds.
+-- Demand 3: for every list of the eleven calls, ledger and heap answer alike exactly when all use was in time and in bounds.
 abbrev pub Demand3 : Type 0
 Demand3 =
     (us : List Used) → (replies fresh (map sent us) ≡ heapReplies freshMemory us) ↔ (allInTimeAndBounds freshMemory [] us ≡ true)

@@ -8,7 +8,7 @@ use lib.ListN.{length}
 use Rattle.lists.specs.Tests.{any, All}
 use Rattle.ledger.specs.Limits.{limits, taskCount, largeSize, lastHandle}
 use Rattle.ledger.specs.Tasks.{Task, Clocks, taskAt, isAbsent, isRunning, allTicked}
-use Rattle.ledger.specs.Expirations.{DueTime, byLocal, byGlobal, departed, Expiration, remaining, isOf}
+use Rattle.ledger.specs.Expirations.{DueTime, byLocal, byGlobal, pinned, departed, Expiration, remaining, isLive, isOf, isPinOf}
 use Rattle.ledger.specs.Objects.{Object, stands, smallOnes, largeOnes}
 use Rattle.ledger.specs.Ledger.{Ledger}
 
@@ -51,15 +51,16 @@ Within clocks (byLocal setter at) =
 Within clocks (byGlobal setter at) =
     (remaining clocks (byGlobal setter at) ≤ limits .extension + 2)
     × ((eqb setter departed || not (isAbsent (taskAt clocks setter .state))) ≡ true)
+Within clocks pinned = Unit
 
 -- the expiration is one of an object of the list
 abbrev pub isOwned : List Object → Expiration → Bool
 isOwned os x = any (λ (o : Object). isOf (o .handle) x) os
 
--- W1: it is of an object that stands; W6, W8: something remains of it
+-- W1: it is of an object that stands; W6, W8: something remains of it, where it is not pinned
 pub record ExpirationKept (clocks : Clocks) (os : List Object) (x : Expiration) : Type 0 where
   pub owned : isOwned os x ≡ true
-  pub ahead : 1 ≤ remaining clocks (x .due)
+  pub ahead : isLive clocks x ≡ true
   pub within : Within clocks (x .due)
 
 pub record ExpirationsKept (clocks : Clocks) (os : List Object) (xs : List Expiration) : Type 0 where
@@ -67,9 +68,14 @@ pub record ExpirationsKept (clocks : Clocks) (os : List Object) (xs : List Expir
   -- E14: they have room
   pub room : length xs ≤ limits .expirations
 
+-- E23: what is pinned has a pinned expiration, and nothing else has
+abbrev pub PinsKept : List ℕ → List Expiration → Type 0
+PinsKept handles xs = (handle : ℕ) → any (eqb handle) handles ≡ any (isPinOf handle) xs
+
 pub record Kept (L : Ledger) : Type 0 where
   pub clocks : ClocksKept (L .memory .clocks)
   pub objects : ObjectsKept (L .memory .given) (L .memory .objects)
   pub expirations : ExpirationsKept (L .memory .clocks) (L .memory .objects) (L .expirations)
+  pub pins : PinsKept (L .memory .pinned) (L .expirations)
   -- W2: each object has an expiration
   pub standing : All (λ (o : Object). stands (L .expirations) (o .handle) ≡ true) (L .memory .objects)

@@ -22,7 +22,7 @@ pub record Ledger : Type 0 where
 abbrev pub settled : Memory → List Expiration → Ledger
 settled m xs =
     record {
-      memory = record { clocks = m .clocks; given = m .given; objects = standing xs (m .objects) };
+      memory = record { clocks = m .clocks; given = m .given; objects = standing xs (m .objects); pinned = m .pinned };
       expirations = xs;
     }
 
@@ -51,7 +51,7 @@ next L call new =
     (settled (memoryAfter call new (L .memory)) (expirationsAfter call new (L .memory) (L .expirations)))
     L
 
--- all twelve calls: report answers its figures (O24), and remaining life makes the tests of a read (R46); neither changes anything (O25)
+-- all thirteen calls: report answers its figures (O24), and remaining life makes the tests of a read (R46); neither changes anything (O25)
 abbrev pub replyToRequest : Ledger → Request → List ℕ → Reply
 replyToRequest L (Use call) new = reply L call new
 replyToRequest L Report new = plain (Counted (usage (L .memory) (L .expirations)))
@@ -68,11 +68,14 @@ pub record Sent : Type 0 where
   pub request : Request
   pub bytes : List ℕ
 
+abbrev pub afterSent : Ledger → Sent → Ledger
+afterSent L s = afterRequest L (s .request) (s .bytes)
+
 -- the answers to a list of calls, and the ledger that they leave
 unfoldable pub replies : Ledger → List Sent → List Reply
 replies L [] = []
-replies L (s ∷ ss) = replyToRequest L (s .request) (s .bytes) ∷ replies (afterRequest L (s .request) (s .bytes)) ss
+replies L (s ∷ ss) = replyToRequest L (s .request) (s .bytes) ∷ replies (afterSent L s) ss
 
 unfoldable pub afterAll : Ledger → List Sent → Ledger
 afterAll L [] = L
-afterAll L (s ∷ ss) = afterAll (afterRequest L (s .request) (s .bytes)) ss
+afterAll L (s ∷ ss) = afterAll (afterSent L s) ss

@@ -16,3 +16,4 @@ pub mod Edges
 pub mod MoreEdges
 pub mod PutOff
 pub mod OutlivesRows
+pub mod Pinned

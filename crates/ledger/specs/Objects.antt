@@ -8,12 +8,14 @@ use Rattle.lists.specs.Blocks.{overwritten}
 use Rattle.lists.specs.Tests.{any, filter, count}
 use Rattle.ledger.specs.Limits.{isSmall}
 use Rattle.ledger.specs.Tasks.{Clocks, freshClocks, isTested, advances, clocksAfter}
-use Rattle.ledger.specs.Expirations.{Expiration, isOf, dueAfter, lasting, setOnEach}
+use Rattle.ledger.specs.Expirations.{Expiration, isOf, dueAfter, lasting, released, setOnEach}
+use Rattle.ledger.specs.declared.Kind.{Kind}
+use Rattle.ledger.specs.declared.Kind.the-variants.{Local, Global, Pinned}
 use Rattle.ledger.specs.declared.Usage.{Usage}
 use Rattle.ledger.specs.declared.Answer.{Answer}
 use Rattle.ledger.specs.declared.Answer.the-variants.{Done, Advanced, Handle, Bytes}
 use Rattle.ledger.specs.declared.Call.{Call}
-use Rattle.ledger.specs.declared.Call.the-variants.{Schedule, Make, Refresh, Read, Write, Batch}
+use Rattle.ledger.specs.declared.Call.the-variants.{Schedule, Make, Refresh, Read, Write, Batch, Release}
 
 -- O1: an object; its handle is 01's number
 pub record Object : Type 0 where
@@ -21,15 +23,16 @@ pub record Object : Type 0 where
   pub size : ℕ
   pub bytes : List ℕ
 
--- what the ledger and the unbounded heap both keep
+-- what the ledger and the unbounded heap both keep; E23: `pinned` has the handles of the objects whose pinned expiration is left
 pub record Memory : Type 0 where
   pub clocks : Clocks
   pub given : ℕ
   pub objects : List Object
+  pub pinned : List ℕ
 
 -- O9: of a fresh pool
 unfoldable pub freshMemory : Memory
-freshMemory = record { clocks = freshClocks; given = 0; objects = [] }
+freshMemory = record { clocks = freshClocks; given = 0; objects = []; pinned = [] }
 
 -- 01: an answer, with the bytes that a read hands back
 pub record Reply : Type 0 where
@@ -84,7 +87,7 @@ largeOnes os = count (λ (o : Object). not (isSmall (o .size))) os
 abbrev pub inStoreOf : ℕ → List Object → ℕ
 inStoreOf size os = cond (isSmall size) (smallOnes os) (largeOnes os)
 
--- O26, O27: what each of the ten calls answers when it is carried out
+-- O26, O27: what each of the eleven calls answers when it is carried out
 unfoldable pub replyTo : Call → Memory → Reply
 replyTo (Schedule event task) m = plain (cond (isTested event) (Advanced (advances event task (m .clocks))) Done)
 replyTo (Make task kind extension size) m = plain (Handle (m .given + 1))
@@ -92,20 +95,38 @@ replyTo (Refresh task kind extension handle) m = plain Done
 replyTo (Read task handle) m = record { answer = Bytes; bytes = objectAt handle (m .objects) .bytes }
 replyTo (Write task handle offset) m = plain Done
 replyTo (Batch task kind extension) m = plain Done
+replyTo (Release task handle) m = plain Done
 
--- O14, O20, O25: what it makes of tasks, times, handles given and bytes; the list is that of a write or a batch
+-- E23: a new object is pinned by an expiration of this kind
+abbrev pub pinnedBy : Kind → ℕ → List ℕ → List ℕ
+pinnedBy Local handle handles = handles
+pinnedBy Global handle handles = handles
+pinnedBy Pinned handle handles = handle ∷ handles
+
+-- E24: and no longer after a release
+abbrev pub unpinned : ℕ → List ℕ → List ℕ
+unpinned handle handles = filter (λ (h : ℕ). not (eqb handle h)) handles
+
+-- O14, O20, O25, E23, E24: what it makes of tasks, times, handles given, bytes and of what is pinned; the list is that of a write or a batch
 unfoldable pub memoryAfter : Call → List ℕ → Memory → Memory
 memoryAfter (Schedule event task) new m =
-    record { clocks = clocksAfter event task (m .clocks); given = m .given; objects = m .objects }
+    record { clocks = clocksAfter event task (m .clocks); given = m .given; objects = m .objects; pinned = m .pinned }
 memoryAfter (Make task kind extension size) new m =
-    record { clocks = m .clocks; given = m .given + 1; objects = m .objects ++ (zeroed (m .given + 1) size ∷ []) }
+    record {
+      clocks = m .clocks;
+      given = m .given + 1;
+      objects = m .objects ++ (zeroed (m .given + 1) size ∷ []);
+      pinned = pinnedBy kind (m .given + 1) (m .pinned);
+    }
 memoryAfter (Refresh task kind extension handle) new m = m
 memoryAfter (Read task handle) new m = m
 memoryAfter (Write task handle offset) new m =
-    record { clocks = m .clocks; given = m .given; objects = map (written handle offset new) (m .objects) }
+    record { clocks = m .clocks; given = m .given; objects = map (written handle offset new) (m .objects); pinned = m .pinned }
 memoryAfter (Batch task kind extension) new m = m
+memoryAfter (Release task handle) new m =
+    record { clocks = m .clocks; given = m .given; objects = m .objects; pinned = unpinned handle (m .pinned) }
 
--- E12, O13, O17, O32: and what it makes of the expirations: make and refresh set one, a batch one for each handle, and only events end any
+-- E12, O13, O17, O32, E24: and what it makes of the expirations: make and refresh set one, a batch one for each handle; only events and a release end any
 unfoldable pub expirationsAfter : Call → List ℕ → Memory → List Expiration → List Expiration
 expirationsAfter (Schedule event task) new m xs =
     lasting event task (advances event task (m .clocks)) (clocksAfter event task (m .clocks)) xs
@@ -116,6 +137,7 @@ expirationsAfter (Refresh task kind extension handle) new m xs =
 expirationsAfter (Read task handle) new m xs = xs
 expirationsAfter (Write task handle offset) new m xs = xs
 expirationsAfter (Batch task kind extension) new m xs = setOnEach (dueAfter (m .clocks) task kind extension) (handlesOf new) xs
+expirationsAfter (Release task handle) new m xs = released handle xs
 
 -- O24: what report counts
 unfoldable pub usage : Memory → List Expiration → Usage

@@ -2,42 +2,43 @@
 use Prim.Native.Nat.{ℕ, _+_, _≤_}
 use mathlib.Core.Bool.{Bool, true, false, cond, not, _&&_, _||_}
 use mathlib.Core.List.{List, [], _∷_, _++_}
-use mathlib.Core.Option.{Option, none, some}
 use mathlib.Core.Path.{_≡_}
 use lib.Dec.{eqb, ltb}
 use lib.ListN.{length}
 use Rattle.lists.specs.Tests.{any, all}
 use Rattle.lists.specs.Tables.{allFrom}
 use Rattle.ledger.specs.Tasks.{Task, Clocks, taskAt, absentTask, isRunning, isWaiting, isTested, advances, clocksAfter}
-use Rattle.ledger.specs.Expirations.{DueTime, byLocal, byGlobal, departed, Expiration, dueAfter, lasting}
+use Rattle.ledger.specs.Expirations.{DueTime, byLocal, byGlobal, pinned, departed, Expiration, dueAfter, lasting, released}
 use Rattle.ledger.specs.Objects.{stands, expirationsAfter}
-use Rattle.ledger.specs.Ledger.{Ledger, Sent, fresh, afterBy, verdictOn, afterRequest, afterAll}
+use Rattle.ledger.specs.Ledger.{Ledger, Sent, fresh, afterBy, verdictOn, afterRequest, afterSent, afterAll}
 use Rattle.ledger.specs.Kept.{isOwned}
 use Rattle.ledger.specs.declared.Kind.the-variants.{Global}
 use Rattle.ledger.specs.declared.Event.{Event}
 use Rattle.ledger.specs.declared.Event.the-variants.{Join, Leave, Block, Resume, Tick}
 use Rattle.ledger.specs.declared.Call.{Call}
-use Rattle.ledger.specs.declared.Call.the-variants.{Schedule, Make, Refresh, Read, Write, Batch}
+use Rattle.ledger.specs.declared.Call.the-variants.{Schedule, Make, Refresh, Read, Write, Batch, Release}
 use Rattle.ledger.specs.declared.Request.{Request}
 use Rattle.ledger.specs.declared.Request.the-variants.{Use, Report, Remaining}
 
--- U1: the event that a call is, where it is one and accepted. Only accepted calls count, as ticks and leaves, joins and resumes.
-pub record Move : Type 0 where
-  pub event : Event
-  pub task : ℕ
+-- U1: what an accepted call is: an event, a release, or neither. Only accepted calls count, as ticks and leaves, joins and resumes.
+pub data Move : Type 0 where
+  neither : Move
+  happens : (event : Event) (task : ℕ) → Move
+  releases : (handle : ℕ) → Move
 
-unfoldable pub moveOf : Call → Option Move
-moveOf (Schedule event task) = some (record { event = event; task = task })
-moveOf (Make task kind extension size) = none
-moveOf (Refresh task kind extension handle) = none
-moveOf (Read task handle) = none
-moveOf (Write task handle offset) = none
-moveOf (Batch task kind extension) = none
+unfoldable pub moveOf : Call → Move
+moveOf (Schedule event task) = happens event task
+moveOf (Make task kind extension size) = neither
+moveOf (Refresh task kind extension handle) = neither
+moveOf (Read task handle) = neither
+moveOf (Write task handle offset) = neither
+moveOf (Batch task kind extension) = neither
+moveOf (Release task handle) = releases handle
 
-unfoldable pub moveIn : Ledger → Request → List ℕ → Option Move
-moveIn L (Use call) new = afterBy (verdictOn L call new) (moveOf call) none
-moveIn L Report new = none
-moveIn L (Remaining task handle) new = none
+unfoldable pub moveIn : Ledger → Request → List ℕ → Move
+moveIn L (Use call) new = afterBy (verdictOn L call new) (moveOf call) neither
+moveIn L Report new = neither
+moveIn L (Remaining task handle) new = neither
 
 -- U2: An expiration has no name, so it is followed by the ledger's rule, which comes in two parts: those that a call sets, as of a list that had none,
 unfoldable pub setIn : Ledger → Request → List ℕ → List Expiration
@@ -45,16 +46,14 @@ setIn L (Use call) new = afterBy (verdictOn L call new) (expirationsAfter call n
 setIn L Report new = []
 setIn L (Remaining task handle) new = []
 
--- and what it leaves of the earlier ones, which goes by its event alone.
-abbrev pub leftBy : Clocks → Option Move → List Expiration → List Expiration
-leftBy clocks none xs = xs
-leftBy clocks (some v) xs = lasting (v .event) (v .task) (advances (v .event) (v .task) clocks) (clocksAfter (v .event) (v .task) clocks) xs
+-- and what it leaves of the earlier ones: only events and releases end any.
+abbrev pub leftBy : Clocks → Move → List Expiration → List Expiration
+leftBy clocks neither xs = xs
+leftBy clocks (happens event task) xs = lasting event task (advances event task clocks) (clocksAfter event task clocks) xs
+leftBy clocks (releases handle) xs = released handle xs
 
 abbrev pub leftIn : Ledger → Request → List ℕ → List Expiration → List Expiration
 leftIn L request new xs = leftBy (L .memory .clocks) (moveIn L request new) xs
-
-abbrev pub afterSent : Ledger → Sent → Ledger
-afterSent L s = afterRequest L (s .request) (s .bytes)
 
 -- U3: what a list of calls leaves of these. To follow one expiration is to follow a list that has it alone:
 unfoldable pub followed : Ledger → List Sent → List Expiration → List Expiration
@@ -88,9 +87,10 @@ isLeaveOf who Tick task = false
 abbrev pub isStart : Event → ℕ → Bool
 isStart event task = not (isTested event)
 
-abbrev pub isOne : (Event → ℕ → Bool) → Option Move → Bool
-isOne sort none = false
-isOne sort (some v) = sort (v .event) (v .task)
+abbrev pub isOne : (Event → ℕ → Bool) → Move → Bool
+isOne sort neither = false
+isOne sort (happens event task) = sort event task
+isOne sort (releases handle) = false
 
 unfoldable pub countOf : (Event → ℕ → Bool) → Ledger → List Sent → ℕ
 countOf sort L [] = 0
@@ -125,12 +125,12 @@ isRound L ss =
     && any (λ (t : Task). isRunning (t .state)) tasks
     && allFrom 0 (λ (task : ℕ) (t : Task). not (isRunning (t .state)) || ltb 0 (countOf (isTickOf task) L ss)) tasks
 
--- U8: The setter is waiting. One that has left is departed (E21) and does not wait, whoever has its number since.
+-- U8: The setter is waiting. One that has left is departed (E21) and does not wait, whoever has its number since. Free are calls after none of which one waits.
 abbrev pub isHeld : Clocks → DueTime → Bool
 isHeld clocks (byLocal setter at) = isWaiting (taskAt clocks setter .state)
 isHeld clocks (byGlobal setter at) = isWaiting (taskAt clocks setter .state)
+isHeld clocks pinned = false
 
--- after no call of a list does the setter of any that is followed wait
 unfoldable pub isFree : Ledger → List Sent → List Expiration → Bool
 isFree L [] xs = true
 isFree L (s ∷ ss) xs =

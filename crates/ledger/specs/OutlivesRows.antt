@@ -7,10 +7,10 @@ use lib.ListN.{length}
 use Rattle.lists.specs.Tests.{All}
 use Rattle.lists.specs.Tables.{readBy}
 use Rattle.ledger.specs.Expirations.{Expiration}
-use Rattle.ledger.specs.Ledger.{Ledger, Sent, fresh, afterAll}
-use Rattle.ledger.specs.Outlives.{setIn, afterSent, followed, isTickOf, isLeaveOf, countOf, Setting, whenSet, isRound, isFree, Stretch, areRounds}
-use Rattle.ledger.specs.Rows.{join, leave, block, resume, tick, make, refresh, batch}
-use Rattle.ledger.specs.declared.Kind.the-variants.{Local, Global}
+use Rattle.ledger.specs.Ledger.{Ledger, Sent, fresh, afterSent, afterAll}
+use Rattle.ledger.specs.Outlives.{setIn, followed, isTickOf, isLeaveOf, countOf, Setting, whenSet, isRound, isFree, Stretch, areRounds}
+use Rattle.ledger.specs.Rows.{join, leave, block, resume, tick, make, refresh, batch, release}
+use Rattle.ledger.specs.declared.Kind.the-variants.{Local, Global, Pinned}
 
 -- A part of the calls after the date was set: 2 for a round in which the setter never waits, 1 for one in which it does, 0 for no round.
 pub record Part : Type 0 where
@@ -51,6 +51,9 @@ trials =
     -- A refused tick does not count: task 0 waits.
     trial (join 0 ∷ join 1 ∷ []) (make 0 Global 0 4)
     (held (block 0 ∷ tick 0 ∷ tick 1 ∷ tick 1 ∷ tick 1 ∷ []) ∷ []) 0 1 ∷
+    -- A release ends the pinned one of its object, and not this one.
+    trial (join 0 ∷ make 0 Pinned 0 4 ∷ []) (refresh 0 1 Global 1)
+    (round (tick 0 ∷ release 0 1 ∷ []) ∷ []) 1 1 ∷
     -- The second claim: e 0 is gone after two rounds. A refused join, a refused resume and calls that are no events break no round, and the setter may wait between two.
     trial (join 0 ∷ join 1 ∷ []) (make 0 Global 0 4)
     (round (tick 0 ∷ join 0 ∷ tick 1 ∷ []) ∷ loose (block 0 ∷ resume 0 ∷ []) ∷ round (make 1 Local 0 4 ∷ tick 1 ∷ resume 1 ∷ tick 0 ∷ []) ∷ []) 2 0 ∷

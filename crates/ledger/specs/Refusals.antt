@@ -1,6 +1,6 @@
 -- The rules R: each test once, and for each call its tests in their order. (14 and 15 come with stores and record, 16 to 19 with frames.)
 use Prim.Native.Nat.{ℕ, _+_}
-use mathlib.Core.Bool.{Bool, not, cond, _||_}
+use mathlib.Core.Bool.{Bool, true, false, not, cond, _||_}
 use mathlib.Core.List.{List, [], _∷_}
 use mathlib.Core.Option.{Option, none, some}
 use lib.Dec.{eqb, leb, ltb}
@@ -12,11 +12,13 @@ use Rattle.ledger.specs.Expirations.{Expiration}
 use Rattle.ledger.specs.Objects.{Memory, objectAt, stands, inStoreOf, handlesOf}
 use Rattle.ledger.specs.declared.Event.the-variants.{Join, Leave, Block, Resume, Tick}
 use Rattle.ledger.specs.declared.Call.{Call}
-use Rattle.ledger.specs.declared.Call.the-variants.{Schedule, Make, Refresh, Read, Write, Batch}
+use Rattle.ledger.specs.declared.Call.the-variants.{Schedule, Make, Refresh, Read, Write, Batch, Release}
+use Rattle.ledger.specs.declared.Kind.{Kind}
+use Rattle.ledger.specs.declared.Kind.the-variants.{Local, Global, Pinned}
 use Rattle.ledger.specs.declared.Verdict.{Verdict}
 use Rattle.ledger.specs.declared.Verdict.the-variants.{Accepted, Refused}
 use Rattle.ledger.specs.declared.Refusal.{Refusal}
-use Rattle.ledger.specs.declared.Refusal.the-variants.{NoSuchTask, TaskPresent, TaskAbsent, TaskWaiting, TaskRunning, ExtensionTooLong, LengthOutOfRange, HandlesSpent, NoFreeBlock, NoFreeExpiration, HandleNotGiven, ObjectGone, OutsideObject, BatchOutOfRange}
+use Rattle.ledger.specs.declared.Refusal.the-variants.{NoSuchTask, TaskPresent, TaskAbsent, TaskWaiting, TaskRunning, ExtensionTooLong, LengthOutOfRange, HandlesSpent, NoFreeBlock, NoFreeExpiration, HandleNotGiven, ObjectGone, OutsideObject, BatchOutOfRange, OnlyMakePins, NotPinned}
 
 -- A test refuses a call where it holds. The unbounded heap makes those that look at the memory alone; the others are the pool's own.
 pub data Test : Type 0 where
@@ -43,9 +45,14 @@ taskWaiting task = shared TaskWaiting (λ (m : Memory). isWaiting (taskAt (m .cl
 abbrev pub taskRunning : ℕ → Test
 taskRunning task = shared TaskRunning (λ (m : Memory). isRunning (taskAt (m .clocks) task .state))
 
--- R6: the extension is too long
-abbrev pub extensionTooLong : ℕ → Test
-extensionTooLong extension = shared ExtensionTooLong (λ (m : Memory). ltb (limits .extension) extension)
+-- R6: the extension is too long; E22: a pinned expiration has none
+abbrev pub mostExtension : Kind → ℕ
+mostExtension Local = limits .extension
+mostExtension Global = limits .extension
+mostExtension Pinned = 0
+
+abbrev pub extensionTooLong : Kind → ℕ → Test
+extensionTooLong kind extension = shared ExtensionTooLong (λ (m : Memory). ltb (mostExtension kind) extension)
 
 -- R7: no object has that length
 abbrev pub lengthOutOfRange : ℕ → Test
@@ -83,6 +90,19 @@ outsideObject handle offset count =
 abbrev pub batchOutOfRange : ℕ → Test
 batchOutOfRange count = shared BatchOutOfRange (λ (m : Memory). eqb count 0 || ltb largestBatch count)
 
+-- R21: only a make sets a pinned expiration
+abbrev pub isPinning : Kind → Bool
+isPinning Local = false
+isPinning Global = false
+isPinning Pinned = true
+
+abbrev pub onlyMakePins : Kind → Test
+onlyMakePins kind = shared OnlyMakePins (λ (m : Memory). isPinning kind)
+
+-- R22: the object has no pinned expiration left
+abbrev pub notPinned : ℕ → Test
+notPinned handle = shared NotPinned (λ (m : Memory). not (any (eqb handle) (m .pinned)))
+
 -- R11, R12 for a batch: some handle of it was not given, some object of it does not stand
 abbrev pub someNotGiven : List ℕ → Test
 someNotGiven handles = shared HandleNotGiven (λ (m : Memory). any (isNotGiven m) handles)
@@ -94,7 +114,7 @@ someGone handles = own ObjectGone (λ (m : Memory) (xs : List Expiration). any (
 abbrev pub noRoomFor : ℕ → Test
 noRoomFor count = own NoFreeExpiration (λ (m : Memory) (xs : List Expiration). ltb (limits .expirations) (length xs + count))
 
--- R36 to R43, R47: each call's tests in their order; the list is the bytes of a write or a batch
+-- R36 to R43, R47, R48: each call's tests in their order; the list is the bytes of a write or a batch
 unfoldable pub testsOf : Call → List ℕ → List Test
 testsOf (Schedule Join task) new = noSuchTask task ∷ taskPresent task ∷ []
 testsOf (Schedule Leave task) new = noSuchTask task ∷ taskAbsent task ∷ []
@@ -102,11 +122,11 @@ testsOf (Schedule Block task) new = noSuchTask task ∷ taskAbsent task ∷ task
 testsOf (Schedule Tick task) new = noSuchTask task ∷ taskAbsent task ∷ taskWaiting task ∷ []
 testsOf (Schedule Resume task) new = noSuchTask task ∷ taskAbsent task ∷ taskRunning task ∷ []
 testsOf (Make task kind extension size) new =
-    noSuchTask task ∷ taskAbsent task ∷ taskWaiting task ∷ extensionTooLong extension ∷ lengthOutOfRange size ∷ handlesSpent
+    noSuchTask task ∷ taskAbsent task ∷ taskWaiting task ∷ extensionTooLong kind extension ∷ lengthOutOfRange size ∷ handlesSpent
     ∷ noFreeBlock size ∷ noFreeExpiration ∷ []
 testsOf (Refresh task kind extension handle) new =
-    noSuchTask task ∷ taskAbsent task ∷ taskWaiting task ∷ extensionTooLong extension ∷ handleNotGiven handle
-    ∷ objectGone handle ∷ noFreeExpiration ∷ []
+    noSuchTask task ∷ taskAbsent task ∷ taskWaiting task ∷ onlyMakePins kind ∷ extensionTooLong kind extension
+    ∷ handleNotGiven handle ∷ objectGone handle ∷ noFreeExpiration ∷ []
 testsOf (Read task handle) new =
     noSuchTask task ∷ taskAbsent task ∷ taskWaiting task ∷ handleNotGiven handle ∷ objectGone handle ∷ []
 testsOf (Write task handle offset) new =
@@ -114,8 +134,10 @@ testsOf (Write task handle offset) new =
     ∷ outsideObject handle offset (length new) ∷ []
 testsOf (Batch task kind extension) new =
     let handles = handlesOf new in
-    noSuchTask task ∷ taskAbsent task ∷ taskWaiting task ∷ batchOutOfRange (length handles) ∷ extensionTooLong extension
-    ∷ someNotGiven handles ∷ someGone handles ∷ noRoomFor (length handles) ∷ []
+    noSuchTask task ∷ taskAbsent task ∷ taskWaiting task ∷ batchOutOfRange (length handles) ∷ onlyMakePins kind
+    ∷ extensionTooLong kind extension ∷ someNotGiven handles ∷ someGone handles ∷ noRoomFor (length handles) ∷ []
+testsOf (Release task handle) new =
+    noSuchTask task ∷ taskAbsent task ∷ taskWaiting task ∷ handleNotGiven handle ∷ objectGone handle ∷ notPinned handle ∷ []
 
 -- R32: the pool's verdict, by the first test that holds
 unfoldable pub verdict : Memory → List Expiration → List Test → Option Refusal

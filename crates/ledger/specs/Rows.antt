@@ -14,7 +14,7 @@ use Rattle.ledger.specs.declared.Kind.{Kind}
 use Rattle.ledger.specs.declared.Kind.the-variants.{Local}
 use Rattle.ledger.specs.declared.Event.the-variants.{Join, Leave, Block, Resume, Tick}
 use Rattle.ledger.specs.declared.Call.{Call}
-use Rattle.ledger.specs.declared.Call.the-variants.{Schedule, Make, Refresh, Read, Write, Batch}
+use Rattle.ledger.specs.declared.Call.the-variants.{Schedule, Make, Refresh, Read, Write, Batch, Release}
 use Rattle.ledger.specs.declared.Request.the-variants.{Use, Report, Remaining}
 
 -- The calls, by their names in 01 and with its arguments in its order. Only a write brings bytes, and a batch its handles.
@@ -55,6 +55,9 @@ inWords (handle ∷ handles) = 0 ∷ 0 ∷ 0 ∷ handle ∷ inWords handles
 
 abbrev pub batch : ℕ → Kind → ℕ → List ℕ → Sent
 batch task kind extension handles = send (Batch task kind extension) (inWords handles)
+
+abbrev pub release : ℕ → ℕ → Sent
+release task handle = send (Release task handle) []
 
 abbrev pub report : Sent
 report = record { request = Report; bytes = [] }
@@ -149,6 +152,6 @@ abbrev pub lateStart : (clock given : ℕ) → Ledger
 lateStart clock given =
     let tasks = set (freshClocks .tasks) 0 (record { state = Running; ticked = false; clock = clock }) in
     record {
-      memory = record { clocks = record { tasks = tasks; global = 0 }; given = given; objects = [] };
+      memory = record { clocks = record { tasks = tasks; global = 0 }; given = given; objects = []; pinned = [] };
       expirations = [];
     }

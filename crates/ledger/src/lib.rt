@@ -39,10 +39,11 @@ pub enum State {
     Waiting,
 }
 
-// E2: the kind of an expiration (01: date); Local is 01's own, Global its common.
+// E2, E22: the kind of an expiration (01: date); Local is 01's own, Global its common, Pinned 02's kept.
 pub enum Kind {
     Local,
     Global,
+    Pinned,
 }
 
 // The five calls that change a task's state or clock and name nothing but the task.
@@ -54,7 +55,7 @@ pub enum Event {
     Tick,
 }
 
-// The ten calls that are compared with the unbounded heap. The bytes of a write and the handles of a batch stand beside it.
+// The eleven calls that are compared with the unbounded heap. The bytes of a write and the handles of a batch stand beside it.
 pub enum Call {
     Schedule {
         event: Event,
@@ -86,9 +87,13 @@ pub enum Call {
         kind: Kind,
         extension: u8,
     },
+    Release {
+        task: u8,
+        handle: u32,
+    },
 }
 
-// All twelve calls.
+// All thirteen calls.
 pub enum Request {
     Use(Call),
     Report,
@@ -109,7 +114,7 @@ pub struct Life {
     pub global: u8,
 }
 
-// R1 to R20, in the order of their numbers: 16 to 19 are of a frame, the others of a call.
+// R1 to R22, in the order of their numbers: 16 to 19 are of a frame, the others of a call.
 pub enum Refusal {
     NoSuchTask,
     TaskPresent,
@@ -131,6 +136,8 @@ pub enum Refusal {
     WrongFrameLength,
     UnknownKind,
     BatchOutOfRange,
+    OnlyMakePins,
+    NotPinned,
 }
 
 // Whether a call is carried out.
@@ -175,6 +182,8 @@ pub fn number_of(refusal: Refusal) -> u8
         Refusal::WrongFrameLength => 18,
         Refusal::UnknownKind => 19,
         Refusal::BatchOutOfRange => 20,
+        Refusal::OnlyMakePins => 21,
+        Refusal::NotPinned => 22,
     }
 }
 

@@ -17,7 +17,7 @@ use Rattle.ledger.specs.Objects.{Reply, plain, replyTo}
 use Rattle.ledger.specs.Ledger.{Ledger}
 use Rattle.ledger.specs.declared.Answer.{Answer}
 use Rattle.ledger.specs.declared.Answer.the-variants.{Refused, Done, Bytes, Counted, Lasts}
-use Rattle.ledger.specs.declared.Call.the-variants.{Schedule, Make, Refresh, Write, Batch}
+use Rattle.ledger.specs.declared.Call.the-variants.{Schedule, Make, Refresh, Write, Batch, Release}
 use Rattle.ledger.specs.declared.Event.{Event}
 use Rattle.ledger.specs.declared.Kind.{Kind}
 use Rattle.ledger.specs.declared.Life.{Life}
@@ -119,7 +119,7 @@ module _ {p : Pool} (types : Typed (tablesOf p)) {answer : Answer} {p′ : Pool}
       by-reply types (f [] []) (λ why e. tells-by (λ (a : Answer). numbers) (answered e) refl)
       (λ L e. absurd (miss (0 ∷ 1 ∷ 2 ∷ 3 ∷ 4 ∷ 5 ∷ []) 6 tt (rw (answered e) at k)))
 
-  -- join, resume, refresh, batch and write tell none
+  -- join, resume, refresh, batch, release and write tell none
   silent : {request : Request} {new small large small′ large′ : List ℕ} → Obeys request new p small large (plain answer) p′ small′ large′
       → ((L : Ledger) → carriedOut request L .answer ≡ Done) → Tells answer [] []
   unfolding overwritten
@@ -137,6 +137,10 @@ module _ {p : Pool} (types : Typed (tablesOf p)) {answer : Answer} {p′ : Pool}
   pub silent-batch : {task : ℕ} {kind : Kind} {extension : ℕ} {new : List ℕ} → FollowsWith (Use (Batch task kind extension)) new p answer p′ → Tells answer [] []
   unfolding replyTo
   silent-batch f = silent (f [] []) (λ L. refl)
+
+  pub silent-release : {task handle : ℕ} → Follows (Use (Release task handle)) p answer p′ → Tells answer [] []
+  unfolding replyTo
+  silent-release f = silent (f [] []) (λ L. refl)
 
   pub silent-write : {task handle offset : ℕ} {new small large small′ large′ : List ℕ}
       → Obeys (Use (Write task handle offset)) new p small large (plain answer) p′ small′ large′ → Tells answer [] []

@@ -24,7 +24,7 @@ use Rattle.frames.specs.declared.requests.KindByte.the-variants.{Known, Unknown
 use Rattle.execute.specs.Execution.{Executes}
 use Rattle.numbered.specs.Told.{tooShort, Loans, lent, withNumber, toldBy}
 
--- a call that touches no store: join, leave, block, resume, tick, report, remaining life, and a refresh or batch of a known kind; with the bytes that it brings and the
+-- a call that touches no store: join, leave, block, resume, tick, release, report, remaining life, and a refresh or batch of a known kind; with the bytes that it brings and the
 -- numbers that it is lent
 pub record DoesWith (request : Request) (new : List ℕ) (p : Pool) (numbers : List ℕ) (number : ℕ) (p′ : Pool) (numbers′ : List ℕ) : Type 0 where
   pub answer : Answer

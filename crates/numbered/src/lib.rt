@@ -3,7 +3,7 @@
 ghost use mathlib.Core.List.{[], _∷_};
 ghost use mathlib.Core.Path.{_≡_};
 ghost use Rattle.ledger.specs.Numbers.{numberOf, answerNumber};
-ghost use Rattle.ledger.specs.declared.Call.the-variants.{Schedule};
+ghost use Rattle.ledger.specs.declared.Call.the-variants.{Schedule, Release};
 ghost use Rattle.ledger.specs.declared.Event.the-variants.{Join, Leave, Block, Resume, Tick};
 ghost use Rattle.ledger.specs.declared.Request.the-variants.{Use, Report, Remaining};
 ghost use Rattle.record.specs.Reading.{freshPool};
@@ -18,6 +18,7 @@ mod reading;
 
 use advancing::advance_or;
 use calls;
+use checked;
 use checked::schedule;
 use execute::LONGEST_ANSWER;
 use execute::execute;
@@ -261,6 +262,30 @@ pub fn refresh_all(p: Pool, task: u8, kind: u8, extension: u8, objects: &[u32]) 
         return refused(Refusal::UnknownKind, p);
     };
     refresh_each(p, task, known, extension, objects)
+}
+
+pub fn release(p: Pool, task: u8, handle: u32) -> Numbered
+    ensures { λ r. ⌜ Does (Use (Release task handle)) p [] (r .number) (r .pool) [] ⌝ }
+{
+    let h = head_of(p);
+    let mut handles = p.handles;
+    let lengths = p.lengths;
+    let mut clocks = p.clocks;
+    let named = p.named;
+    let dues = p.dues;
+    let step = checked::release(
+        h,
+        &mut handles,
+        &lengths,
+        &mut clocks,
+        &named,
+        &dues,
+        task,
+        handle,
+    );
+    let answer = step.answer;
+    let head = step.head;
+    put_together(answer, head, handles, lengths, clocks, named, dues)
 }
 
 // That part copied out.

@@ -5,6 +5,7 @@ use mathlib.Core.Path.{_≡_, refl, sym, ap, _∙_}
 use lib.ListN.{length, take, drop}
 use Rattle.lists.proofs.Counts.{count-map}
 use Rattle.lists.proofs.First.{first-map}
+use Rattle.ledger.specs.declared.Kind.{Kind}
 use Rattle.record.specs.Tables.{BlockEntry, ExpirationEntry, blocksOf, tablesBy, blockEntries}
 use Rattle.record.specs.declared.Head.{Head}
 use Rattle.record.proofs.Columns.{handles-of}
@@ -49,7 +50,7 @@ module _ (hs ls : List ℕ) (a : length hs ≡ blockEntries) (b : length ls ≡ 
     pub usage-of : usageIn (h .given) hs (standingIn xs) ≡ usageOf (tablesBy h (blocksOf hs ls) xs)
     usage-of = ap (λ hs′. usageIn (h .given) hs′ (standingIn xs)) (sym (handles-of hs ls a b)) ∙ usage-in h (blocksOf hs ls) xs
 
-    pub make-planned : (task extension size : ℕ)
-        → makePlan task extension size h (freePlaceIn size hs) (standingIn xs) .verdict ≡ makeVerdict task extension size (tablesBy h (blocksOf hs ls) xs)
+    pub make-planned : (task : ℕ) (kind : Kind) (extension size : ℕ)
+        → makePlan task kind extension size h (freePlaceIn size hs) (standingIn xs) .verdict ≡ makeVerdict task kind extension size (tablesBy h (blocksOf hs ls) xs)
     unfolding makePlan makeVerdict tablesBy
-    make-planned task extension size = rw (free-place-of size)
+    make-planned task kind extension size = rw (free-place-of size)

@@ -1,26 +1,28 @@
 -- Laws of the one finding: what a test before it or after it makes of it, and what the columns give.
-use Prim.Native.Nat.{ℕ}
+use Prim.Native.Nat.{ℕ, _<_}
 use mathlib.Core.Bool.{Bool, true, false}
 use mathlib.Core.List.{List}
 use mathlib.Core.Path.{_≡_, refl, _∙_}
 use lib.ListN.{getD}
+use Rattle.ledger.specs.declared.Kind.{Kind}
 use Rattle.ledger.specs.declared.Life.{Life}
 use Rattle.ledger.specs.declared.Refusal.{Refusal}
 use Rattle.ledger.specs.declared.Verdict.{Verdict}
 use Rattle.ledger.specs.declared.Verdict.the-variants.{Accepted, Refused}
 use Rattle.record.specs.Codes.{freeBlock}
-use Rattle.record.specs.Tables.{Tables, Sized, SizedEntries, entriesOf, tablesBy, lent}
+use Rattle.record.specs.Tables.{Tables, Sized, SizedEntries, entriesOf, tablesBy, lent, blockEntries}
 use Rattle.record.specs.WellFormed.{isWellFormed}
 use Rattle.record.specs.declared.Head.{Head}
 use Rattle.record.proofs.Columns.{block-at}
 use Rattle.record.proofs.Facts.{fit-parts}
-use Rattle.steps.specs.Objects.{placeOf, placeIn, andThen, taskVerdict, extensionVerdict, foundVerdict, handleVerdict, roomVerdict, refreshVerdict}
+use Rattle.steps.specs.Objects.{placeOf, placeIn, andThen, taskVerdict, kindVerdict, foundVerdict, handleVerdict, roomVerdict, refreshVerdict, readVerdict}
 use Rattle.steps.specs.Remaining.{lifeIn, LifeWithin}
+use Rattle.steps.proofs.Chosen.{both-accept, place-listed}
 use Rattle.steps.proofs.Remaining.{life-within}
 use Rattle.steps.proofs.Verdicts.{then-assoc}
 use Rattle.expirations.specs.Standing.{standingOf}
 use Rattle.expirations.proofs.Counting.{standing-of}
-use Rattle.objects.specs.Outcomes.{foundBy, foundIf, lifeIf}
+use Rattle.objects.specs.Outcomes.{foundBy, foundIf, lifeIf, setVerdict}
 use Rattle.objects.specs.declared.Found.the-variants.{At}
 use Rattle.objects.specs.declared.Found.the-variants.{Refused as RefusedFound}
 use Rattle.objects.proofs.Laws.{place-of}
@@ -34,7 +36,7 @@ module _ (asks : Bool) (task handle : ℕ) (p : Tables) where
   accepted-before u v e = rw e
 
   -- a test after it
-  tested-after : (v w : Verdict) → foundIf (foundBy asks v task handle p) w ≡ foundBy asks (andThen v w) task handle p
+  pub tested-after : (v w : Verdict) → foundIf (foundBy asks v task handle p) w ≡ foundBy asks (andThen v w) task handle p
   tested-after Accepted Accepted = refl
   tested-after Accepted (Refused r) = refl
   tested-after (Refused r) w = refl
@@ -49,23 +51,28 @@ module _ (asks : Bool) (task handle : ℕ) (p : Tables) where
   found-accepted Accepted e = (refl, cc, cc)
   found-accepted (Refused r) e = (cc, cc, cc)
 
+-- an accepted one's block is one of the blocks'
+pub read-listed : (task handle : ℕ) (p : Tables) → readVerdict task handle p ≡ Accepted → placeOf handle (p .blocks) < blockEntries
+unfolding readVerdict
+read-listed task handle p v = place-listed handle (p .given) _ (both-accept (taskVerdict task (p .tasks)) _ v .1)
+
 -- the tests of a refresh, before it and after it
-abbrev pub firstVerdict : ℕ → ℕ → Head → Verdict
-firstVerdict task extension h = andThen (taskVerdict task (h .tasks)) (extensionVerdict extension)
+abbrev pub firstVerdict : ℕ → Kind → ℕ → Head → Verdict
+firstVerdict task kind extension h = andThen (taskVerdict task (h .tasks)) (setVerdict kind extension)
 
-module _ (task extension handle : ℕ) (h : Head) (hs ls cs ns ds : List ℕ) where
-  pub refresh-refused : {why : Refusal} → firstVerdict task extension h ≡ Refused why
-      → RefusedFound why ≡ foundBy false (refreshVerdict task extension handle (lent h hs ls cs ns ds)) task handle (lent h hs ls cs ns ds)
+module _ (task : ℕ) (kind : Kind) (extension handle : ℕ) (h : Head) (hs ls cs ns ds : List ℕ) where
+  pub refresh-refused : {why : Refusal} → firstVerdict task kind extension h ≡ Refused why
+      → RefusedFound why ≡ foundBy false (refreshVerdict task kind extension handle (lent h hs ls cs ns ds)) task handle (lent h hs ls cs ns ds)
   unfolding refreshVerdict tablesBy
-  refresh-refused e = rw (← then-assoc (taskVerdict task (h .tasks))) (refused-before false task handle (lent h hs ls cs ns ds) (firstVerdict task extension h) _ e)
+  refresh-refused e = rw (← then-assoc (kindVerdict kind), ← then-assoc (taskVerdict task (h .tasks))) (refused-before false task handle (lent h hs ls cs ns ds) (firstVerdict task kind extension h) _ e)
 
-  pub refresh-found : SizedEntries cs ns ds → firstVerdict task extension h ≡ Accepted
+  pub refresh-found : SizedEntries cs ns ds → firstVerdict task kind extension h ≡ Accepted
       → foundIf (foundBy false (handleVerdict handle (lent h hs ls cs ns ds)) task handle (lent h hs ls cs ns ds)) (roomVerdict (standingOf cs))
-      ≡ foundBy false (refreshVerdict task extension handle (lent h hs ls cs ns ds)) task handle (lent h hs ls cs ns ds)
+      ≡ foundBy false (refreshVerdict task kind extension handle (lent h hs ls cs ns ds)) task handle (lent h hs ls cs ns ds)
   unfolding refreshVerdict tablesBy
   refresh-found sized e =
       let p = lent h hs ls cs ns ds in
-      rw (standing-of sized, ← then-assoc (taskVerdict task (h .tasks))) (tested-after false task handle p (handleVerdict handle p) _ ∙ accepted-before false task handle p (firstVerdict task extension h) _ e)
+      rw (standing-of sized, ← then-assoc (kindVerdict kind), ← then-assoc (taskVerdict task (h .tasks))) (tested-after false task handle p (handleVerdict handle p) _ ∙ accepted-before false task handle p (firstVerdict task kind extension h) _ e)
 
 module _ (h : Head) {hs ls cs ns ds : List ℕ} (sized : Sized hs ls cs ns ds) (asks : Bool) (task handle : ℕ) where
   -- 11 and 12 by the handles

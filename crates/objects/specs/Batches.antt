@@ -7,20 +7,22 @@ use lib.Dec.{eqb, ltb}
 use lib.ListN.{length, take}
 use Rattle.lists.specs.Tests.{any}
 use Rattle.ledger.specs.Limits.{limits, largestBatch}
+use Rattle.ledger.specs.declared.Kind.{Kind}
 use Rattle.ledger.specs.declared.Refusal.the-variants.{BatchOutOfRange, HandleNotGiven, ObjectGone, NoFreeExpiration}
 use Rattle.ledger.specs.declared.Verdict.{Verdict}
 use Rattle.ledger.specs.declared.Verdict.the-variants.{Accepted}
 use Rattle.record.specs.declared.Head.{Head}
 use Rattle.record.specs.declared.TaskEntry.{TaskEntry}
-use Rattle.steps.specs.Objects.{placeIn, andThen, refuseIf, taskVerdict, extensionVerdict, isUngiven, isMissingIn, batchVerdictBy}
+use Rattle.steps.specs.Objects.{placeIn, andThen, refuseIf, taskVerdict, isUngiven, isMissingIn, batchVerdictBy}
+use Rattle.objects.specs.Outcomes.{setVerdict}
 use Rattle.objects.specs.declared.BatchPlan.{BatchPlan}
 use Rattle.objects.specs.declared.batch.BatchFound.{BatchFound}
 
--- R47, the tests that look at no object: 1, 3, 4, 20, 6
-abbrev pub batchCallVerdict : ℕ → ℕ → List TaskEntry → ℕ → Verdict
-batchCallVerdict task extension tasks count =
+-- R47, the tests that look at no object: 1, 3, 4, 20, 21, 6
+abbrev pub batchCallVerdict : ℕ → Kind → ℕ → List TaskEntry → ℕ → Verdict
+batchCallVerdict task kind extension tasks count =
     andThen (taskVerdict task tasks)
-    (andThen (refuseIf (eqb count 0 || ltb largestBatch count) BatchOutOfRange) (extensionVerdict extension))
+    (andThen (refuseIf (eqb count 0 || ltb largestBatch count) BatchOutOfRange) (setVerdict kind extension))
 
 -- and those after them: 11, 12, 10, by whether some handle was not given, whether some object is gone, and how many expirations would stand
 abbrev pub batchObjectsVerdict : Bool → Bool → ℕ → Verdict
@@ -40,8 +42,8 @@ pub record FindsBatch (given : ℕ) (handles named : List ℕ) (r : BatchFound) 
   pub blocks : take (length named) (r .blocks) ≡ placesIn handles named
 
 -- R47: the verdict on a batch, and where it accepts, the blocks of its objects
-pub record PlansBatch (task extension : ℕ) (named : List ℕ) (h : Head) (handles : List ℕ) (standing : ℕ) (r : BatchPlan) : Type 0 where
-  pub verdict : r .verdict ≡ batchVerdictBy task extension named (h .tasks) (h .given) (isMissingIn handles) standing
+pub record PlansBatch (task : ℕ) (kind : Kind) (extension : ℕ) (named : List ℕ) (h : Head) (handles : List ℕ) (standing : ℕ) (r : BatchPlan) : Type 0 where
+  pub verdict : r .verdict ≡ batchVerdictBy task kind extension named (h .tasks) (h .given) (isMissingIn handles) standing
   pub count : r .count ≡ length named
   pub sized : r .verdict ≡ Accepted → length (r .blocks) ≡ largestBatch
   pub blocks : r .verdict ≡ Accepted → take (length named) (r .blocks) ≡ placesIn handles named

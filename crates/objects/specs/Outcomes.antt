@@ -1,14 +1,15 @@
--- What make, refresh, read and write decide, by the head and by what was found in the tables.
+-- What make, refresh, read, write and release decide, by the head and by what was found in the tables.
 use Prim.Native.Nat.{ℕ}
 use mathlib.Core.Bool.{Bool, true, false}
 use lib.ListN.{getD}
+use Rattle.ledger.specs.declared.Kind.{Kind}
 use Rattle.ledger.specs.declared.Life.{Life}
 use Rattle.ledger.specs.declared.Verdict.{Verdict}
 use Rattle.ledger.specs.declared.Verdict.the-variants.{Accepted, Refused}
 use Rattle.record.specs.Codes.{freeBlock}
 use Rattle.record.specs.Tables.{Tables}
 use Rattle.record.specs.declared.Head.{Head}
-use Rattle.steps.specs.Objects.{placeOf, makeVerdictBy}
+use Rattle.steps.specs.Objects.{placeOf, andThen, kindVerdict, extensionVerdict, makeVerdictBy}
 use Rattle.steps.specs.Remaining.{lifeIn}
 use Rattle.objects.specs.declared.Plan.{Plan}
 use Rattle.objects.specs.declared.Found.{Found}
@@ -37,7 +38,11 @@ foundIf (RefusedFound r) v = RefusedFound r
 foundIf (At block length life) Accepted = At block length life
 foundIf (At block length life) (Refused r) = RefusedFound r
 
+-- 21, 6: of one expiration more on an object that stands
+abbrev pub setVerdict : Kind → ℕ → Verdict
+setVerdict kind extension = andThen (kindVerdict kind) (extensionVerdict kind extension)
+
 -- the verdict of a make, by the block that was found and how many expirations stand; and that block
-unfoldable pub makePlan : ℕ → ℕ → ℕ → Head → ℕ → ℕ → Plan
-makePlan task extension size h place standing =
-    record { verdict = makeVerdictBy task extension size (h .tasks) (h .given) place standing; place = place }
+unfoldable pub makePlan : ℕ → Kind → ℕ → ℕ → Head → ℕ → ℕ → Plan
+makePlan task kind extension size h place standing =
+    record { verdict = makeVerdictBy task kind extension size (h .tasks) (h .given) place standing; place = place }

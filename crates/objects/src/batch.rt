@@ -11,6 +11,7 @@ use super::refusals::batch_call_verdict;
 use super::refusals::batch_objects_verdict;
 use super::refusals::is_ungiven;
 use super::search::locate;
+use ledger::Kind;
 use ledger::LARGEST_BATCH;
 use ledger::Verdict;
 use record::BLOCK_COUNT;
@@ -67,15 +68,16 @@ pub fn plan_batch(
     handles: &[u32; BLOCK_COUNT],
     standing: u16,
     task: u8,
+    kind: Kind,
     extension: u8,
     bytes: &[u8],
 ) -> BatchPlan
     requires { ⌜ length (now handles) ≡ blockEntries ⌝ }
-    ensures { λ r. ⌜ PlansBatch task extension (handlesOf (now (bytes .entry))) h (now (handles .entry)) standing r ⌝ }
+    ensures { λ r. ⌜ PlansBatch task kind extension (handlesOf (now (bytes .entry))) h (now (handles .entry)) standing r ⌝ }
 {
     let count = bytes.len() / 4;
     let tasks = h.tasks;
-    match batch_call_verdict(task, extension, tasks, count) {
+    match batch_call_verdict(task, kind, extension, tasks, count) {
         Verdict::Refused(why) => BatchPlan {
             verdict: Verdict::Refused(why),
             blocks: [0u8; LARGEST_BATCH],

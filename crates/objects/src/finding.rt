@@ -1,4 +1,4 @@
-// Where an object is: one finding (O30), which read, write, refresh and remaining life make after the tests that go before it. The record is well-formed, or its figures would not fit.
+// Where an object is: one finding (O30), which read, write, refresh, release and remaining life make after the tests that go before it. The record is well-formed, or its figures would not fit.
 ghost use Prim.Native.Nat.{_<_};
 ghost use mathlib.Core.Bool.{true, false};
 ghost use mathlib.Core.Path.{_≡_};
@@ -6,18 +6,20 @@ ghost use Rattle.ledger.specs.Limits.{taskCount};
 ghost use Rattle.record.specs.Tables.{Sized, SizedEntries, entriesOf, blockEntries, lent};
 ghost use Rattle.record.specs.WellFormed.{isWellFormed};
 ghost use Rattle.steps.specs.Remaining.{lifeIn, LifeWithin};
-ghost use Rattle.steps.specs.Objects.{handleVerdict, readVerdict, writeVerdict, refreshVerdict};
+ghost use Rattle.steps.specs.Objects.{handleVerdict, readVerdict, writeVerdict, refreshVerdict, releaseVerdict};
 ghost use Rattle.objects.specs.Outcomes.{foundIn, foundIf, lifeIf};
 use super::Found;
 use super::refusals::and_then;
-use super::refusals::extension_verdict;
 use super::refusals::found_verdict;
 use super::refusals::reaches_past;
 use super::refusals::room_verdict;
+use super::refusals::set_verdict;
 use super::refusals::task_verdict;
 use super::search::locate;
+use expirations::is_pinned;
 use expirations::remaining_life;
 use expirations::standing;
+use ledger::Kind;
 use ledger::Life;
 use ledger::Refusal;
 use ledger::Verdict;
@@ -172,14 +174,15 @@ pub fn find_for_refresh<'a>(
     named: &'a [u8; EXPIRATION_COUNT],
     dues: &'a [u32; EXPIRATION_COUNT],
     task: u8,
+    kind: Kind,
     extension: u8,
     handle: u32,
 ) -> Found
     requires { ⌜ Sized (now handles) (now lengths) (now clocks) (now named) (now dues) × (isWellFormed (lent h (now handles) (now lengths) (now clocks) (now named) (now dues)) ≡ true) ⌝ }
-    ensures { λ r. ⌜ r ≡ foundIn false (refreshVerdict task extension handle) task handle (lent h (now (handles .entry)) (now (lengths .entry)) (now (clocks .entry)) (now (named .entry)) (now (dues .entry))) ⌝ }
+    ensures { λ r. ⌜ r ≡ foundIn false (refreshVerdict task kind extension handle) task handle (lent h (now (handles .entry)) (now (lengths .entry)) (now (clocks .entry)) (now (named .entry)) (now (dues .entry))) ⌝ }
 {
     let tasks = h.tasks;
-    match and_then(task_verdict(task, tasks), extension_verdict(extension)) {
+    match and_then(task_verdict(task, tasks), set_verdict(kind, extension)) {
         Verdict::Refused(why) => Found::Refused(why),
         Verdict::Accepted => found_if(
             find(
@@ -195,5 +198,49 @@ pub fn find_for_refresh<'a>(
             ),
             room_verdict(standing(clocks) as usize),
         ),
+    }
+}
+
+// The object that is released: it has a pinned expiration.
+pub fn find_for_release<'a>(
+    h: Head,
+    handles: &'a [u32; BLOCK_COUNT],
+    lengths: &'a [u16; BLOCK_COUNT],
+    clocks: &'a [u8; EXPIRATION_COUNT],
+    named: &'a [u8; EXPIRATION_COUNT],
+    dues: &'a [u32; EXPIRATION_COUNT],
+    task: u8,
+    handle: u32,
+) -> Found
+    requires { ⌜ Sized (now handles) (now lengths) (now clocks) (now named) (now dues) × (isWellFormed (lent h (now handles) (now lengths) (now clocks) (now named) (now dues)) ≡ true) ⌝ }
+    ensures { λ r. ⌜ r ≡ foundIn false (releaseVerdict task handle) task handle (lent h (now (handles .entry)) (now (lengths .entry)) (now (clocks .entry)) (now (named .entry)) (now (dues .entry))) ⌝ }
+{
+    match find_for_read(
+        h,
+        handles,
+        lengths,
+        clocks,
+        named,
+        dues,
+        task,
+        handle,
+        false,
+    ) {
+        Found::Refused(why) => Found::Refused(why),
+        Found::At {
+            block,
+            length,
+            life,
+        } => {
+            if is_pinned(clocks, named, block) {
+                Found::At {
+                    block,
+                    length,
+                    life,
+                }
+            } else {
+                Found::Refused(Refusal::NotPinned)
+            }
+        }
     }
 }

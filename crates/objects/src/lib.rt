@@ -1,4 +1,4 @@
-// What make, refresh, read, write and batch decide, on a head by value and the tables of blocks and expirations that they read.
+// What make, refresh, read, write, batch and release decide, on a head by value and the tables of blocks and expirations that they read.
 mod batch;
 mod decide;
 mod finding;
@@ -10,6 +10,7 @@ pub use batch::plan_batch;
 pub use decide::plan_make;
 pub use finding::find_for_read;
 pub use finding::find_for_refresh;
+pub use finding::find_for_release;
 pub use finding::find_for_write;
 use ledger::LARGEST_BATCH;
 use ledger::Life;
@@ -30,7 +31,7 @@ pub struct BatchPlan {
     pub count: usize,
 }
 
-// Where the object of a read, a write or a refresh is, and its remaining life for the task that calls.
+// Where the object of a read, a write, a refresh or a release is, and its remaining life for the task that calls.
 pub enum Found {
     Refused(Refusal),
     At {

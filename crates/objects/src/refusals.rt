@@ -2,9 +2,12 @@
 ghost use Prim.Native.Nat.{_+_};
 ghost use lib.Dec.{ltb};
 ghost use mathlib.Core.Path.{_≡_};
+ghost use Rattle.ledger.specs.Refusals.{mostExtension, isPinning};
 ghost use Rattle.steps.specs.Objects.{andThen, refuseIf, byState, taskVerdict, extensionVerdict, isUngiven, foundVerdict, roomVerdict, makeVerdictBy};
 ghost use Rattle.objects.specs.Batches.{batchCallVerdict, batchObjectsVerdict};
+ghost use Rattle.objects.specs.Outcomes.{setVerdict};
 use super::search::end_for;
+use ledger::Kind;
 use ledger::LARGE_SIZE;
 use ledger::LARGEST_BATCH;
 use ledger::LIMITS;
@@ -58,13 +61,45 @@ pub fn task_verdict(task: u8, tasks: [TaskEntry; TASK_COUNT]) -> Verdict
     by_state(state_of(e.state))
 }
 
+// The longest extension of a kind.
+fn most_extension(kind: Kind) -> u32
+    ensures { λ r. ⌜ r ≡ mostExtension kind ⌝ }
+{
+    match kind {
+        Kind::Local => LIMITS.extension,
+        Kind::Global => LIMITS.extension,
+        Kind::Pinned => 0,
+    }
+}
+
 // 6
-pub fn extension_verdict(extension: u8) -> Verdict
-    ensures { λ r. ⌜ r ≡ extensionVerdict extension ⌝ }
+fn extension_verdict(kind: Kind, extension: u8) -> Verdict
+    ensures { λ r. ⌜ r ≡ extensionVerdict kind extension ⌝ }
 {
     refuse_if(
-        LIMITS.extension < extension as u32,
+        most_extension(kind) < extension as u32,
         Refusal::ExtensionTooLong,
+    )
+}
+
+// Whether an expiration of a kind is pinned.
+fn is_pinning(kind: Kind) -> bool
+    ensures { λ r. ⌜ r ≡ isPinning kind ⌝ }
+{
+    match kind {
+        Kind::Local => false,
+        Kind::Global => false,
+        Kind::Pinned => true,
+    }
+}
+
+// 21, 6: of one expiration more on an object that stands
+pub fn set_verdict(kind: Kind, extension: u8) -> Verdict
+    ensures { λ r. ⌜ r ≡ setVerdict kind extension ⌝ }
+{
+    and_then(
+        refuse_if(is_pinning(kind), Refusal::OnlyMakePins),
+        extension_verdict(kind, extension),
     )
 }
 
@@ -95,6 +130,7 @@ pub fn room_verdict(standing: usize) -> Verdict
 // R40: 7, 8, 9 between the others
 pub fn make_verdict(
     task: u8,
+    kind: Kind,
     extension: u8,
     length: u32,
     tasks: [TaskEntry; TASK_COUNT],
@@ -102,12 +138,12 @@ pub fn make_verdict(
     place: usize,
     standing: usize,
 ) -> Verdict
-    ensures { λ r. ⌜ r ≡ makeVerdictBy task extension length tasks given place standing ⌝ }
+    ensures { λ r. ⌜ r ≡ makeVerdictBy task kind extension length tasks given place standing ⌝ }
 {
     and_then(
         task_verdict(task, tasks),
         and_then(
-            extension_verdict(extension),
+            extension_verdict(kind, extension),
             and_then(
                 refuse_if(
                     (length == 0) | (LARGE_SIZE < length),
@@ -125,14 +161,15 @@ pub fn make_verdict(
     )
 }
 
-// R47, the tests that look at no object: 1, 3, 4, 20, 6
+// R47, the tests that look at no object: 1, 3, 4, 20, 21, 6
 pub fn batch_call_verdict(
     task: u8,
+    kind: Kind,
     extension: u8,
     tasks: [TaskEntry; TASK_COUNT],
     count: usize,
 ) -> Verdict
-    ensures { λ r. ⌜ r ≡ batchCallVerdict task extension tasks count ⌝ }
+    ensures { λ r. ⌜ r ≡ batchCallVerdict task kind extension tasks count ⌝ }
 {
     and_then(
         task_verdict(task, tasks),
@@ -141,7 +178,7 @@ pub fn batch_call_verdict(
                 (count == 0) | (LARGEST_BATCH < count),
                 Refusal::BatchOutOfRange,
             ),
-            extension_verdict(extension),
+            set_verdict(kind, extension),
         ),
     )
 }

@@ -2,3 +2,4 @@ pub mod Sizes
 pub mod ByValue
 pub mod Demands
 pub mod Outlives
+pub mod Pinned

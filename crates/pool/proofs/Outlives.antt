@@ -1,59 +1,47 @@
 -- Order 7 of the pool: by demand 2 the record has the ledger's expirations, and of the ledger both claims are proved.
 use Prim.Native.Nat.{ℕ}
-use mathlib.Core.Bool.{Bool, true, false, cond}
+use mathlib.Core.Bool.{true}
 use mathlib.Core.List.{List, [], _∷_, _++_, append-assoc, List·Permᴰ, List·Permᴰ·trans}
-use mathlib.Core.Option.{none, some}
 use mathlib.Core.Path.{_≡_, refl, sym, ap, subst, _∙_}
 use native.Mathlib.Omega.{arith}
-use lib.Dec.{leb}
 use Rattle.lists.proofs.Cases.{by-test}
 use Rattle.lists.proofs.Counts.{any-append}
 use Rattle.lists.proofs.Permutations.{exchange-perm, any-perm, map-perm}
-use Rattle.ledger.specs.Limits.{taskCount}
-use Rattle.ledger.specs.Tasks.{taskAt, isAbsent, isWaiting}
 use Rattle.ledger.specs.Expirations.{Expiration, isOf}
-use Rattle.ledger.specs.Objects.{Reply, stands, replyTo}
-use Rattle.ledger.specs.Refusals.{isNotGiven, testsOf, verdict}
-use Rattle.ledger.specs.Ledger.{Ledger, Sent, fresh, replyBy, reply, afterAll}
+use Rattle.ledger.specs.Objects.{Reply, stands}
+use Rattle.ledger.specs.Ledger.{Ledger, Sent, fresh, afterSent, afterAll}
 use Rattle.ledger.specs.Compared.{viewOf, shown}
-use Rattle.ledger.specs.Outlives.{setIn, leftIn, afterSent, followed, Setting, whenSet, callsOf}
-use Rattle.ledger.specs.declared.Answer.the-variants.{Refused, Bytes}
-use Rattle.ledger.specs.declared.Call.the-variants.{Read}
-use Rattle.ledger.specs.declared.Refusal.the-variants.{NoSuchTask, TaskAbsent, TaskWaiting, HandleNotGiven, ObjectGone, WrongStoreLength}
+use Rattle.ledger.specs.Outlives.{setIn, leftIn, followed, Setting, whenSet, callsOf}
+use Rattle.ledger.specs.declared.Answer.the-variants.{Refused}
+use Rattle.ledger.specs.declared.Refusal.the-variants.{ObjectGone, WrongStoreLength}
 use Rattle.ledger.proofs.Following.{following}
 use Rattle.ledger.proofs.OutlivesTicks.{outlives-ticks}
 use Rattle.ledger.proofs.GoneAfterRounds.{gone-after-rounds}
+use Rattle.ledger.proofs.Pinned.{read-stands}
 use Rattle.record.specs.Pools.{Reads}
+use Rattle.record.specs.declared.Pool.{Pool}
 use Rattle.calls.specs.Contract.{areWhole}
-use Rattle.pool.specs.Outlives.{followedNew, beside, othersOf, PoolFollows, PoolOutlivesTicks, PoolGoneAfterRounds}
+use Rattle.pool.specs.Outlives.{FreshRun, NotGone, followedNew, beside, othersOf, PoolFollows, PoolOutlivesTicks, PoolGoneAfterRounds}
 use Rattle.pool.proofs.Demands.{demand2}
 
 -- a list of calls after another
-after-append : (ss more : List Sent) (L : Ledger) → afterAll L (ss ++ more) ≡ afterAll (afterAll L ss) more
+pub after-append : (ss more : List Sent) (L : Ledger) → afterAll L (ss ++ more) ≡ afterAll (afterAll L ss) more
 unfolding afterAll
 after-append [] more L = refl
 after-append (s ∷ ss) more L = after-append ss more (afterSent L s)
 
--- a read of an object that stands is not answered 12, whatever else it is
-not-gone : (a b c d : Bool) (y : Reply) → (y .answer ≡ Refused ObjectGone → ⊥)
-    → replyBy (cond a (some NoSuchTask) (cond b (some TaskAbsent) (cond c (some TaskWaiting) (cond d (some HandleNotGiven) none)))) y .answer ≡ Refused ObjectGone → ⊥
-not-gone true b c d y f e = let z : _≡_ {A = ℕ} 0 1 = cc in omega arith
-not-gone false true c d y f e = let z : _≡_ {A = ℕ} 0 1 = cc in omega arith
-not-gone false false true d y f e = let z : _≡_ {A = ℕ} 0 1 = cc in omega arith
-not-gone false false false true y f e = let z : _≡_ {A = ℕ} 0 1 = cc in omega arith
-not-gone false false false false y f e = f e
-
-never : Bytes ≡ Refused ObjectGone → ⊥
-never e = let z : _≡_ {A = ℕ} 0 1 = cc in omega arith
-
-read-stands : (L : Ledger) (task handle : ℕ) → stands (L .expirations) handle ≡ true → reply L (Read task handle) [] .answer ≡ Refused ObjectGone → ⊥
-unfolding reply verdict testsOf replyTo
-read-stands L task handle h e =
-    let state = taskAt (L .memory .clocks) task .state in
-    not-gone (leb taskCount task) (isAbsent state) (isWaiting state) (isNotGiven (L .memory) handle) (replyTo (Read task handle) (L .memory)) never (rw h at e)
-
 wrong-store : Refused WrongStoreLength ≡ Refused ObjectGone → ⊥
 wrong-store e = let z : _≡_ {A = ℕ} 0 1 = cc in omega arith
+
+-- after a list of calls no read of an object that stands in the ledger is answered 12
+pub not-gone : (ss : List Sent) (p′ : Pool) (small′ large′ : List ℕ) → FreshRun ss p′ small′ large′
+    → (handle : ℕ) → stands (afterAll fresh ss .expirations) handle ≡ true → NotGone handle p′ small′ large′
+not-gone ss p′ small′ large′ r handle here task y p″ small″ large″ o e =
+    let (same, reads, fit) = demand2 (r .small) (r .large) (r .smallWhole) (r .largeWhole) ss (r .replies) p′ small′ large′ (r .runs) in
+    let N = afterAll fresh ss in
+    by-test (areWhole small′ large′)
+    (λ w. read-stands N task handle here (ap (λ (y : Reply). y .answer) (sym (o .answers fit (λ u. w) N reads)) ∙ e))
+    (λ w. wrong-store (sym (ap (λ (y : Reply). y .answer) (o .wrong fit refl w .refused)) ∙ e))
 
 -- the ledger after the whole list
 after-set : (d : Setting) (ss : List Sent) → afterAll fresh (d .earlier ++ (d .call ∷ ss)) ≡ afterAll (whenSet d) ss
@@ -103,16 +91,12 @@ pool-follows d ss p′ small′ large′ r =
     List·Permᴰ·trans (at-end .alike .expirations) (map-perm (shown (N .memory .clocks)) (with-others d ss))
 
 pub pool-outlives-ticks : PoolOutlivesTicks
-pool-outlives-ticks d ss p′ small′ large′ r stays few task y p″ small″ large″ o e =
+pool-outlives-ticks d ss p′ small′ large′ r stays few =
     let handle = d .date .handle in
-    let (same, reads, fit) = demand2 (r .small) (r .large) (r .smallWhole) (r .largeWhole) (d .earlier ++ (d .call ∷ ss)) (r .replies) p′ small′ large′ (r .runs) in
-    let N = afterAll (whenSet d) ss in
-    let at-end : Reads p′ small′ large′ N = subst (λ (L : Ledger). Reads p′ small′ large′ L) (after-set d ss) reads in
-    let here : stands (N .expirations) handle ≡ true =
+    let here : stands (afterAll (whenSet d) ss .expirations) handle ≡ true =
     any-perm (isOf handle) (with-others d ss) ∙ any-append (isOf handle) (followed (whenSet d) ss (d .date ∷ [])) (othersOf d ss) ∙ rw (outlives-ticks d ss stays few .0) in
-    by-test (areWhole small′ large′)
-    (λ w. read-stands N task handle here (ap (λ (y : Reply). y .answer) (sym (o .answers fit (λ u. w) N at-end)) ∙ e))
-    (λ w. wrong-store (sym (ap (λ (y : Reply). y .answer) (o .wrong fit refl w .refused)) ∙ e))
+    not-gone (d .earlier ++ (d .call ∷ ss)) p′ small′ large′ r handle
+    (subst (λ (L : Ledger). stands (L .expirations) handle ≡ true) (sym (after-set d ss)) here)
 
 pub pool-gone-after-rounds : PoolGoneAfterRounds
 pool-gone-after-rounds d rs rest p′ small′ large′ r n e =

@@ -30,7 +30,7 @@ Demand2 =
     → (ss : List Sent) (ys : List Reply) (p′ : Pool) (small′ large′ : List ℕ) → Runs freshPool small large ss ys p′ small′ large′
     → (ys ≡ replies fresh ss) × Reads p′ small′ large′ (afterAll fresh ss) × (isWellFormed p′ ≡ true)
 
--- Demand 3: for every such list of the ten calls the answers equal the unbounded heap's exactly when all use was in time and in bounds.
+-- Demand 3: for every such list of the eleven calls the answers equal the unbounded heap's exactly when all use was in time and in bounds.
 abbrev pub PoolDemand3 : Type 0
 PoolDemand3 =
     (small large : List ℕ) → length small ≡ wholeSmall → length large ≡ wholeLarge

@@ -1,2 +1,3 @@
 pub mod Demands
 pub mod Outlives
+pub mod Pinned

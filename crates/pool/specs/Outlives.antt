@@ -6,9 +6,9 @@ use mathlib.Core.Path.{_≡_}
 use lib.ListN.{length}
 use Rattle.ledger.specs.Expirations.{Expiration}
 use Rattle.ledger.specs.Objects.{Reply}
-use Rattle.ledger.specs.Ledger.{Ledger, Sent, fresh, afterAll}
+use Rattle.ledger.specs.Ledger.{Ledger, Sent, fresh, afterSent, afterAll}
 use Rattle.ledger.specs.Compared.{shown}
-use Rattle.ledger.specs.Outlives.{setIn, leftIn, afterSent, followed, isTickOf, isLeaveOf, countOf, Setting, whenSet, Stretch, callsOf, areRounds}
+use Rattle.ledger.specs.Outlives.{setIn, leftIn, followed, isTickOf, isLeaveOf, countOf, Setting, whenSet, Stretch, callsOf, areRounds}
 use Rattle.ledger.specs.declared.Answer.the-variants.{Refused}
 use Rattle.ledger.specs.declared.Call.the-variants.{Read}
 use Rattle.ledger.specs.declared.Refusal.the-variants.{ObjectGone}
@@ -19,14 +19,24 @@ use Rattle.record.specs.declared.Pool.{Pool}
 use Rattle.calls.specs.Contract.{Obeys}
 use Rattle.pool.specs.Demands.{Runs}
 
--- A list of calls from a fresh pool, with stores of 01's lengths: one of them sets a global expiration, and more follow.
-pub record SetRun (d : Setting) (ss : List Sent) (p′ : Pool) (small′ large′ : List ℕ) : Type 0 where
+-- A list of calls from a fresh pool, with stores of 01's lengths
+pub record FreshRun (ss : List Sent) (p′ : Pool) (small′ large′ : List ℕ) : Type 0 where
   pub small : List ℕ
   pub large : List ℕ
   pub smallWhole : length small ≡ wholeSmall
   pub largeWhole : length large ≡ wholeLarge
   pub replies : List Reply
-  pub runs : Runs freshPool small large (d .earlier ++ (d .call ∷ ss)) replies p′ small′ large′
+  pub runs : Runs freshPool small large ss replies p′ small′ large′
+
+-- one of them sets a global expiration, and more follow
+abbrev pub SetRun : Setting → List Sent → Pool → List ℕ → List ℕ → Type 0
+SetRun d ss p′ small′ large′ = FreshRun (d .earlier ++ (d .call ∷ ss)) p′ small′ large′
+
+-- and from there no read of an object is answered 12
+abbrev pub NotGone : ℕ → Pool → List ℕ → List ℕ → Type 0
+NotGone handle p small large =
+    (task : ℕ) (y : Reply) (p′ : Pool) (small′ large′ : List ℕ) → Obeys (Use (Read task handle)) [] p small large y p′ small′ large′
+    → y .answer ≡ Refused ObjectGone → ⊥
 
 -- what a list of calls leaves of the expirations that it sets itself
 unfoldable pub followedNew : Ledger → List Sent → List Expiration
@@ -57,8 +67,7 @@ abbrev pub PoolOutlivesTicks : Type 0
 PoolOutlivesTicks =
     (d : Setting) (ss : List Sent) (p′ : Pool) (small′ large′ : List ℕ) → SetRun d ss p′ small′ large′
     → countOf (isLeaveOf (d .setter)) (whenSet d) ss ≡ 0 → countOf (isTickOf (d .setter)) (whenSet d) ss ≤ d .extension
-    → (task : ℕ) (y : Reply) (p″ : Pool) (small″ large″ : List ℕ) → Obeys (Use (Read task (d .date .handle))) [] p′ small′ large′ y p″ small″ large″
-    → y .answer ≡ Refused ObjectGone → ⊥
+    → NotGone (d .date .handle) p′ small′ large′
 
 -- and the second (U10): after e + 2 rounds, in none of which the setter waits, the record has the others alone.
 abbrev pub PoolGoneAfterRounds : Type 0

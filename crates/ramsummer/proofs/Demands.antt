@@ -16,7 +16,7 @@ use Rattle.ledger.specs.Objects.{Memory, Reply, replyTo}
 use Rattle.ledger.specs.Ledger.{Ledger, fresh, replyBy, next, replies}
 use Rattle.ledger.specs.Heap.{sent}
 use Rattle.ledger.specs.declared.Call.{Call}
-use Rattle.ledger.specs.declared.Call.the-variants.{Schedule, Make, Refresh, Read, Write, Batch}
+use Rattle.ledger.specs.declared.Call.the-variants.{Schedule, Make, Refresh, Read, Write, Batch, Release}
 use Rattle.ledger.specs.declared.Refusal.{Refusal}
 use Rattle.ledger.proofs.Verdicts.{isOwnVerdict}
 use Rattle.ledger.proofs.Demand3.{demand3-told}
@@ -74,7 +74,7 @@ pub host-demand2 : HostDemand2
 host-demand2 small large s l ds ts p′ small′ large′ runs =
     runs-follow runs (record { fit = fresh-well-formed; whole = rw (eq-eqb _ _ s, eq-eqb _ _ l); reads = fresh-reads small large })
 
--- what the ledger tells of the ten calls is its replies told
+-- what the ledger tells of the eleven calls is its replies told
 told-replies : (us : List Using) (L : Ledger) → toldOfAll L (map actionOf us) ≡ (map toldIn us ⊛ replies L (map sent (map usedIn us)))
 unfolding toldOfAll replies
 told-replies [] L = refl
@@ -92,6 +92,7 @@ accepted (Refresh task kind extension handle) m = refl
 accepted (Read task handle) m = refl
 accepted (Write task handle offset) m = refl
 accepted (Batch task kind extension) m = refl
+accepted (Release task handle) m = refl
 
 not-own : (y : Reply) (loans : Loans) → answerNumber (y .answer) ≡ 0 → isOwnTold (toldBy y loans) ≡ false
 unfolding isOwnTold

@@ -1,4 +1,4 @@
--- Demands 2 and 3 for a host, over lists of what it does through the entries: everything that it is told is what the ledger tells; and over the ten calls
+-- Demands 2 and 3 for a host, over lists of what it does through the entries: everything that it is told is what the ledger tells; and over the eleven calls
 -- it is what the unbounded heap tells, exactly when all use was in time and in bounds.
 use Prim.Native.Nat.{ℕ}
 use mathlib.Core.Bool.{true, cond}
@@ -56,7 +56,7 @@ HostDemand2 =
     → (ds : List Action) (ts : List Told) (p′ : Pool) (small′ large′ : List ℕ) → HostRuns freshPool small large ds ts p′ small′ large′
     → (ts ≡ toldOfAll fresh ds) × Reads p′ small′ large′ (afterActions fresh ds) × (isWellFormed p′ ≡ true)
 
--- one of the ten calls by its own entry
+-- one of the eleven calls by its own entry
 pub record Using : Type 0 where
   pub used : Used
   pub loans : Loans

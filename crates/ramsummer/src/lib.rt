@@ -2,7 +2,7 @@
 // the answer's number: 0, a refusal of 01, or 255 for a buffer too short. There is none with a condition: whatever a host passes is carried out or refused.
 ghost use mathlib.Core.List.{[], _∷_};
 ghost use mathlib.Core.Path.{_≡_};
-ghost use Rattle.ledger.specs.declared.Call.the-variants.{Schedule};
+ghost use Rattle.ledger.specs.declared.Call.the-variants.{Schedule, Release};
 ghost use Rattle.ledger.specs.declared.Event.the-variants.{Join, Leave, Block, Resume, Tick};
 ghost use Rattle.ledger.specs.declared.Request.the-variants.{Use, Report, Remaining};
 ghost use Rattle.record.specs.Reading.{freshPool};
@@ -110,6 +110,16 @@ pub extern "C" fn ramsummer_refresh_all(
     ensures { λ r. ⌜ RefreshesAllBy (kindOf kind) task extension (now (handles .entry)) (now (p .entry)) r (now (p .exit)) ⌝ }
 {
     let r = numbered::refresh_all(*p, task, kind, extension, handles);
+    *p = r.pool;
+    r.number
+}
+
+// Ends the pinned expiration of an object.
+#[no_mangle]
+pub extern "C" fn ramsummer_release(p: &mut Pool, task: u8, handle: u32) -> u8
+    ensures { λ r. ⌜ Does (Use (Release task handle)) (now (p .entry)) [] r (now (p .exit)) [] ⌝ }
+{
+    let r = numbered::release(*p, task, handle);
     *p = r.pool;
     r.number
 }

@@ -7,7 +7,7 @@ use borrow.Author.Tests.{eqb-true, eqb-false, eq-eqb, ne-eqb, leb-true, le-leb, 
 use lib.Dec.{eqb, leb, ltb}
 use Rattle.lists.proofs.Cases.{by-test}
 use Rattle.ledger.specs.Limits.{taskCount}
-use Rattle.record.specs.Codes.{isGlobalClock, dueBy, leftAt, isDueLocal, isDueGlobal, localCode, globalCode}
+use Rattle.record.specs.Codes.{isGlobalClock, dueBy, leftAt, isDueLocal, isDueGlobal, localCode, globalCode, pinnedCode}
 use Rattle.record.specs.declared.GlobalTime.{GlobalTime}
 use Rattle.record.specs.declared.LocalTime.{LocalTime}
 
@@ -23,7 +23,10 @@ asked-global clock due now =
     (λ g.
     by-test (eqb clock 0)
     (λ z. rw (g, z))
-    (λ z. by-test (leb localCode clock && ltb clock globalCode) (λ l. rw (g, z, l)) (λ l. rw (g, z, l))))
+    (λ z.
+    by-test (leb localCode clock && ltb clock globalCode)
+    (λ l. rw (g, z, l))
+    (λ l. by-test (eqb clock pinnedCode) (λ p. rw (g, z, l, p)) (λ p. rw (g, z, l, p)))))
 
 -- the code of a task's clock
 local-code : (clock task : ℕ) → (leb localCode clock && ltb clock globalCode) ≡ true → eqb clock (localCode + task) ≡ eqb (clock - localCode) task
@@ -50,4 +53,4 @@ asked-local clock due task now known =
     (λ g.
     by-test (leb localCode clock && ltb clock globalCode)
     (λ l. rw (z, g, l, local-code clock task l))
-    (λ l. rw (z, g, l, other-code clock task known l))))
+    (λ l. by-test (eqb clock pinnedCode) (λ p. rw (z, g, l, p, other-code clock task known l)) (λ p. rw (z, g, l, p, other-code clock task known l)))))

@@ -2,11 +2,11 @@
 use Prim.Native.Nat.{ℕ, suc, _+_, _<_}
 use native.Mathlib.Nat.{add-sub-cancel-left, mod-eq-of-lt}
 use native.Mathlib.Omega.{arith}
-use mathlib.Core.Bool.{Bool, true, cond, and-eq-true-iff}
+use mathlib.Core.Bool.{Bool, true, cond, _||_, and-eq-true-iff, and-true, and-false}
 use mathlib.Core.List.{List, [], _∷_, map, map-id, map-map, Permᴰ·refl}
 use mathlib.Core.Logic.{_≢_}
 use mathlib.Core.Path.{_≡_, refl, sym, _∙_}
-use borrow.Author.Tests.{eqb-false, leb-true, lt-leb}
+use borrow.Author.Tests.{eqb-true, eqb-false, eq-eqb, ne-eqb, leb-true, lt-leb}
 use lib.Dec.{eqb, leb}
 use Rattle.lists.specs.Tests.{any, All}
 use Rattle.lists.specs.Tables.{readFrom}
@@ -18,9 +18,10 @@ use Rattle.lists.proofs.Tables.{all-readFrom}
 use Rattle.lists.proofs.Sorting.{sortBy, sort-perm, sort-ascending}
 use Rattle.ledger.specs.Limits.{smallSize, largeSize, counterRange, isSmall}
 use Rattle.ledger.specs.Tasks.{Clocks, taskAt}
-use Rattle.ledger.specs.Expirations.{DueTime, byLocal, byGlobal, remaining}
+use Rattle.ledger.specs.Expirations.{DueTime, byLocal, byGlobal, pinned, Expiration, remaining, isPinOf}
 use Rattle.ledger.specs.Objects.{Object}
-use Rattle.ledger.specs.Compared.{wrapped, wrappedTask, Left, localLeft, globalLeft, Shown, leftOf, shownObject, View, viewOf, Alike}
+use Rattle.ledger.specs.Compared.{wrapped, wrappedTask, Left, localLeft, globalLeft, pinnedLeft, Shown, leftOf, shownObject, View, viewOf, Alike}
+use Rattle.ledger.specs.Kept.{PinsKept}
 use Rattle.ledger.specs.Ledger.{Ledger}
 use Rattle.record.specs.Codes.{taskOf}
 use Rattle.record.specs.Reading.{isSmallBlock, isWholeSmall, isWholeLarge, isWhole, blockBytes, objectIn, recordView, Typed, Reads}
@@ -35,11 +36,41 @@ use Rattle.record.proofs.Distinct.{Apart, apart-blocks}
 dueIn : Clocks → Left → DueTime
 dueIn clocks (localLeft setter units) = byLocal setter (taskAt clocks setter .clock + units)
 dueIn clocks (globalLeft setter units) = byGlobal setter (clocks .global + units)
+dueIn clocks pinnedLeft = pinned
 
 left-due : (clocks : Clocks) (left : Left) → leftOf clocks (dueIn clocks left) ≡ left
 unfolding dueIn leftOf remaining
 left-due clocks (localLeft setter units) = rw add-sub-cancel-left
 left-due clocks (globalLeft setter units) = rw add-sub-cancel-left
+left-due clocks pinnedLeft = refl
+
+abbrev expirationIn : Clocks → Shown → Expiration
+expirationIn clocks s = record { handle = s .handle; due = dueIn clocks (s .left) }
+
+-- the objects that are shown as pinned
+abbrev pinnedOne : ℕ → Left → List ℕ → List ℕ
+pinnedOne handle (localLeft setter units) handles = handles
+pinnedOne handle (globalLeft setter units) handles = handles
+pinnedOne handle pinnedLeft handles = handle ∷ handles
+
+abbrev pinnedIn : List Shown → List ℕ
+pinnedIn [] = []
+pinnedIn (s ∷ ss) = pinnedOne (s .handle) (s .left) (pinnedIn ss)
+
+swapped : (a b : ℕ) → eqb a b ≡ eqb b a
+swapped a b = by-test (eqb b a) (λ e. rw (e, eq-eqb a b (sym (eqb-true b a e)))) (λ e. rw (e, ne-eqb a b (λ q. eqb-false b a e (sym q))))
+
+pins-in : (clocks : Clocks) (ss : List Shown) → PinsKept (pinnedIn ss) (map (expirationIn clocks) ss)
+unfolding dueIn
+pins-in clocks [] handle = refl
+pins-in clocks (s ∷ ss) handle = one (s .left) (pins-in clocks ss handle)
+  where
+    one : (left : Left) → any (eqb handle) (pinnedIn ss) ≡ any (isPinOf handle) (map (expirationIn clocks) ss)
+        → any (eqb handle) (pinnedOne (s .handle) left (pinnedIn ss))
+        ≡ (isPinOf handle (record { handle = s .handle; due = dueIn clocks left }) || any (isPinOf handle) (map (expirationIn clocks) ss))
+    one (localLeft setter units) rest = rw and-false rest
+    one (globalLeft setter units) rest = rw and-false rest
+    one pinnedLeft rest = rw (and-true, swapped handle (s .handle), rest)
 
 abbrev handleOfObject : Object → ℕ
 handleOfObject o = o .handle
@@ -49,8 +80,8 @@ ledgerOf : View → Ledger
 ledgerOf v =
     let clocks : Clocks = record { tasks = v .tasks; global = v .global } in
     record {
-      memory = record { clocks = clocks; given = v .given; objects = sortBy handleOfObject (v .objects) };
-      expirations = map (λ (s : Shown). record { handle = s .handle; due = dueIn clocks (s .left) }) (v .expirations);
+      memory = record { clocks = clocks; given = v .given; objects = sortBy handleOfObject (v .objects); pinned = pinnedIn (v .expirations) };
+      expirations = map (expirationIn clocks) (v .expirations);
     }
 
 -- it does, where the view holds nothing that a ledger does not show: no counter past its range, no bytes of a store that is not whole
@@ -134,6 +165,7 @@ fit-tables-read p range e small large =
       record {
         alike = ledger-alike (isWhole small large) v tasks (mod-eq-of-lt (range .global)) objects;
         ascending = sort-ascending handleOfObject (v .objects) apart;
+        pins = pins-in _ (v .expirations);
       },
     )
 

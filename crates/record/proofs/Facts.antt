@@ -15,7 +15,7 @@ use Rattle.ledger.specs.Limits.{limits, taskCount}
 use Rattle.ledger.specs.Tasks.{isAbsent, allTicked}
 use Rattle.ledger.specs.Expirations.{departed}
 use Rattle.record.specs.Codes.{stateOf, taskOf, leftAt, freeBlock}
-use Rattle.record.specs.WellFormed.{isFitTask, isFitDue, isFitEntry, isNaming, isSizedFor, isFitBlock, isDistinct, handleOf, isWellFormed}
+use Rattle.record.specs.WellFormed.{isFitTask, isFitDue, isFitEntry, isNaming, isSizedFor, isFitBlock, isDistinct, isPinnedOnce, handleOf, isWellFormed}
 use Rattle.record.specs.declared.TaskEntry.{TaskEntry}
 use Rattle.record.specs.declared.LocalTime.{LocalTime}
 use Rattle.record.specs.declared.GlobalTime.{GlobalTime}
@@ -28,19 +28,21 @@ pub record Fit (p : Tables) : Type 0 where
   pub entries : all (isFitEntry (p .tasks) (p .global) (p .blocks)) (p .expirations) ≡ true
   pub blocks : allFrom 0 (isFitBlock (p .given) (p .expirations)) (p .blocks) ≡ true
   pub distinct : isDistinct (map handleOf (p .blocks)) ≡ true
+  pub once : isPinnedOnce (p .expirations) ≡ true
 
 pub fit-parts : (p : Tables) → isWellFormed p ≡ true → Fit p
 unfolding isWellFormed
 fit-parts p e =
-    let (abcd, distinct) = and-eq-true-iff _ _ .0 e in
+    let (abcde, once) = and-eq-true-iff _ _ .0 e in
+    let (abcd, distinct) = and-eq-true-iff _ _ .0 abcde in
     let (abc, blocks) = and-eq-true-iff _ _ .0 abcd in
     let (ab, entries) = and-eq-true-iff _ _ .0 abc in
     let (tasks, unticked) = and-eq-true-iff _ _ .0 ab in
-    record { tasks = tasks; unticked = not-true _ unticked; entries = entries; blocks = blocks; distinct = distinct }
+    record { tasks = tasks; unticked = not-true _ unticked; entries = entries; blocks = blocks; distinct = distinct; once = once }
 
 pub fit-whole : (p : Tables) → Fit p → isWellFormed p ≡ true
 unfolding isWellFormed
-fit-whole p f = rw (f .tasks, f .unticked, f .entries, f .blocks, f .distinct)
+fit-whole p f = rw (f .tasks, f .unticked, f .entries, f .blocks, f .distinct, f .once)
 
 -- what a fit local expiration has, by its setter's entry and whether it names a block in use
 pub record FitLocal (setter : TaskEntry) (used : Bool) (task left : ℕ) : Type 0 where

@@ -19,6 +19,7 @@ fresh-reads small large =
     record {
       alike = record { tasks = refl; global = refl; given = refl; objects = List·Permᴰ·nil; expirations = List·Permᴰ·nil };
       ascending = tt;
+      pins = λ handle. refl;
     }
 
 pub fresh-well-formed : isWellFormed (tablesOf freshPool) ≡ true

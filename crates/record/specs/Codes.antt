@@ -12,7 +12,7 @@ use Rattle.record.specs.Tables.{BlockEntry, ExpirationEntry}
 use Rattle.record.specs.declared.GlobalTime.{GlobalTime}
 use Rattle.record.specs.declared.LocalTime.{LocalTime}
 use Rattle.record.specs.declared.Due.{Due}
-use Rattle.record.specs.declared.Due.the-variants.{Free, Local, Global, Unknown}
+use Rattle.record.specs.declared.Due.the-variants.{Free, Local, Global, Pinned, Unknown}
 
 abbrev pub stateOf : ℕ → State
 stateOf code = cond (eqb code 1) Running (cond (eqb code 2) Waiting Absent)
@@ -29,7 +29,7 @@ abbrev pub isPendingEntry : TaskEntry → Bool
 isPendingEntry e = isRunningEntry e && not (eqb (e .ticked) 1)
 
 -- the clock of an expiration by its code: 0 none, from localCode on those of the tasks, and from globalCode on the global time, with the task that set it or
--- that it departed
+-- that it departed; pinnedCode is no clock's
 abbrev pub localCode : ℕ
 localCode = 16
 
@@ -39,6 +39,9 @@ globalCode = localCode + taskCount
 abbrev pub departedCode : ℕ
 departedCode = globalCode + departed
 
+abbrev pub pinnedCode : ℕ
+pinnedCode = departedCode + 1
+
 abbrev pub isGlobalClock : ℕ → Bool
 isGlobalClock clock = leb globalCode clock && leb clock departedCode
 
@@ -46,7 +49,8 @@ unfoldable pub dueBy : ℕ → ℕ → Due
 dueBy clock due =
     cond (eqb clock 0) Free
     (cond (isGlobalClock clock) (Global (clock - globalCode) (record { 0 = due }))
-    (cond (leb localCode clock && ltb clock globalCode) (Local (clock - localCode) (record { 0 = due })) Unknown))
+    (cond (leb localCode clock && ltb clock globalCode) (Local (clock - localCode) (record { 0 = due }))
+    (cond (eqb clock pinnedCode) (Pinned due) Unknown)))
 
 abbrev pub dueOf : ExpirationEntry → Due
 dueOf e = dueBy (e .clock) (e .due)
@@ -56,13 +60,23 @@ abbrev pub isDated : Due → Bool
 isDated Free = false
 isDated (Local setter at) = true
 isDated (Global setter at) = true
+isDated (Pinned due) = true
 isDated Unknown = false
+
+-- E22: it is pinned (02: kept)
+abbrev pub isPinnedDue : Due → Bool
+isPinnedDue Free = false
+isPinnedDue (Local setter at) = false
+isPinnedDue (Global setter at) = false
+isPinnedDue (Pinned due) = true
+isPinnedDue Unknown = false
 
 -- the task whose entry an expiration is tested with: its setter
 abbrev pub setterOf : Due → ℕ
 setterOf Free = 0
 setterOf (Local setter at) = setter
 setterOf (Global setter at) = setter
+setterOf (Pinned due) = 0
 setterOf Unknown = 0
 
 -- E6: what remains (01: units left), by counters that wrap (T8)
@@ -74,12 +88,14 @@ abbrev pub isDueLocal : ℕ → LocalTime → Due → Bool
 isDueLocal task now Free = false
 isDueLocal task now (Local setter at) = eqb setter task && eqb (leftAt (at .0) (now .0)) 0
 isDueLocal task now (Global setter at) = false
+isDueLocal task now (Pinned due) = false
 isDueLocal task now Unknown = false
 
 abbrev pub isDueGlobal : GlobalTime → Due → Bool
 isDueGlobal now Free = false
 isDueGlobal now (Local setter at) = false
 isDueGlobal now (Global setter at) = eqb (leftAt (at .0) (now .0)) 0
+isDueGlobal now (Pinned due) = false
 isDueGlobal now Unknown = false
 
 -- what an entry past the end of a table reads as

@@ -9,8 +9,8 @@ use Rattle.lists.specs.Tests.{All}
 use Rattle.lists.specs.Tables.{readBy, readFrom}
 use Rattle.ledger.specs.Limits.{limits, taskCount, counterRange, smallSize, largeSize, isSmall}
 use Rattle.ledger.specs.Objects.{Object}
-use Rattle.ledger.specs.Compared.{Shown, localLeft, globalLeft, View, viewOf, Alike}
-use Rattle.ledger.specs.Kept.{Ascending}
+use Rattle.ledger.specs.Compared.{Shown, localLeft, globalLeft, pinnedLeft, View, viewOf, Alike}
+use Rattle.ledger.specs.Kept.{Ascending, PinsKept}
 use Rattle.ledger.specs.Ledger.{Ledger}
 use Rattle.record.specs.Codes.{taskOf, dueOf, leftAt, absentEntry, freeBlock, freeEntry}
 use Rattle.record.specs.declared.TaskEntry.{TaskEntry}
@@ -19,7 +19,7 @@ use Rattle.record.specs.declared.GlobalTime.{GlobalTime}
 use Rattle.record.specs.declared.Head.{Head}
 use Rattle.record.specs.declared.Pool.{Pool}
 use Rattle.record.specs.declared.Due.{Due}
-use Rattle.record.specs.declared.Due.the-variants.{Free, Local, Global, Unknown}
+use Rattle.record.specs.declared.Due.the-variants.{Free, Local, Global, Pinned, Unknown}
 
 -- the small store's blocks come first, then the large one's
 abbrev pub isSmallBlock : ℕ → Bool
@@ -31,6 +31,7 @@ shownDue tasks global handle Free = []
 shownDue tasks global handle (Local setter at) =
     record { handle = handle; left = localLeft setter (leftAt (at .0) (getD tasks setter absentEntry .clock .0)) } ∷ []
 shownDue tasks global handle (Global setter at) = record { handle = handle; left = globalLeft setter (leftAt (at .0) (global .0)) } ∷ []
+shownDue tasks global handle (Pinned due) = record { handle = handle; left = pinnedLeft } ∷ []
 shownDue tasks global handle Unknown = []
 
 abbrev pub shownEntry : List TaskEntry → GlobalTime → List BlockEntry → ExpirationEntry → List Shown
@@ -96,6 +97,8 @@ pub record Reads (p : Tables) (small large : List ℕ) (L : Ledger) : Type 0 whe
   pub alike : Alike (recordView p small large) (viewOf (isWhole small large) L)
   -- L2: in the order of their handles
   pub ascending : Ascending (L .memory .objects)
+  -- E23: and what is pinned has a pinned expiration
+  pub pins : PinsKept (L .memory .pinned) (L .expirations)
 
 -- T5, O9: a fresh pool
 unfoldable pub freshPool : Pool

@@ -9,13 +9,13 @@ use Rattle.lists.specs.Tables.{allFrom}
 use Rattle.ledger.specs.Limits.{limits, taskCount, smallSize, largeSize}
 use Rattle.ledger.specs.Tasks.{isAbsent, isRunning, allTicked}
 use Rattle.ledger.specs.Expirations.{departed}
-use Rattle.record.specs.Codes.{stateOf, taskOf, dueOf, isDated, setterOf, leftAt, absentEntry, freeBlock}
+use Rattle.record.specs.Codes.{stateOf, taskOf, dueOf, isDated, isPinnedDue, setterOf, leftAt, absentEntry, freeBlock}
 use Rattle.record.specs.Reading.{isSmallBlock}
 use Rattle.record.specs.declared.TaskEntry.{TaskEntry}
 use Rattle.record.specs.Tables.{BlockEntry, ExpirationEntry, Tables}
 use Rattle.record.specs.declared.GlobalTime.{GlobalTime}
 use Rattle.record.specs.declared.Due.{Due}
-use Rattle.record.specs.declared.Due.the-variants.{Free, Local, Global, Unknown}
+use Rattle.record.specs.declared.Due.the-variants.{Free, Local, Global, Pinned, Unknown}
 
 -- the block has an object
 abbrev pub isUsed : BlockEntry → Bool
@@ -32,7 +32,8 @@ abbrev pub isAhead : ℕ → ℕ → Bool
 isAhead most left = leb 1 left && leb left most
 
 -- An expiration, with the entry of its setter and whether it names a block in use, as it must (W1). W6, W8: something remains, and no more than the largest
--- extension gives; W7, W14: the setter is there, or has departed where it is a global one; W12: a code that means nothing is not fit.
+-- extension gives; W7, W14: the setter is there, or has departed where it is a global one; W12: a code that means nothing is not fit; W15: a
+-- pinned one has no time.
 unfoldable pub isFitDue : TaskEntry → GlobalTime → Bool → Due → Bool
 isFitDue setter global used Free = true
 isFitDue setter global used (Local task at) =
@@ -40,6 +41,7 @@ isFitDue setter global used (Local task at) =
     && isAhead (limits .extension + 1) (leftAt (at .0) (setter .clock .0))
 isFitDue setter global used (Global task at) =
     used && (eqb task departed || not (isAbsent (stateOf (setter .state)))) && isAhead (limits .extension + 2) (leftAt (at .0) (global .0))
+isFitDue setter global used (Pinned due) = used && eqb due 0
 isFitDue setter global used Unknown = false
 
 abbrev pub isFitEntry : List TaskEntry → GlobalTime → List BlockEntry → ExpirationEntry → Bool
@@ -65,6 +67,14 @@ abbrev pub isDistinct : List ℕ → Bool
 isDistinct [] = true
 isDistinct (h ∷ hs) = (eqb h 0 || not (any (eqb h) hs)) && isDistinct hs
 
+-- W16: no two pinned expirations name one block
+abbrev pub isPinning : ℕ → ExpirationEntry → Bool
+isPinning block e = isPinnedDue (dueOf e) && eqb (e .block) block
+
+abbrev pub isPinnedOnce : List ExpirationEntry → Bool
+isPinnedOnce [] = true
+isPinnedOnce (e ∷ es) = (not (isPinnedDue (dueOf e)) || not (any (isPinning (e .block)) es)) && isPinnedOnce es
+
 abbrev pub handleOf : BlockEntry → ℕ
 handleOf b = b .handle
 
@@ -74,3 +84,4 @@ isWellFormed p =
     all isFitTask (p .tasks) && not (allTicked (map taskOf (p .tasks)))
     && all (isFitEntry (p .tasks) (p .global) (p .blocks)) (p .expirations)
     && allFrom 0 (isFitBlock (p .given) (p .expirations)) (p .blocks) && isDistinct (map handleOf (p .blocks))
+    && isPinnedOnce (p .expirations)

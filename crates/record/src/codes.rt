@@ -17,7 +17,7 @@ pub const RUNNING: u16 = 1;
 pub const WAITING: u16 = 2;
 
 // The clock of an expiration entry: none, LOCAL and the number of the task whose clock it is, or for the global time GLOBAL and the number of the task that set it;
-// DEPARTED where that has left.
+// DEPARTED where that has left; PINNED is no clock's.
 pub const FREE: u8 = 0;
 
 pub const LOCAL: u8 = 16;
@@ -25,6 +25,8 @@ pub const LOCAL: u8 = 16;
 pub const GLOBAL: u8 = LOCAL + (TASK_COUNT as u8);
 
 pub const DEPARTED: u8 = GLOBAL + (TASK_COUNT as u8);
+
+pub const PINNED: u8 = DEPARTED + 1;
 
 pub fn state_of(code: u16) -> State
     ensures { λ r. ⌜ r ≡ stateOf code ⌝ }
@@ -63,6 +65,9 @@ pub fn due_by(clock: u8, due: u32) -> Due
             setter: clock - LOCAL,
             at: LocalTime(due),
         };
+    }
+    if clock == PINNED {
+        return Due::Pinned(due);
     }
     Due::Unknown
 }

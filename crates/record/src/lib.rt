@@ -59,11 +59,12 @@ pub struct Head {
     pub given: u32,
 }
 
-// T6, E19: when an expiration is due, and who set it; a time by one clock cannot be tested against the other.
+// T6, E19, E22: when an expiration is due, and who set it; a time by one clock cannot be tested against the other. The number of a pinned one is no time.
 pub enum Due {
     Free,
     Local { setter: u8, at: LocalTime },
     Global { setter: u8, at: GlobalTime },
+    Pinned(u32),
     Unknown,
 }
 

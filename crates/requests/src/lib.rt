@@ -50,6 +50,7 @@ fn is_stored(request: Request) -> bool
                 kind: _,
                 extension: _,
             } => false,
+            Call::Release { task: _, handle: _ } => false,
         },
         Request::Report => false,
         Request::Remaining { task: _, handle: _ } => false,
@@ -104,7 +105,7 @@ fn call_lent(
     )
 }
 
-// One call of the twelve, by its request. The bytes are those of a write or a batch; other calls leave them aside.
+// One call of the thirteen, by its request. The bytes are those of a write or a batch; other calls leave them aside.
 pub fn call(p: Pool, small: &mut [u8], large: &mut [u8], request: Request, bytes: &[u8]) -> Called
     ensures { λ r. ⌜ Serves request (now (bytes .entry)) p (now (small .entry)) (now (large .entry)) r (now (small .exit)) (now (large .exit)) ⌝ }
 {

@@ -1,7 +1,7 @@
 -- How expirations age at an event with an advance test: the ledger's and the record's by one rule, which looks at what is compared of them alone.
 use Prim.Native.Nat.{ℕ, _+_, _-_, _≤_, _<_}
 use native.Mathlib.Omega.{arith}
-use mathlib.Core.Bool.{Bool, true, false, false≢true, cond, not, _&&_, and-eq-true-iff, and-true, and-false}
+use mathlib.Core.Bool.{Bool, true, false, false≢true, cond, not, _&&_, _||_, and-eq-true-iff, and-true, and-false}
 use mathlib.Core.List.{List, [], _∷_, map, map-map, append-nil}
 use mathlib.Core.Path.{_≡_, refl, ap, _∙_}
 use borrow.Author.Tests.{eqb-true, lt-ltb, ne-eqb}
@@ -15,9 +15,9 @@ use Rattle.lists.proofs.Filters.{filter-and, filter-map}
 use Rattle.lists.proofs.Tables.{readBy-same, map-filter-as-read, readBy-map, readBy-readBy, getD-set}
 use Rattle.ledger.specs.Limits.{taskCount, counterRange}
 use Rattle.ledger.specs.Tasks.{Task, Clocks, absentTask, taskAt, isWaiting, moved, isTested, unticked, tasksAfter, advances, clocksAfter}
-use Rattle.ledger.specs.Expirations.{departed, Expiration, remaining, isLive, isSetBy, putOff, deserted, eachDue, lasting}
-use Rattle.ledger.specs.Expirations.{DueTime, byLocal, byGlobal}
-use Rattle.ledger.specs.Compared.{wrapped, Left, localLeft, globalLeft, Shown, leftOf, shown}
+use Rattle.ledger.specs.Expirations.{departed, Expiration, remaining, isPinned, isLive, isSetBy, putOff, deserted, eachDue, lasting}
+use Rattle.ledger.specs.Expirations.{DueTime, byLocal, byGlobal, pinned}
+use Rattle.ledger.specs.Compared.{wrapped, Left, localLeft, globalLeft, pinnedLeft, Shown, leftOf, shown}
 use Rattle.ledger.specs.declared.Event.{Event}
 use Rattle.ledger.specs.declared.Event.the-variants.{Join, Leave, Block, Resume, Tick}
 use Rattle.record.specs.Codes.{dueBy, dueOf, setterOf, leftAt, absentEntry, freeBlock}
@@ -28,7 +28,7 @@ use Rattle.record.specs.declared.TaskEntry.{TaskEntry}
 use Rattle.record.specs.Tables.{BlockEntry, ExpirationEntry}
 use Rattle.record.specs.declared.GlobalTime.{GlobalTime}
 use Rattle.record.specs.declared.Due.{Due}
-use Rattle.record.specs.declared.Due.the-variants.{Free, Local, Global, Unknown}
+use Rattle.record.specs.declared.Due.the-variants.{Free, Local, Global, Pinned, Unknown}
 use Rattle.steps.specs.Events.{nextTime, leaverOf, lateEntry, isLasting, keptEntry, passedEntry}
 use Rattle.steps.proofs.Late.{lateSetter, lateDue, late-due}
 use Rattle.steps.proofs.ReadTasks.{ClocksAlike, state-alike, clock-alike}
@@ -67,6 +67,7 @@ agedLeft event task c handle (localLeft setter units) =
 agedLeft event task c handle (globalLeft setter units) =
     let after = setterAfter event task setter in
     ifLeft false handle (globalLeft after) (cond (isLate event task c after) units (cond (advances event task c) (units - 1) units))
+agedLeft event task c handle pinnedLeft = record { handle = handle; left = pinnedLeft } ∷ []
 
 -- what an event with an advance test makes of an expiration, by what is compared of it alone
 abbrev pub aged : Event → ℕ → Clocks → Shown → List Shown
@@ -109,39 +110,48 @@ setter-ages units t step Block tested true handle kind = refl
 setter-ages units t step Resume tested true handle kind = refl
 setter-ages units t step Tick tested true handle kind = rw step
 
+-- a due that is not due yet
+abbrev isLiveDue : Clocks → DueTime → Bool
+isLiveDue c due = isPinned due || ltb 0 (remaining c due)
+
 -- a due of the ledger after an event, before it is judged
 abbrev lateAfter : Event → ℕ → Bool → Clocks → DueTime → DueTime
 lateAfter event task advanced c (byLocal setter at) = byLocal setter at
 lateAfter event task advanced c (byGlobal setter at) =
     let after = setterAfter event task setter in
     byGlobal after (at + cond (advanced && isWaiting (taskAt c after .state)) 1 0)
+lateAfter event task advanced c pinned = pinned
 
 late-leave : (task : ℕ) (advanced : Bool) (c : Clocks) (d : DueTime) → putOff advanced c (deserted task d) ≡ lateAfter Leave task advanced c d
 unfolding putOff deserted
 late-leave task advanced c (byLocal setter at) = refl
 late-leave task advanced c (byGlobal setter at) = refl
+late-leave task advanced c pinned = refl
 
 late-block : (task : ℕ) (advanced : Bool) (c : Clocks) (d : DueTime) → putOff advanced c d ≡ lateAfter Block task advanced c d
 unfolding putOff
 late-block task advanced c (byLocal setter at) = refl
 late-block task advanced c (byGlobal setter at) = refl
+late-block task advanced c pinned = refl
 
 late-tick : (task : ℕ) (advanced : Bool) (c : Clocks) (d : DueTime) → putOff advanced c d ≡ lateAfter Tick task advanced c d
 unfolding putOff
 late-tick task advanced c (byLocal setter at) = refl
 late-tick task advanced c (byGlobal setter at) = refl
+late-tick task advanced c pinned = refl
 
 -- those that are made so, where they are not due then
 live-of : (c : Clocks) (f g : DueTime → DueTime) → ((d : DueTime) → f d ≡ g d) → (xs : List Expiration)
-    → filter (isLive c) (eachDue f xs) ≡ eachDue g (filter (λ (x : Expiration). ltb 0 (remaining c (g (x .due)))) xs)
+    → filter (isLive c) (eachDue f xs) ≡ eachDue g (filter (λ (x : Expiration). isLiveDue c (g (x .due))) xs)
 live-of c f g same xs =
-    ap (filter (isLive c)) (map-same _ _ xs (all-every _ (λ x. rw (same (x .due))) xs)) ∙ filter-map (isLive c) _ xs
+    let due : (DueTime → DueTime) → Expiration → Expiration = λ h x. record { handle = x .handle; due = h (x .due) } in
+    ap (filter (isLive c)) (map-same (due f) (due g) xs (all-every _ (λ x. rw (same (x .due))) xs)) ∙ filter-map (isLive c) (due g) xs
 
 -- what lasts in the ledger: what the event does not end and what is not due
 lasting-filter : (event : Event) (task : ℕ) (advanced : Bool) (c : Clocks) (xs : List Expiration) → isTested event ≡ true
     → (let late = lateAfter event task advanced c in
     lasting event task advanced c xs
-    ≡ eachDue late (filter (λ (x : Expiration). not (isEnding event && isSetBy task (x .due)) && ltb 0 (remaining c (late (x .due)))) xs))
+    ≡ eachDue late (filter (λ (x : Expiration). not (isEnding event && isSetBy task (x .due)) && isLiveDue c (late (x .due))) xs))
 unfolding lasting
 lasting-filter Join task advanced c xs tested = absurd (false≢true tested)
 lasting-filter Leave task advanced c xs tested =
@@ -183,13 +193,14 @@ module _ (event : Event) (task : ℕ) (c : Clocks) (tested : isTested event ≡ 
   ledger-due : (handle : ℕ) (d : DueTime)
       → (let after = clocksAfter event task c in
       let late = lateAfter event task (advances event task c) after d in
-      cond (not (isEnding event && isSetBy task d) && ltb 0 (remaining after late)) (record { handle = handle; left = leftOf after late } ∷ []) [])
+      cond (not (isEnding event && isSetBy task d) && isLiveDue after late) (record { handle = handle; left = leftOf after late } ∷ []) [])
       ≡ agedLeft event task c handle (leftOf c d)
   unfolding leftOf remaining
   ledger-due handle (byLocal setter at) = local-ages (λ now. at - now) setter handle (omega arith)
   ledger-due handle (byGlobal setter at) =
       let none : at + 0 ≡ at = omega arith in
       rw and-false (rw none at (global-ages (λ put now. at + cond put 1 0 - now) setter handle (omega arith) (omega arith)))
+  ledger-due handle pinned = rw and-false
 
   pub ledger-ages : (xs : List Expiration)
       → map (shown (clocksAfter event task c)) (lasting event task (advances event task c) (clocksAfter event task c) xs)
@@ -262,6 +273,7 @@ module _ (event : Event) (task : ℕ) {tasks entries : List TaskEntry} {global t
       let left = setterAfter event task setter in
       rw (leaver-left event task setter, state-alike entries (clocksAfter event task c) (after .tasks) left, after .global, same .global, append-nil)
       (global-ages event task c tested listed (λ put n. leftAt (cond put (nextTime (at .0)) (at .0)) (wrapped n)) setter handle ahead (stays (at .0) (c .global)))
+  record-due used handle (Pinned due) fit = refl
   record-due used handle Unknown fit = refl
 
   shown-late : (blocks : List BlockEntry) (e : ExpirationEntry)

@@ -22,7 +22,7 @@ use Rattle.record.specs.Reading.{Typed, Reads}
 use Rattle.record.specs.WellFormed.{isWellFormed}
 use Rattle.record.specs.Tables.{Tables}
 use Rattle.record.proofs.Facts.{Fit, fit-parts}
-use Rattle.steps.specs.Objects.{isUngiven, isMissing, standingIn, refuseIf, taskVerdict, extensionVerdict, handleVerdict, roomVerdict, refreshVerdict, batchVerdict, refreshedPool, batchedPool}
+use Rattle.steps.specs.Objects.{isUngiven, isMissing, standingIn, refuseIf, taskVerdict, kindVerdict, extensionVerdict, handleVerdict, roomVerdict, refreshVerdict, batchVerdict, refreshedPool, batchedPool}
 use Rattle.steps.specs.Staying.{Stays}
 use Rattle.steps.proofs.Chosen.{both-accept, not-refused}
 use Rattle.steps.proofs.ObjectTypes.{typed-refreshed}
@@ -33,9 +33,10 @@ use Rattle.steps.proofs.Finding.{every-object-stands}
 use Rattle.steps.proofs.Staying.{same-stays, stays-on, refresh-stays}
 
 -- what a batch has that is accepted: it is not too long, each of its objects stands, and there is room for all
-pub record Renewable (task extension : ℕ) (handles : List ℕ) (p : Tables) : Type 0 where
+pub record Renewable (task : ℕ) (kind : Kind) (extension : ℕ) (handles : List ℕ) (p : Tables) : Type 0 where
   pub task-ok : taskVerdict task (p .tasks) ≡ Accepted
-  pub extension-ok : extensionVerdict extension ≡ Accepted
+  pub kind-ok : kindVerdict kind ≡ Accepted
+  pub extension-ok : extensionVerdict kind extension ≡ Accepted
   pub found : All (λ (handle : ℕ). handleVerdict handle p ≡ Accepted) handles
   pub few : length handles ≤ largestBatch
   pub room : standingIn (p .expirations) + length handles ≤ limits .expirations
@@ -44,17 +45,19 @@ pub record Renewable (task extension : ℕ) (handles : List ℕ) (p : Tables) : 
 handle-ok : (p : Tables) (handle : ℕ) → isUngiven (p .given) handle ≡ false → isMissing (p .blocks) handle ≡ false → handleVerdict handle p ≡ Accepted
 handle-ok p handle given found = rw (given, found)
 
-pub batch-takes : (task extension : ℕ) (handles : List ℕ) (p : Tables) → batchVerdict task extension handles p ≡ Accepted
-    → Renewable task extension handles p
+pub batch-takes : (task : ℕ) (kind : Kind) (extension : ℕ) (handles : List ℕ) (p : Tables) → batchVerdict task kind extension handles p ≡ Accepted
+    → Renewable task kind extension handles p
 unfolding batchVerdict
-batch-takes task extension handles p v =
+batch-takes task kind extension handles p v =
     let (task-ok, v₁) = both-accept _ _ v in
     let (count-ok, v₂) = both-accept (refuseIf (eqb (length handles) 0 || ltb largestBatch (length handles)) BatchOutOfRange) _ v₁ in
-    let (extension-ok, v₃) = both-accept _ _ v₂ in
-    let (given-ok, v₄) = both-accept _ _ v₃ in
-    let (found-ok, room-ok) = both-accept _ _ v₄ in
+    let (kind-ok, v₃) = both-accept (kindVerdict kind) _ v₂ in
+    let (extension-ok, v₄) = both-accept _ _ v₃ in
+    let (given-ok, v₅) = both-accept _ _ v₄ in
+    let (found-ok, room-ok) = both-accept _ _ v₅ in
     record {
       task-ok = task-ok;
+      kind-ok = kind-ok;
       extension-ok = extension-ok;
       found =
           all-both (handle-ok p) handles (none→All _ handles (not-refused _ HandleNotGiven given-ok))
@@ -67,11 +70,11 @@ abbrev ledgerOf : Memory → List Expiration → Ledger
 ledgerOf m xs = record { memory = m; expirations = xs }
 
 -- the first of them would be accepted as a refresh
-first-accepted : (task extension handle : ℕ) (handles : List ℕ) (p : Tables) → Renewable task extension (handle ∷ handles) p
-    → refreshVerdict task extension handle p ≡ Accepted
+first-accepted : (task : ℕ) (kind : Kind) (extension handle : ℕ) (handles : List ℕ) (p : Tables) → Renewable task kind extension (handle ∷ handles) p
+    → refreshVerdict task kind extension handle p ≡ Accepted
 unfolding refreshVerdict
-first-accepted task extension handle handles p r =
-    rw (r .task-ok, r .extension-ok, r .found .0, lt-leb (limits .expirations) (standingIn (p .expirations)) (omega (arith, r .room)))
+first-accepted task kind extension handle handles p r =
+    rw (r .task-ok, r .kind-ok, r .extension-ok, r .found .0, lt-leb (limits .expirations) (standingIn (p .expirations)) (omega (arith, r .room)))
 
 abbrev onEach : ℕ → Kind → ℕ → Memory → List ℕ → List Expiration → List Expiration
 onEach task kind extension m handles xs = setOnEach (dueAfter (m .clocks) task kind extension) handles xs
@@ -85,14 +88,15 @@ module _ (task : ℕ) (kind : Kind) (extension : ℕ) {small large : List ℕ} (
 
   -- and after it the others, with one entry less
   rest-stand : (handle : ℕ) (handles : List ℕ) (p : Tables) (xs : List Expiration) → Fit p → Reads p small large (ledgerOf m xs)
-      → Renewable task extension (handle ∷ handles) p
+      → Renewable task kind extension (handle ∷ handles) p
       → Fit (refreshedPool task kind extension handle p)
       → Reads (refreshedPool task kind extension handle p) small large (ledgerOf m (onEach task kind extension m (handle ∷ []) xs))
-      → Renewable task extension handles (refreshedPool task kind extension handle p)
+      → Renewable task kind extension handles (refreshedPool task kind extension handle p)
   unfolding refreshedPool setOnEach
   rest-stand handle handles p xs fit reads r fit₁ reads₁ =
       record {
         task-ok = r .task-ok;
+        kind-ok = r .kind-ok;
         extension-ok = r .extension-ok;
         found = r .found .1;
         few = omega (arith, r .few);
@@ -100,13 +104,13 @@ module _ (task : ℕ) (kind : Kind) (extension : ℕ) {small large : List ℕ} (
       }
 
   batch-follows : (handles : List ℕ) (p : Tables) (xs : List Expiration) → isWellFormed p ≡ true → Typed p → Reads p small large (ledgerOf m xs)
-      → Renewable task extension handles p
+      → Renewable task kind extension handles p
       → (isWellFormed (batchedPool task kind extension handles p) ≡ true)
       × Reads (batchedPool task kind extension handles p) small large (ledgerOf m (onEach task kind extension m handles xs))
   unfolding batchedPool setOnEach
   batch-follows [] p xs w types reads r = (w, reads)
   batch-follows (handle ∷ handles) p xs w types reads r =
-      let v = first-accepted task extension handle handles p r in
+      let v = first-accepted task kind extension handle handles p r in
       let w₁ = refresh-fits w types reads task kind extension handle v in
       let reads₁ = rw (refreshed-ledger handle p xs (fit-parts p w) reads) at (refresh-reads w types reads task kind extension handle v) in
       batch-follows handles (refreshedPool task kind extension handle p) _ w₁ (typed-refreshed task kind extension handle p types) reads₁
@@ -114,11 +118,11 @@ module _ (task : ℕ) (kind : Kind) (extension : ℕ) {small large : List ℕ} (
 
 -- the record after a batch that is accepted
 module _ {p : Tables} {small large : List ℕ} {L : Ledger} (w : isWellFormed p ≡ true) (types : Typed p) (reads : Reads p small large L)
-    (task : ℕ) (kind : Kind) (extension : ℕ) (new : List ℕ) (v : batchVerdict task extension (handlesOf new) p ≡ Accepted) where
+    (task : ℕ) (kind : Kind) (extension : ℕ) (new : List ℕ) (v : batchVerdict task kind extension (handlesOf new) p ≡ Accepted) where
   after : (isWellFormed (batchedPool task kind extension (handlesOf new) p) ≡ true)
       × Reads (batchedPool task kind extension (handlesOf new) p) small large
       (ledgerOf (L .memory) (onEach task kind extension (L .memory) (handlesOf new) (L .expirations)))
-  after = batch-follows task kind extension (L .memory) (handlesOf new) p (L .expirations) w types reads (batch-takes task extension (handlesOf new) p v)
+  after = batch-follows task kind extension (L .memory) (handlesOf new) p (L .expirations) w types reads (batch-takes task kind extension (handlesOf new) p v)
 
   pub batch-fits : isWellFormed (batchedPool task kind extension (handlesOf new) p) ≡ true
   batch-fits = after .0

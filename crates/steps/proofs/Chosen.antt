@@ -1,6 +1,6 @@
 -- What an accepted verdict shows: the task may set an expiration, and the block and the entry that are chosen are free.
-use Prim.Native.Nat.{ℕ, _+_, _<_}
-use native.Mathlib.Nat.{zero-add}
+use Prim.Native.Nat.{ℕ, _+_, _≤_, _<_}
+use native.Mathlib.Nat.{zero-add, le-trans}
 use native.Mathlib.Omega.{arith}
 use mathlib.Core.Bool.{Bool, true, false, _||_}
 use mathlib.Core.List.{List}
@@ -15,10 +15,13 @@ use Rattle.lists.proofs.First.{first-at, first-full}
 use Rattle.ledger.specs.Limits.{limits, taskCount, largeSize, lastHandle, isSmall}
 use Rattle.ledger.proofs.Figures.{allowed}
 use Rattle.ledger.specs.Tasks.{isAbsent}
+use Rattle.ledger.specs.Refusals.{mostExtension, isPinning as isPinningKind}
+use Rattle.ledger.specs.declared.Kind.{Kind}
+use Rattle.ledger.specs.declared.Kind.the-variants.{Local, Global, Pinned}
 use Rattle.ledger.specs.declared.State.{State}
 use Rattle.ledger.specs.declared.State.the-variants.{Absent, Running, Waiting}
 use Rattle.ledger.specs.declared.Refusal.{Refusal}
-use Rattle.ledger.specs.declared.Refusal.the-variants.{NoSuchTask, LengthOutOfRange, HandlesSpent, NoFreeBlock}
+use Rattle.ledger.specs.declared.Refusal.the-variants.{NoSuchTask, LengthOutOfRange, HandlesSpent, NoFreeBlock, OnlyMakePins}
 use Rattle.ledger.specs.declared.Verdict.{Verdict}
 use Rattle.ledger.specs.declared.Verdict.the-variants.{Accepted, Refused}
 use Rattle.stores.specs.Places.{blockCount}
@@ -27,7 +30,7 @@ use Rattle.record.specs.Codes.{stateOf, absentEntry, freeBlock, freeEntry}
 use Rattle.record.specs.Reading.{isSmallBlock, Typed}
 use Rattle.record.specs.Tables.{Tables, blockEntries}
 use Rattle.record.specs.declared.TaskEntry.{TaskEntry}
-use Rattle.steps.specs.Objects.{isFreeBlock, endFor, freePlace, isFreeEntry, standingIn, freeSlot, andThen, refuseIf, byState, taskVerdict, extensionVerdict, foundVerdict, handleVerdict, roomVerdict, makeVerdict, refreshVerdict}
+use Rattle.steps.specs.Objects.{isFreeBlock, endFor, freePlace, isFreeEntry, standingIn, freeSlot, andThen, refuseIf, byState, taskVerdict, kindVerdict, extensionVerdict, foundVerdict, handleVerdict, roomVerdict, makeVerdict, refreshVerdict}
 use Rattle.steps.proofs.Taken.{MaySet, SlotFree, PlaceFree}
 
 -- a chain that accepts, accepts in each of its parts
@@ -44,14 +47,20 @@ running Absent e = cc
 running Running e = refl
 running Waiting e = cc
 
-may-set : (task extension : ℕ) (p : Tables) → taskVerdict task (p .tasks) ≡ Accepted → extensionVerdict extension ≡ Accepted
+-- no kind has more than the largest extension
+most-within : (kind : Kind) → mostExtension kind ≤ limits .extension
+most-within Local = omega arith
+most-within Global = omega arith
+most-within Pinned = omega arith
+
+may-set : (task : ℕ) (kind : Kind) (extension : ℕ) (p : Tables) → taskVerdict task (p .tasks) ≡ Accepted → extensionVerdict kind extension ≡ Accepted
     → MaySet task extension p
-may-set task extension p t x =
+may-set task kind extension p t x =
     let (known, state) = both-accept _ _ t in
     record {
       known = leb-false taskCount task (not-refused _ _ known);
       present = running (stateOf (getD (p .tasks) task absentEntry .state)) state;
-      short = ltb-false (limits .extension) extension (not-refused _ _ x);
+      short = le-trans (ltb-false (mostExtension kind) extension (not-refused _ _ x)) (most-within kind);
     }
 
 -- the first free entry, where there is one
@@ -110,35 +119,43 @@ pub record Taken (task extension size : ℕ) (p : Tables) : Type 0 where
   pub block : PlaceFree (freePlace size (p .blocks)) size (p .blocks)
   pub entry : SlotFree (freeSlot (p .expirations)) (p .expirations)
 
-pub make-takes : (task extension size : ℕ) (p : Tables) → Typed p → makeVerdict task extension size p ≡ Accepted → Taken task extension size p
+pub make-takes : (task : ℕ) (kind : Kind) (extension size : ℕ) (p : Tables) → Typed p → makeVerdict task kind extension size p ≡ Accepted
+    → Taken task extension size p
 unfolding makeVerdict
-make-takes task extension size p types v =
+make-takes task kind extension size p types v =
     let (task-ok, v₁) = both-accept _ _ v in
     let (extension-ok, v₂) = both-accept _ _ v₁ in
     let (size-ok, v₃) = both-accept _ _ v₂ in
     let (given-ok, v₄) = both-accept (refuseIf (leb lastHandle (p .given)) HandlesSpent) _ v₃ in
     let (block-ok, slot-ok) = both-accept _ _ v₄ in
     record {
-      may = may-set task extension p task-ok extension-ok;
+      may = may-set task kind extension p task-ok extension-ok;
       unspent = leb-false lastHandle (p .given) (not-refused _ HandlesSpent given-ok);
       block = place-free p types size (not-refused _ LengthOutOfRange size-ok) (not-refused _ NoFreeBlock block-ok);
       entry = slot-free p types slot-ok;
     }
 
 -- what a refresh that is accepted has: an object that stands, and a free entry
-pub record Renewed (task extension handle : ℕ) (p : Tables) : Type 0 where
+pub record Renewed (task : ℕ) (kind : Kind) (extension handle : ℕ) (p : Tables) : Type 0 where
   pub may : MaySet task extension p
+  pub plain : isPinningKind kind ≡ false
   pub found : handleVerdict handle p ≡ Accepted
   pub entry : SlotFree (freeSlot (p .expirations)) (p .expirations)
 
-pub refresh-takes : (task extension handle : ℕ) (p : Tables) → Typed p → refreshVerdict task extension handle p ≡ Accepted
-    → Renewed task extension handle p
+pub refresh-takes : (task : ℕ) (kind : Kind) (extension handle : ℕ) (p : Tables) → Typed p → refreshVerdict task kind extension handle p ≡ Accepted
+    → Renewed task kind extension handle p
 unfolding refreshVerdict
-refresh-takes task extension handle p types v =
+refresh-takes task kind extension handle p types v =
     let (task-ok, v₁) = both-accept _ _ v in
-    let (extension-ok, v₂) = both-accept _ _ v₁ in
-    let (found, slot-ok) = both-accept _ _ v₂ in
-    record { may = may-set task extension p task-ok extension-ok; found = found; entry = slot-free p types slot-ok }
+    let (kind-ok, v₂) = both-accept (kindVerdict kind) _ v₁ in
+    let (extension-ok, v₃) = both-accept _ _ v₂ in
+    let (found, slot-ok) = both-accept _ _ v₃ in
+    record {
+      may = may-set task kind extension p task-ok extension-ok;
+      plain = not-refused _ OnlyMakePins kind-ok;
+      found = found;
+      entry = slot-free p types slot-ok;
+    }
 
 -- a handle that is found is not 0, and its place is that of an entry
 pub handle-found : (handle given place : ℕ) → foundVerdict handle given place ≡ Accepted → (eqb handle 0 ≡ false) × (leb blockEntries place ≡ false)

@@ -12,6 +12,8 @@ use Rattle.ledger.specs.Limits.{taskCount}
 use Rattle.ledger.specs.Tasks.{Clocks, isTested, allTicked}
 use Rattle.ledger.specs.Objects.{replyTo, memoryAfter, expirationsAfter}
 use Rattle.ledger.specs.Refusals.{asRefusal}
+use Rattle.ledger.specs.Kept.{PinsKept}
+use Rattle.ledger.proofs.KeptPins.{pins-carried}
 use Rattle.ledger.specs.Ledger.{Ledger, settled, replyBy, afterBy, reply, next}
 use Rattle.ledger.specs.Compared.{shown, viewOf}
 use Rattle.ledger.specs.declared.Event.{Event}
@@ -35,15 +37,15 @@ use Rattle.steps.proofs.ReadObjects.{freed-shown, objects-alike, standi
 use Rattle.steps.proofs.Standing.{none-freed}
 
 -- entries, times and expirations on the same blocks that are alike: so is the whole, once what is not named is free
-reads-with : (p : Tables) (small large : List ℕ) (L : Ledger) → Fit p → Reads p small large L → (entries : List TaskEntry) (time : GlobalTime)
-    (blocks : List BlockEntry) (xs : List ExpirationEntry) (clocks : Clocks) (ys : List Expiration) → ClocksAlike entries time clocks
+pub reads-with : (p : Tables) (small large : List ℕ) (L : Ledger) → Fit p → Reads p small large L → (entries : List TaskEntry) (time : GlobalTime)
+    (blocks : List BlockEntry) (xs : List ExpirationEntry) (clocks : Clocks) (ys : List Expiration) (handles : List ℕ) → PinsKept handles ys → ClocksAlike entries time clocks
     → List·Permᴰ (readBy (shownEntry entries time (p .blocks)) xs) (map (shown clocks) ys)
     → readFrom 0 (objectIn small large) blocks ≡ readFrom 0 (objectIn small large) (mapFrom 0 (keptBlock xs) (p .blocks))
     → readBy (shownEntry entries time blocks) xs ≡ readBy (shownEntry entries time (p .blocks)) xs
     → Reads (record { tasks = entries; global = time; given = p .given; blocks = blocks; expirations = xs }) small large
-    (settled (record { clocks = clocks; given = L .memory .given; objects = L .memory .objects }) ys)
+    (settled (record { clocks = clocks; given = L .memory .given; objects = L .memory .objects; pinned = handles }) ys)
 unfolding recordView viewOf
-reads-with p small large L fit reads entries time blocks xs clocks ys same alike freed shows =
+reads-with p small large L fit reads entries time blocks xs clocks ys handles pins same alike freed shows =
     record {
       alike =
           record {
@@ -57,6 +59,7 @@ reads-with p small large L fit reads entries time blocks xs clocks ys same alike
             expirations = rw shows alike;
           };
       ascending = standing-ascending ys (L .memory .objects) (reads .ascending);
+      pins = pins;
     }
 
 -- the ledger after an event that it carries out
@@ -81,15 +84,16 @@ module _ (event : Event) (task : ℕ) (p : Tables) (small large : List ℕ) (L :
       let advanced = allTicked (map taskOf moved) in
       let entries = advancedTasks advanced moved in
       let time = advancedTime advanced (p .global) in
+      let pinned = pins-carried (L .memory) (L .expirations) (Schedule event task) [] tt (reads .pins) in
       by-test (isTested event)
       (λ e. rw e
-      (reads-with p small large L fit reads _ _ _ _ _ _ (clocks-alike event task clocks e)
+      (reads-with p small large L fit reads _ _ _ _ _ _ _ pinned (clocks-alike event task clocks e)
       (rw (advances-alike event task (p .tasks) (L .memory .clocks) (clocks .tasks) e)
       (expirations-alike event task clocks (rw (advances-alike event task (p .tasks) (L .memory .clocks) (clocks .tasks) e) at (clocks-alike event task clocks e)) accepted (p .blocks) (p .expirations) (fit .entries) (L .expirations)
       (reads .alike .expirations) e))
       refl (freed-shown entries time (p .blocks) (map (passedEntry (leaverOf event task) advanced entries time) (p .expirations)))))
       (λ e. rw e
-      (reads-with p small large L fit reads _ _ _ _ _ _ (untested-clocks-alike event task clocks e)
+      (reads-with p small large L fit reads _ _ _ _ _ _ _ pinned (untested-clocks-alike event task clocks e)
       (untested-expirations-alike event task clocks (untested-clocks-alike event task clocks e) accepted (p .blocks) (p .expirations) (fit .entries)
       (L .expirations) (reads .alike .expirations) e)
       (ap (readFrom 0 (objectIn small large)) (sym (none-freed (p .given) (p .expirations) (p .blocks) (fit .blocks)))) refl))

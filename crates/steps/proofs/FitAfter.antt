@@ -24,7 +24,7 @@ use Rattle.record.specs.declared.TaskEntry.{TaskEntry}
 use Rattle.record.specs.declared.GlobalTime.{GlobalTime}
 use Rattle.record.specs.Tables.{Tables}
 use Rattle.record.specs.declared.Due.{Due}
-use Rattle.record.specs.declared.Due.the-variants.{Free, Local, Global, Unknown}
+use Rattle.record.specs.declared.Due.the-variants.{Free, Local, Global, Pinned, Unknown}
 use Rattle.record.proofs.Facts.{Fit, fit-parts, fit-whole}
 use Rattle.steps.specs.Events.{verdictOf, untickedEntry, advancedTasks, advancedTime, swept, withTimes, poolAfter}
 use Rattle.ledger.specs.declared.Verdict.the-variants.{Accepted}
@@ -42,6 +42,7 @@ same-fits before after global used (Local setter at) f e =
 same-fits before after global used (Global setter at) f e =
     let (named, there, ahead) = and₃ used _ _ e in
     rw (named, or-map (eqb setter departed) {c = not (isAbsent (stateOf (after .state)))} (λ here. rw (f (not-true _ here) .0)) there, ahead)
+same-fits before after global used (Pinned due) f e = e
 same-fits before after global used Unknown f e = e
 
 -- the record after the advance test
@@ -83,6 +84,7 @@ module _ (p : Tables) (f : Fit p) (task : ℕ) (e : TaskEntry) (fits : isFitTask
             (p .expirations) (f .entries);
         blocks = f .blocks;
         distinct = f .distinct;
+        once = f .once;
       }
 
 -- the five events

@@ -1,7 +1,7 @@
 -- Make and refresh leave a well-formed record well-formed, whichever free block and free entry they take.
 use Prim.Native.Nat.{ℕ, zero, suc, _+_, _≤_, _<_}
 use native.Mathlib.Omega.{arith}
-use mathlib.Core.Bool.{true, false, not, _||_, and-eq-true-iff, or-true}
+use mathlib.Core.Bool.{true, false, false≢true, not, _||_, and-eq-true-iff, or-true}
 use mathlib.Core.List.{List, [], _∷_, map}
 use mathlib.Core.Path.{_≡_, refl, sym, ap, _∙_}
 use borrow.Author.Tests.{not-true, eqb-false, leb-true, leb-false, le-leb, lt-ltb, eq-eqb, ne-eqb}
@@ -16,15 +16,17 @@ use Rattle.lists.proofs.Counts.{any-map, any-set-kept, any-set-new}
 use Rattle.lists.proofs.Tests.{passes-imp, passes-set}
 use Rattle.lists.proofs.Tables.{map-set, allFrom-imp, allFrom-set}
 use Rattle.ledger.specs.Limits.{limits, taskCount, smallSize, largeSize, isSmall}
+use Rattle.ledger.specs.Refusals.{isPinning as isPinningKind}
 use Rattle.ledger.specs.declared.Kind.{Kind}
-use Rattle.ledger.specs.declared.Kind.the-variants.{Local, Global}
-use Rattle.record.specs.Codes.{dueBy, dueOf, freeBlock, freeEntry}
+use Rattle.ledger.specs.declared.Kind.the-variants.{Local, Global, Pinned}
+use Rattle.record.specs.Codes.{dueBy, dueOf, isPinnedDue, freeBlock, freeEntry}
 use Rattle.record.specs.Reading.{Typed}
 use Rattle.record.specs.WellFormed.{isUsed, isFitDue, isFitEntry, isNaming, isSizedFor, isFitBlock, isDistinct, handleOf}
 use Rattle.record.specs.Tables.{BlockEntry, ExpirationEntry, Tables}
 use Rattle.record.proofs.Facts.{Fit}
 use Rattle.steps.proofs.FitSwept.{used-fits}
 use Rattle.steps.specs.Objects.{entryFor, withEntry, withObject}
+use Rattle.steps.proofs.PinnedOnce.{once-set, none-pinned}
 use Rattle.steps.proofs.Taken.{MaySet, SlotFree, PlaceFree, newBlock, slot-due, local-due, global-due, units-set, clock-range, block-stays, blocks-given}
 
 -- a block that is named is named still when a free entry is set
@@ -45,14 +47,15 @@ blocks-still given after slot e xs blocks more entry =
 
 -- a free entry set to a fit one
 pub fit-entry-set : (p : Tables) → Fit p → (slot : ℕ) (e : ExpirationEntry) → SlotFree slot (p .expirations)
-    → isFitEntry (p .tasks) (p .global) (p .blocks) e ≡ true → Fit (withEntry slot e p)
-fit-entry-set p fit slot e entry new =
+    → isFitEntry (p .tasks) (p .global) (p .blocks) e ≡ true → isPinnedDue (dueOf e) ≡ false → Fit (withEntry slot e p)
+fit-entry-set p fit slot e entry new plain =
     record {
       tasks = fit .tasks;
       unticked = fit .unticked;
       entries = passes-set _ (p .expirations) slot e (fit .entries) new;
       blocks = blocks-still (p .given) (p .given) slot e (p .expirations) (p .blocks) (omega arith) entry (fit .blocks);
       distinct = fit .distinct;
+      once = once-set (p .expirations) slot e (λ pinned. absurd (false≢true (sym plain ∙ pinned))) (fit .once);
     }
 
 -- the new entry is fit by any blocks of which its own is used
@@ -80,19 +83,36 @@ entry-fits p types Global task extension place may blocks used =
       le-leb 1 (extension + 2) (omega arith),
       le-leb (extension + 2) (limits .extension + 2) (omega (arith, may .short)),
     )
+entry-fits p types Pinned task extension place may blocks used = rw used
+
+-- it is pinned by its kind alone
+entry-pinned : (kind : Kind) (task extension place : ℕ) (p : Tables) → task < taskCount
+    → isPinnedDue (dueOf (entryFor kind task extension place p)) ≡ isPinningKind kind
+unfolding entryFor dueBy
+entry-pinned Local task extension place p known = rw (local-due task _ known)
+entry-pinned Global task extension place p known = rw (global-due task _ known)
+entry-pinned Pinned task extension place p known = refl
 
 -- and names its block
 entry-names : (kind : Kind) (task extension place : ℕ) (p : Tables) → task < taskCount → isNaming place (entryFor kind task extension place p) ≡ true
 unfolding entryFor dueBy
 entry-names Local task extension place p known = rw (local-due task _ known) (eq-eqb place place refl)
 entry-names Global task extension place p known = rw (global-due task _ known) (eq-eqb place place refl)
+entry-names Pinned task extension place p known = eq-eqb place place refl
+
+entry-place : (kind : Kind) (task extension place : ℕ) (p : Tables) → entryFor kind task extension place p .block ≡ place
+unfolding entryFor
+entry-place Local task extension place p = refl
+entry-place Global task extension place p = refl
+entry-place Pinned task extension place p = refl
 
 -- a refresh of the object in a block
 pub fit-refreshed : (p : Tables) → Fit p → Typed p → (kind : Kind) (task extension place slot : ℕ) → MaySet task extension p
     → SlotFree slot (p .expirations) → isUsed (getD (p .blocks) place freeBlock) ≡ true
-    → Fit (withEntry slot (entryFor kind task extension place p) p)
-fit-refreshed p fit types kind task extension place slot may entry used =
+    → isPinningKind kind ≡ false → Fit (withEntry slot (entryFor kind task extension place p) p)
+fit-refreshed p fit types kind task extension place slot may entry used plain =
     fit-entry-set p fit slot _ entry (entry-fits p types kind task extension place may (p .blocks) used)
+    (entry-pinned kind task extension place p (may .known) ∙ plain)
 
 -- the next handle is new
 next-new : (p : Tables) → Fit p → any (eqb (p .given + 1)) (map handleOf (p .blocks)) ≡ false
@@ -155,4 +175,9 @@ module _ (p : Tables) (fit : Fit p) (types : Typed p) (kind : Kind) (task extens
             allFrom-set _ (p .blocks) place _ block-fits
             (blocks-still (p .given) (p .given + 1) slot _ (p .expirations) (p .blocks) (omega arith) entry (fit .blocks));
         distinct = rw map-set (distinct-set (map handleOf (p .blocks)) place (p .given + 1) (next-new p fit) (fit .distinct));
+        once =
+            once-set (p .expirations) slot _
+            (λ pinned. rw (entry-place kind task extension place p)
+            (none-pinned (p .tasks) (p .global) (p .blocks) (p .expirations) place (rw (block .free)) (fit .entries)))
+            (fit .once);
       }

@@ -1,9 +1,9 @@
 -- A sweep leaves a well-formed record well-formed: what it keeps has units left and a block.
 use Prim.Native.Nat.{ℕ, suc, _+_, _<_}
 use native.Mathlib.Omega.{arith}
-use mathlib.Core.Bool.{Bool, true, false, cond, not, _&&_, _||_, and-eq-true-iff, or-true}
+use mathlib.Core.Bool.{Bool, true, false, false≢true, cond, not, _&&_, _||_, and-eq-true-iff, or-true}
 use mathlib.Core.List.{List, [], _∷_, map}
-use mathlib.Core.Path.{_≡_, refl, sym, subst}
+use mathlib.Core.Path.{_≡_, refl, sym, ap, subst, _∙_}
 use borrow.Author.Tests.{not-true, leb-true, le-leb, eq-eqb}
 use lib.Dec.{eqb, leb, ltb}
 use lib.ListN.{getD}
@@ -15,18 +15,19 @@ use Rattle.lists.proofs.Tables.{allFrom-mapFrom}
 use Rattle.ledger.specs.Limits.{limits, taskCount, counterRange}
 use Rattle.ledger.specs.Tasks.{isAbsent, allTicked}
 use Rattle.ledger.specs.Expirations.{departed}
-use Rattle.record.specs.Codes.{stateOf, dueBy, taskOf, dueOf, isDated, setterOf, leftAt, absentEntry, freeBlock}
+use Rattle.record.specs.Codes.{stateOf, dueBy, taskOf, dueOf, isDated, isPinnedDue, setterOf, leftAt, absentEntry, freeBlock}
 use Rattle.record.specs.WellFormed.{isUsed, isFitTask, isAhead, isFitDue, isFitEntry, isNaming, isFitBlock, isDistinct, handleOf}
 use Rattle.record.specs.declared.TaskEntry.{TaskEntry}
 use Rattle.record.specs.Tables.{BlockEntry, ExpirationEntry, Tables}
 use Rattle.record.specs.declared.LocalTime.{LocalTime}
 use Rattle.record.specs.declared.GlobalTime.{GlobalTime}
 use Rattle.record.specs.declared.Due.{Due}
-use Rattle.record.specs.declared.Due.the-variants.{Free, Local, Global, Unknown}
+use Rattle.record.specs.declared.Due.the-variants.{Free, Local, Global, Pinned, Unknown}
 use Rattle.record.proofs.Facts.{Fit}
 use Rattle.steps.proofs.KeptBlocks.{kept-block}
 use Rattle.steps.specs.Events.{nextTime, advancedTime, lateEntry, isLasting, isKept, passedEntry, keptBlock, swept}
-use Rattle.steps.proofs.Late.{lateSetter, lateDue, late-due}
+use Rattle.steps.proofs.Late.{lateSetter, lateDue, late-due, late-pinned}
+use Rattle.steps.proofs.PinnedOnce.{once-map}
 use Rattle.steps.proofs.FitTasks.{Later, later-next, StaysPresent, OthersStayPresent}
 
 -- what is due is ahead still if it was, by no more than the most
@@ -93,6 +94,7 @@ module _ (leaver : ℕ) (advanced : Bool) (before tasks : List TaskEntry) (globa
   lasting-fits used (Global setter at) e k =
       let (named, there, ahead) = and₃ used _ _ e in
       rw (named, late-there leaver setter before tasks follows there, late-ahead advanced _ (at .0) global range k ahead)
+  lasting-fits used (Pinned due) e k = e
   lasting-fits used Unknown e k = e
 
 -- only an expiration in use looks at its block
@@ -102,6 +104,7 @@ unfolding isFitDue
 used-fits setter global before after Free f e = refl
 used-fits setter global before after (Local task at) f e = rw (f refl) e
 used-fits setter global before after (Global task at) f e = rw (f refl) e
+used-fits setter global before after (Pinned due) f e = rw (f refl) e
 used-fits setter global before after Unknown f e = e
 
 -- entries stay fit by blocks that are as they were where an entry names them
@@ -113,7 +116,7 @@ named-fits tasks global before after xs same =
     (λ e named. used-fits _ global _ _ (dueOf e) (λ dated. rw (same (e .block) (named (rw (dated, eq-eqb (e .block) (e .block) refl))))))
 
 -- a block that is kept is named
-kept-fits : (given : ℕ) (xs ys : List ExpirationEntry) (block : ℕ) (b : BlockEntry) → isFitBlock given xs block b ≡ true
+pub kept-fits : (given : ℕ) (xs ys : List ExpirationEntry) (block : ℕ) (b : BlockEntry) → isFitBlock given xs block b ≡ true
     → isFitBlock given ys block (keptBlock ys block b) ≡ true
 unfolding isFitBlock
 kept-fits given xs ys block b h =
@@ -131,7 +134,7 @@ kept-handles xs handle z block (b ∷ bs) e =
     (λ n. rw (kept-handles xs handle z (suc block) bs (rw (n, z) at e), or-true))
 
 -- so no two get the same
-kept-distinct : (xs : List ExpirationEntry) (block : ℕ) (bs : List BlockEntry) → isDistinct (map handleOf bs) ≡ true
+pub kept-distinct : (xs : List ExpirationEntry) (block : ℕ) (bs : List BlockEntry) → isDistinct (map handleOf bs) ≡ true
     → isDistinct (map handleOf (mapFrom block (keptBlock xs) bs)) ≡ true
 kept-distinct xs block [] e = refl
 kept-distinct xs block (b ∷ bs) e =
@@ -162,6 +165,17 @@ module _ (leaver : ℕ) (advanced : Bool) (tasks : List TaskEntry) (p : Tables)
       (subst (λ due. isLasting leaver (getD tasks (setterOf due) absentEntry) time due ≡ true) late k))))
       (λ k. rw k)
 
+  -- and on its block, pinned only where it was
+  passed-block : (e : ExpirationEntry) → passedEntry leaver advanced tasks time e .block ≡ e .block
+  passed-block e = by-test (isKept leaver tasks time (lateEntry leaver advanced tasks e)) (λ k. rw k) (λ k. rw k)
+
+  passed-pinned : (e : ExpirationEntry) → isPinnedDue (dueOf (passedEntry leaver advanced tasks time e)) ≡ true → isPinnedDue (dueOf e) ≡ true
+  unfolding dueBy
+  passed-pinned e p =
+      by-test (isKept leaver tasks time (lateEntry leaver advanced tasks e))
+      (λ k. sym (late-pinned leaver advanced tasks (dueOf e)) ∙ ap isPinnedDue (sym (late-due leaver advanced tasks e)) ∙ rw k at p)
+      (λ k. absurd (false≢true (rw k at p)))
+
   -- its parts are fit
   pub fit-swept : Fit p → all isFitTask tasks ≡ true → allTicked (map taskOf tasks) ≡ false → Fit (swept leaver advanced tasks time p)
   unfolding swept
@@ -177,4 +191,5 @@ module _ (leaver : ℕ) (advanced : Bool) (tasks : List TaskEntry) (p : Tables)
             (passes-map _ kept entry-fits (p .expirations) (f .entries));
         blocks = allFrom-mapFrom _ _ _ (kept-fits (p .given) (p .expirations) xs) 0 (p .blocks) (f .blocks);
         distinct = kept-distinct xs 0 (p .blocks) (f .distinct);
+        once = once-map kept passed-block passed-pinned (p .expirations) (f .once);
       }

@@ -15,12 +15,12 @@ use Rattle.lists.proofs.Tables.{allFrom-imp}
 use Rattle.ledger.specs.Limits.{taskCount}
 use Rattle.ledger.specs.Tasks.{isWaiting}
 use Rattle.ledger.specs.Expirations.{departed}
-use Rattle.record.specs.Codes.{stateOf, localCode, globalCode, isGlobalClock, dueBy, dueOf, isDated, absentEntry}
+use Rattle.record.specs.Codes.{stateOf, localCode, globalCode, pinnedCode, isGlobalClock, dueBy, dueOf, isDated, isPinnedDue, absentEntry}
 use Rattle.record.specs.declared.TaskEntry.{TaskEntry}
 use Rattle.record.specs.Tables.{BlockEntry, ExpirationEntry}
 use Rattle.record.specs.WellFormed.{isNaming, isFitBlock}
 use Rattle.record.specs.declared.Due.{Due}
-use Rattle.record.specs.declared.Due.the-variants.{Free, Local, Global, Unknown}
+use Rattle.record.specs.declared.Due.the-variants.{Free, Local, Global, Pinned, Unknown}
 use Rattle.record.proofs.Asked.{global-code}
 use Rattle.steps.specs.Events.{nextTime, desertedClock, lateEntry}
 
@@ -35,6 +35,7 @@ lateDue leaver advanced tasks Free = Free
 lateDue leaver advanced tasks (Local setter at) = Local setter at
 lateDue leaver advanced tasks (Global setter at) =
     Global (lateSetter leaver setter) (record { 0 = lateAt advanced tasks (lateSetter leaver setter) (at .0) })
+lateDue leaver advanced tasks (Pinned due) = Pinned due
 lateDue leaver advanced tasks Unknown = Unknown
 
 -- an entry that does not go by the global time stays
@@ -56,7 +57,10 @@ late-due leaver advanced tasks e =
     ap dueOf (late-same leaver advanced tasks e g)
     ∙ by-test (eqb (e .clock) 0)
     (λ z. rw z)
-    (λ z. by-test (leb localCode (e .clock) && ltb (e .clock) globalCode) (λ l. rw (z, g, l)) (λ l. rw (z, g, l))))
+    (λ z.
+    by-test (leb localCode (e .clock) && ltb (e .clock) globalCode)
+    (λ l. rw (z, g, l))
+    (λ l. by-test (eqb (e .clock) pinnedCode) (λ p. rw (z, g, l, p)) (λ p. rw (z, g, l, p)))))
 
 -- of taskCount, which is no task, nothing is left: all stays where nobody leaves and no time advances
 pub deserted-none : (clock : ℕ) → desertedClock taskCount clock ≡ clock
@@ -73,6 +77,7 @@ late-dated : (leaver : ℕ) (advanced : Bool) (tasks : List TaskEntry) (due : Du
 late-dated leaver advanced tasks Free = refl
 late-dated leaver advanced tasks (Local setter at) = refl
 late-dated leaver advanced tasks (Global setter at) = refl
+late-dated leaver advanced tasks (Pinned due) = refl
 late-dated leaver advanced tasks Unknown = refl
 
 late-names : (leaver : ℕ) (advanced : Bool) (tasks : List TaskEntry) (block : ℕ) (e : ExpirationEntry)
@@ -89,3 +94,11 @@ late-blocks leaver advanced tasks given xs blocks fit = allFrom-imp _ _ same 0 b
     same : (block : ℕ) (b : BlockEntry) → isFitBlock given xs block b ≡ true → isFitBlock given (map (lateEntry leaver advanced tasks) xs) block b ≡ true
     same block b h =
         rw (any-map (isNaming block) (lateEntry leaver advanced tasks) xs, any-same _ _ xs (all-every _ (late-names leaver advanced tasks block) xs)) h
+
+-- pinned stays pinned, and nothing else becomes so
+pub late-pinned : (leaver : ℕ) (advanced : Bool) (tasks : List TaskEntry) (due : Due) → isPinnedDue (lateDue leaver advanced tasks due) ≡ isPinnedDue due
+late-pinned leaver advanced tasks Free = refl
+late-pinned leaver advanced tasks (Local setter at) = refl
+late-pinned leaver advanced tasks (Global setter at) = refl
+late-pinned leaver advanced tasks (Pinned due) = refl
+late-pinned leaver advanced tasks Unknown = refl

@@ -1,5 +1,6 @@
 pub mod KeptBlocks
 pub mod Late
+pub mod PinnedOnce
 pub mod FitTasks
 pub mod FitSwept
 pub mod FitAfter
@@ -13,6 +14,7 @@ pub mod EventTypes
 pub mod StoreBytes
 pub mod Finding
 pub mod Remaining
+pub mod Pinning
 pub mod Rooms
 pub mod Verdicts
 pub mod Taken
@@ -24,3 +26,4 @@ pub mod ObjectsFollow
 pub mod ObjectTypes
 pub mod Staying
 pub mod Batches
+pub mod Releases

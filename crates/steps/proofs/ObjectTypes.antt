@@ -1,14 +1,15 @@
 -- A value of the record's type stays one under a make that is accepted, and under a refresh.
 use Prim.Native.Nat.{ℕ}
 use native.Mathlib.Omega.{arith}
-use mathlib.Core.Path.{_≡_}
-use lib.ListN.{length-set}
+use mathlib.Core.Path.{_≡_, _∙_}
+use lib.ListN.{length-set, length-map}
+use Rattle.lists.proofs.Tables.{length-mapFrom}
 use Rattle.ledger.specs.Limits.{lastHandle, counterRange}
 use Rattle.ledger.specs.declared.Kind.{Kind}
 use Rattle.ledger.specs.declared.Verdict.the-variants.{Accepted}
 use Rattle.record.specs.Reading.{Typed}
 use Rattle.record.specs.Tables.{ExpirationEntry, Tables}
-use Rattle.steps.specs.Objects.{makeVerdict, withEntry, withObject, madePool, refreshedPool}
+use Rattle.steps.specs.Objects.{makeVerdict, withEntry, withObject, madePool, refreshedPool, releasedPool}
 use Rattle.steps.proofs.Chosen.{make-takes}
 
 typed-entry : (slot : ℕ) (e : ExpirationEntry) (p : Tables) → Typed p → Typed (withEntry slot e p)
@@ -22,11 +23,11 @@ typed-entry slot e p types =
       given = types .given;
     }
 
-pub typed-made : (task : ℕ) (kind : Kind) (extension size : ℕ) (p : Tables) → Typed p → makeVerdict task extension size p ≡ Accepted
+pub typed-made : (task : ℕ) (kind : Kind) (extension size : ℕ) (p : Tables) → Typed p → makeVerdict task kind extension size p ≡ Accepted
     → Typed (madePool task kind extension size p)
 unfolding madePool lastHandle counterRange
 typed-made task kind extension size p types accepted =
-    let unspent = make-takes task extension size p types accepted .unspent in
+    let unspent = make-takes task kind extension size p types accepted .unspent in
     typed-entry _ _ (withObject _ size p)
     (record {
       tasks = types .tasks;
@@ -41,3 +42,15 @@ pub typed-refreshed : (task : ℕ) (kind : Kind) (extension handle : ℕ) (p : T
     → Typed (refreshedPool task kind extension handle p)
 unfolding refreshedPool
 typed-refreshed task kind extension handle p types = typed-entry _ _ p types
+
+pub typed-released : (handle : ℕ) (p : Tables) → Typed p → Typed (releasedPool handle p)
+unfolding releasedPool
+typed-released handle p types =
+    record {
+      tasks = types .tasks;
+      blocks = length-mapFrom 0 _ (p .blocks) ∙ types .blocks;
+      expirations = length-map (p .expirations) _ ∙ types .expirations;
+      clocks = types .clocks;
+      global = types .global;
+      given = types .given;
+    }

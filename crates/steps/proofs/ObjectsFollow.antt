@@ -48,7 +48,7 @@ by-verdict L call new v e = (rw e, rw e)
 
 module _ {p : Tables} {small large : List ℕ} {L : Ledger} (w : isWellFormed p ≡ true) (types : Typed p) (reads : Reads p small large L) where
   -- an accepted handle is that of an object that stands,
-  handle-stands : (handle : ℕ) → handleVerdict handle p ≡ Accepted → (eqb handle 0 ≡ false) × (stands (L .expirations) handle ≡ true)
+  pub handle-stands : (handle : ℕ) → handleVerdict handle p ≡ Accepted → (eqb handle 0 ≡ false) × (stands (L .expirations) handle ≡ true)
   handle-stands handle v =
       let (nonzero, place) = handle-found handle (p .given) (placeOf handle (p .blocks)) v in
       (nonzero, not-false _ (sym (gone-alike (fit-parts p w) reads handle nonzero types) ∙ place))
@@ -69,39 +69,39 @@ module _ {p : Tables} {small large : List ℕ} {L : Ledger} (w : isWellFormed p 
   unfolding recordView viewOf
   same-given = reads .alike .given
 
-  pub make-fits : (task : ℕ) (kind : Kind) (extension size : ℕ) → makeVerdict task extension size p ≡ Accepted
+  pub make-fits : (task : ℕ) (kind : Kind) (extension size : ℕ) → makeVerdict task kind extension size p ≡ Accepted
       → isWellFormed (madePool task kind extension size p) ≡ true
   unfolding madePool
   make-fits task kind extension size v =
-      let taken = make-takes task extension size p types v in
+      let taken = make-takes task kind extension size p types v in
       fit-whole _ (fit-made p (fit-parts p w) types kind task extension size _ _ (taken .may) (taken .block) (taken .entry))
 
-  pub refresh-fits : (task : ℕ) (kind : Kind) (extension handle : ℕ) → refreshVerdict task extension handle p ≡ Accepted
+  pub refresh-fits : (task : ℕ) (kind : Kind) (extension handle : ℕ) → refreshVerdict task kind extension handle p ≡ Accepted
       → isWellFormed (refreshedPool task kind extension handle p) ≡ true
   unfolding refreshedPool
   refresh-fits task kind extension handle v =
-      let renewed = refresh-takes task extension handle p types v in
+      let renewed = refresh-takes task kind extension handle p types v in
       fit-whole _
-      (fit-refreshed p (fit-parts p w) types kind task extension _ _ (renewed .may) (renewed .entry) (place-found handle (renewed .found) .used))
+      (fit-refreshed p (fit-parts p w) types kind task extension _ _ (renewed .may) (renewed .entry) (place-found handle (renewed .found) .used) (renewed .plain))
 
-  pub refresh-reads : (task : ℕ) (kind : Kind) (extension handle : ℕ) → refreshVerdict task extension handle p ≡ Accepted
+  pub refresh-reads : (task : ℕ) (kind : Kind) (extension handle : ℕ) → refreshVerdict task kind extension handle p ≡ Accepted
       → Reads (refreshedPool task kind extension handle p) small large (carried (Refresh task kind extension handle) [] L)
   unfolding refreshedPool
   refresh-reads task kind extension handle v =
-      let renewed = refresh-takes task extension handle p types v in
+      let renewed = refresh-takes task kind extension handle p types v in
       refreshed-reads p small large L (fit-parts p w) types reads kind task extension _ _ (renewed .may) (renewed .entry) handle
-      (place-found handle (renewed .found) .its)
+      (place-found handle (renewed .found) .its) (renewed .plain)
 
   -- with both stores of 01's lengths
   module _ (small-whole : isWholeSmall small ≡ true) (large-whole : isWholeLarge large ≡ true) where
-    pub make-reads : (task : ℕ) (kind : Kind) (extension size : ℕ) → makeVerdict task extension size p ≡ Accepted
+    pub make-reads : (task : ℕ) (kind : Kind) (extension size : ℕ) → makeVerdict task kind extension size p ≡ Accepted
         → (let place = freePlace size (p .blocks) in
         let zeros : List ℕ = replicate (sizeOf place) 0 in
         Reads (madePool task kind extension size p) (smallAfter place 0 zeros small) (largeAfter place 0 zeros large)
         (carried (Make task kind extension size) [] L))
     unfolding madePool
     make-reads task kind extension size v =
-        let taken = make-takes task extension size p types v in
+        let taken = make-takes task kind extension size p types v in
         let listed : freePlace size (p .blocks) < blockEntries = omega (arith, taken .block .listed, types .blocks) in
         made-reads p small large _ _ L (fit-parts p w) types reads kind task extension size _ _ (taken .may) (taken .block) (taken .entry)
         small-whole large-whole (made-bytes small large small-whole large-whole _ listed)

@@ -14,8 +14,8 @@ use Rattle.lists.proofs.Tables.{readBy-same, all-readBy}
 use Rattle.lists.proofs.Permutations.{readBy-perm, all-perm}
 use Rattle.ledger.specs.Tasks.{Task, Clocks, absentTask, taskAt, isAbsent, moved, isTested, advances, clocksAfter}
 use Rattle.ledger.specs.Expirations.{Expiration, remaining, lasting}
-use Rattle.ledger.specs.Expirations.{DueTime, byLocal, byGlobal}
-use Rattle.ledger.specs.Compared.{Left, localLeft, globalLeft, Shown, leftOf, shown}
+use Rattle.ledger.specs.Expirations.{DueTime, byLocal, byGlobal, pinned}
+use Rattle.ledger.specs.Compared.{Left, localLeft, globalLeft, pinnedLeft, Shown, leftOf, shown}
 use Rattle.ledger.specs.declared.State.{State}
 use Rattle.ledger.specs.declared.State.the-variants.{Absent, Running, Waiting}
 use Rattle.ledger.specs.declared.Event.{Event}
@@ -28,7 +28,7 @@ use Rattle.record.specs.declared.TaskEntry.{TaskEntry}
 use Rattle.record.specs.Tables.{BlockEntry, ExpirationEntry}
 use Rattle.record.specs.declared.GlobalTime.{GlobalTime}
 use Rattle.record.specs.declared.Due.{Due}
-use Rattle.record.specs.declared.Due.the-variants.{Free, Local, Global, Unknown}
+use Rattle.record.specs.declared.Due.the-variants.{Free, Local, Global, Pinned, Unknown}
 use Rattle.steps.specs.Events.{verdictOf, leaverOf, passedEntry}
 use Rattle.ledger.specs.declared.Verdict.the-variants.{Accepted}
 use Rattle.steps.proofs.ReadTasks.{ClocksAlike, state-alike, clock-alike}
@@ -77,6 +77,7 @@ moved-stays Tick t s untested accepted present = absurd (true≢false untested)
 abbrev SetterPresent : Clocks → Left → Type 0
 SetterPresent c (localLeft setter units) = isAbsent (taskAt c setter .state) ≡ false
 SetterPresent c (globalLeft setter units) = Unit
+SetterPresent c pinnedLeft = Unit
 
 abbrev AllPresent : Clocks → List Shown → Type 0
 AllPresent c xs = All (λ (x : Shown). SetterPresent c (x .left)) xs
@@ -95,6 +96,7 @@ module _ (event : Event) (task : ℕ) (c : Clocks) (untested : isTested event �
   unfolding leftOf remaining clocksAfter advances
   ledger-stays (byLocal setter at) present = rw (clock-stays setter present)
   ledger-stays (byGlobal setter at) present = rw untested
+  ledger-stays pinned present = refl
 
   shown-stays : (y : Expiration) → SetterPresent c (leftOf c (y .due)) → shown (clocksAfter event task c) y ≡ shown c y
   shown-stays y present = rw (ledger-stays (y .due) present)
@@ -106,6 +108,7 @@ module _ (event : Event) (task : ℕ) (c : Clocks) (untested : isTested event �
   record-stays {tasks} {entries} same after handle (Local setter at) (present, _) =
       rw (clock-alike entries (clocksAfter event task c) (after .tasks) setter, clock-alike tasks c (same .tasks) setter, clock-stays setter present)
   record-stays same after handle (Global setter at) present = rw (after .global, same .global, untested)
+  record-stays same after handle (Pinned due) present = refl
   record-stays same after handle Unknown present = refl
 
 -- a fit expiration's setter is not absent
@@ -117,6 +120,7 @@ fit-present same used handle Free fit = tt
 fit-present {tasks} {global} {c} same used handle (Local setter at) fit =
     (rw (state-alike tasks c (same .tasks) setter) at (fit-local _ global used setter at fit .present), tt)
 fit-present same used handle (Global setter at) fit = (tt, tt)
+fit-present same used handle (Pinned due) fit = (tt, tt)
 fit-present same used handle Unknown fit = tt
 
 -- An accepted event: from a record and a ledger that show the same expirations, to entries and a time that read as the ledger's clocks after it.

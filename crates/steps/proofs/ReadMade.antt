@@ -1,7 +1,7 @@
 -- Make and refresh do the same to the ledger that a well-formed record reads as, whichever free block and free entry they take.
 use Prim.Native.Nat.{ℕ, _+_, _-_, _≤_, _<_}
 use native.Mathlib.Omega.{arith}
-use mathlib.Core.Bool.{true}
+use mathlib.Core.Bool.{true, false}
 use mathlib.Core.List.{List, [], _∷_, _++_, map, map-append, List·Permᴰ, List·Permᴰ·cons, List·Permᴰ·trans}
 use mathlib.Core.Path.{_≡_, refl, ap, fun-ext, _∙_}
 use borrow.Author.Tests.{eqb-false, leb-true, eq-eqb, ne-eqb}
@@ -22,8 +22,10 @@ use Rattle.ledger.specs.Expirations.{Expiration, isOf, dueAfter, remaining}
 use Rattle.ledger.specs.Objects.{Object, zeroed, stands, standing, memoryAfter, expirationsAfter}
 use Rattle.ledger.specs.Ledger.{Ledger, settled}
 use Rattle.ledger.specs.Compared.{leftOf, shown, shownObject, viewOf}
+use Rattle.ledger.specs.Refusals.{isPinning as isPinningKind}
 use Rattle.ledger.specs.declared.Kind.{Kind}
-use Rattle.ledger.specs.declared.Kind.the-variants.{Local, Global}
+use Rattle.ledger.proofs.KeptPins.{pins-carried}
+use Rattle.ledger.specs.declared.Kind.the-variants.{Local, Global, Pinned}
 use Rattle.ledger.specs.declared.Call.the-variants.{Make, Refresh}
 use Rattle.stores.specs.Places.{sizeOf}
 use Rattle.record.specs.Codes.{dueBy, dueOf, freeBlock, freeEntry}
@@ -67,6 +69,7 @@ entry-shown p types Local task extension place may blocks clocks =
 entry-shown p types Global task extension place may blocks clocks =
     let units : clocks .global + extension + 2 - clocks .global ≡ extension + 2 = omega arith in
     rw (global-due task _ (may .known), units-set (p .global .0) (extension + 2) (types .global) (omega (arith, may .short)), units)
+entry-shown p types Pinned task extension place may blocks clocks = refl
 
 -- A call that sets an expiration
 module _ (p : Tables) (small large : List ℕ) (L : Ledger) (fit : Fit p) (types : Typed p) (reads : Reads p small large L)
@@ -85,12 +88,12 @@ module _ (p : Tables) (small large : List ℕ) (L : Ledger) (fit : Fit p) (types
       (List·Permᴰ·cons refl (reads .alike .expirations))
 
   -- a refresh of the object in a block
-  pub refreshed-reads : (handle : ℕ) → handleAt (p .blocks) place ≡ handle
+  pub refreshed-reads : (handle : ℕ) → handleAt (p .blocks) place ≡ handle → isPinningKind kind ≡ false
       → (let call = Refresh task kind extension handle in
       Reads (withEntry slot (entryFor kind task extension place p) p) small large
       (settled (memoryAfter call [] (L .memory)) (expirationsAfter call [] (L .memory) (L .expirations))))
   unfolding recordView viewOf memoryAfter expirationsAfter
-  refreshed-reads handle named =
+  refreshed-reads handle named plain =
       let y = newExpiration (L .memory .clocks) kind task extension handle in
       let all = standing-more y (L .expirations) (L .memory .objects) (every-object-stands fit reads) in
       record {
@@ -103,6 +106,7 @@ module _ (p : Tables) (small large : List ℕ) (L : Ledger) (fit : Fit p) (types
               expirations = expirations-set (p .blocks) handle named refl;
             };
         ascending = rw all (reads .ascending);
+        pins = pins-carried (L .memory) (L .expirations) (Refresh task kind extension handle) [] plain (reads .pins);
       }
 
 -- a size is no more than the blocks of its store have
@@ -186,4 +190,5 @@ module _ (p : Tables) (small large small′ large′ : List ℕ) (L : Ledger) (f
                   expirations-stay;
             };
         ascending = rw all (pairwise-append _ (zeroed handle size) (L .memory .objects) handles-below (reads .ascending));
+        pins = pins-carried (L .memory) (L .expirations) (Make task kind extension size) [] tt (reads .pins);
       }

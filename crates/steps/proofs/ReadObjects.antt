@@ -27,7 +27,7 @@ use Rattle.record.specs.declared.TaskEntry.{TaskEntry}
 use Rattle.record.specs.Tables.{BlockEntry, ExpirationEntry}
 use Rattle.record.specs.declared.GlobalTime.{GlobalTime}
 use Rattle.record.specs.declared.Due.{Due}
-use Rattle.record.specs.declared.Due.the-variants.{Free, Local, Global, Unknown}
+use Rattle.record.specs.declared.Due.the-variants.{Free, Local, Global, Pinned, Unknown}
 use Rattle.record.proofs.Distinct.{handleAt, same-handle}
 use Rattle.steps.proofs.KeptBlocks.{kept-block}
 use Rattle.steps.specs.Events.{keptBlock}
@@ -43,6 +43,7 @@ unfolding shownDue
 shown-handle tasks global g h Free = refl
 shown-handle tasks global g h (Local setter at) = or-false (eqb g h)
 shown-handle tasks global g h (Global setter at) = or-false (eqb g h)
+shown-handle tasks global g h (Pinned due) = or-false (eqb g h)
 shown-handle tasks global g h Unknown = refl
 
 -- so what it shows depends on that handle only where it is in use
@@ -52,6 +53,7 @@ unfolding shownDue
 same-shown tasks global g h Free e = refl
 same-shown tasks global g h (Local setter at) e = rw (e refl)
 same-shown tasks global g h (Global setter at) e = rw (e refl)
+same-shown tasks global g h (Pinned due) e = rw (e refl)
 same-shown tasks global g h Unknown e = refl
 
 -- an entry in use names its block

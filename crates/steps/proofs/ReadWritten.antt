@@ -128,4 +128,5 @@ module _ (p : Tables) (small large : List ℕ) (L : Ledger) (fit : Fit p) (types
               expirations = reads .alike .expirations;
             };
         ascending = standing-ascending (L .expirations) (map rewritten os) (ascending-written _ offset new os (reads .ascending));
+        pins = reads .pins;
       }

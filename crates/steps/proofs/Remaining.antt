@@ -25,7 +25,7 @@ use Rattle.record.specs.WellFormed.{isFitDue, isFitEntry}
 use Rattle.record.specs.declared.TaskEntry.{TaskEntry}
 use Rattle.record.specs.declared.GlobalTime.{GlobalTime}
 use Rattle.record.specs.declared.Due.{Due}
-use Rattle.record.specs.declared.Due.the-variants.{Free, Local, Global, Unknown}
+use Rattle.record.specs.declared.Due.the-variants.{Free, Local, Global, Pinned, Unknown}
 use Rattle.record.proofs.Facts.{Fit, fit-local, fit-global}
 use Rattle.record.proofs.Distinct.{handleAt, same-handle}
 use Rattle.steps.specs.Objects.{placeOf}
@@ -44,6 +44,7 @@ module _ (tasks : List TaskEntry) (global : GlobalTime) (g h : ℕ) where
   local-shown task (Local setter at) =
       rw none-or-one (by-test (eqb setter task) (λ e. rw (eqb-true setter task e)) (λ e. rw e))
   local-shown task (Global setter at) = rw none-or-one
+  local-shown task (Pinned due) = rw none-or-one
   local-shown task Unknown = sym (cond-same (eqb g h) 0)
 
   global-shown : (due : Due) → mostShown globalUnits h (shownDue tasks global g due) ≡ cond (eqb g h) (leftGlobal global due) 0
@@ -51,6 +52,7 @@ module _ (tasks : List TaskEntry) (global : GlobalTime) (g h : ℕ) where
   global-shown Free = sym (cond-same (eqb g h) 0)
   global-shown (Local setter at) = rw none-or-one
   global-shown (Global setter at) = rw none-or-one
+  global-shown (Pinned due) = rw none-or-one
   global-shown Unknown = sym (cond-same (eqb g h) 0)
 
 module _ {p : Tables} {small large : List ℕ} {L : Ledger} (fit : Fit p) (reads : Reads p small large L) where
@@ -99,12 +101,14 @@ module _ (tasks : List TaskEntry) (global : GlobalTime) (used : Bool) where
       (λ s. rw (s, ← eqb-true setter task s) (fit-local _ global used setter at e .within))
       (λ s. rw s (omega arith))
   local-within task (Global setter at) e = omega arith
+  local-within task (Pinned due) e = omega arith
   local-within task Unknown e = omega arith
 
   global-within : (due : Due) → isFitDue (getD tasks (setterOf due) absentEntry) global used due ≡ true → leftGlobal global due ≤ limits .extension + 2
   global-within Free e = omega arith
   global-within (Local setter at) e = omega arith
   global-within (Global setter at) e = fit-global _ global used setter at e .within
+  global-within (Pinned due) e = omega arith
   global-within Unknown e = omega arith
 
 -- one figure

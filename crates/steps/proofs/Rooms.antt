@@ -23,14 +23,14 @@ use Rattle.ledger.proofs.Figures.{allowed}
 use Rattle.ledger.specs.Objects.{Object, smallOnes, largeOnes, inStoreOf, usage}
 use Rattle.ledger.specs.Compared.{shown, shownObject, viewOf}
 use Rattle.ledger.specs.Ledger.{Ledger}
-use Rattle.record.specs.Codes.{dueBy, dueOf, isDated, freeBlock, localCode, globalCode, isGlobalClock}
+use Rattle.record.specs.Codes.{dueBy, dueOf, isDated, freeBlock, localCode, globalCode, pinnedCode, isGlobalClock}
 use Rattle.record.specs.Reading.{isWhole, shownDue, objectIn, recordView, Typed, Reads}
 use Rattle.record.specs.WellFormed.{isUsed, isFitDue, isFitEntry}
 use Rattle.record.specs.declared.TaskEntry.{TaskEntry}
 use Rattle.record.specs.Tables.{BlockEntry, ExpirationEntry, Tables}
 use Rattle.record.specs.declared.GlobalTime.{GlobalTime}
 use Rattle.record.specs.declared.Due.{Due}
-use Rattle.record.specs.declared.Due.the-variants.{Free, Local, Global, Unknown}
+use Rattle.record.specs.declared.Due.the-variants.{Free, Local, Global, Pinned, Unknown}
 use Rattle.record.proofs.Facts.{Fit}
 use Rattle.record.proofs.Exists.{sized-small}
 use Rattle.stores.specs.Places.{blockCount}
@@ -52,6 +52,7 @@ unfolding shownDue
 shown-once tasks global handle Free = refl
 shown-once tasks global handle (Local setter at) = refl
 shown-once tasks global handle (Global setter at) = refl
+shown-once tasks global handle (Pinned due) = refl
 shown-once tasks global handle Unknown = refl
 
 -- a fit entry is free or in use
@@ -64,7 +65,7 @@ fit-dated tasks global blocks e fit =
     (λ z.
     by-test (isGlobalClock (e .clock))
     (λ g. rw (z, g))
-    (λ g. by-test (leb localCode (e .clock) && ltb (e .clock) globalCode) (λ l. rw (z, g, l)) (λ l. absurd (false≢true (rw (z, g, l) at fit)))))
+    (λ g. by-test (leb localCode (e .clock) && ltb (e .clock) globalCode) (λ l. rw (z, g, l)) (λ l. by-test (eqb (e .clock) pinnedCode) (λ p. rw (z, g, l, p)) (λ p. absurd (false≢true (rw (z, g, l, p) at fit))))))
 
 -- the blocks of the small store, and those of the large one
 abbrev smallPart : List BlockEntry → List BlockEntry

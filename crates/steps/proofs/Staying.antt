@@ -2,7 +2,7 @@
 use Prim.Native.Nat.{ℕ, _<_}
 use native.Mathlib.Omega.{arith}
 use mathlib.Core.Bool.{Bool, true, false}
-use mathlib.Core.List.{List, map}
+use mathlib.Core.List.{List}
 use mathlib.Core.Logic.{_≢_}
 use mathlib.Core.Path.{_≡_, refl, sym, ap, _∙_}
 use borrow.Author.Tests.{eqb-true, eqb-false, eq-eqb, ne-eqb}
@@ -10,6 +10,7 @@ use lib.Dec.{eqb}
 use lib.ListN.{length, getD}
 use lib.Seq.{getD-set-same, getD-set-other}
 use Rattle.lists.specs.Tests.{any}
+use Rattle.lists.specs.Tables.{mapFrom}
 use Rattle.lists.proofs.Cases.{by-test}
 use Rattle.ledger.specs.Tasks.{isTested}
 use Rattle.ledger.specs.declared.Event.{Event}
@@ -20,10 +21,10 @@ use Rattle.record.specs.Codes.{freeBlock}
 use Rattle.record.specs.WellFormed.{isNaming, handleOf}
 use Rattle.record.specs.declared.TaskEntry.{TaskEntry}
 use Rattle.record.specs.declared.GlobalTime.{GlobalTime}
-use Rattle.record.specs.Tables.{Tables}
+use Rattle.record.specs.Tables.{ExpirationEntry, Tables}
 use Rattle.record.proofs.Facts.{fit-parts, fit-used}
 use Rattle.record.proofs.Distinct.{handleAt, same-handle}
-use Rattle.steps.specs.Events.{verdictAt, passedEntry, swept, poolAfter, outcomeBy, scheduled}
+use Rattle.steps.specs.Events.{verdictAt, keptBlock, swept, poolAfter, outcomeBy, scheduled}
 use Rattle.steps.specs.Objects.{freePlace, madePool, refreshedPool}
 use Rattle.steps.specs.Staying.{Stays, OneBlock}
 use Rattle.steps.proofs.KeptBlocks.{block-left}
@@ -42,17 +43,21 @@ stays-on {p} {p′} a b =
           later ∙ a .same block (rw later at used) (rw later at given);
     }
 
--- an event: a block that nothing names is freed
-swept-stays : (leaver : ℕ) (advanced : Bool) (tasks : List TaskEntry) (global : GlobalTime) (p : Tables) → Stays p (swept leaver advanced tasks global p)
-unfolding swept
-swept-stays leaver advanced tasks global p =
-    let xs = map (passedEntry leaver advanced tasks global) (p .expirations) in
+-- a block that nothing names is freed
+pub kept-stays : (p : Tables) {tasks : List TaskEntry} {global : GlobalTime} (xs : List ExpirationEntry)
+    → Stays p (record { tasks = tasks; global = global; given = p .given; blocks = mapFrom 0 (keptBlock xs) (p .blocks); expirations = xs })
+kept-stays p xs =
     record {
       given = omega arith;
       same = λ block.
           rw (block-left xs (p .blocks) block)
           (by-test (any (isNaming block) xs) (λ named. rw named (λ used given. refl)) (λ none. rw none (λ used given. absurd (omega arith))));
     }
+
+-- by an event
+swept-stays : (leaver : ℕ) (advanced : Bool) (tasks : List TaskEntry) (global : GlobalTime) (p : Tables) → Stays p (swept leaver advanced tasks global p)
+unfolding swept
+swept-stays leaver advanced tasks global p = kept-stays p _
 
 stays-by : (v : Verdict) (event : Event) (task : ℕ) (p : Tables) → Stays p (outcomeBy v event task p .pool)
 unfolding poolAfter

@@ -1,7 +1,7 @@
 -- What make and refresh may take of a well-formed record, and that nothing there is touched by it.
 use Prim.Native.Nat.{ℕ, _+_, _-_, _%_, _≤_, _<_}
 use native.Mathlib.Omega.{arith}
-use mathlib.Core.Bool.{Bool, true, false, false≢true}
+use mathlib.Core.Bool.{Bool, true, false, false≢true, and-eq-true-iff}
 use mathlib.Core.List.{List}
 use mathlib.Core.Path.{_≡_}
 use borrow.Author.Tests.{eqb-true, leb-true, le-leb, lt-leb, lt-ltb, ne-eqb}
@@ -22,7 +22,7 @@ use Rattle.record.specs.declared.TaskEntry.{TaskEntry}
 use Rattle.record.specs.Tables.{BlockEntry, ExpirationEntry, Tables}
 use Rattle.record.specs.declared.GlobalTime.{GlobalTime}
 use Rattle.record.specs.declared.Due.{Due}
-use Rattle.record.specs.declared.Due.the-variants.{Free, Local, Global, Unknown}
+use Rattle.record.specs.declared.Due.the-variants.{Free, Local, Global, Pinned, Unknown}
 use Rattle.record.proofs.Facts.{Fit, fit-local, fit-global}
 
 -- the task may set an expiration with this extension
@@ -77,11 +77,13 @@ unfolding counterRange
 clock-range p types task = all-getD (λ (e : TaskEntry). e .clock .0 < counterRange) absentEntry (omega arith) (p .tasks) (types .clocks) task
 
 -- a fit expiration names a block in use
-fit-used : (setter : TaskEntry) (global : GlobalTime) (used : Bool) (due : Due) → isFitDue setter global used due ≡ true → isDated due ≡ true
+pub fit-used : (setter : TaskEntry) (global : GlobalTime) (used : Bool) (due : Due) → isFitDue setter global used due ≡ true → isDated due ≡ true
     → used ≡ true
+unfolding isFitDue
 fit-used setter global used Free fit dated = absurd (false≢true dated)
 fit-used setter global used (Local task at) fit dated = fit-local setter global used task at fit .naming
 fit-used setter global used (Global task at) fit dated = fit-global setter global used task at fit .naming
+fit-used setter global used (Pinned due) fit dated = and-eq-true-iff used _ .0 fit .0
 fit-used setter global used Unknown fit dated = absurd (false≢true dated)
 
 -- so its block stays as it is when a free one is taken

@@ -1,4 +1,4 @@
--- Make, refresh, read, write and batch are refused by the record just where the ledger refuses them, with the same refusal.
+-- Make, refresh, read, write, batch and release are refused by the record just where the ledger refuses them, with the same refusal.
 use Prim.Native.Nat.{ℕ, _+_}
 use mathlib.Core.Bool.{Bool, false, cond, not, _||_}
 use mathlib.Core.List.{List, [], _∷_}
@@ -18,7 +18,7 @@ use Rattle.ledger.specs.Objects.{Memory, objectAt, stands, handlesOf}
 use Rattle.ledger.specs.Refusals.{Test, shared, own, noSuchTask, taskAbsent, taskWaiting, handleNotGiven, objectGone, testsOf, verdict, asRefusal}
 use Rattle.ledger.specs.Compared.{viewOf}
 use Rattle.ledger.specs.Ledger.{Ledger, verdictOn}
-use Rattle.ledger.specs.declared.Call.the-variants.{Make, Refresh, Read, Write, Batch}
+use Rattle.ledger.specs.declared.Call.the-variants.{Make, Refresh, Read, Write, Batch, Release}
 use Rattle.ledger.specs.declared.Kind.{Kind}
 use Rattle.ledger.specs.declared.State.{State}
 use Rattle.ledger.specs.declared.State.the-variants.{Absent, Running, Waiting}
@@ -30,8 +30,9 @@ use Rattle.record.specs.Reading.{recordView, Typed, Reads}
 use Rattle.record.specs.Tables.{Tables}
 use Rattle.record.proofs.Facts.{Fit}
 use Rattle.steps.proofs.ReadTasks.{state-alike}
-use Rattle.steps.specs.Objects.{andThen, refuseIf, byState, isUngiven, isMissing, taskVerdict, handleVerdict, makeVerdict, refreshVerdict, readVerdict, writeVerdict, batchVerdict}
+use Rattle.steps.specs.Objects.{andThen, refuseIf, byState, isUngiven, isMissing, taskVerdict, handleVerdict, makeVerdict, refreshVerdict, readVerdict, writeVerdict, batchVerdict, releaseVerdict}
 use Rattle.steps.proofs.Finding.{blockOf, gone-alike, found}
+use Rattle.steps.proofs.Pinning.{pinned-alike}
 use Rattle.steps.proofs.Rooms.{block-room, entries-alike}
 
 -- verdicts one after another, in whatever grouping
@@ -110,7 +111,7 @@ module _ {p : Tables} {small large : List ℕ} {L : Ledger} (typed : Typed p) (f
     handle-tests h = rw then-assoc (test-alike given-test (λ given. test-alike (gone-test given) (h given)))
 
   pub make-verdict : (task : ℕ) (kind : Kind) (extension size : ℕ) (new : List ℕ)
-      → verdictOn L (Make task kind extension size) new ≡ asRefusal (makeVerdict task extension size p)
+      → verdictOn L (Make task kind extension size) new ≡ asRefusal (makeVerdict task kind extension size p)
   unfolding testsOf makeVerdict
   make-verdict task kind extension size new =
       task-tests task
@@ -120,10 +121,12 @@ module _ {p : Tables} {small large : List ℕ} {L : Ledger} (typed : Typed p) (f
       (λ e. test-alike (block-room fit reads typed size) (λ e. last-alike (ap (leb (limits .expirations)) (entries-alike fit reads))))))) .so
 
   pub refresh-verdict : (task : ℕ) (kind : Kind) (extension handle : ℕ) (new : List ℕ)
-      → verdictOn L (Refresh task kind extension handle) new ≡ asRefusal (refreshVerdict task extension handle p)
+      → verdictOn L (Refresh task kind extension handle) new ≡ asRefusal (refreshVerdict task kind extension handle p)
   unfolding testsOf refreshVerdict
   refresh-verdict task kind extension handle new =
-      task-tests task (test-alike refl (λ e. handle-tests handle (λ given stays. last-alike (ap (leb (limits .expirations)) (entries-alike fit reads))))) .so
+      task-tests task
+      (test-alike refl
+      (λ e. test-alike refl (λ e. handle-tests handle (λ given stays. last-alike (ap (leb (limits .expirations)) (entries-alike fit reads)))))) .so
 
   pub read-verdict : (task handle : ℕ) (new : List ℕ) → verdictOn L (Read task handle) new ≡ asRefusal (readVerdict task handle p)
   unfolding testsOf readVerdict
@@ -136,19 +139,29 @@ module _ {p : Tables} {small large : List ℕ} {L : Ledger} (typed : Typed p) (f
       rw (then-assoc (taskVerdict task (p .tasks)) (handleVerdict handle p))
       (task-tests task (handle-tests handle (λ given stays. last-alike (size-test handle given stays (offset + length new)))) .so)
 
+  -- 22, of an object that stands: the block that its handle finds has a pinned expiration just where the ledger says so
+  pub release-verdict : (task handle : ℕ) (new : List ℕ) → verdictOn L (Release task handle) new ≡ asRefusal (releaseVerdict task handle p)
+  unfolding testsOf releaseVerdict readVerdict
+  release-verdict task handle new =
+      rw (then-assoc (taskVerdict task (p .tasks)) (handleVerdict handle p))
+      (task-tests task
+      (handle-tests handle
+      (λ given stays. last-alike (ap not (pinned-alike fit reads handle (or-false-parts _ _ given .0) (not-false _ (gone-test handle given ∙ stays)))))) .so)
+
   -- 12, of handles that were all given
   some-gone : (handles : List ℕ) → any (isUngiven (p .given)) handles ≡ false
       → any (λ (handle : ℕ). not (stands (L .expirations) handle)) handles ≡ any (isMissing (p .blocks)) handles
   some-gone handles given = any-same _ _ handles (all-imp gone-test handles (none→All _ handles given))
 
   pub batch-verdict : (task : ℕ) (kind : Kind) (extension : ℕ) (new : List ℕ)
-      → verdictOn L (Batch task kind extension) new ≡ asRefusal (batchVerdict task extension (handlesOf new) p)
+      → verdictOn L (Batch task kind extension) new ≡ asRefusal (batchVerdict task kind extension (handlesOf new) p)
   unfolding testsOf batchVerdict
   batch-verdict task kind extension new =
       let handles = handlesOf new in
       task-tests task
       (test-alike refl
       (λ e. test-alike refl
+      (λ e. test-alike refl
       (λ e. test-alike (ap (λ (n : ℕ). any (isUngiven n) handles) given-alike)
       (λ given. test-alike (some-gone handles given)
-      (λ e. last-alike (ap (λ (n : ℕ). ltb (limits .expirations) (n + length handles)) (entries-alike fit reads))))))) .so
+      (λ e. last-alike (ap (λ (n : ℕ). ltb (limits .expirations) (n + length handles)) (entries-alike fit reads)))))))) .so

@@ -22,7 +22,7 @@ use Rattle.record.specs.declared.TaskEntry.{TaskEntry}
 use Rattle.record.specs.Tables.{BlockEntry, ExpirationEntry, Tables, Outcome}
 use Rattle.record.specs.declared.GlobalTime.{GlobalTime}
 use Rattle.record.specs.declared.Due.{Due}
-use Rattle.record.specs.declared.Due.the-variants.{Free, Local, Global, Unknown}
+use Rattle.record.specs.declared.Due.the-variants.{Free, Local, Global, Pinned, Unknown}
 use Rattle.ledger.specs.declared.Verdict.{Verdict}
 use Rattle.ledger.specs.declared.Verdict.the-variants.{Accepted, Refused}
 
@@ -109,6 +109,7 @@ abbrev pub isLasting : ℕ → TaskEntry → GlobalTime → Due → Bool
 isLasting leaver setter global Free = true
 isLasting leaver setter global (Local task at) = not (eqb task leaver) && ltb 0 (leftAt (at .0) (setter .clock .0))
 isLasting leaver setter global (Global task at) = ltb 0 (leftAt (at .0) (global .0))
+isLasting leaver setter global (Pinned due) = true
 isLasting leaver setter global Unknown = true
 
 -- whether an entry stands on

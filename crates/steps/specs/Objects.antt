@@ -1,25 +1,28 @@
--- What make, refresh, read, write and batch test and change of a record, as functions of its entries.
+-- What make, refresh, read, write, batch and release test and change of a record, as functions of its entries.
 use Prim.Native.Nat.{ℕ, _+_, _%_}
 use mathlib.Core.Bool.{Bool, cond, not, _||_}
-use mathlib.Core.List.{List, [], _∷_}
+use mathlib.Core.List.{List, [], _∷_, map}
 use lib.Dec.{eqb, leb, ltb}
 use lib.ListN.{length, getD, set, take, drop}
 use Rattle.lists.specs.Tests.{any, count}
-use Rattle.lists.specs.Tables.{firstFrom}
+use Rattle.lists.specs.Tables.{firstFrom, mapFrom}
 use Rattle.ledger.specs.Limits.{limits, taskCount, largeSize, largestBatch, lastHandle, counterRange, isSmall}
+use Rattle.ledger.specs.Refusals.{mostExtension, isPinning as isPinningKind}
 use Rattle.ledger.specs.declared.Kind.{Kind}
-use Rattle.ledger.specs.declared.Kind.the-variants.{Local, Global}
+use Rattle.ledger.specs.declared.Kind.the-variants.{Local, Global, Pinned}
 use Rattle.ledger.specs.declared.State.{State}
 use Rattle.ledger.specs.declared.State.the-variants.{Absent, Running, Waiting}
 use Rattle.ledger.specs.declared.Refusal.{Refusal}
-use Rattle.ledger.specs.declared.Refusal.the-variants.{NoSuchTask, TaskAbsent, TaskWaiting, ExtensionTooLong, LengthOutOfRange, HandlesSpent, NoFreeBlock, NoFreeExpiration, HandleNotGiven, ObjectGone, OutsideObject, BatchOutOfRange}
+use Rattle.ledger.specs.declared.Refusal.the-variants.{NoSuchTask, TaskAbsent, TaskWaiting, ExtensionTooLong, LengthOutOfRange, HandlesSpent, NoFreeBlock, NoFreeExpiration, HandleNotGiven, ObjectGone, OutsideObject, BatchOutOfRange, OnlyMakePins, NotPinned}
 use Rattle.ledger.specs.declared.Verdict.{Verdict}
 use Rattle.ledger.specs.declared.Verdict.the-variants.{Accepted, Refused}
 use Rattle.stores.specs.Places.{blockCount}
-use Rattle.record.specs.Codes.{stateOf, absentEntry, freeBlock, localCode, globalCode}
+use Rattle.record.specs.Codes.{stateOf, absentEntry, freeBlock, localCode, globalCode, pinnedCode, freedEntry}
+use Rattle.record.specs.WellFormed.{isPinning}
 use Rattle.record.specs.declared.TaskEntry.{TaskEntry}
 use Rattle.record.specs.Tables.{BlockEntry, ExpirationEntry, Tables, blockEntries}
 use Rattle.record.specs.declared.GlobalTime.{GlobalTime}
+use Rattle.steps.specs.Events.{keptBlock}
 
 abbrev pub isBlockOf : ℕ → BlockEntry → Bool
 isBlockOf handle b = eqb (b .handle) handle
@@ -82,9 +85,12 @@ byState Waiting = Refused TaskWaiting
 abbrev pub taskVerdict : ℕ → List TaskEntry → Verdict
 taskVerdict task tasks = andThen (refuseIf (leb taskCount task) NoSuchTask) (byState (stateOf (getD tasks task absentEntry .state)))
 
--- 6
-abbrev pub extensionVerdict : ℕ → Verdict
-extensionVerdict extension = refuseIf (ltb (limits .extension) extension) ExtensionTooLong
+-- 6, and 21 for what only make sets
+abbrev pub extensionVerdict : Kind → ℕ → Verdict
+extensionVerdict kind extension = refuseIf (ltb (mostExtension kind) extension) ExtensionTooLong
+
+abbrev pub kindVerdict : Kind → Verdict
+kindVerdict kind = refuseIf (isPinningKind kind) OnlyMakePins
 
 -- 11, 12, by the handles given and the place that was found
 abbrev pub isUngiven : ℕ → ℕ → Bool
@@ -102,22 +108,23 @@ abbrev pub roomVerdict : ℕ → Verdict
 roomVerdict standing = refuseIf (leb (limits .expirations) standing) NoFreeExpiration
 
 -- R40 to R43, the tests of the four; make's also by the handles given and the place that was found
-abbrev pub makeVerdictBy : ℕ → ℕ → ℕ → List TaskEntry → ℕ → ℕ → ℕ → Verdict
-makeVerdictBy task extension size tasks given place standing =
+abbrev pub makeVerdictBy : ℕ → Kind → ℕ → ℕ → List TaskEntry → ℕ → ℕ → ℕ → Verdict
+makeVerdictBy task kind extension size tasks given place standing =
     andThen (taskVerdict task tasks)
-    (andThen (extensionVerdict extension)
+    (andThen (extensionVerdict kind extension)
     (andThen (refuseIf (eqb size 0 || ltb largeSize size) LengthOutOfRange)
     (andThen (refuseIf (leb lastHandle given) HandlesSpent)
     (andThen (refuseIf (leb (endFor size) place) NoFreeBlock) (roomVerdict standing)))))
 
-unfoldable pub makeVerdict : ℕ → ℕ → ℕ → Tables → Verdict
-makeVerdict task extension size p =
-    makeVerdictBy task extension size (p .tasks) (p .given) (freePlace size (p .blocks)) (standingIn (p .expirations))
+unfoldable pub makeVerdict : ℕ → Kind → ℕ → ℕ → Tables → Verdict
+makeVerdict task kind extension size p =
+    makeVerdictBy task kind extension size (p .tasks) (p .given) (freePlace size (p .blocks)) (standingIn (p .expirations))
 
-unfoldable pub refreshVerdict : ℕ → ℕ → ℕ → Tables → Verdict
-refreshVerdict task extension handle p =
+unfoldable pub refreshVerdict : ℕ → Kind → ℕ → ℕ → Tables → Verdict
+refreshVerdict task kind extension handle p =
     andThen (taskVerdict task (p .tasks))
-    (andThen (extensionVerdict extension) (andThen (handleVerdict handle p) (roomVerdict (standingIn (p .expirations)))))
+    (andThen (kindVerdict kind)
+    (andThen (extensionVerdict kind extension) (andThen (handleVerdict handle p) (roomVerdict (standingIn (p .expirations))))))
 
 unfoldable pub readVerdict : ℕ → ℕ → Tables → Verdict
 readVerdict task handle p = andThen (taskVerdict task (p .tasks)) (handleVerdict handle p)
@@ -129,15 +136,23 @@ endVerdict handle end blocks = refuseIf (ltb (getD blocks (placeOf handle blocks
 unfoldable pub writeVerdict : ℕ → ℕ → ℕ → ℕ → Tables → Verdict
 writeVerdict task handle offset count p = andThen (readVerdict task handle p) (endVerdict handle (offset + count) (p .blocks))
 
+-- 22, by the block that was found; R48: the tests of a release
+abbrev pub pinVerdict : ℕ → List ExpirationEntry → Verdict
+pinVerdict block xs = refuseIf (not (any (isPinning block) xs)) NotPinned
+
+unfoldable pub releaseVerdict : ℕ → ℕ → Tables → Verdict
+releaseVerdict task handle p = andThen (readVerdict task handle p) (pinVerdict (placeOf handle (p .blocks)) (p .expirations))
+
 -- R47: the tests of a batch, by the handles given, which objects are gone and how many expirations stand
-abbrev pub batchVerdictBy : ℕ → ℕ → List ℕ → List TaskEntry → ℕ → (ℕ → Bool) → ℕ → Verdict
-batchVerdictBy task extension handles tasks given isGone standing =
+abbrev pub batchVerdictBy : ℕ → Kind → ℕ → List ℕ → List TaskEntry → ℕ → (ℕ → Bool) → ℕ → Verdict
+batchVerdictBy task kind extension handles tasks given isGone standing =
     andThen (taskVerdict task tasks)
     (andThen (refuseIf (eqb (length handles) 0 || ltb largestBatch (length handles)) BatchOutOfRange)
-    (andThen (extensionVerdict extension)
+    (andThen (kindVerdict kind)
+    (andThen (extensionVerdict kind extension)
     (andThen (refuseIf (any (isUngiven given) handles) HandleNotGiven)
     (andThen (refuseIf (any isGone handles) ObjectGone)
-    (refuseIf (ltb (limits .expirations) (standing + length handles)) NoFreeExpiration)))))
+    (refuseIf (ltb (limits .expirations) (standing + length handles)) NoFreeExpiration))))))
 
 -- an object has no block
 abbrev pub isMissing : List BlockEntry → ℕ → Bool
@@ -147,16 +162,17 @@ isMissing blocks handle = leb blockEntries (placeOf handle blocks)
 abbrev pub isMissingIn : List ℕ → ℕ → Bool
 isMissingIn handles handle = leb blockEntries (placeIn handle handles)
 
-unfoldable pub batchVerdict : ℕ → ℕ → List ℕ → Tables → Verdict
-batchVerdict task extension handles p =
-    batchVerdictBy task extension handles (p .tasks) (p .given) (isMissing (p .blocks)) (standingIn (p .expirations))
+unfoldable pub batchVerdict : ℕ → Kind → ℕ → List ℕ → Tables → Verdict
+batchVerdict task kind extension handles p =
+    batchVerdictBy task kind extension handles (p .tasks) (p .given) (isMissing (p .blocks)) (standingIn (p .expirations))
 
--- the entry of an expiration that a task sets on a block: due by E4 and E5, by counters that wrap (T8)
+-- the entry of an expiration that a task sets on a block: due by E4 and E5, by counters that wrap (T8); E22: a pinned one is never due
 abbrev pub entryBy : Kind → ℕ → ℕ → ℕ → List TaskEntry → GlobalTime → ExpirationEntry
 entryBy Local task extension block tasks global =
     record { clock = localCode + task; block = block; due = (getD tasks task absentEntry .clock .0 + (extension + 1)) % counterRange }
 entryBy Global task extension block tasks global =
     record { clock = globalCode + task; block = block; due = (global .0 + (extension + 2)) % counterRange }
+entryBy Pinned task extension block tasks global = record { clock = pinnedCode; block = block; due = 0 }
 
 unfoldable pub entryFor : Kind → ℕ → ℕ → ℕ → Tables → ExpirationEntry
 entryFor kind task extension block p = entryBy kind task extension block (p .tasks) (p .global)
@@ -193,3 +209,13 @@ unfoldable pub batchedPool : ℕ → Kind → ℕ → List ℕ → Tables → Ta
 batchedPool task kind extension [] p = p
 batchedPool task kind extension (handle ∷ handles) p =
     batchedPool task kind extension handles (refreshedPool task kind extension handle p)
+
+-- E24: an entry after the release of the object in a block
+abbrev pub unpinnedEntry : ℕ → ExpirationEntry → ExpirationEntry
+unpinnedEntry block e = cond (isPinning block e) (freedEntry e) e
+
+-- and the record: its pinned expiration is ended, and its block free where no other names it
+unfoldable pub releasedPool : ℕ → Tables → Tables
+releasedPool handle p =
+    let xs = map (unpinnedEntry (placeOf handle (p .blocks))) (p .expirations) in
+    record { tasks = p .tasks; global = p .global; given = p .given; blocks = mapFrom 0 (keptBlock xs) (p .blocks); expirations = xs }

@@ -13,19 +13,21 @@ use Rattle.record.specs.declared.TaskEntry.{TaskEntry}
 use Rattle.record.specs.declared.GlobalTime.{GlobalTime}
 use Rattle.record.specs.declared.LocalTime.{LocalTime}
 use Rattle.record.specs.declared.Due.{Due}
-use Rattle.record.specs.declared.Due.the-variants.{Free, Local, Global, Unknown}
+use Rattle.record.specs.declared.Due.the-variants.{Free, Local, Global, Pinned, Unknown}
 
 -- the units left on an expiration that goes by this task's clock, and on one that goes by the global time
 abbrev pub leftLocal : ℕ → LocalTime → Due → ℕ
 leftLocal task now Free = 0
 leftLocal task now (Local setter at) = cond (eqb setter task) (leftAt (at .0) (now .0)) 0
 leftLocal task now (Global setter at) = 0
+leftLocal task now (Pinned due) = 0
 leftLocal task now Unknown = 0
 
 abbrev pub leftGlobal : GlobalTime → Due → ℕ
 leftGlobal now Free = 0
 leftGlobal now (Local setter at) = 0
 leftGlobal now (Global setter at) = leftAt (at .0) (now .0)
+leftGlobal now (Pinned due) = 0
 leftGlobal now Unknown = 0
 
 -- of an entry, where it names the block

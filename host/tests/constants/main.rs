@@ -68,7 +68,7 @@ fn places() -> Vec<(&'static str, &'static str, u64)> {
 fn the_header_has_the_constants_of_the_proved_source() {
     if is_here() {
         assert_eq!(constants(), proved());
-        assert_eq!(constants().len(), 10 + 2 + 1 + 20 + 1, "sizes and counts, kinds, done, refusals, buffer too short");
+        assert_eq!(constants().len(), 10 + 3 + 1 + 22 + 1, "sizes and counts, kinds, done, refusals, buffer too short");
     }
 }
 

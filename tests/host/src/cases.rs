@@ -1,8 +1,8 @@
 //! What is measured: each call on records where few and many expirations stand, accepted and refused, and on those whose
 //! handles make the fit test work most.
 
-use plain::limits::{EXPIRATIONS, LARGEST_BATCH, SMALL_SIZE, TASKS};
-use plain::record::{GLOBAL, LOCAL, RUNNING, WAITING};
+use plain::limits::{EXPIRATIONS, LARGEST_BATCH, PINNING, SMALL_SIZE, TASKS};
+use plain::record::{is_global, FREE, LOCAL, PINNED, RUNNING, WAITING};
 use reference::call::{packed, Call, Handles, Kind};
 use reference::frame::encode;
 
@@ -66,7 +66,7 @@ fn calls_on_tasks(expirations: usize) -> Vec<Case> {
         let mut ends = case("tick, one expires", Entry::Tick, expirations, by(0));
         last_is_due_next(&mut ends.memory, |clock| clock == LOCAL);
         let mut advances = case("tick, advances, one expires", Entry::Tick, expirations, by(0));
-        last_is_due_next(&mut advances.memory, |clock| clock >= GLOBAL);
+        last_is_due_next(&mut advances.memory, is_global);
         let others = advances.memory.pool.tasks.iter_mut().skip(1).filter(|task| task.state == RUNNING);
         others.for_each(|task| task.ticked = 1);
         let mut all = case("tick, all expire", Entry::Tick, expirations, by(0));
@@ -104,9 +104,11 @@ fn set_by_others(expirations: usize, wait: bool) -> Memory {
 
 fn calls_on_objects(expirations: usize) -> Vec<Case> {
     let make = |size| Arguments { size, extension: 9, ..Arguments::default() };
+    let pinned = Arguments { size: 32, kind: PINNING, ..Arguments::default() };
     let mut cases = vec![
         case("make 32", Entry::Make, expirations, make(32)),
         case("make 256", Entry::Make, expirations, make(256)),
+        case("make 32, pinned", Entry::Make, expirations, pinned),
         case("report", Entry::Report, expirations, Arguments::default()),
     ];
     if expirations > 0 {
@@ -124,6 +126,8 @@ fn calls_on_objects(expirations: usize) -> Vec<Case> {
             case("batch of 1", Entry::Batch, expirations, naming(expirations, 1)),
             case(BATCH, Entry::Batch, expirations, naming(expirations, LARGEST_BATCH)),
             case(ONE_BY_ONE, Entry::OneByOne, expirations, naming(expirations, LARGEST_BATCH)),
+            pinned_alone(case("release, gone", Entry::Release, expirations, with(large, 0))),
+            last_pins(all_on_one(case("release, all others on it", Entry::Release, expirations, with(1, 0)))),
         ]);
     }
     cases
@@ -145,6 +149,25 @@ fn all_on_one(case: Case) -> Case {
     Case { memory: standing(usize::from(RUN), (1, 0), case.expirations), ..case }
 }
 
+/// The last expiration pins its object, beside whatever else is on it.
+fn last_pins(mut case: Case) -> Case {
+    let pool = &mut case.memory.pool;
+    let last = pool.clocks.iter().rposition(|&clock| clock != FREE).expect("expirations stand");
+    (pool.clocks[last], pool.dues[last]) = (PINNED, 0);
+    case
+}
+
+/// The last expiration pins the last object, and all others are on other ones.
+fn pinned_alone(case: Case) -> Case {
+    let mut case = last_pins(case);
+    let pool = &mut case.memory.pool;
+    let last = pool.clocks.iter().rposition(|&clock| clock != FREE).expect("expirations stand");
+    let block = pool.handles.iter().rposition(|&handle| handle != 0).expect("objects stand") as u8;
+    pool.named.iter_mut().filter(|named| **named == block).for_each(|named| *named = 0);
+    pool.named[last] = block;
+    case
+}
+
 fn frames(expirations: usize) -> Vec<Case> {
     let frame = |name, call| case(name, Entry::Frame, expirations, line(&call));
     let mut make =
@@ -160,6 +183,7 @@ fn frames(expirations: usize) -> Vec<Case> {
         let batch = Call::Batch { task: 0, kind: Kind::Local, extension: 9, handles: Handles(&handles) };
         let memory = sample(expirations.min(EXPIRATIONS - LARGEST_BATCH));
         cases.push(Case { memory, ..frame("frame: batch of 32", batch) });
+        cases.push(pinned_alone(frame("frame: release", Call::Release { task: 0, handle })));
     }
     cases
 }

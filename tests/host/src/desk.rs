@@ -32,6 +32,7 @@ impl Desk {
 #[derive(Clone, Debug, Default)]
 pub struct Arguments {
     pub task: u8,
+    pub kind: u8,
     pub extension: u8,
     pub size: u16,
     pub handle: u32,
@@ -70,6 +71,7 @@ pub enum Entry {
     Report,
     Remaining,
     Batch,
+    Release,
     /// As many refreshes as a batch would make: no entry of its own.
     OneByOne,
     Frame,
@@ -79,7 +81,7 @@ pub enum Entry {
 
 impl Entry {
     /// The entries, and the fit test.
-    pub const ALL: [Entry; 15] = [
+    pub const ALL: [Entry; 16] = [
         Entry::Fresh,
         Entry::Join,
         Entry::Leave,
@@ -93,6 +95,7 @@ impl Entry {
         Entry::Report,
         Entry::Remaining,
         Entry::Batch,
+        Entry::Release,
         Entry::Frame,
         Entry::Fit,
     ];
@@ -134,7 +137,7 @@ fn entry_of<E: Entries>(entry: Entry) -> Action {
         Entry::Tick => |desk, with| E::tick(&mut desk.memory.pool, with.task, &mut desk.advanced),
         Entry::Make => |desk, with| {
             let Memory { pool, small, large } = &mut desk.memory;
-            E::make(pool, small, large, with.task, 0, with.extension, with.size, &mut desk.handle)
+            E::make(pool, small, large, with.task, with.kind, with.extension, with.size, &mut desk.handle)
         },
         Entry::Refresh => |desk, with| E::refresh(&mut desk.memory.pool, with.task, 0, with.extension, with.handle),
         Entry::Read => |desk, with| {
@@ -154,6 +157,7 @@ fn entry_of<E: Entries>(entry: Entry) -> Action {
             E::remaining(&mut desk.memory.pool, with.task, with.handle, local, global)
         },
         Entry::Batch => |desk, with| E::refresh_all(&mut desk.memory.pool, with.task, 0, with.extension, &with.handles),
+        Entry::Release => |desk, with| E::release(&mut desk.memory.pool, with.task, with.handle),
         Entry::OneByOne => |desk, with| {
             let refresh = |handle: &u32| E::refresh(&mut desk.memory.pool, with.task, 0, with.extension, *handle);
             with.handles.iter().map(refresh).max().unwrap_or(0)
@@ -175,7 +179,7 @@ fn work_of(entry: Entry) -> Option<Action> {
         Entry::Tick => |desk, with| advanced(desk, |pool| work::tick(pool, with.task)),
         Entry::Make => |desk, with| {
             let Memory { pool, small, large } = &mut desk.memory;
-            let made = work::make(pool, small, large, (with.task, 0, with.extension, with.size));
+            let made = work::make(pool, small, large, (with.task, with.kind, with.extension, with.size));
             number(made.map(|handle| desk.handle = handle))
         },
         Entry::Refresh => {
@@ -202,6 +206,7 @@ fn work_of(entry: Entry) -> Option<Action> {
         Entry::Batch => {
             |desk, with| number(work::refresh_all(&mut desk.memory.pool, (with.task, 0, with.extension), &with.handles))
         }
+        Entry::Release => |desk, with| number(work::release(&mut desk.memory.pool, with.task, with.handle)),
         Entry::OneByOne => |desk, with| {
             let with_all = (with.task, 0, with.extension);
             let refresh = |handle: &u32| number(work::refresh(&mut desk.memory.pool, with_all, *handle));

@@ -24,6 +24,7 @@ pub trait Entries {
     ) -> u8;
     fn refresh(pool: &mut Pool, task: u8, kind: u8, extension: u8, handle: u32) -> u8;
     fn refresh_all(pool: &mut Pool, task: u8, kind: u8, extension: u8, handles: &[u32]) -> u8;
+    fn release(pool: &mut Pool, task: u8, handle: u32) -> u8;
     fn read(
         pool: &mut Pool,
         small: &[u8],
@@ -106,6 +107,11 @@ impl Entries for Plain {
     #[inline]
     fn refresh_all(pool: &mut Pool, task: u8, kind: u8, extension: u8, handles: &[u32]) -> u8 {
         calls::refresh_all(pool, task, kind, extension, handles)
+    }
+
+    #[inline]
+    fn release(pool: &mut Pool, task: u8, handle: u32) -> u8 {
+        calls::release(pool, task, handle)
     }
 
     #[inline]

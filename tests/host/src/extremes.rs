@@ -2,7 +2,7 @@
 //! standing, and handles that are alike modulo 65536. Calls make all but the handles, which are put in at the end;
 //! tests/numbering.rs reaches those by calls, on a record of its own.
 
-use plain::limits::{EXPIRATIONS, LARGEST_BATCH};
+use plain::limits::{EXPIRATIONS, LARGEST_BATCH, PINNING};
 use reference::call::{packed, Call, Handles, Kind};
 
 use crate::cases::{case, line, naming, Case};
@@ -59,6 +59,7 @@ fn on_tasks() -> Vec<Case> {
         ("leave, all are global and end", "block, all end", "tick, all are global and end", all_global(1)),
         ("leave, all depart and end", "block, all put off", "tick, all are its own and end", all_global(0)),
         ("leave, all others wait", "block, all others wait", "tick, all put off", all_put_off()),
+        ("leave, all are pinned", "block, all are pinned", "tick, all are pinned", all_pinned()),
     ] {
         cases.push(extreme(leave, Entry::Leave, memory.clone(), by(0)));
         cases.push(extreme(block, Entry::Block, memory.clone(), by(0)));
@@ -69,6 +70,7 @@ fn on_tasks() -> Vec<Case> {
 
 fn on_objects() -> Vec<Case> {
     let make = |size| move |_: &Memory| Arguments { size, extension: 9, ..Arguments::default() };
+    let pinned = |_: &Memory| Arguments { size: 256, kind: PINNING, ..Arguments::default() };
     let last = |size| move |memory: &Memory| Arguments { bytes: vec![7; size], ..named(memory, LAST_BLOCK) };
     let small = |size| move |memory: &Memory| Arguments { bytes: vec![7; size], ..named(memory, FULL.0 - 1) };
     vec![
@@ -84,6 +86,9 @@ fn on_objects() -> Vec<Case> {
         extreme("remaining, last block", Entry::Remaining, full(EXPIRATIONS), last(0)),
         extreme("remaining, all others on it", Entry::Remaining, all_on_last(EXPIRATIONS), last(0)),
         extreme("batch of 32, last blocks", Entry::Batch, full(EXPIRATIONS - LARGEST_BATCH), last_handles),
+        extreme("make 256, pinned, last block", Entry::Make, room_for(FULL.0, FULL.1 - 1), pinned),
+        extreme("release, last block", Entry::Release, last_pinned(0), last(0)),
+        extreme("release, all others on it", Entry::Release, last_pinned(LAST_BLOCK), last(0)),
     ]
 }
 
@@ -99,6 +104,7 @@ fn frames() -> Vec<Case> {
     let write = |memory: &Memory| line(&Call::Write { task: 0, handle: object(memory), offset: 0, bytes: &[7; 256] });
     let read = |memory: &Memory| line(&Call::Read { task: 0, handle: object(memory) });
     let remaining = |memory: &Memory| line(&Call::Remaining { task: 0, handle: object(memory) });
+    let release = |memory: &Memory| line(&Call::Release { task: 0, handle: object(memory) });
     vec![
         frame("frame: tick, all of both clocks end", both_end(true), &tick),
         frame("frame: tick, all local ones end", all_local(), &tick),
@@ -108,6 +114,8 @@ fn frames() -> Vec<Case> {
         frame("frame: read 256, last block", full(EXPIRATIONS), &read),
         frame("frame: remaining, all others on it", all_on_last(EXPIRATIONS), &remaining),
         frame("frame: write 256, last block", full(EXPIRATIONS), &write),
+        frame("frame: release, last block", last_pinned(0), &release),
+        frame("frame: release, all others on it", last_pinned(LAST_BLOCK), &release),
         frame("frame: batch of 32, last blocks", full(EXPIRATIONS - LARGEST_BATCH), &batch),
     ]
 }
@@ -140,6 +148,21 @@ fn set(expirations: usize, setting: impl Fn(usize) -> Setting) -> Memory {
 fn all_on_last(expirations: usize) -> Memory {
     let object = LAST_BLOCK;
     set(expirations, |count| Setting { task: 0, kind: alternate(count), extension: 5 + (count % 26) as u8, object })
+}
+
+/// Each object is pinned, and has more by turns.
+fn all_pinned() -> Memory {
+    awaits_0(set(EXPIRATIONS, |count| pinned_where(count < OBJECTS, count, count % OBJECTS)))
+}
+
+/// The object of the last block is pinned, one expiration is on each other, and all more are on this object.
+fn last_pinned(object: usize) -> Memory {
+    set(EXPIRATIONS, |count| pinned_where(count == LAST_BLOCK, count, object))
+}
+
+fn pinned_where(pins: bool, count: usize, object: usize) -> Setting {
+    let (kind, extension) = if pins { (Kind::Pinned, 0) } else { (alternate(count), 5 + (count % 26) as u8) };
+    Setting { task: (count % 2) as u8, kind, extension, object }
 }
 
 /// All go by task 0, at its next tick.

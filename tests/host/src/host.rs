@@ -108,6 +108,7 @@ impl<E: Entries> Host<E> {
                 let handles: Vec<_> = handles.iter().collect();
                 E::refresh_all(pool, task, code(kind), extension, &handles)
             }
+            Call::Release { task, handle } => E::release(pool, task, handle),
         }
     }
 
@@ -139,7 +140,7 @@ impl<E: Entries> Host<E> {
         let out = &self.out;
         match call {
             Call::Join { .. } | Call::Resume { .. } | Call::Refresh { .. } => Accepted::Done,
-            Call::Write { .. } | Call::Batch { .. } => Accepted::Done,
+            Call::Write { .. } | Call::Batch { .. } | Call::Release { .. } => Accepted::Done,
             Call::Leave { .. } | Call::Block { .. } | Call::Tick { .. } => {
                 assert!(out.advanced <= 1, "{call:?} tells 0 or 1");
                 Accepted::Advanced(out.advanced == 1)
@@ -166,5 +167,6 @@ fn code(kind: Kind) -> u8 {
     match kind {
         Kind::Local => 0,
         Kind::Global => 1,
+        Kind::Pinned => 2,
     }
 }

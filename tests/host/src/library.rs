@@ -36,6 +36,7 @@ extern "C" {
         handles: *const u32,
         count: usize,
     ) -> u8;
+    fn ramsummer_release(pool: *mut Pool, task: u8, handle: u32) -> u8;
     fn ramsummer_read(
         pool: *mut Pool,
         small: *const u8,
@@ -134,6 +135,11 @@ impl Entries for Library {
     #[inline]
     fn refresh_all(pool: &mut Pool, task: u8, kind: u8, extension: u8, handles: &[u32]) -> u8 {
         unsafe { ramsummer_refresh_all(pool, task, kind, extension, handles.as_ptr(), handles.len()) }
+    }
+
+    #[inline]
+    fn release(pool: &mut Pool, task: u8, handle: u32) -> u8 {
+        unsafe { ramsummer_release(pool, task, handle) }
     }
 
     #[inline]

@@ -2,7 +2,7 @@
 //! 32 bits, an object's expirations by kind, setter and units left, in no order. Places are not compared.
 
 use plain::limits::TASKS;
-use plain::record::{Pool, ABSENT, DEPARTED, FREE, GLOBAL, LOCAL, RUNNING};
+use plain::record::{Pool, ABSENT, DEPARTED, FREE, GLOBAL, LOCAL, PINNED, RUNNING};
 use reference::call::Figures;
 use reference::expiration::{Remaining, Setter};
 use reference::ledger::{Ledger, Standing};
@@ -49,6 +49,7 @@ fn standing(memory: &Memory) -> Vec<Standing> {
         let units = |now: u32| u64::from(due.wrapping_sub(now));
         let remaining = match clock {
             FREE => continue,
+            PINNED => Remaining::Pinned,
             DEPARTED => Remaining::Global { setter: Setter::Departed, units: units(pool.global) },
             GLOBAL.. => Remaining::Global { setter: Setter::Task(clock - GLOBAL), units: units(pool.global) },
             _ => {

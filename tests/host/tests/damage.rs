@@ -6,10 +6,10 @@ use host_tests::host::Host;
 use host_tests::library::Library;
 use host_tests::memory::{bytes_mut, Memory};
 use host_tests::reading::{figures, of_record};
-use host_tests::samples::{after, full};
+use host_tests::samples::{after, full, standing_by, Setting};
 use plain::fit::is_well_formed;
 use plain::limits::{BLOCKS, EXPIRATIONS, TASKS};
-use plain::record::{Pool, ABSENT, DEPARTED, FREE, GLOBAL, LOCAL, RECORD, RUNNING};
+use plain::record::{is_global, Pool, ABSENT, DEPARTED, FREE, GLOBAL, LOCAL, PINNED, RECORD, RUNNING};
 use reference::call::{packed, Accepted, Call, Figures, Handles, Kind, Lifetime};
 use reference::generate::Profile;
 use reference::random::Random;
@@ -25,6 +25,7 @@ fn is_fit(pool: &Pool) -> bool {
     let used = |place: usize| pool.handles.get(place).is_some_and(|&handle| handle != 0);
     let running = || pool.tasks.iter().filter(|task| task.state == RUNNING);
     let named = dates().all(|date| used(block_of(date)));
+    // W16 among them: no two pinned ones of one object.
     let blocks = (0..96).filter(|&place| used(place)).all(|place| {
         let (handle, length) = (pool.handles[place], pool.lengths[place]);
         let range = if place < 64 { 1..=32 } else { 33..=256 };
@@ -32,6 +33,7 @@ fn is_fit(pool: &Pool) -> bool {
             && range.contains(&length)
             && handle <= pool.given
             && pool.handles.iter().filter(|&&other| other == handle).count() == 1
+            && dates().filter(|&date| block_of(date) == place && pool.clocks[date] == PINNED).count() <= 1
     });
     let known = pool.tasks.iter().all(|task| task.state <= 2 && task.ticked <= 1);
     let marks = pool.tasks.iter().all(|task| task.ticked == 0 || task.state == RUNNING);
@@ -40,7 +42,8 @@ fn is_fit(pool: &Pool) -> bool {
     named && blocks && dates().all(|date| is_ahead(pool, date)) && known && marks && pending && absent
 }
 
-/// W6 to W8, W12 and W14: a known clock, a setter that is there or departed, and so much left as can be.
+/// W6 to W8, W12, W14 and W15: a known clock, a setter that is there or departed, and so much left as can be; or pinned,
+/// with no time.
 fn is_ahead(pool: &Pool, date: usize) -> bool {
     let units = |now: u32| pool.dues[date].wrapping_sub(now);
     let global = (1..=32).contains(&units(pool.global));
@@ -51,6 +54,7 @@ fn is_ahead(pool: &Pool, date: usize) -> bool {
         }
         clock @ GLOBAL..DEPARTED => pool.tasks[usize::from(clock - GLOBAL)].state != ABSENT && global,
         DEPARTED => global,
+        PINNED => pool.dues[date] == 0,
         _ => false,
     }
 }
@@ -62,7 +66,7 @@ struct Pair {
     library: Host<Library>,
     plain: Host<Plain>,
     whole: Memory,
-    calls: [Call<'static>; 6],
+    calls: [Call<'static>; 7],
     fit: usize,
     unfit: usize,
 }
@@ -85,6 +89,7 @@ impl Pair {
                 Call::Remaining { task, handle: busiest },
                 Call::Make { task, kind: Kind::Local, extension: 30, length: 40 },
                 Call::Batch { task, kind: Kind::Global, extension: 30, handles },
+                Call::Release { task, handle: pinned(&whole.pool) },
             ],
             whole,
             fit: 0,
@@ -133,10 +138,16 @@ fn busiest(pool: &Pool, task: u8) -> u32 {
     let counting = |block: &usize| {
         let on = || pool.clocks.iter().zip(&pool.named).filter(|(_, &named)| usize::from(named) == *block);
         let local = on().filter(|(&clock, _)| clock == LOCAL + task).count();
-        let global = on().filter(|(&clock, _)| clock >= GLOBAL).count();
+        let global = on().filter(|(&clock, _)| is_global(clock)).count();
         (local.min(global), local + global)
     };
     pool.handles[(0..BLOCKS).max_by_key(counting).unwrap_or(0)]
+}
+
+/// The object of the last pinned expiration; 1 if there is none.
+fn pinned(pool: &Pool) -> u32 {
+    let last = pool.clocks.iter().rposition(|&clock| clock == PINNED);
+    last.map_or(1, |last| pool.handles[usize::from(pool.named[last])])
 }
 
 // Damages.
@@ -148,7 +159,7 @@ fn overwrite_each_byte(whole: Memory) {
     for offset in 0..RECORD {
         let held = bytes_mut(&mut pair.whole.pool)[offset];
         for value in 0..=255 {
-            let turn = 1 + (offset + usize::from(value)) % 5;
+            let turn = 1 + (offset + usize::from(value)) % 6;
             pair.examine(&[calls[0], calls[turn]], |pool| bytes_mut(pool)[offset] = value);
         }
         bytes_mut(&mut pair.library.memory.pool)[offset] = held;
@@ -173,24 +184,40 @@ fn one_byte_of_a_mixed_record() {
 }
 
 #[test]
+fn one_byte_of_a_record_with_pinned_objects() {
+    overwrite_each_byte(with_pinned());
+}
+
+#[test]
 fn one_byte_of_a_late_record() {
     overwrite_each_byte(late());
 }
 
-/// Tasks of every state, and global expirations of such that run, that wait and that departed.
+/// Tasks of every state, global expirations of such that run, that wait and that departed, and pinned ones.
 fn mixed() -> Memory {
-    after(Profile::Everyday, 31, 900)
+    after(Profile::Everyday, 63, 900)
+}
+
+/// Full, and every third object is pinned.
+fn with_pinned() -> Memory {
+    standing_by(TASKS, (64, 32), 256, |count| Setting {
+        task: (count % TASKS) as u8,
+        kind: if count < BLOCKS && count % 3 == 0 { Kind::Pinned } else { Kind::Global },
+        extension: if count < BLOCKS && count % 3 == 0 { 0 } else { (count % 31) as u8 },
+        object: count % 60,
+    })
 }
 
 /// All clocks put forward to the end of 32 bits, and what goes by them.
 fn late() -> Memory {
-    let mut memory = after(Profile::Everyday, 33, 900);
+    let mut memory = after(Profile::Everyday, 54, 900);
     let ahead = (u32::MAX - 7).wrapping_sub(memory.pool.global);
     memory.pool.global = memory.pool.global.wrapping_add(ahead);
     for task in memory.pool.tasks.iter_mut().filter(|task| task.state != ABSENT) {
         task.clock = task.clock.wrapping_add(ahead);
     }
-    for due in &mut memory.pool.dues {
+    let dues = memory.pool.dues.iter_mut().zip(&memory.pool.clocks);
+    for (due, _) in dues.filter(|(_, &clock)| clock != PINNED) {
         *due = due.wrapping_add(ahead);
     }
     assert!(is_fit(&memory.pool));
@@ -200,10 +227,11 @@ fn late() -> Memory {
 /// What stands in them, what remains to the object that is asked for, and what the calls are told.
 #[test]
 fn undamaged_records() {
-    let mixed = (mixed(), (28, 19, 74), (15, 20), [0; 6]);
-    let late = (late(), (32, 18, 87), (14, 15), [0; 6]);
-    let full = (full(256), (64, 32, 256), (0, 28), [0, 0, 0, 0, 9, 10]);
-    for (whole, standing, (local, global), expected) in [mixed, late, full] {
+    let mixed = (mixed(), (40, 18, 123), (8, 23), [0; 7]);
+    let late = (late(), (25, 16, 73), (28, 13), [0; 7]);
+    let full = (full(256), (64, 32, 256), (0, 28), [0, 0, 0, 0, 9, 10, 22]);
+    let pinned = (with_pinned(), (64, 32, 256), (0, 30), [0, 0, 0, 0, 9, 10, 0]);
+    for (whole, standing, (local, global), expected) in [mixed, late, full, pinned] {
         let Figures { small, large, expirations, .. } = figures(&whole.pool);
         assert_eq!((small, large, expirations), standing);
         let Pair { calls, mut library, .. } = Pair::of(whole);
@@ -215,7 +243,7 @@ fn undamaged_records() {
 /// Entries copied over others, flags and counters put to likely values, a few at a time. Here the rules' words judge.
 #[test]
 fn likely_damages() {
-    let wholes = [full(256), full(96), mixed(), late()].map(Pair::of);
+    let wholes = [full(256), full(96), with_pinned(), mixed(), late()].map(Pair::of);
     let mut random = Random::new(11);
     for mut pair in wholes {
         let calls = pair.calls;
@@ -236,7 +264,7 @@ fn likely_damages() {
 fn damage(pool: &mut Pool, random: &mut Random) {
     let (from, to) = (random.below(256), random.below(256));
     let small = random.below(4) as u32;
-    match random.below(16) {
+    match random.below(18) {
         0 => pool.tasks[to % TASKS] = pool.tasks[from % TASKS],
         1 => pool.tasks[to % TASKS].state = small as u16,
         2 => pool.tasks[to % TASKS].ticked = small as u16,
@@ -253,18 +281,21 @@ fn damage(pool: &mut Pool, random: &mut Random) {
             pool.dues[to] = pool.dues[from];
         }
         11 => {
-            let codes = [FREE, 1, 15, LOCAL, LOCAL + 5, 31, GLOBAL, GLOBAL + 5, 47, DEPARTED, DEPARTED + 1, 63, 255];
+            let codes =
+                [FREE, 1, 15, LOCAL, LOCAL + 5, 31, GLOBAL, GLOBAL + 5, 47, DEPARTED, PINNED, PINNED + 1, 63, 255];
             pool.clocks[to] = random.pick(&codes);
         }
         12 => pool.named[to] = pool.named[from],
         13 => pool.named[to] = random.pick(&[0, 63, 64, 95, 96, 255]),
         14 => pool.dues[to] = pool.dues[from],
+        15 => pool.dues[to] = 0,
+        16 => (pool.clocks[to], pool.dues[to]) = (PINNED, 0),
         _ => pool.dues[to] = pool.dues[to].wrapping_add(small),
     }
 }
 
 /// Every code in every entry of a record with tasks of each state. Those of setters that are not there are not fit, nor is
-/// one above 48, which is fit for every entry that is due by global time.
+/// one above 48, which is fit for every entry that is due by global time: no entry is due at 0, as what is pinned is.
 #[test]
 fn every_code_of_a_clock() {
     let mut pair = Pair::of(with_each_state());
@@ -289,6 +320,45 @@ fn every_code_of_a_clock() {
     }
     println!("{} well-formed, {} not", pair.fit, pair.unfit);
     assert!(pair.fit > 5_000 && pair.unfit > 50_000);
+}
+
+/// Each entry pinned, of each block: fit where the block is in use and has no other pinned one, and the block that it named
+/// has another expiration. With a time it is not, and no more with the next code.
+#[test]
+fn pinned_in_each_entry() {
+    let mut pair = Pair::of(half_pinned());
+    let (calls, whole) = (pair.calls, &pair.whole.pool.clone());
+    let on = |block: usize| (0..EXPIRATIONS).filter(move |&date| usize::from(whole.named[date]) == block);
+    for date in 0..EXPIRATIONS {
+        let others = on(usize::from(whole.named[date])).any(|other| other != date && whole.clocks[other] != FREE);
+        for block in 0..=BLOCKS {
+            let is_pinned = on(block).any(|other| other != date && whole.clocks[other] == PINNED);
+            let used = whole.handles.get(block).is_some_and(|&handle| handle != 0);
+            let expected = used && !is_pinned && (others || block == usize::from(whole.named[date]));
+            for (code, due) in [(PINNED, 0), (PINNED, 1), (PINNED, u32::MAX), (PINNED + 1, 0)] {
+                let put = |pool: &mut Pool| {
+                    (pool.clocks[date], pool.named[date], pool.dues[date]) = (code, block as u8, due);
+                };
+                let mut damaged = whole.clone();
+                put(&mut damaged);
+                let fit = expected && (code, due) == (PINNED, 0);
+                assert_eq!((is_well_formed(&damaged), is_fit(&damaged)), (fit, fit), "{date}, {block}, {code}, {due}");
+                pair.examine(&calls[..1], put);
+            }
+        }
+        pair.restore();
+    }
+    println!("{} well-formed, {} not", pair.fit, pair.unfit);
+    assert!(pair.fit > 2_000 && pair.unfit > 50_000);
+}
+
+/// Half the blocks of both stores are in use, each third object is pinned, and there are free entries.
+fn half_pinned() -> Memory {
+    standing_by(TASKS, (32, 16), 200, |count| {
+        let pins = count < 48 && count % 3 == 0;
+        let (kind, extension) = if pins { (Kind::Pinned, 0) } else { (Kind::Global, (count % 31) as u8) };
+        Setting { task: (count % TASKS) as u8, kind, extension, object: count % 40 }
+    })
 }
 
 /// Tasks 1 and 13 wait, tasks 3 and 15 have left what they have set by global time, and the others run.

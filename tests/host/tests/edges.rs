@@ -93,7 +93,15 @@ fn a_record_that_is_not_well_formed_is_15_before_14() {
         assert_eq!(make(&mut memory, stores, 0, 0), 15);
         assert_eq!(read(&mut memory, stores, 0), 15);
         assert_eq!(write(&mut memory, stores, 0), 15);
-        for line in [&b"060000030004"[..], b"080000000001", b"09000000000100AA", b"0A", b"0B0000000001", b"0C000000"] {
+        for line in [
+            &b"060000030004"[..],
+            b"080000000001",
+            b"09000000000100AA",
+            b"0A",
+            b"0B0000000001",
+            b"0C000000",
+            b"0D0000000001",
+        ] {
             assert_eq!(frame(&mut memory, stores, line, ANSWER_ROOM), (15, b"0F\n".to_vec()));
         }
     }
@@ -116,12 +124,15 @@ fn calls_that_touch_no_store_do_not_look() {
         assert_eq!(told(b"0A"), (0, b"000302000A00000005\n".to_vec()));
         assert_eq!(told(b"0C000103000000010000000500000001"), (0, b"00\n".to_vec()));
         assert_eq!(told(b"0A"), (0, b"000302000D00000005\n".to_vec()));
+        assert_eq!(told(b"0D0000000001"), (22, b"16\n".to_vec()));
+        assert_eq!(told(b"0700020300000001"), (21, b"15\n".to_vec()));
+        assert_eq!(told(b"0C0002FF00000001"), (21, b"15\n".to_vec()));
     }
 }
 
 #[test]
 fn an_unknown_kind_is_19_before_all_else() {
-    for kind in 2..=255 {
+    for kind in 3..=255 {
         for (mut memory, stores) in [(standing(16, (3, 2), 10), (2048, 8192)), (damaged(), (2047, 1))] {
             for task in [0, 16] {
                 assert_eq!(make(&mut memory, stores, task, kind), 19);
@@ -134,7 +145,7 @@ fn an_unknown_kind_is_19_before_all_else() {
             }
         }
     }
-    for line in [&b"061002030004"[..], b"071002FF00000000", b"0C1002FF"] {
+    for line in [&b"061003030004"[..], b"071003FF00000000", b"0C1003FF"] {
         assert_eq!(frame(&mut damaged(), (1, 1), line, ANSWER_ROOM), (19, b"13\n".to_vec()));
     }
 }
@@ -229,7 +240,8 @@ fn lines_of_any_length() {
         assert_eq!(told(&with(b"0B")), 18);
         // A batch may have as many objects as fill the line.
         assert_eq!(told(&with(b"0C")), if count % 4 == 0 { 20 } else { 18 });
-        assert_eq!(told(&with(b"0D")), 17);
+        assert_eq!(told(&with(b"0D")), 18);
+        assert_eq!(told(&with(b"0E")), 17);
         assert_eq!(told(&digits), 17);
         assert_eq!(told(&digits[1..]), 16);
         for operation in [b"09", b"0C"] {

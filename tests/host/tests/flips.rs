@@ -29,8 +29,11 @@ fn kind(random: &mut Random) -> Kind {
     random.pick(&[Kind::Local, Kind::Global])
 }
 
+/// One in twenty is pinned.
 fn make(random: &mut Random, length: u16) -> Call<'static> {
-    Call::Make { task: random.below(TASKS) as u8, kind: kind(random), extension: random.below(31) as u8, length }
+    let (task, pinned) = (random.below(TASKS) as u8, random.one_in(20));
+    let (kind, extension) = if pinned { (Kind::Pinned, 0) } else { (kind(random), random.below(31) as u8) };
+    Call::Make { task, kind, extension, length }
 }
 
 fn refresh(random: &mut Random, pool: &Pool) -> Call<'static> {
@@ -41,11 +44,12 @@ fn refresh(random: &mut Random, pool: &Pool) -> Call<'static> {
 /// Any call that changes the record, but for leaves.
 fn any(random: &mut Random, pool: &Pool) -> Call<'static> {
     let task = random.below(TASKS) as u8;
-    match random.below(16) {
+    match random.below(17) {
         0..=5 => Call::Tick { task },
         6 => Call::Block { task },
         7..=8 => Call::Resume { task },
         9..=10 => refresh(random, pool),
+        11 => Call::Release { task, handle: random.pick(&pool.handles) },
         _ => {
             let longest = random.pick(&[32, 256]);
             let length = 1 + random.below(longest) as u16;

@@ -3,12 +3,13 @@
 
 mod census;
 
-use census::{is_due_across, Census};
+use census::{is_due_across, Census, NUMBERS};
 use host_tests::entries::{Entries, Plain};
 use host_tests::host::{Host, Told};
 use host_tests::library::Library;
 use host_tests::memory::Memory;
 use host_tests::reading::{of_ledger, of_record, Ahead};
+use plain::record::PINNED;
 use reference::call::{Call, Handles, Model};
 use reference::frame::{decode, encode_answer};
 use reference::generate::{script_of, Profile, PROFILES};
@@ -112,7 +113,9 @@ impl Company {
 
     /// After a call: a task that joined begins late, and the counters are watched.
     fn follow(&mut self, call: &Call, accepted: bool) {
-        self.census.global_wraps += usize::from(self.plain.memory.pool.global < self.global_before);
+        let wrapped = self.plain.memory.pool.global < self.global_before;
+        self.census.global_wraps += usize::from(wrapped);
+        self.census.pinned_wraps += usize::from(wrapped && self.plain.memory.pool.clocks.contains(&PINNED));
         match *call {
             Call::Join { task } if accepted && self.late => self.begin_late(usize::from(task)),
             Call::Leave { task } if accepted => self.ahead.clocks[usize::from(task)] = 0,
@@ -168,17 +171,20 @@ fn run_lists(seeds: std::ops::Range<u64>, late: bool) -> Census {
 
 fn check_all_met(census: &Census) {
     assert!(census.accepted.iter().all(|&count| count > 1_000));
-    for number in (1..=7).chain(9..=13).chain(16..=20) {
+    for number in (1..=7).chain(9..=13).chain(16..=22) {
         assert!(census.refused[number] > 500, "{number}");
     }
     for number in [1, 3, 4, 11, 12] {
         assert!(census.refused_by[10][number] > 100, "remaining, {number}");
     }
-    for number in [1, 3, 4, 20, 6, 11, 12, 10] {
+    for number in [1, 3, 4, 20, 21, 6, 11, 12, 10] {
         assert!(census.refused_by[11][number] > 100, "batch, {number}");
     }
+    for number in [1, 3, 4, 11, 12, 22] {
+        assert!(census.refused_by[12][number] > 50, "release, {number}");
+    }
     assert_eq!(census.most, (64, 32, 256));
-    assert!(census.put_off > 1_000 && census.most_departed > 20);
+    assert!(census.put_off > 1_000 && census.most_departed > 20 && census.most_pinned >= 64);
     assert!(census.advances > 10_000 && census.frames > 100_000);
 }
 
@@ -193,7 +199,7 @@ fn of_fresh_records() {
 fn of_records_whose_counters_go_round() {
     let census = run_lists(1_000..1_105, true);
     check_all_met(&census);
-    assert!(census.clock_wraps > 100 && census.global_wraps > 20);
+    assert!(census.clock_wraps > 100 && census.global_wraps > 20 && census.pinned_wraps > 5);
     assert!(census.remaining_across > 1_000 && census.batches_across > 1_000 && census.put_off_across > 100);
     assert!(census.calls + census.frames > 1_000_000);
 }
@@ -201,7 +207,7 @@ fn of_records_whose_counters_go_round() {
 /// Near the last handle the ledgers, which start at 0, cannot follow; library and plain pool give the same answers.
 #[test]
 fn of_records_with_nearly_all_handles_given() {
-    let mut refused = [0; 21];
+    let mut refused = [0; NUMBERS];
     for seed in 0..20 {
         let mut random = Random::new(seed);
         let mut memory = Memory::fresh(&mut random);
@@ -220,7 +226,7 @@ fn of_records_with_nearly_all_handles_given() {
         }
         assert_eq!(of_record(&library.memory), of_record(&plain.memory));
     }
-    assert!(refused[8] > 100 && refused[11] > 100 && refused[12] > 100, "{refused:?}");
+    assert!([8, 11, 12, 21, 22].iter().all(|&number| refused[number] > 100), "{refused:?}");
 }
 
 /// The call on a handle so much further on. Those of a batch need room.
@@ -233,6 +239,7 @@ fn with_handle_after<'a>(given: u32, call: Call<'a>, room: &'a mut Vec<[u8; 4]>)
         Call::Read { task, handle } => Call::Read { task, handle: later(handle) },
         Call::Write { task, handle, offset, bytes } => Call::Write { task, handle: later(handle), offset, bytes },
         Call::Remaining { task, handle } => Call::Remaining { task, handle: later(handle) },
+        Call::Release { task, handle } => Call::Release { task, handle: later(handle) },
         Call::Batch { task, kind, extension, handles } => {
             room.extend(handles.iter().map(|handle| later(handle).to_be_bytes()));
             Call::Batch { task, kind, extension, handles: Handles(room) }

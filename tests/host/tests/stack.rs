@@ -13,7 +13,6 @@ const KB: usize = 1024;
 const fn limit(entry: Entry) -> usize {
     match entry {
         Entry::Frame => 10 * KB,
-        Entry::Leave | Entry::Block | Entry::Tick => 8 * KB + KB / 4,
         _ => 8 * KB,
     }
 }

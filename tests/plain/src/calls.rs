@@ -4,6 +4,7 @@
 
 use crate::fit::is_well_formed;
 use crate::frames::{answer, decode, Reply, Request, LONGEST_FRAME, MOST_NAMED};
+use crate::limits::PINNING;
 use crate::record::{Pool, FRESH};
 use crate::refusals::{ACCEPTED, NOT_WELL_FORMED, SHORT_BUFFER, UNKNOWN_KIND};
 use crate::work;
@@ -62,7 +63,7 @@ pub fn make(
     length: u16,
     handle: &mut u32,
 ) -> u8 {
-    if kind > 1 {
+    if kind > PINNING {
         return UNKNOWN_KIND;
     }
     if !is_well_formed(pool) {
@@ -72,7 +73,7 @@ pub fn make(
 }
 
 pub fn refresh(pool: &mut Pool, task: u8, kind: u8, extension: u8, handle: u32) -> u8 {
-    if kind > 1 {
+    if kind > PINNING {
         return UNKNOWN_KIND;
     }
     if !is_well_formed(pool) {
@@ -82,13 +83,20 @@ pub fn refresh(pool: &mut Pool, task: u8, kind: u8, extension: u8, handle: u32) 
 }
 
 pub fn refresh_all(pool: &mut Pool, task: u8, kind: u8, extension: u8, handles: &[u32]) -> u8 {
-    if kind > 1 {
+    if kind > PINNING {
         return UNKNOWN_KIND;
     }
     if !is_well_formed(pool) {
         return NOT_WELL_FORMED;
     }
     number_of(work::refresh_all(pool, (task, kind, extension), handles))
+}
+
+pub fn release(pool: &mut Pool, task: u8, handle: u32) -> u8 {
+    if !is_well_formed(pool) {
+        return NOT_WELL_FORMED;
+    }
+    number_of(work::release(pool, task, handle))
 }
 
 pub fn read(pool: &Pool, small: &[u8], large: &[u8], task: u8, handle: u32, out: &mut [u8], count: &mut usize) -> u8 {
@@ -190,6 +198,7 @@ fn carry_out<'a>(pool: &mut Pool, small: &'a mut [u8], large: &'a mut [u8], requ
             }
             work::refresh_all(pool, (task, kind, extension), &handles[..objects.len()]).map(|()| Reply::Done)
         }
+        Request::Release(task, handle) => work::release(pool, task, handle).map(|()| Reply::Done),
     }
 }
 

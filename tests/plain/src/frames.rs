@@ -1,5 +1,6 @@
 //! Frames: a line of hexadecimal to a request, a reply to its line.
 
+use crate::limits::PINNING;
 use crate::refusals::{ACCEPTED, NOT_HEXADECIMAL, UNKNOWN_KIND, UNKNOWN_OPERATION, WRONG_FRAME_LENGTH};
 use crate::work::{Figures, Lifetime};
 
@@ -25,6 +26,7 @@ pub enum Request<'a> {
     Report,
     Remaining(u8, u32),
     Batch(u8, u8, u8, &'a [[u8; 4]]),
+    Release(u8, u32),
 }
 
 /// What an accepted call gives back.
@@ -65,13 +67,14 @@ pub fn decode<'a>(line: &[u8], room: &'a mut [u8; LONGEST_FRAME + 1]) -> Result<
         (12, &[task, kind, extension, ref objects @ ..]) if line.len().is_multiple_of(8) => {
             Ok(Request::Batch(task, known(kind)?, extension, objects.as_chunks().0))
         }
-        (1..=12, _) => Err(WRONG_FRAME_LENGTH),
+        (13, &[task, h3, h2, h1, h0]) => Ok(Request::Release(task, u32::from_be_bytes([h3, h2, h1, h0]))),
+        (1..=13, _) => Err(WRONG_FRAME_LENGTH),
         _ => Err(UNKNOWN_OPERATION),
     }
 }
 
 fn known(kind: u8) -> Result<u8, u8> {
-    if kind > 1 {
+    if kind > PINNING {
         return Err(UNKNOWN_KIND);
     }
     Ok(kind)

@@ -18,6 +18,9 @@ pub const LONGEST_EXTENSION: u8 = 30;
 /// The most objects of a batch.
 pub const LARGEST_BATCH: usize = 32;
 
+/// The number of the last kind, which pins; 0 is local and 1 global.
+pub const PINNING: u8 = 2;
+
 /// The units that a local expiration stands beyond its extension, and a global one.
 pub const LOCAL_EXTRA: u32 = 1;
 pub const GLOBAL_EXTRA: u32 = 2;

@@ -9,11 +9,18 @@ pub const RUNNING: u16 = 1;
 pub const WAITING: u16 = 2;
 
 /// The clock that an expiration goes by, and who has set it: FREE for none; LOCAL and the number of the task that set it,
-/// whose clock it is; GLOBAL and the number of the task that set it; DEPARTED for a global one whose setter has left.
+/// whose clock it is; GLOBAL and the number of the task that set it; DEPARTED for a global one whose setter has left;
+/// PINNED for one that goes by no clock.
 pub const FREE: u8 = 0;
 pub const LOCAL: u8 = 16;
 pub const GLOBAL: u8 = 32;
 pub const DEPARTED: u8 = 48;
+pub const PINNED: u8 = 49;
+
+/// Whether the code is of one that goes by global time, whoever has set it.
+pub fn is_global(clock: u8) -> bool {
+    (GLOBAL..=DEPARTED).contains(&clock)
+}
 
 #[derive(Clone, Copy, Debug, PartialEq, Eq)]
 #[repr(C)]
@@ -25,7 +32,7 @@ pub struct TaskEntry {
 
 /// Block i has the object `handles[i]`, 0 where it is free, of `lengths[i]` bytes. Blocks 0 to 63 are the small store's,
 /// 64 to 95 the large one's. Expiration i belongs to the object in the block `named[i]`, and is due when the clock
-/// `clocks[i]` reads `dues[i]`. The other fields of a free block or expiration have no meaning.
+/// `clocks[i]` reads `dues[i]`, which is 0 where it is pinned. The other fields of a free block or expiration have no meaning.
 #[derive(Clone, Debug, PartialEq, Eq)]
 #[repr(C)]
 pub struct Pool {

@@ -22,6 +22,8 @@ pub const UNKNOWN_OPERATION: u8 = 17;
 pub const WRONG_FRAME_LENGTH: u8 = 18;
 pub const UNKNOWN_KIND: u8 = 19;
 pub const BATCH_OUT_OF_RANGE: u8 = 20;
+pub const ONLY_MAKE_PINS: u8 = 21;
+pub const NOT_PINNED: u8 = 22;
 
 /// Not a refusal of the rules: a buffer is too short.
 pub const SHORT_BUFFER: u8 = 255;

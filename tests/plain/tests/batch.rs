@@ -133,7 +133,8 @@ fn a_kind_that_is_none_is_19_and_then_a_record_that_is_not_well_formed_15() {
     for handles in [&[][..], &[1], &[0], &[97; 33]] {
         for task in [0, 1, 16] {
             assert_eq!(calls::refresh_all(&mut pool, task, 1, 31, handles), 15);
-            assert_eq!(calls::refresh_all(&mut pool, task, 2, 31, handles), 19);
+            assert_eq!(calls::refresh_all(&mut pool, task, 2, 31, handles), 15);
+            assert_eq!(calls::refresh_all(&mut pool, task, 3, 31, handles), 19);
         }
     }
     assert_eq!(pool, before);

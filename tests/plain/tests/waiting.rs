@@ -3,8 +3,10 @@
 use plain::calls::{self, ANSWER_ROOM};
 use plain::fit::is_well_formed;
 use plain::limits::{EXPIRATIONS, LARGE_STORE, SMALL_STORE, TASKS};
-use plain::record::{Pool, TaskEntry, ABSENT, ABSENT_TASK, DEPARTED, FREE, FRESH, GLOBAL, LOCAL, RUNNING, WAITING};
-use reference::call::Model;
+use plain::record::{
+    Pool, TaskEntry, ABSENT, ABSENT_TASK, DEPARTED, FREE, FRESH, GLOBAL, LOCAL, PINNED, RUNNING, WAITING,
+};
+use reference::call::{Call, Model};
 use reference::expiration::{Remaining, Setter};
 use reference::frame::decode;
 use reference::generate::{script_of, Profile};
@@ -27,7 +29,7 @@ fn state_of(task: usize) -> u16 {
     [RUNNING, WAITING, ABSENT][task % 3]
 }
 
-/// The setter of a local or a global one is there, or departed; no other code is one.
+/// The setter of a local or a global one is there, or departed; one that is pinned has no time; no other code is one.
 #[test]
 fn every_code() {
     for code in 0..=255 {
@@ -38,7 +40,8 @@ fn every_code() {
             _ => 0,
         };
         for units in [0, 1, 2, 31, 32, 33, u32::MAX] {
-            assert_eq!(is_well_formed(&with(code, units)), (1..=most).contains(&units), "{code}, {units}");
+            let fit = if code == PINNED { units == 0 } else { (1..=most).contains(&units) };
+            assert_eq!(is_well_formed(&with(code, units)), fit, "{code}, {units}");
         }
     }
 }
@@ -52,6 +55,7 @@ fn kept_in(pool: &Pool) -> Kept {
         .map(|i| {
             let units = |now: u32| u64::from(pool.dues[i].wrapping_sub(now));
             let remaining = match pool.clocks[i] {
+                PINNED => Remaining::Pinned,
                 DEPARTED => Remaining::Global { setter: Setter::Departed, units: units(pool.global) },
                 code @ GLOBAL.. => Remaining::Global { setter: Setter::Task(code - GLOBAL), units: units(pool.global) },
                 code => {
@@ -71,10 +75,10 @@ fn kept_by(ledger: &Ledger) -> Kept {
     ledger.standing().into_iter().flat_map(|object| of(object.handle, object.expirations)).collect()
 }
 
-/// After each call that moves a task.
+/// After each call that moves a task or sets or ends what pins.
 #[test]
 fn what_the_ledger_keeps() {
-    for profile in [Profile::Waiting, Profile::Crowd, Profile::Everyday] {
+    for profile in [Profile::Waiting, Profile::Pinned, Profile::Crowd, Profile::Everyday] {
         for seed in 0..15 {
             let script = script_of(Some(profile), seed, 15_000);
             let (mut pool, mut small, mut large) = (FRESH, [7; SMALL_STORE], [7; LARGE_STORE]);
@@ -84,7 +88,7 @@ fn what_the_ledger_keeps() {
                 let Ok(call) = decode(line, &mut room) else { continue };
                 let number = ledger.call(&call).err().map_or(0, |refusal| refusal as u8);
                 assert_eq!(calls::frame(&mut pool, &mut small, &mut large, line, &mut out, &mut 0), number, "{call:?}");
-                if call.place() < 5 {
+                if call.place() < 6 || matches!(call, Call::Release { .. }) {
                     assert_eq!(kept_in(&pool), kept_by(&ledger), "{call:?}");
                     assert!(is_well_formed(&pool), "{call:?}");
                 }

@@ -2,11 +2,13 @@
 
 use std::fmt;
 
-/// Which time an expiration goes by: its setter's local time (the paper: own) or the global time (common).
+/// Which time an expiration goes by: its setter's local time (the paper: own) or the global time (common); or none, so that
+/// only a release ends it (order 5: kept).
 #[derive(Clone, Copy, Debug, PartialEq, Eq)]
 pub enum Kind {
     Local,
     Global,
+    Pinned,
 }
 
 /// The handles of a batch, where they stand in its frame: four bytes each, the high one first.
@@ -36,7 +38,7 @@ pub fn packed(handles: &[u32]) -> Vec<[u8; 4]> {
 }
 
 /// One of the scope paper's ten calls; or `Remaining`, order 1, which asks how long an object has left; or `Batch`,
-/// order 2, which refreshes several objects, all or none.
+/// order 2, which refreshes several objects, all or none; or `Release`, order 5, which ends what pins an object.
 #[derive(Clone, Copy, Debug, PartialEq, Eq)]
 pub enum Call<'a> {
     Join { task: u8 },
@@ -51,10 +53,11 @@ pub enum Call<'a> {
     Report,
     Remaining { task: u8, handle: u32 },
     Batch { task: u8, kind: Kind, extension: u8, handles: Handles<'a> },
+    Release { task: u8, handle: u32 },
 }
 
 impl Call<'_> {
-    /// The call's place among the twelve, in the order of their operations, from 0.
+    /// The call's place among the thirteen, in the order of their operations, from 0.
     pub fn place(&self) -> usize {
         match self {
             Call::Join { .. } => 0,
@@ -69,6 +72,7 @@ impl Call<'_> {
             Call::Report => 9,
             Call::Remaining { .. } => 10,
             Call::Batch { .. } => 11,
+            Call::Release { .. } => 12,
         }
     }
 
@@ -87,7 +91,7 @@ pub enum Refusal {
     TaskAbsent = 3,
     TaskWaiting = 4,
     TaskRunning = 5,
-    ExtensionAbove30 = 6,
+    ExtensionTooLong = 6,
     LengthOutOfRange = 7,
     AllHandlesGiven = 8,
     NoFreeBlock = 9,
@@ -98,8 +102,10 @@ pub enum Refusal {
     NotHexadecimal = 16,
     UnknownOperation = 17,
     WrongFrameLength = 18,
-    KindAbove1 = 19,
+    KindAbove2 = 19,
     BatchOutOfRange = 20,
+    OnlyMakePins = 21,
+    NotPinned = 22,
 }
 
 /// What an accepted call gives back.
@@ -133,6 +139,7 @@ pub trait Model {
     fn report(&self) -> Answer<'static>;
     fn remaining(&self, task: u8, handle: u32) -> Answer<'static>;
     fn batch(&mut self, task: u8, kind: Kind, extension: u8, handles: Handles) -> Answer<'static>;
+    fn release(&mut self, task: u8, handle: u32) -> Answer<'static>;
 
     /// Does the call and answers it.
     fn call(&mut self, call: &Call) -> Answer<'_> {
@@ -149,6 +156,7 @@ pub trait Model {
             Call::Report => self.report(),
             Call::Remaining { task, handle } => self.remaining(task, handle),
             Call::Batch { task, kind, extension, handles } => self.batch(task, kind, extension, handles),
+            Call::Release { task, handle } => self.release(task, handle),
         }
     }
 }
@@ -163,7 +171,7 @@ pub struct Figures {
 }
 
 /// What remains to an object: the most units of the asking task's local expirations on it, and of all global ones; 0 for
-/// none.
+/// none. A pinned one has no units.
 #[derive(Clone, Copy, Debug, PartialEq, Eq)]
 pub struct Lifetime {
     pub local: u8,

@@ -65,6 +65,7 @@ impl Draft {
             Call::Report,
             Call::Remaining { task, handle },
             Call::Batch { task, kind: Kind::Global, extension: 3, handles: Handles(&handles) },
+            Call::Release { task, handle },
         ]);
         let mut line = Vec::new();
         encode(&call, &mut line);
@@ -85,13 +86,14 @@ impl Draft {
 
     pub fn any_call(&mut self) {
         match self.random.below(100) {
-            0..=24 => self.tick(),
-            25..=39 => self.make(),
-            40..=47 => self.refresh(),
-            48..=50 => self.batch(),
-            51..=62 => self.read(),
-            63..=75 => self.write(),
-            76..=79 => self.remaining(),
+            0..=23 => self.tick(),
+            24..=38 => self.make(),
+            39..=46 => self.refresh(),
+            47..=49 => self.batch(),
+            50..=61 => self.read(),
+            62..=73 => self.write(),
+            74..=77 => self.remaining(),
+            78..=79 => self.release(),
             80..=83 => self.block(),
             84..=89 => self.resume(),
             90..=91 => self.leave(),
@@ -128,20 +130,20 @@ impl Draft {
     }
 
     fn make(&mut self) {
-        let (task, kind, extension) = (self.task(), self.kind(), self.extension());
+        let (task, (kind, extension)) = (self.task(), self.lasting());
         let length = self.length();
         self.call(&Call::Make { task, kind, extension, length });
     }
 
     fn refresh(&mut self) {
-        let (task, kind, extension) = (self.task(), self.kind(), self.extension());
+        let (task, (kind, extension)) = (self.task(), self.lasting());
         let handle = self.handle();
         self.call(&Call::Refresh { task, kind, extension, handle });
     }
 
     /// A few objects that stand, or some that may not.
     pub fn batch(&mut self) {
-        let (task, kind, extension) = (self.task(), self.kind(), self.extension());
+        let (task, (kind, extension)) = (self.task(), self.lasting());
         let count = match self.random.below(12) {
             0 => self.random.pick(&[0, LARGEST_BATCH, LARGEST_BATCH + 1]),
             _ => 1 + self.random.below(8),
@@ -164,6 +166,13 @@ impl Draft {
     fn remaining(&mut self) {
         let (task, handle) = (self.task(), self.handle());
         self.call(&Call::Remaining { task, handle });
+    }
+
+    /// Of a pinned object as a rule.
+    fn release(&mut self) {
+        let (task, any) = (self.task(), self.handle());
+        let handle = if self.random.one_in(4) { any } else { self.pinned_handle().unwrap_or(any) };
+        self.call(&Call::Release { task, handle });
     }
 
     fn write(&mut self) {
@@ -196,12 +205,13 @@ impl Draft {
         self.call(&Call::Write { task, handle, offset, bytes });
     }
 
-    /// A refresh, of one object or several, a read or a write.
+    /// A refresh, of one object or several, a release, a read or a write.
     pub fn any_use(&mut self) {
-        match self.random.below(5) {
-            0 => self.refresh(),
-            1 => self.batch(),
-            2 => self.read(),
+        match self.random.below(11) {
+            0 | 1 => self.refresh(),
+            2 | 3 => self.batch(),
+            4 | 5 => self.read(),
+            6 => self.release(),
             _ => self.write(),
         }
     }
@@ -222,7 +232,7 @@ impl Draft {
     /// Every argument at an end of its range or just past it.
     pub fn edge_call(&mut self) {
         let task = self.random.pick(&[0, 0, 0, 1, 15, 16, 255]);
-        let kind = self.kind();
+        let kind = self.random.pick(&[Kind::Local, Kind::Global, Kind::Pinned]);
         let extension = self.random.pick(&[0, 30, 31, 255]);
         let length = self.random.pick(&EDGE_LENGTHS);
         let newest = self.ledger.figures().given;
@@ -231,7 +241,7 @@ impl Draft {
         let offset = self.random.pick(&[0, 1, 31, 32, 33, 255]);
         let count = self.random.pick(&[0, 1, 31, 32, 33, 255, 256, 257]);
         let times = self.random.pick(&[0, 1, 2, LARGEST_BATCH, LARGEST_BATCH + 1]);
-        match self.random.below(15) {
+        match self.random.below(16) {
             0 => self.call(&Call::Join { task }),
             1 => self.call(&Call::Leave { task }),
             2 => self.call(&Call::Block { task }),
@@ -243,6 +253,7 @@ impl Draft {
             10 | 11 => self.write_at(task, handle, offset, count),
             12 => self.call(&Call::Remaining { task, handle }),
             13 => self.batch_by(task, kind, extension, &vec![handle; times]),
+            14 => self.call(&Call::Release { task, handle }),
             _ => self.call(&Call::Report),
         }
     }
@@ -278,10 +289,7 @@ impl Draft {
 
     /// The handle of a new object of some length that goes to this store, if it is made.
     pub fn make_in(&mut self, store: Store, extension: u8) -> Option<u32> {
-        let length = match store {
-            Store::Small => 1 + self.random.below(32) as u16,
-            Store::Large => 33 + self.random.below(224) as u16,
-        };
+        let length = self.length_in(store);
         self.make_now(extension, length)
     }
 
@@ -294,6 +302,19 @@ impl Draft {
     pub fn make_global(&mut self, task: u8, extension: u8) -> Option<u32> {
         let length = self.length();
         self.make_by(task, Kind::Global, extension, length)
+    }
+
+    /// The handle of a new object that is pinned, if a running task makes it.
+    pub fn make_pinned(&mut self, store: Store) -> Option<u32> {
+        let (task, length) = (self.runner(), self.length_in(store));
+        self.make_by(task, Kind::Pinned, 0, length)
+    }
+
+    /// An extension is none of a pinned object, whatever its length is.
+    pub fn make_pinned_too_long(&mut self) {
+        let (task, length) = (self.runner(), self.length());
+        let extension = self.random.pick(&[1, 2, 30, 31, 255]);
+        self.call(&Call::Make { task, kind: Kind::Pinned, extension, length });
     }
 
     fn make_by(&mut self, task: u8, kind: Kind, extension: u8, length: u16) -> Option<u32> {
@@ -313,6 +334,35 @@ impl Draft {
     pub fn refresh_by(&mut self, tasks: usize, extension: u8, handle: u32) {
         let (task, kind) = (self.random.below(tasks) as u8, self.kind());
         self.call(&Call::Refresh { task, kind, extension, handle });
+    }
+
+    /// A running task would pin one object or several by a refresh, such as stand and others.
+    pub fn refresh_pinning(&mut self, count: usize) {
+        let (task, kind) = (self.runner(), Kind::Pinned);
+        let extension = self.random.pick(&[0, 0, 1, 30, 31]);
+        let (handle, standing) = (self.handle(), self.standing_handles(count));
+        let any: Vec<_> = (0..count).map(|_| self.handle()).collect();
+        self.call(&Call::Refresh { task, kind, extension, handle });
+        self.batch_by(task, kind, extension, &standing);
+        self.batch_by(task, kind, extension, &any);
+    }
+
+    /// A running task releases the object.
+    pub fn release_now(&mut self, handle: u32) {
+        let task = self.runner();
+        self.call(&Call::Release { task, handle });
+    }
+
+    /// Something that is pinned, if there is any.
+    pub fn release_pinned(&mut self) {
+        let handle = self.pinned_handle().unwrap_or(0);
+        self.release_now(handle);
+    }
+
+    /// All that is pinned.
+    pub fn release_all(&mut self) {
+        let pinned: Vec<_> = self.ledger.pinned().collect();
+        pinned.into_iter().for_each(|handle| self.release_now(handle));
     }
 
     /// The handles of so many new objects, of either store, as far as they are made.
@@ -406,6 +456,14 @@ impl Draft {
         self.random.pick(&[Kind::Local, Kind::Global])
     }
 
+    /// Kind and extension: pinned now and then, with no extension as a rule.
+    fn lasting(&mut self) -> (Kind, u8) {
+        match self.random.below(12) {
+            0 => (Kind::Pinned, self.random.pick(&[0, 0, 0, 0, 1, 30, 31, 255])),
+            _ => (self.kind(), self.extension()),
+        }
+    }
+
     fn extension(&mut self) -> u8 {
         match self.random.below(12) {
             0 => self.random.pick(&[0, 30, 31, 255]),
@@ -419,6 +477,13 @@ impl Draft {
             0 => self.random.pick(&EDGE_LENGTHS),
             1 | 2 => 33 + self.random.below(224) as u16,
             _ => 1 + self.random.below(32) as u16,
+        }
+    }
+
+    fn length_in(&mut self, store: Store) -> u16 {
+        match store {
+            Store::Small => 1 + self.random.below(32) as u16,
+            Store::Large => 33 + self.random.below(224) as u16,
         }
     }
 
@@ -454,6 +519,12 @@ impl Draft {
     /// So many standing ones, in any order; 0 where none stands.
     fn standing_handles(&mut self, count: usize) -> Vec<u32> {
         (0..count).map(|_| self.standing_handle().unwrap_or(0)).collect()
+    }
+
+    /// Some object that is pinned, if one is.
+    fn pinned_handle(&mut self) -> Option<u32> {
+        let pinned: Vec<_> = self.ledger.pinned().collect();
+        (!pinned.is_empty()).then(|| self.random.pick(&pinned))
     }
 
     fn standing_handle(&mut self) -> Option<u32> {

@@ -3,11 +3,13 @@
 use crate::call::Kind;
 use crate::tasks::Tasks;
 
-/// E2: local or global. A local one goes by its setter's time, a global one waits with its setter.
+/// E2, E22: local, global or pinned. A local one goes by its setter's time, a global one waits with its setter, and a pinned
+/// one has neither time nor setter.
 #[derive(Clone, Copy, Debug, PartialEq, Eq)]
 pub enum Expiration {
     Local { setter: u8, due: u64 },
     Global { setter: Setter, due: u64 },
+    Pinned,
 }
 
 /// E19, E21: who set a global expiration; departed for good from its leave on.
@@ -22,15 +24,17 @@ pub enum Setter {
 pub enum Remaining {
     Local { setter: u8, units: u64 },
     Global { setter: Setter, units: u64 },
+    Pinned,
 }
 
 impl Expiration {
-    /// E4, E5: one that is set now.
+    /// E4, E5, E22: one that is set now.
     pub fn set(tasks: &Tasks, setter: u8, kind: Kind, extension: u8) -> Expiration {
         let extension = u64::from(extension);
         match kind {
             Kind::Local => Expiration::Local { setter, due: tasks.clock(setter) + extension + 1 },
             Kind::Global => Expiration::Global { setter: Setter::Task(setter), due: tasks.global() + extension + 2 },
+            Kind::Pinned => Expiration::Pinned,
         }
     }
 
@@ -39,7 +43,12 @@ impl Expiration {
         match *self {
             Expiration::Local { setter, due } => tasks.clock(setter) == due,
             Expiration::Global { due, .. } => tasks.global() == due,
+            Expiration::Pinned => false,
         }
+    }
+
+    pub fn is_pinned(&self) -> bool {
+        *self == Expiration::Pinned
     }
 
     pub fn is_local_of(&self, task: u8) -> bool {
@@ -72,6 +81,7 @@ impl Expiration {
         match *self {
             Expiration::Local { setter, due } => Remaining::Local { setter, units: due - tasks.clock(setter) },
             Expiration::Global { setter, due } => Remaining::Global { setter, units: due - tasks.global() },
+            Expiration::Pinned => Remaining::Pinned,
         }
     }
 }

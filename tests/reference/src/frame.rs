@@ -14,6 +14,7 @@ const WRITE: u8 = 0x09;
 const REPORT: u8 = 0x0A;
 const REMAINING: u8 = 0x0B;
 const BATCH: u8 = 0x0C;
+const RELEASE: u8 = 0x0D;
 
 /// The most bytes that one write brings.
 const MOST_WRITTEN: usize = 256;
@@ -41,6 +42,7 @@ pub fn decode<'a>(line: &[u8], room: &'a mut [u8]) -> Result<Call<'a>, Refusal> 
         REPORT => report(fields),
         REMAINING => remaining(fields),
         BATCH => batch(fields),
+        RELEASE => release(fields),
         _ => Err(Refusal::UnknownOperation),
     }
 }
@@ -90,11 +92,17 @@ fn batch(fields: &[u8]) -> Result<Call<'_>, Refusal> {
     Ok(Call::Batch { task, kind: kind_of(kind)?, extension, handles: Handles(handles) })
 }
 
+fn release(fields: &[u8]) -> Result<Call<'_>, Refusal> {
+    let &[task, h3, h2, h1, h0] = fields else { return Err(Refusal::WrongFrameLength) };
+    Ok(Call::Release { task, handle: u32::from_be_bytes([h3, h2, h1, h0]) })
+}
+
 fn kind_of(kind: u8) -> Result<Kind, Refusal> {
     match kind {
         0 => Ok(Kind::Local),
         1 => Ok(Kind::Global),
-        _ => Err(Refusal::KindAbove1),
+        2 => Ok(Kind::Pinned),
+        _ => Err(Refusal::KindAbove2),
     }
 }
 
@@ -151,6 +159,10 @@ pub fn encode(call: &Call, line: &mut Vec<u8>) {
         Call::Batch { task, kind, extension, handles } => {
             hex(&[BATCH, task, kind as u8, extension], line);
             hex(handles.0.as_flattened(), line);
+        }
+        Call::Release { task, handle } => {
+            hex(&[RELEASE, task], line);
+            hex(&handle.to_be_bytes(), line);
         }
     }
     line.push(b'\n');

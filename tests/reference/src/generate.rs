@@ -31,6 +31,8 @@ pub enum Profile {
     Batch,
     /// Setters of global expirations that wait through advances, leave, and are followed by others of their number.
     Waiting,
+    /// Objects that are pinned: they outlive rounds and tasks, fill the tables, and are released once and again.
+    Pinned,
     /// Arguments at the ends of their ranges.
     Edges,
     /// Damaged lines among good ones.
@@ -39,7 +41,7 @@ pub enum Profile {
     Noise,
 }
 
-pub const PROFILES: [Profile; 14] = [
+pub const PROFILES: [Profile; 15] = [
     Profile::Everyday,
     Profile::Crowd,
     Profile::SmallFlood,
@@ -51,6 +53,7 @@ pub const PROFILES: [Profile; 14] = [
     Profile::Remaining,
     Profile::Batch,
     Profile::Waiting,
+    Profile::Pinned,
     Profile::Edges,
     Profile::Damage,
     Profile::Noise,
@@ -106,6 +109,7 @@ fn phase(draft: &mut Draft, profile: Profile) {
         Profile::Remaining => remaining(draft),
         Profile::Batch => batch(draft),
         Profile::Waiting => waiting(draft),
+        Profile::Pinned => pinned(draft),
         Profile::Edges => edges(draft),
         Profile::Damage => damage(draft),
         Profile::Noise => noise(draft),
@@ -368,6 +372,106 @@ fn wait_or_leave(draft: &mut Draft, setter: u8, extension: u8) {
             draft.call(&block);
         }
         _ => draft.call(&block),
+    }
+}
+
+/// Some objects are pinned and others not. They are refreshed, time goes on, now and then for longer than any other
+/// expiration lasts, and tasks wait and leave; then all are released, most of them once more, now or later.
+fn pinned(draft: &mut Draft) {
+    let tasks = 2 + draft.random.below(3);
+    draft.gather(tasks);
+    draft.release_all();
+    pin_in_vain(draft);
+    if draft.random.one_in(3) {
+        return pin_to_the_brim(draft);
+    }
+    let extension = draft.random.pick(&[0, 1, 4]);
+    let stores: Vec<_> = (0..2 + draft.random.below(5)).map(|_| any_store(draft)).collect();
+    let objects: Vec<_> = stores.into_iter().filter_map(|store| draft.make_pinned(store)).collect();
+    let others = draft.scan(2, extension);
+    for &handle in &objects {
+        if draft.random.one_in(2) {
+            draft.refresh_by(tasks, extension, handle);
+        }
+    }
+    outlive(draft, tasks, &objects);
+    for &handle in objects.iter().chain(&others) {
+        if draft.random.one_in(3) {
+            draft.refresh_by(tasks, extension, handle);
+        }
+        draft.release_now(handle);
+        if draft.random.one_in(2) {
+            draft.release_now(handle);
+        }
+    }
+    for _ in 0..extension + 2 {
+        draft.round();
+    }
+    let former = [objects, others].concat();
+    for &handle in former.iter().take(3) {
+        draft.release_now(handle);
+    }
+}
+
+fn any_store(draft: &mut Draft) -> Store {
+    draft.random.pick(&[Store::Small, Store::Large])
+}
+
+/// With an extension, and by calls that pin nothing, of all sizes.
+fn pin_in_vain(draft: &mut Draft) {
+    for _ in 0..2 {
+        draft.make_pinned_too_long();
+        let count = draft.random.pick(&[0, 1, 1, 2, 7, LARGEST_BATCH, LARGEST_BATCH + 1, 66]);
+        draft.refresh_pinning(count);
+    }
+}
+
+/// Rounds go by, a few or more than any extension has, while a task waits or leaves, or all leave, and the objects are
+/// asked for.
+fn outlive(draft: &mut Draft, tasks: usize, objects: &[u32]) {
+    let task = draft.random.below(tasks) as u8;
+    match draft.random.below(6) {
+        0 => draft.call(&Call::Block { task }),
+        1 => draft.call(&Call::Leave { task }),
+        2 | 3 => (0..TASKS as u8).for_each(|task| draft.call(&Call::Leave { task })),
+        _ => {}
+    }
+    if draft.random.one_in(2) {
+        draft.gather(tasks);
+    }
+    let rounds = draft.random.pick(&[1, 3, 6, usize::from(LONGEST_EXTENSION) + 6]);
+    for _ in 0..rounds {
+        draft.round();
+        if draft.random.one_in(2) {
+            draft.ask_for(objects);
+        }
+    }
+    draft.gather(tasks);
+}
+
+/// Pins all blocks of a store, tries more, has some go, and sets expirations up to the last and past it.
+fn pin_to_the_brim(draft: &mut Draft) {
+    let store = any_store(draft);
+    for _ in 0..=store.blocks() {
+        draft.make_pinned(store);
+    }
+    for _ in 0..2 {
+        draft.make_pinned(store);
+        draft.make_in(store, 0);
+        draft.release_pinned();
+        draft.make_pinned(store);
+    }
+    batch_to_the_brim(draft);
+    for _ in 0..3 {
+        draft.make_pinned(Store::Large);
+        draft.make_pinned(Store::Small);
+        draft.refresh_pinning(2);
+        draft.release_pinned();
+        draft.refresh_standing(0);
+    }
+    draft.release_all();
+    for _ in 0..LONGEST_EXTENSION + 1 {
+        draft.round();
     }
 }
 

@@ -1,12 +1,12 @@
 //! The unbounded heap (endless heap) and the expiration book (date book): what the pool's answers
 //! would be if nothing ever went, and whether all use was in time and in bounds.
 
-use std::collections::BTreeMap;
+use std::collections::{BTreeMap, BTreeSet};
 
 use crate::call::{Accepted, Answer, Call, Handles, Kind, Model, Refusal};
 use crate::expiration::{remaining, Expiration, Remaining};
 use crate::ledger::Ledger;
-use crate::limits::{check_batch, check_extension, Store, MOST_EXPIRATIONS};
+use crate::limits::{check_batch, check_extension, check_refreshing, Store, MOST_EXPIRATIONS};
 use crate::tasks::Tasks;
 
 /// Objects for ever, and no refusal 9, 10 or 12 (H3, H5). `ends[h - 1]..ends[h]` is the part of `bytes` that handle h names.
@@ -15,11 +15,13 @@ pub struct Heap {
     tasks: Tasks,
     ends: Vec<usize>,
     bytes: Vec<u8>,
+    /// The handles whose pinned expiration is left.
+    pinned: BTreeSet<u32>,
 }
 
 impl Model for Heap {
     fn fresh() -> Heap {
-        Heap { tasks: Tasks::default(), ends: vec![0], bytes: Vec::new() }
+        Heap { tasks: Tasks::default(), ends: vec![0], bytes: Vec::new(), pinned: BTreeSet::new() }
     }
 
     fn join(&mut self, task: u8) -> Answer<'static> {
@@ -42,21 +44,26 @@ impl Model for Heap {
         self.tasks.tick(task).map(Accepted::Advanced)
     }
 
-    fn make(&mut self, task: u8, _: Kind, extension: u8, length: u16) -> Answer<'static> {
+    fn make(&mut self, task: u8, kind: Kind, extension: u8, length: u16) -> Answer<'static> {
         self.tasks.check_running(task)?;
-        check_extension(extension)?;
+        check_extension(kind, extension)?;
         Store::holding(length)?;
         if self.given() == u32::MAX as usize {
             return Err(Refusal::AllHandlesGiven);
         }
         self.bytes.resize(self.bytes.len() + usize::from(length), 0);
         self.ends.push(self.bytes.len());
-        Ok(Accepted::Handle(self.given() as u32))
+        let handle = self.given() as u32;
+        if kind == Kind::Pinned {
+            self.pinned.insert(handle);
+        }
+        Ok(Accepted::Handle(handle))
     }
 
-    fn refresh(&mut self, task: u8, _: Kind, extension: u8, handle: u32) -> Answer<'static> {
+    fn refresh(&mut self, task: u8, kind: Kind, extension: u8, handle: u32) -> Answer<'static> {
         self.tasks.check_running(task)?;
-        check_extension(extension)?;
+        check_refreshing(kind)?;
+        check_extension(kind, extension)?;
         self.check_given(handle)?;
         Ok(Accepted::Done)
     }
@@ -89,13 +96,24 @@ impl Model for Heap {
         Ok(Accepted::Done)
     }
 
-    /// Order 2: 1, 3, 4, 20, 6, 11, and like a refresh it changes nothing.
-    fn batch(&mut self, task: u8, _: Kind, extension: u8, handles: Handles) -> Answer<'static> {
+    /// Order 2: 1, 3, 4, 20, 21, 6, 11, and like a refresh it changes nothing.
+    fn batch(&mut self, task: u8, kind: Kind, extension: u8, handles: Handles) -> Answer<'static> {
         self.tasks.check_running(task)?;
         check_batch(handles.count())?;
-        check_extension(extension)?;
+        check_refreshing(kind)?;
+        check_extension(kind, extension)?;
         for handle in handles.iter() {
             self.check_given(handle)?;
+        }
+        Ok(Accepted::Done)
+    }
+
+    /// Order 5: 1, 3, 4, 11, 22. The object stays, and is pinned no longer.
+    fn release(&mut self, task: u8, handle: u32) -> Answer<'static> {
+        self.tasks.check_running(task)?;
+        self.check_given(handle)?;
+        if !self.pinned.remove(&handle) {
+            return Err(Refusal::NotPinned);
         }
         Ok(Accepted::Done)
     }
@@ -129,8 +147,8 @@ struct Entry {
 }
 
 impl Book {
-    /// H9 to H13: whether a call that the heap does not refuse, or refuses with 13, is a use out of time or
-    /// bounds. Asked before the book follows the call. Order 2: all objects of a batch stand, and there is room
+    /// H9 to H13, H23: whether a call that the heap does not refuse, or refuses with 13 or 22, is a use out of time
+    /// or bounds. Asked before the book follows the call. Order 2: all objects of a batch stand, and there is room
     /// for an expiration on each.
     fn is_out(&self, call: &Call) -> bool {
         match *call {
@@ -139,7 +157,9 @@ impl Book {
             Call::Batch { handles, .. } => {
                 handles.iter().any(|handle| self.is_gone(handle)) || !self.has_room(handles.count())
             }
-            Call::Read { handle, .. } | Call::Write { handle, .. } => self.is_gone(handle),
+            Call::Read { handle, .. } | Call::Write { handle, .. } | Call::Release { handle, .. } => {
+                self.is_gone(handle)
+            }
             _ => false,
         }
     }
@@ -163,12 +183,19 @@ impl Book {
             Call::Batch { task, kind, extension, handles } => {
                 handles.iter().for_each(|handle| self.set(handle, Expiration::set(tasks, task, kind, extension)));
             }
+            Call::Release { handle, .. } => self.release(handle),
             _ => {}
         }
     }
 
     fn set(&mut self, handle: u32, expiration: Expiration) {
         self.objects.entry(handle).and_modify(|entry| entry.expirations.push(expiration));
+    }
+
+    /// With its last expiration the object goes.
+    fn release(&mut self, handle: u32) {
+        self.objects.entry(handle).and_modify(|entry| entry.expirations.retain(|one| !one.is_pinned()));
+        self.keep(|_| true);
     }
 
     /// As in the ledger: what an advance puts off is put off, and then what is due goes.
@@ -241,7 +268,7 @@ impl Judge {
     pub fn is_in_time(&mut self, call: &Call) -> bool {
         let told = self.heap.call(call).map(Told::by);
         match told {
-            Ok(_) | Err(Refusal::RangeAboveLength) if self.book.is_out(call) => return false,
+            Ok(_) | Err(Refusal::RangeAboveLength | Refusal::NotPinned) if self.book.is_out(call) => return false,
             Ok(told) => self.book.follow(call, &self.heap.tasks, told),
             Err(_) => {}
         }

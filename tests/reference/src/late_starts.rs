@@ -50,6 +50,19 @@ fn a_setter_waits_across_the_highest_32_bit_global_time<L: LateStart>() {
     assert_eq!(*ledger.global_mut() as u32, 0);
 }
 
+/// Order 5: whatever the clocks read, what is pinned stands.
+fn a_pinned_object_stands_across_the_highest_32_bit_clocks<L: LateStart>() {
+    let mut ledger: L = started(u64::from(u32::MAX), 0);
+    *ledger.global_mut() = u64::from(u32::MAX) - 1;
+    ledger.make(0, Kind::Pinned, 0, 4).unwrap();
+    for _ in 0..40 {
+        assert_eq!(ledger.call(&TICK), Ok(Accepted::Advanced(true)));
+        assert_eq!(ledger.remaining(0, 1), Ok(Accepted::Remaining(Lifetime { local: 0, global: 0 })));
+    }
+    assert_eq!(ledger.release(0, 1), Ok(Accepted::Done));
+    assert_eq!(ledger.call(&READ), Err(Refusal::ObjectGone));
+}
+
 fn after_the_highest_handle_all_are_given<L: LateStart>() {
     let mut ledger: L = started(0, u32::MAX - 1);
     assert_eq!(ledger.call(&MAKE), Ok(Accepted::Handle(u32::MAX)));
@@ -74,6 +87,7 @@ fn all_handles_given_is_told_after_a_bad_length_and_before_a_full_store<L: LateS
 fn all<L: LateStart>() {
     local_expiration_set_at_the_highest_32_bit_clock::<L>();
     a_setter_waits_across_the_highest_32_bit_global_time::<L>();
+    a_pinned_object_stands_across_the_highest_32_bit_clocks::<L>();
     after_the_highest_handle_all_are_given::<L>();
     all_handles_given_is_told_after_a_bad_length_and_before_a_full_store::<L>();
 }

@@ -3,7 +3,7 @@
 
 use crate::call::{Accepted, Answer, Figures, Handles, Kind, Lifetime, Model, Refusal};
 use crate::expiration::{remaining, Expiration, Remaining};
-use crate::limits::{check_batch, check_extension, Store, MOST_EXPIRATIONS};
+use crate::limits::{check_batch, check_extension, check_refreshing, Store, MOST_EXPIRATIONS};
 use crate::tasks::Tasks;
 
 #[derive(Clone, Debug)]
@@ -72,7 +72,7 @@ impl Model for Ledger {
     /// R40, then O12 to O14: a new object, all zeros, with one expiration.
     fn make(&mut self, task: u8, kind: Kind, extension: u8, length: u16) -> Answer<'static> {
         self.tasks.check_running(task)?;
-        check_extension(extension)?;
+        check_extension(kind, extension)?;
         let store = Store::holding(length)?;
         self.check_handles()?;
         self.check_blocks(store)?;
@@ -90,7 +90,8 @@ impl Model for Ledger {
     /// R41, then O17: one expiration more.
     fn refresh(&mut self, task: u8, kind: Kind, extension: u8, handle: u32) -> Answer<'static> {
         self.tasks.check_running(task)?;
-        check_extension(extension)?;
+        check_refreshing(kind)?;
+        check_extension(kind, extension)?;
         let place = self.check_standing(handle)?;
         self.check_expirations(1)?;
         let expiration = Expiration::set(&self.tasks, task, kind, extension);
@@ -131,25 +132,39 @@ impl Model for Ledger {
         for left in remaining(&self.objects[place].expirations, &self.tasks) {
             match left {
                 Remaining::Local { setter, units } if setter == task => most.local = most.local.max(units as u8),
-                Remaining::Local { .. } => {}
+                Remaining::Local { .. } | Remaining::Pinned => {}
                 Remaining::Global { units, .. } => most.global = most.global.max(units as u8),
             }
         }
         Ok(Accepted::Remaining(most))
     }
 
-    /// Order 2: 1, 3, 4, 20, 6; 11 if any object would give it, else 12 if any would, else 10 if there is no room for
+    /// Order 2: 1, 3, 4, 20, 21, 6; 11 if any object would give it, else 12 if any would, else 10 if there is no room for
     /// all. Then one expiration more for each, so that an object named twice gets two.
     fn batch(&mut self, task: u8, kind: Kind, extension: u8, handles: Handles) -> Answer<'static> {
         self.tasks.check_running(task)?;
         check_batch(handles.count())?;
-        check_extension(extension)?;
+        check_refreshing(kind)?;
+        check_extension(kind, extension)?;
         handles.iter().try_for_each(|handle| self.check_given(handle))?;
         let places = handles.iter().map(|handle| self.check_standing(handle)).collect::<Result<Vec<_>, _>>()?;
         self.check_expirations(handles.count())?;
         for place in places {
             let expiration = Expiration::set(&self.tasks, task, kind, extension);
             self.objects[place].expirations.push(expiration);
+        }
+        Ok(Accepted::Done)
+    }
+
+    /// R48, then E24: what pins the object ends. It stands on where another expiration does.
+    fn release(&mut self, task: u8, handle: u32) -> Answer<'static> {
+        self.tasks.check_running(task)?;
+        let place = self.check_standing(handle)?;
+        let expirations = &mut self.objects[place].expirations;
+        let pin = expirations.iter().position(Expiration::is_pinned).ok_or(Refusal::NotPinned)?;
+        expirations.remove(pin);
+        if expirations.is_empty() {
+            self.objects.remove(place);
         }
         Ok(Accepted::Done)
     }
@@ -180,6 +195,17 @@ impl Ledger {
     /// The length of a standing object.
     pub fn length(&self, handle: u32) -> Option<usize> {
         self.find(handle).map(|place| self.objects[place].bytes.len())
+    }
+
+    /// The expirations of a standing object; none of another.
+    pub fn expirations_of(&self, handle: u32) -> &[Expiration] {
+        self.find(handle).map_or(&[], |place| &self.objects[place].expirations)
+    }
+
+    /// The handles of the objects that are pinned, in order.
+    pub fn pinned(&self) -> impl Iterator<Item = u32> + '_ {
+        let is_pinned = |object: &&Object| object.expirations.iter().any(Expiration::is_pinned);
+        self.objects.iter().filter(is_pinned).map(|object| object.handle)
     }
 
     /// The standing objects in order of handle.

@@ -1,6 +1,6 @@
-//! The fixed limits of the pool, and the refusals that need nothing else: 6, 7 and 20.
+//! The fixed limits of the pool, and the refusals that need nothing else: 6, 7, 20 and 21.
 
-use crate::call::Refusal;
+use crate::call::{Kind, Refusal};
 
 pub const TASKS: usize = 16;
 pub const LONGEST_EXTENSION: u8 = 30;
@@ -34,9 +34,25 @@ impl Store {
     }
 }
 
-pub fn check_extension(extension: u8) -> Result<(), Refusal> {
-    if extension > LONGEST_EXTENSION {
-        return Err(Refusal::ExtensionAbove30);
+/// The most for an expiration of this kind: a pinned one has none.
+pub fn longest_extension(kind: Kind) -> u8 {
+    match kind {
+        Kind::Local | Kind::Global => LONGEST_EXTENSION,
+        Kind::Pinned => 0,
+    }
+}
+
+pub fn check_extension(kind: Kind, extension: u8) -> Result<(), Refusal> {
+    if extension > longest_extension(kind) {
+        return Err(Refusal::ExtensionTooLong);
+    }
+    Ok(())
+}
+
+/// A refresh and a batch pin nothing.
+pub fn check_refreshing(kind: Kind) -> Result<(), Refusal> {
+    if kind == Kind::Pinned {
+        return Err(Refusal::OnlyMakePins);
     }
     Ok(())
 }

@@ -2,7 +2,7 @@
 
 mod census;
 
-use census::{batch, remaining, waiting, Census, OPERATIONS};
+use census::{batch, pinned, remaining, waiting, Census, OPERATIONS};
 use reference::generate::{script, script_of, Profile, PROFILES};
 use reference::script::LIMIT;
 
@@ -28,6 +28,9 @@ fn all_is_met() {
     }
     for ((name, _), count) in waiting::SITUATIONS.iter().zip(census.waiting) {
         assert!(count >= 50, "waiting, {name}");
+    }
+    for ((name, _), count) in pinned::SITUATIONS.iter().zip(census.pinned) {
+        assert!(count >= 50, "pinned, {name}");
     }
     assert_eq!((census.most_small, census.most_large, census.most_expirations), (64, 32, 256));
     assert_eq!(census.most_running, 16);
@@ -74,11 +77,12 @@ fn each_profile_meets_its_own() {
             Profile::Remaining => census.remaining.iter().all(|&count| count > 20),
             Profile::Batch => census.batch.iter().all(|&count| count > 5) && census.accepted[11] > 500,
             Profile::Waiting => census.waiting.iter().all(|&count| count > 20),
+            Profile::Pinned => census.pinned.iter().all(|&count| count > 20) && census.accepted[12] > 500,
             Profile::Edges => least(&[1, 3, 6, 7, 11, 13]) > 100 && census.empty_writes.min(census.whole_writes) > 10,
             Profile::Damage => least(&[16, 17, 18, 19]) > 100,
             Profile::Noise => least(&[16, 17, 18]) > 100,
         };
-        assert!(met, "{profile:?} {:?} {:?} {:?}", census.accepted, census.refused, census.waiting);
+        assert!(met, "{profile:?} {:?} {:?} {:?} {:?}", census.accepted, census.refused, census.waiting, census.pinned);
     }
 }
 

@@ -52,6 +52,12 @@ fn words_of_each_call() {
             "0103 060300000004 060300000004 060300000004 0C030001000000010000000200000003",
             "task 3, refresh of objects 1 to 3, local with extension 1: one expiration more for each, until local time 2 of task 3",
         ),
+        ("0103 060302000004", "task 3, make of 4 bytes, pinned: object 1 in the small store, until its release"),
+        ("0103 060302000004 0D0300000001", "task 3, release of object 1: it is pinned no longer; object 1 is gone"),
+        (
+            "0103 060302000004 0703000000000001 0D0300000001",
+            "task 3, release of object 1: it is pinned no longer; it has 1 expiration",
+        ),
     ] {
         assert_eq!(last_words(script), words, "{script}");
     }
@@ -142,6 +148,16 @@ fn since_when_an_object_is_gone_and_with_what() {
             "0101 0102 060101000004 0501 0502 0501 0302",
             "gone at line 7 with its last expiration, set by task 1 at line 3",
         ),
+        // By its release.
+        (
+            "0101 0102 060202000004 0501 0202 0D0100000001",
+            "gone at line 6 with its last expiration, pinned by task 2 at line 3",
+        ),
+        // By time, after its release.
+        (
+            "0101 060102000004 0701000000000001 0D0100000001 0501",
+            "gone at line 5 with its last expiration, set by task 1 at line 3",
+        ),
         // Put off while its setter waited.
         (
             "0101 0102 060201000004 0302 0501 0501 0402 0501 0502 0501 0502",
@@ -160,6 +176,7 @@ fn since_when_an_object_is_gone_and_with_what() {
 #[test]
 fn words_of_each_refusal() {
     let smalls = format!("0101{}", times(65, "060101000004"));
+    let pinned = format!("0101{}{}", times(3, "060102000004"), times(62, "060101000004"));
     let larges = format!("0101 0501{}", times(33, "060101000100"));
     let dates = format!("0101 060101000004{}", times(256, "0701010000000001"));
     let batch = format!("0101 060101000004{} 0C0101000000000100000001", times(254, "0701010000000001"));
@@ -173,11 +190,18 @@ fn words_of_each_refusal() {
         (4, "0103 0303 0503", "tick of task 3: task 3 waits since line 2; it has to resume first"),
         (5, "0103 0403", "resume of task 3: task 3 runs since line 1; only a waiting task can resume"),
         (6, "0101 0601001F0004", "task 1, make of 4 bytes, local with extension 31: an extension is at most 30"),
+        (6, "0101 060102010004", "task 1, make of 4 bytes, pinned with extension 1: what is pinned has extension 0"),
         (7, "0101 060100000101", "task 1, make of 257 bytes, local with extension 0: a length is 1 to 256"),
         (
             9,
             &smalls,
             "task 1, make of 4 bytes, global with extension 0: the small store is full with 64 objects; \
+             global time is 0 from the start on and waits for task 1",
+        ),
+        (
+            9,
+            &pinned,
+            "task 1, make of 4 bytes, global with extension 0: the small store is full with 64 objects, 3 of them pinned; \
              global time is 0 from the start on and waits for task 1",
         ),
         (
@@ -223,14 +247,23 @@ fn words_of_each_refusal() {
         ),
         (16, "01x0", "frame \"01x0\": character 3 is no digit, 0 to 9 or A to F"),
         (16, "010", "frame \"010\": 3 digits, and a byte has two"),
-        (17, "0D01", "frame \"0D01\": operations are 01 to 0C"),
+        (17, "0E01", "frame \"0E01\": operations are 01 to 0D"),
         (17, "0101  ", "frame \"\": an empty line has no operation"),
         (18, "010101", "frame \"010101\": a join has 2 bytes, and not 3"),
         (3, "0C000000", "task 0, refresh of no object, local with extension 0: task 0 has not joined; it has to join first"),
         (18, "0C00000001", "frame \"0C00000001\": a batch has 4 bytes and 4 for each object, and not 5"),
-        (19, "060102000004", "frame \"060102000004\": kind 02 is neither 00, local, nor 01, global"),
+        (18, "0D01", "frame \"0D01\": a release has 6 bytes, and not 2"),
+        (19, "060103000004", "frame \"060103000004\": kind 03 is none of 00, local, 01, global, and 02, pinned"),
         (20, "0101 0C010000", "task 1, refresh of no object, local with extension 0: a batch has 1 to 32 objects"),
         (20, &crowd, "task 1, refresh of 33 objects, local with extension 0: a batch has 1 to 32 objects"),
+        (21, "0101 0701020000000001", "task 1, refresh of object 1, pinned: only a make pins an object"),
+        (21, "0101 0C01020100000001", "task 1, refresh of object 1, pinned with extension 1: only a make pins an object"),
+        (22, "0101 060100000004 0D0100000001", "task 1, release of object 1: it was never pinned"),
+        (
+            22,
+            "0101 060102000004 0701000000000001 0D0100000001 0D0100000001",
+            "task 1, release of object 1: it was released at line 4",
+        ),
     ] {
         let line = explain(&script_of(script)).pop().unwrap();
         assert_eq!((line.words.as_str(), line.refusal.map(|refusal| refusal as u8)), (words, Some(number)), "{script}");

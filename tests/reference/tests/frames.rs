@@ -9,7 +9,7 @@ const ROOM: usize = 4 + 4 * 100;
 
 fn random_call<'a>(random: &mut Random, bytes: &'a [u8; 256], objects: &'a [[u8; 4]; 100]) -> Call<'a> {
     let (task, extension, offset) = (random.byte(), random.byte(), random.byte());
-    let kind = random.pick(&[Kind::Local, Kind::Global]);
+    let kind = random.pick(&[Kind::Local, Kind::Global, Kind::Pinned]);
     let (handle, length) = (random.number() as u32, random.number() as u16);
     let bytes = &bytes[random.below(257)..];
     let handles = Handles(&objects[random.below(101)..]);
@@ -26,6 +26,7 @@ fn random_call<'a>(random: &mut Random, bytes: &'a [u8; 256], objects: &'a [[u8;
         Call::Report,
         Call::Remaining { task, handle },
         Call::Batch { task, kind, extension, handles },
+        Call::Release { task, handle },
     ])
 }
 
@@ -94,20 +95,20 @@ const REFUSED: &[(&[u8], u8)] = &[
     (b"0@", 16),
     (b"0`", 16),
     (b"FFFFG", 16),
-    (b"060002000004G0", 16),
+    (b"060003000004G0", 16),
     (b"", 17),
     (b"00", 17),
-    (b"0D", 17),
+    (b"0E", 17),
     (b"FF", 17),
-    (b"0D00", 17),
+    (b"0E00", 17),
     (b"FF0000", 17),
     (b"01", 18),
     (b"06", 18),
     (b"010000", 18),
     (b"0600000004", 18),
-    (b"0600020004", 18),
-    (b"06000200000400", 18),
-    (b"07000200000001", 18),
+    (b"0600030004", 18),
+    (b"06000300000400", 18),
+    (b"07000300000001", 18),
     (b"0800000001", 18),
     (b"090000000001", 18),
     (b"0A00", 18),
@@ -118,17 +119,21 @@ const REFUSED: &[(&[u8], u8)] = &[
     (b"0C", 18),
     (b"0C00", 18),
     (b"0C0000", 18),
-    (b"0C0002", 18),
+    (b"0C0003", 18),
     (b"0C00000000", 18),
-    (b"0C0002000000", 18),
-    (b"0C000200000001", 18),
+    (b"0C0003000000", 18),
+    (b"0C000300000001", 18),
     (b"0C0000000000000100", 18),
+    (b"0D", 18),
+    (b"0D00", 18),
+    (b"0D00000001", 18),
+    (b"0D000000000100", 18),
     (b"0C000000000000010000000G", 16),
-    (b"060002000004", 19),
+    (b"060003000004", 19),
     (b"06FF80FF9C40", 19),
     (b"0700FF0000000001", 19),
-    (b"0C000200", 19),
-    (b"0CFF02FF", 19),
+    (b"0C000300", 19),
+    (b"0CFF03FF", 19),
     (b"0C00FF0000000001", 19),
 ];
 
@@ -140,6 +145,9 @@ fn arguments_out_of_range_are_calls() {
     assert_eq!(decode(b"06FF01FF9C40", &mut room), Ok(make));
     assert_eq!(decode(b"080000000000", &mut room), Ok(Call::Read { task: 0, handle: 0 }));
     assert_eq!(decode(b"0BFFFFFFFFFE", &mut room), Ok(Call::Remaining { task: 255, handle: u32::MAX - 1 }));
+    assert_eq!(decode(b"0DFFFFFFFFFE", &mut room), Ok(Call::Release { task: 255, handle: u32::MAX - 1 }));
+    let refresh = Call::Refresh { task: 255, kind: Kind::Pinned, extension: 255, handle: 0 };
+    assert_eq!(decode(b"07FF02FF00000000", &mut room), Ok(refresh));
     let handles = packed(&[0, u32::MAX - 1, 0x0102_0304]);
     let batch = Call::Batch { task: 255, kind: Kind::Global, extension: 255, handles: Handles(&handles) };
     assert_eq!(decode(b"0CFF01FF00000000FFFFFFFE01020304", &mut room), Ok(batch));
@@ -160,8 +168,8 @@ fn batches_of_any_size() {
             let refusal = decode(&[&line, more].concat(), &mut room);
             assert_eq!(refusal, Err(Refusal::WrongFrameLength), "{count}");
         }
-        line[5] = b'2';
-        assert_eq!(decode(&line, &mut room), Err(Refusal::KindAbove1), "{count}");
+        line[5] = b'3';
+        assert_eq!(decode(&line, &mut room), Err(Refusal::KindAbove2), "{count}");
     }
 }
 
@@ -178,7 +186,7 @@ fn every_character() {
 #[test]
 fn answers() {
     let figures = Figures { small: 64, large: 32, expirations: 256, given: 0x0102_0304 };
-    let rows: [(Answer, &[u8]); 9] = [
+    let rows: [(Answer, &[u8]); 11] = [
         (Ok(Accepted::Done), b"00\n"),
         (Ok(Accepted::Advanced(false)), b"0000\n"),
         (Ok(Accepted::Advanced(true)), b"0001\n"),
@@ -186,8 +194,10 @@ fn answers() {
         (Ok(Accepted::Bytes(&[0xA5, 0x0F])), b"00A50F\n"),
         (Ok(Accepted::Report(figures)), b"004020010001020304\n"),
         (Ok(Accepted::Remaining(Lifetime { local: 31, global: 32 })), b"001F20\n"),
-        (Err(Refusal::KindAbove1), b"13\n"),
+        (Err(Refusal::KindAbove2), b"13\n"),
         (Err(Refusal::BatchOutOfRange), b"14\n"),
+        (Err(Refusal::OnlyMakePins), b"15\n"),
+        (Err(Refusal::NotPinned), b"16\n"),
     ];
     for (answer, expected) in rows {
         let mut line = Vec::new();

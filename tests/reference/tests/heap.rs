@@ -23,10 +23,13 @@ fn random_call(random: &mut Random, given: usize, haste: usize) -> Call<'static>
     if random.below(100) < haste {
         return Call::Tick { task };
     }
-    let kind = random_kind(random);
-    let extension = random.pick(&[0, 1, 2, 5, 29, 30, 30, 31]);
+    let kind = if random.one_in(8) { Kind::Pinned } else { random_kind(random) };
+    let extension = match kind {
+        Kind::Pinned => random.pick(&[0, 0, 0, 1]),
+        _ => random.pick(&[0, 1, 2, 5, 29, 30, 30, 31]),
+    };
     let handle = random.below(given + 2) as u32;
-    match random.below(22) {
+    match random.below(24) {
         0 | 1 => Call::Join { task },
         2 => Call::Leave { task },
         3 => Call::Block { task },
@@ -34,7 +37,8 @@ fn random_call(random: &mut Random, given: usize, haste: usize) -> Call<'static>
         6..=8 => Call::Make { task, kind, extension, length: random.pick(&[0, 1, 8, 32, 33, 256, 257]) },
         9..=11 => Call::Refresh { task, kind, extension, handle },
         12..=15 => Call::Read { task, handle },
-        16 | 17 => {
+        16 | 17 => Call::Release { task, handle },
+        18 | 19 => {
             let count = random.pick(&[0, 1, 2, 3, 32, 33]);
             let handles: Vec<_> = (0..count).map(|_| random.below(given + 2) as u32).collect();
             Call::Batch { task, kind, extension, handles: kept(&handles) }
@@ -139,6 +143,14 @@ fn the_heap_keeps_for_ever() {
     assert_eq!(heap.call(&batch(kept(&[1, 300, 1]))), Ok(Accepted::Done));
     assert_eq!(heap.call(&batch(kept(&[1, 301]))), Err(Refusal::HandleNotGiven));
     assert_eq!(heap.call(&batch(kept(&[1; 33]))), Err(Refusal::BatchOutOfRange));
+    let release = Call::Release { task, handle: 301 };
+    assert_eq!(heap.call(&release), Err(Refusal::HandleNotGiven));
+    let pinned = Call::Make { task, kind: Kind::Pinned, extension: 0, length: 3 };
+    assert_eq!(heap.call(&pinned), Ok(Accepted::Handle(301)));
+    assert_eq!(heap.call(&release), Ok(Accepted::Done));
+    assert_eq!(heap.call(&Call::Read { task, handle: 301 }), Ok(Accepted::Bytes(&[0; 3])));
+    assert_eq!(heap.call(&release), Err(Refusal::NotPinned));
+    assert_eq!(heap.call(&Call::Release { task, handle: 1 }), Err(Refusal::NotPinned));
 }
 
 /// Reports and the remaining life: they are no use.
@@ -189,6 +201,26 @@ fn a_setter_that_waits_comes_back_in_time() {
     assert_eq!(check(&list(&[block, tick, leave, tick, join, read])), None);
     assert_eq!(check(&list(&[block, tick, leave, tick, tick, join, read])), Some(9));
     assert_eq!(check(&list(&[leave, join, block, tick, tick, resume, read])), Some(9));
+}
+
+/// Its object must stand, also where the heap refuses it with 22. A release that it refuses otherwise is left aside, and so
+/// is what would pin and does not.
+#[test]
+fn a_release_is_a_use() {
+    let (task, handle) = (0, 1);
+    let make = |kind| Call::Make { task, kind, extension: 0, length: 4 };
+    let (join, tick, release) = (Call::Join { task }, Call::Tick { task }, Call::Release { task, handle });
+    let refresh = |kind| Call::Refresh { task, kind, extension: 0, handle };
+    let list = |kind, then: &[Call<'static>]| [&[join, make(kind)][..], then].concat();
+    assert_eq!(check(&list(Kind::Pinned, &[tick, tick, tick, release])), None);
+    assert_eq!(check(&list(Kind::Pinned, &[release, release])), Some(3));
+    assert_eq!(check(&list(Kind::Pinned, &[refresh(Kind::Local), release, release, release])), None);
+    assert_eq!(check(&list(Kind::Pinned, &[refresh(Kind::Local), release, tick, release])), Some(5));
+    assert_eq!(check(&list(Kind::Local, &[release, release])), None);
+    assert_eq!(check(&list(Kind::Local, &[release, tick, release])), Some(4));
+    assert_eq!(check(&list(Kind::Local, &[tick, refresh(Kind::Pinned)])), None);
+    let never = Call::Release { task, handle: 2 };
+    assert_eq!(check(&list(Kind::Local, &[tick, never, Call::Release { task: 1, handle }])), None);
 }
 
 #[test]

@@ -11,7 +11,7 @@ use Rattle.calls.proofs.batch.Tie as tie
 -- the plan, by what stands
 planned : (p : tie.After-plan-batch)
     → let a = p .before .before .before .before .args in
-    PlansBatch (a .task) (a .extension) (handlesOf (a .bytes .now)) (a .h) (a .handles .now) (standingOf (a .clocks .now)) (p .plan-batch .result)
+    PlansBatch (a .task) (a .kind) (a .extension) (handlesOf (a .bytes .now)) (a .h) (a .handles .now) (standingOf (a .clocks .now)) (p .plan-batch .result)
 planned p = rw (← p .before .standing .ensures) (p .plan-batch .ensures)
 
 returns : tie.Need-returns

@@ -1,4 +1,4 @@
--- One of the ten, report, or remaining life.
+-- One of the eleven, report, or remaining life.
 use mathlib.Core.Path.{ap, _∙_}
 use borrow.Author.Needs.{needs}
 use Rattle.ledger.specs.declared.Answer.the-variants.{Counted}

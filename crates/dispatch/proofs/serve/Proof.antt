@@ -4,7 +4,7 @@ use borrow.Author.Needs.{needs}
 use Rattle.ledger.specs.declared.Request.the-variants.{Use}
 use Rattle.record.proofs.Types.{head-typed}
 use Rattle.calls.proofs.Lent.{lent-fits}
-use Rattle.dispatch.proofs.Arms.{ready-for, schedule-arm, refresh-arm, make-arm, read-arm, write-arm, batch-arm}
+use Rattle.dispatch.proofs.Arms.{ready-for, schedule-arm, refresh-arm, make-arm, read-arm, write-arm, batch-arm, release-arm}
 use Rattle.dispatch.proofs.serve.Statement.{statement}
 use Rattle.dispatch.proofs.serve.Tie as tie
 
@@ -72,6 +72,17 @@ returns-6 c =
     let s = start (told .before .before) in
     batch-arm _ (s .pre .0) (s .pre .1) (told .call6 .given .1) (c .before .before .batch .ensures) (c .without-bytes5 .ensures)
 
+release-requires : tie.Need-release-requires
+release-requires c κs =
+    let s = start (c .before .before .before .before .before .before .before .before) in
+    (s .pre .0, s .pre .1 .fit)
+
+returns-7 : tie.Need-returns-7
+returns-7 c =
+    let told = c .before .before .before .before .before .before .before .before .before in
+    let s = start (told .before .before) in
+    release-arm _ (s .pre .0) (s .pre .1) (told .call7 .given .1) (c .before .before .release .ensures) (c .without-bytes6 .ensures)
+
 pub serve-spec : {M : Type 1} → statement M
 serve-spec =
     tie.close
@@ -94,6 +105,9 @@ serve-spec =
     (λ c. search needs)
     batch-requires
     (λ c κs. search needs)
+    (λ c. search needs)
+    release-requires
+    (λ c κs. search needs)
     returns
     (λ c. search needs)
     (λ c. search needs)
@@ -103,4 +117,5 @@ serve-spec =
     (λ c. search needs)
     (λ c. search needs)
     returns-5
-    returns-6)
+    returns-6
+    returns-7)

@@ -9,7 +9,7 @@ use Rattle.lists.specs.Tables.{allFrom}
 use Rattle.ledger.specs.Tasks.{allTicked}
 use Rattle.record.specs.Codes.{taskOf}
 use Rattle.record.specs.Tables.{blocksOf, entriesOf, lent}
-use Rattle.record.specs.WellFormed.{isFitTask, isDistinct, isWellFormed}
+use Rattle.record.specs.WellFormed.{isFitTask, isDistinct, isPinnedOnce, isWellFormed}
 use Rattle.fitness.specs.Checks.{isCoded, isTimely, isFitBlockIn}
 use Rattle.fitness.proofs.Alone.{coded-times, names-by}
 use Rattle.fitness.proofs.Whole.{unfit-tasks, all-have-ticked, not-coded, not-timely, by-blocks}
@@ -63,29 +63,34 @@ returns-4 c =
     (timely (c .before) (not-true (c .before .all-timely .result) (c .if4 .taken)))
 
 -- past all tests of expirations, by the flags of the blocks that they name
-by-flags : (c : tie.After-marks)
-    → let s = c .before .before .before .before .before .before .before .before .before .before .before in
+by-flags : (c : tie.After-flags-of)
+    → let s = c .before .before .before .before .before .before .before .before .before .before in
     isWellFormed (lent (s .args .h) (s .args .handles .now) (s .args .lengths .now) (s .args .clocks .now) (s .args .named .now) (s .args .dues .now))
-    ≡ (allFrom 0 (isFitBlockIn (s .args .h .given) (c .marks .result)) (blocksOf (s .args .handles .now) (s .args .lengths .now)) && isDistinct (s .args .handles .now))
+    ≡ (allFrom 0 (isFitBlockIn (s .args .h .given) (c .flags-of .result)) (blocksOf (s .args .handles .now) (s .args .lengths .now)) && isDistinct (s .args .handles .now)
+    && isPinnedOnce (entriesOf (s .args .clocks .now) (s .args .named .now) (s .args .dues .now)))
 by-flags c =
-    let four = c .before .before in
+    let four = c .before in
     let three = four .before .before in
     let two = three .before .before in
     let s = two .before .before .before .before .before in
     by-blocks (s .args .h) (s .pre) (fit (two .before .before)) (unticked two) (coded three)
     (timely (four .before) (not-false (four .before .all-timely .result) (four .if4 .left)))
-    (names-by (s .pre .entries) (coded three) (c .before .slots .ensures) (c .marks .ensures))
+    (names-by (s .pre .entries) (coded three) (c .flags-of .ensures))
 
 returns-5 : tie.Need-returns-5
 returns-5 c =
     let blocks = c .before .check-blocks in
     sym (by-flags (c .before .before .before) ∙ rw (sym (blocks .ensures) ∙ not-true (blocks .result) (c .if5 .taken)))
 
+-- and last by handles and pins
 returns-6 : tie.Need-returns-6
 returns-6 c =
-    let five = c .before .before in
+    let apart = c .before in
+    let five = apart .before .before in
     let blocks = five .before .check-blocks in
-    c .distinct .ensures ∙ sym (by-flags (five .before .before .before) ∙ rw (sym (blocks .ensures) ∙ not-false (blocks .result) (five .if5 .left)))
+    let s = five .before .before .before .before .before .before .before .before .before .before .before .before .before in
+    rw (apart .distinct .ensures, c .pinned-once .ensures .so (s .args .dues .now) (s .pre .entries .of-dues))
+    (sym (by-flags (five .before .before .before) ∙ rw (sym (blocks .ensures) ∙ not-false (blocks .result) (five .if5 .left))))
 
 pub is-well-formed-spec : {M : Type 1} → statement M
 is-well-formed-spec =
@@ -102,7 +107,7 @@ is-well-formed-spec =
     (λ c κs. search needs)
     (λ c κs. search needs)
     (λ c κs. search needs)
-    (λ c κs. search needs)
     returns-5
+    (λ c κs. search needs)
     (λ c κs. search needs)
     returns-6)

@@ -3,12 +3,12 @@
 use host_tests::reading::figures;
 use plain::limits::EXPIRATIONS;
 use plain::limits::TASKS;
-use plain::record::{Pool, DEPARTED, FREE, GLOBAL, LOCAL, WAITING};
+use plain::record::{Pool, DEPARTED, FREE, GLOBAL, LOCAL, PINNED, WAITING};
 use reference::call::{Accepted, Answer, Call};
 
-/// The operations, and the refusals by number, 0 to 20.
-const OPERATIONS: usize = 12;
-const NUMBERS: usize = 21;
+/// The operations, and the refusals by number, 0 to 22.
+const OPERATIONS: usize = 13;
+pub const NUMBERS: usize = 23;
 
 #[derive(Default)]
 pub struct Census {
@@ -29,6 +29,9 @@ pub struct Census {
     pub put_off: usize,
     pub put_off_across: usize,
     pub most_departed: usize,
+    /// The most that stood pinned, and times that global time went round meanwhile.
+    pub most_pinned: usize,
+    pub pinned_wraps: usize,
     pub most: (u8, u8, u16),
 }
 
@@ -54,8 +57,9 @@ impl Census {
         let figures = figures(pool);
         let (small, large, expirations) = self.most;
         self.most = (small.max(figures.small), large.max(figures.large), expirations.max(figures.expirations));
-        let departed = pool.clocks.iter().filter(|&&clock| clock == DEPARTED).count();
-        self.most_departed = self.most_departed.max(departed);
+        let count = |code: u8| pool.clocks.iter().filter(|&&clock| clock == code).count();
+        self.most_departed = self.most_departed.max(count(DEPARTED));
+        self.most_pinned = self.most_pinned.max(count(PINNED));
     }
 
     /// From the record after an advance.
@@ -84,6 +88,8 @@ impl Census {
         self.put_off += other.put_off;
         self.put_off_across += other.put_off_across;
         self.most_departed = self.most_departed.max(other.most_departed);
+        self.most_pinned = self.most_pinned.max(other.most_pinned);
+        self.pinned_wraps += other.pinned_wraps;
         let (small, large, expirations) = self.most;
         self.most = (small.max(other.most.0), large.max(other.most.1), expirations.max(other.most.2));
     }
@@ -94,6 +100,8 @@ impl Census {
         println!("refused, by number, {:?}", self.refused);
         println!("of remaining {:?}", self.refused_by[10]);
         println!("of batches {:?}", self.refused_by[11]);
+        println!("of releases {:?}", self.refused_by[12]);
+        println!("most pinned {}, wraps of global time meanwhile {}", self.most_pinned, self.pinned_wraps);
         println!("wraps of clocks {}, of global time {}", self.clock_wraps, self.global_wraps);
         println!("remaining asked across them {}, batches {}", self.remaining_across, self.batches_across);
         println!("advances that put off {}, across them {}", self.put_off, self.put_off_across);
@@ -105,7 +113,7 @@ impl Census {
 pub fn is_due_across(pool: &Pool, handle: u32) -> bool {
     (0..EXPIRATIONS).any(|i| {
         let now = match pool.clocks[i] {
-            FREE => return false,
+            FREE | PINNED => return false,
             GLOBAL.. => pool.global,
             clock => pool.tasks[usize::from(clock - LOCAL)].clock,
         };

@@ -4,10 +4,12 @@ mod handles;
 
 pub use handles::spread;
 
+use core::mem::replace;
+
 use crate::limits::{
     BLOCKS, GLOBAL_EXTRA, LARGE_SIZE, LOCAL_EXTRA, LONGEST_EXTENSION, SMALL_BLOCKS, SMALL_SIZE, TASKS,
 };
-use crate::record::{Pool, TaskEntry, ABSENT, DEPARTED, FREE, GLOBAL, GROUP, LOCAL, RUNNING, WAITING};
+use crate::record::{Pool, TaskEntry, ABSENT, DEPARTED, FREE, GLOBAL, GROUP, LOCAL, PINNED, RUNNING, WAITING};
 
 /// For each number that a byte can be, whether an expiration in use names it as its block: not 0 if so.
 type Named = [u8; 256];
@@ -35,11 +37,12 @@ fn fit_tasks(tasks: &[TaskEntry; TASKS]) -> bool {
     pending | !ticked
 }
 
-/// Each expiration lies ahead of a clock that goes on, and its setter is there or departed. The blocks are only noted here, so that one comparison
-/// tells both that each named block is in use and that each block in use is named.
+/// Each expiration lies ahead of a clock that goes on, and its setter is there or departed; or it is pinned, and no other
+/// pinned one names its block. The blocks are only noted here, so that one comparison tells both that each named block is
+/// in use and that each block in use is named.
 #[inline(never)] // In one piece with the others it takes some 450 instructions more.
 fn fit_expirations(pool: &Pool, named: &mut Named) -> bool {
-    let spans = Spans::of(pool);
+    let (spans, mut pinned) = (Spans::of(pool), [false; 256]);
     let groups = pool.clocks.as_chunks::<GROUP>().0.iter();
     let groups = groups.zip(pool.named.as_chunks::<GROUP>().0).zip(pool.dues.as_chunks::<GROUP>().0);
     for ((clocks, blocks), dues) in groups {
@@ -52,11 +55,21 @@ fn fit_expirations(pool: &Pool, named: &mut Named) -> bool {
             }
             named[usize::from(blocks[i])] |= clocks[i];
         }
+        let pins = clocks.iter().fold(false, |some, &clock| some | (clock == PINNED));
+        if pins && !are_pinned_once(clocks, blocks, &mut pinned) {
+            return false;
+        }
     }
     true
 }
 
-/// When the expirations of a clock may be due: so many units from the first on.
+/// No block of these is pinned twice, with those that were met before. Few groups have one that is.
+fn are_pinned_once(clocks: &[u8; GROUP], blocks: &[u8; GROUP], pinned: &mut [bool; 256]) -> bool {
+    let mut blocks = clocks.iter().zip(blocks).filter(|(&clock, _)| clock == PINNED);
+    blocks.all(|(_, &block)| !replace(&mut pinned[usize::from(block)], true))
+}
+
+/// When the expirations of a clock may be due: so many units from the first on. What is pinned has the one number 0.
 struct Spans {
     first: [u32; 256],
     units: [u64; 256],
@@ -74,6 +87,7 @@ impl Spans {
             spans.units[clock] *= is_there;
             spans.units[clock + usize::from(GLOBAL - LOCAL)] *= is_there;
         }
+        spans.first[usize::from(PINNED)] = 0;
         spans
     }
 
@@ -127,5 +141,6 @@ const fn units() -> [u64; 256] {
         task += 1;
     }
     units[DEPARTED as usize] = LONGEST_EXTENSION as u64 + GLOBAL_EXTRA as u64;
+    units[PINNED as usize] = 1;
     units
 }

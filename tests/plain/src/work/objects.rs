@@ -3,13 +3,14 @@
 use core::ops::Range;
 
 use crate::limits::{
-    BLOCKS, EXPIRATIONS, GLOBAL_EXTRA, LARGEST_BATCH, LARGE_SIZE, LARGE_STORE, LOCAL_EXTRA, LONGEST_EXTENSION,
+    BLOCKS, EXPIRATIONS, GLOBAL_EXTRA, LARGEST_BATCH, LARGE_SIZE, LARGE_STORE, LOCAL_EXTRA, LONGEST_EXTENSION, PINNING,
     SMALL_BLOCKS, SMALL_SIZE, SMALL_STORE,
 };
-use crate::record::{Pool, ABSENT, FREE, GLOBAL, GROUP, LOCAL, WAITING};
+use crate::record::{is_global, Pool, ABSENT, FREE, GLOBAL, GROUP, LOCAL, PINNED, WAITING};
 use crate::refusals::{
-    BATCH_OUT_OF_RANGE, EXTENSION_TOO_LONG, HANDLES_SPENT, HANDLE_NOT_GIVEN, LENGTH_OUT_OF_RANGE, NO_FREE_BLOCK,
-    NO_FREE_EXPIRATION, NO_SUCH_TASK, OBJECT_GONE, OUTSIDE_OBJECT, TASK_ABSENT, TASK_WAITING, WRONG_STORE_LENGTH,
+    BATCH_OUT_OF_RANGE, EXTENSION_TOO_LONG, HANDLES_SPENT, HANDLE_NOT_GIVEN, LENGTH_OUT_OF_RANGE, NOT_PINNED,
+    NO_FREE_BLOCK, NO_FREE_EXPIRATION, NO_SUCH_TASK, OBJECT_GONE, ONLY_MAKE_PINS, OUTSIDE_OBJECT, TASK_ABSENT,
+    TASK_WAITING, WRONG_STORE_LENGTH,
 };
 
 const SHORTEST_LARGE: usize = SMALL_SIZE + 1;
@@ -23,7 +24,7 @@ pub struct Figures {
     pub given: u32,
 }
 
-/// The handle of a new object, in the first free block of its store. The kind is 0 or 1.
+/// The handle of a new object, in the first free block of its store. The kind is 0, 1 or 2.
 pub fn make(
     pool: &mut Pool,
     small: &mut [u8],
@@ -32,7 +33,7 @@ pub fn make(
 ) -> Result<u32, u8> {
     check_stores(small, large)?;
     let clock = running(pool, task)?;
-    check_extension(extension)?;
+    check_extension(kind, extension)?;
     let (first, end) = match usize::from(length) {
         1..=SMALL_SIZE => (0, SMALL_BLOCKS),
         SHORTEST_LARGE..=LARGE_SIZE => (SMALL_BLOCKS, BLOCKS),
@@ -56,7 +57,8 @@ pub fn make(
 
 pub fn refresh(pool: &mut Pool, (task, kind, extension): (u8, u8, u8), handle: u32) -> Result<(), u8> {
     let clock = running(pool, task)?;
-    check_extension(extension)?;
+    check_refreshing(kind)?;
+    check_extension(kind, extension)?;
     let block = find(pool, handle)?;
     set(pool, clock, (task, kind, extension), block)
 }
@@ -68,7 +70,8 @@ pub fn refresh_all(pool: &mut Pool, (task, kind, extension): (u8, u8, u8), handl
     if count == 0 || count > LARGEST_BATCH {
         return Err(BATCH_OUT_OF_RANGE);
     }
-    check_extension(extension)?;
+    check_refreshing(kind)?;
+    check_extension(kind, extension)?;
     let (mut blocks, mut entries) = ([0; LARGEST_BATCH], [0; LARGEST_BATCH]);
     find_all(pool, handles, &mut blocks)?;
     find_free(&pool.clocks, &mut entries[..count])?;
@@ -76,6 +79,29 @@ pub fn refresh_all(pool: &mut Pool, (task, kind, extension): (u8, u8, u8), handl
     for (&entry, &block) in entries[..count].iter().zip(&blocks) {
         let entry = usize::from(entry);
         (pool.clocks[entry], pool.named[entry], pool.dues[entry]) = (goes_by, block, due);
+    }
+    Ok(())
+}
+
+/// Ends what pins an object. Its block is free where no other expiration names it.
+pub fn release(pool: &mut Pool, task: u8, handle: u32) -> Result<(), u8> {
+    running(pool, task)?;
+    let block = find(pool, handle)?;
+    let (mut pin, mut others) = (EXPIRATIONS, false);
+    let groups = pool.clocks.as_chunks::<GROUP>().0.iter().zip(pool.named.as_chunks::<GROUP>().0);
+    for (group, (clocks, blocks)) in groups.enumerate() {
+        if !is_on_some(clocks, blocks, block as u8) {
+            continue;
+        }
+        for i in 0..GROUP {
+            let is_on = (clocks[i] != FREE) & (blocks[i] == block as u8);
+            pin = if is_on & (clocks[i] == PINNED) { group * GROUP + i } else { pin };
+            others |= is_on & (clocks[i] != PINNED);
+        }
+    }
+    *pool.clocks.get_mut(pin).ok_or(NOT_PINNED)? = FREE;
+    if !others {
+        pool.handles[block] = 0;
     }
     Ok(())
 }
@@ -135,8 +161,7 @@ pub fn remaining(pool: &Pool, task: u8, handle: u32) -> Result<Lifetime, u8> {
     let groups = pool.clocks.as_chunks::<GROUP>().0.iter();
     let groups = groups.zip(pool.named.as_chunks::<GROUP>().0).zip(pool.dues.as_chunks::<GROUP>().0);
     for ((clocks, blocks), dues) in groups {
-        let is_on = |(&clock, &other): (&u8, &u8)| (clock != FREE) & (other == block);
-        if !clocks.iter().zip(blocks).fold(false, |has, entry| has | is_on(entry)) {
+        if !is_on_some(clocks, blocks, block) {
             continue;
         }
         for i in 0..GROUP {
@@ -144,7 +169,7 @@ pub fn remaining(pool: &Pool, task: u8, handle: u32) -> Result<Lifetime, u8> {
                 u8::from(counts & (blocks[i] == block)) * (dues[i] as u8).wrapping_sub(now as u8)
             };
             most.local = most.local.max(units(clocks[i] == LOCAL + task, clock));
-            most.global = most.global.max(units(clocks[i] >= GLOBAL, pool.global));
+            most.global = most.global.max(units(is_global(clocks[i]), pool.global));
         }
     }
     Ok(most)
@@ -170,10 +195,19 @@ fn running(pool: &Pool, task: u8) -> Result<u32, u8> {
     }
 }
 
-/// 6.
-fn check_extension(extension: u8) -> Result<(), u8> {
-    if extension > LONGEST_EXTENSION {
+/// 6: what is pinned has no extension.
+fn check_extension(kind: u8, extension: u8) -> Result<(), u8> {
+    let longest = if kind == PINNING { 0 } else { LONGEST_EXTENSION };
+    if extension > longest {
         return Err(EXTENSION_TOO_LONG);
+    }
+    Ok(())
+}
+
+/// 21.
+fn check_refreshing(kind: u8) -> Result<(), u8> {
+    if kind == PINNING {
+        return Err(ONLY_MAKE_PINS);
     }
     Ok(())
 }
@@ -237,8 +271,15 @@ fn set(pool: &mut Pool, clock: u32, with: (u8, u8, u8), block: usize) -> Result<
 fn due_after(pool: &Pool, clock: u32, (task, kind, extension): (u8, u8, u8)) -> (u8, u32) {
     match kind {
         0 => (LOCAL + task, clock.wrapping_add(u32::from(extension) + LOCAL_EXTRA)),
+        PINNING => (PINNED, 0),
         _ => (GLOBAL + task, pool.global.wrapping_add(u32::from(extension) + GLOBAL_EXTRA)),
     }
+}
+
+/// Whether an expiration of a group is on the object of this block. All are asked at once.
+fn is_on_some(clocks: &[u8; GROUP], blocks: &[u8; GROUP], block: u8) -> bool {
+    let is_on = |(&clock, &other): (&u8, &u8)| (clock != FREE) & (other == block);
+    clocks.iter().zip(blocks).fold(false, |some, entry| some | is_on(entry))
 }
 
 /// Where an entry stands first. A group of them is asked at once, and then the group that has it one by one. Each table

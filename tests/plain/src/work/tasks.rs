@@ -1,7 +1,9 @@
 //! The calls on tasks, the advance test, and the expirations that they put off and end.
 
 use crate::limits::TASKS;
-use crate::record::{Pool, TaskEntry, ABSENT, ABSENT_TASK, DEPARTED, FREE, GLOBAL, GROUP, LOCAL, RUNNING, WAITING};
+use crate::record::{
+    is_global, Pool, TaskEntry, ABSENT, ABSENT_TASK, DEPARTED, FREE, GLOBAL, GROUP, LOCAL, RUNNING, WAITING,
+};
 use crate::refusals::{NO_SUCH_TASK, TASK_ABSENT, TASK_PRESENT, TASK_RUNNING, TASK_WAITING};
 
 pub fn join(pool: &mut Pool, task: u8) -> Result<(), u8> {
@@ -75,7 +77,7 @@ fn settle(pool: &mut Pool, mut ended: bool) -> bool {
         pool.global = now;
         pool.tasks.iter_mut().for_each(|task| task.ticked = 0);
         put_off(pool);
-        ended |= end(pool, |clock, due| (clock >= GLOBAL) & (due == now));
+        ended |= end(pool, |clock, due| is_global(clock) & (due == now));
     }
     if ended {
         free_blocks(pool);

@@ -32,15 +32,17 @@ pub fn asked(call: &Call) -> String {
             };
             format!("task {task}, refresh of {objects}, {}", kind_words(kind, extension))
         }
+        Call::Release { task, handle } => format!("task {task}, release of object {handle}"),
     }
 }
 
 fn kind_words(kind: Kind, extension: u8) -> String {
-    let kind = match kind {
-        Kind::Local => "local",
-        Kind::Global => "global",
-    };
-    format!("{kind} with extension {extension}")
+    match (kind, extension) {
+        (Kind::Local, _) => format!("local with extension {extension}"),
+        (Kind::Global, _) => format!("global with extension {extension}"),
+        (Kind::Pinned, 0) => "pinned".into(),
+        (Kind::Pinned, _) => format!("pinned with extension {extension}"),
+    }
 }
 
 /// What it is told, from the ledger after it.
@@ -66,6 +68,10 @@ pub fn told(watch: &Watch, call: &Call, change: &Change) -> String {
         Call::Batch { task, kind, extension, .. } => {
             format!("one expiration more for each, until {}", due(watch.expiration(task, kind, extension)))
         }
+        Call::Release { handle, .. } => match watch.trail.count(handle) {
+            0 => format!("it is pinned no longer{}", gone(&change.gone)),
+            count => format!("it is pinned no longer; it has {}", counted(count, "expiration")),
+        },
     }
 }
 

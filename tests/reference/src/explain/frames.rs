@@ -4,7 +4,7 @@ use crate::call::Refusal;
 use crate::explain::phrases::{counted, shown_line};
 
 /// By operation, from 01 on: its name and its frame's size.
-const OPERATIONS: [(&str, &str); 12] = [
+const OPERATIONS: [(&str, &str); 13] = [
     ("join", "2 bytes"),
     ("leave", "2 bytes"),
     ("block", "2 bytes"),
@@ -17,6 +17,7 @@ const OPERATIONS: [(&str, &str); 12] = [
     ("report", "1 byte"),
     ("remaining life", "6 bytes"),
     ("batch", "4 bytes and 4 for each object"),
+    ("release", "6 bytes"),
 ];
 
 /// The place of the kind in a frame that has one.
@@ -29,7 +30,7 @@ pub fn refused(line: &[u8], refusal: Refusal) -> String {
         Refusal::UnknownOperation if line.is_empty() => "an empty line has no operation".into(),
         Refusal::UnknownOperation => format!("operations are 01 to {:02X}", OPERATIONS.len()),
         Refusal::WrongFrameLength => wrong_size(line),
-        _ => format!("kind {:02X} is neither 00, local, nor 01, global", byte(line, KIND)),
+        _ => format!("kind {:02X} is none of 00, local, 01, global, and 02, pinned", byte(line, KIND)),
     };
     format!("frame {}: {reason}", shown_line(line))
 }

@@ -48,11 +48,12 @@ pub fn shown_line(line: &[u8]) -> String {
     format!("\"{}{more}\"", line[..line.len().min(SHOWN)].escape_ascii())
 }
 
-/// When an expiration is due.
+/// Until when an expiration stands.
 pub fn due(expiration: Expiration) -> String {
     match expiration {
         Expiration::Local { setter, due } => format!("local time {due} of task {setter}"),
         Expiration::Global { due, .. } => format!("global time {due}"),
+        Expiration::Pinned => "its release".into(),
     }
 }
 

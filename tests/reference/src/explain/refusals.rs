@@ -1,6 +1,6 @@
 //! Why a call is refused, and what would have been needed, in words.
 
-use crate::call::{Call, Refusal};
+use crate::call::{Call, Kind, Refusal};
 use crate::explain::answers::store_name;
 use crate::explain::phrases::{counted, listed};
 use crate::explain::trail::Set;
@@ -16,7 +16,7 @@ pub fn reason(watch: &Watch, call: &Call, refusal: Refusal) -> String {
         Refusal::TaskAbsent => format!("{}; it has to join first", state(watch, call)),
         Refusal::TaskWaiting => format!("{}; it has to resume first", state(watch, call)),
         Refusal::TaskRunning => format!("{}; only a waiting task can resume", state(watch, call)),
-        Refusal::ExtensionAbove30 => format!("an extension is at most {LONGEST_EXTENSION}"),
+        Refusal::ExtensionTooLong => too_long(call),
         Refusal::LengthOutOfRange => format!("a length is 1 to {LONGEST}"),
         Refusal::AllHandlesGiven => "all handles are given, and none comes again".into(),
         Refusal::NoFreeBlock => no_block(watch, call),
@@ -25,7 +25,9 @@ pub fn reason(watch: &Watch, call: &Call, refusal: Refusal) -> String {
         Refusal::ObjectGone => gone(watch, call),
         Refusal::RangeAboveLength => past_the_end(watch, call),
         Refusal::BatchOutOfRange => format!("a batch has 1 to {LARGEST_BATCH} objects"),
-        Refusal::NotHexadecimal | Refusal::UnknownOperation | Refusal::WrongFrameLength | Refusal::KindAbove1 => {
+        Refusal::OnlyMakePins => "only a make pins an object".into(),
+        Refusal::NotPinned => not_pinned(watch, call),
+        Refusal::NotHexadecimal | Refusal::UnknownOperation | Refusal::WrongFrameLength | Refusal::KindAbove2 => {
             unreachable!("refusal {} is a frame's", refusal as u8)
         }
     }
@@ -48,7 +50,7 @@ fn task_of(call: &Call) -> Option<u8> {
         Call::Join { task } | Call::Leave { task } | Call::Block { task } | Call::Resume { task } => Some(task),
         Call::Tick { task } | Call::Make { task, .. } | Call::Refresh { task, .. } => Some(task),
         Call::Read { task, .. } | Call::Write { task, .. } => Some(task),
-        Call::Remaining { task, .. } | Call::Batch { task, .. } => Some(task),
+        Call::Remaining { task, .. } | Call::Batch { task, .. } | Call::Release { task, .. } => Some(task),
         Call::Report => None,
     }
 }
@@ -57,9 +59,16 @@ fn task_of(call: &Call) -> Option<u8> {
 fn objects_of(call: &Call) -> Vec<u32> {
     match *call {
         Call::Refresh { handle, .. } | Call::Read { handle, .. } => vec![handle],
-        Call::Write { handle, .. } | Call::Remaining { handle, .. } => vec![handle],
+        Call::Write { handle, .. } | Call::Remaining { handle, .. } | Call::Release { handle, .. } => vec![handle],
         Call::Batch { handles, .. } => handles.iter().collect(),
         _ => Vec::new(),
+    }
+}
+
+fn too_long(call: &Call) -> String {
+    match call {
+        Call::Make { kind: Kind::Pinned, .. } => "what is pinned has extension 0".into(),
+        _ => format!("an extension is at most {LONGEST_EXTENSION}"),
     }
 }
 
@@ -67,7 +76,12 @@ fn no_block(watch: &Watch, call: &Call) -> String {
     let &Call::Make { length, .. } = call else { unreachable!("only a make asks for a block") };
     let (store, figures) = (store_name(length), watch.ledger.figures());
     let objects = if store == "small" { figures.small } else { figures.large };
-    format!("the {store} store is full with {objects} objects; {}", still(watch))
+    let is_there = |&handle: &u32| watch.ledger.length(handle).is_some_and(|length| store_name(length as u16) == store);
+    let pinned = match watch.ledger.pinned().filter(is_there).count() {
+        0 => String::new(),
+        count => format!(", {count} of them pinned"),
+    };
+    format!("the {store} store is full with {objects} objects{pinned}; {}", still(watch))
 }
 
 fn no_expiration(watch: &Watch, call: &Call) -> String {
@@ -108,12 +122,21 @@ fn gone(watch: &Watch, call: &Call) -> String {
 
 /// Who set an expiration and where, and what became of it.
 fn origin(set: &Set) -> String {
+    let set_by = if set.expiration.is_pinned() { "pinned by" } else { "set by" };
     let departed = if set.is_departed() { ", departed," } else { "" };
     let put_off = match set.put_off {
         0 => String::new(),
         count => format!(" and put off by {}", counted(count, "advance")),
     };
-    format!("set by task {}{departed} at line {}{put_off}", set.setter, set.line)
+    format!("{set_by} task {}{departed} at line {}{put_off}", set.setter, set.line)
+}
+
+fn not_pinned(watch: &Watch, call: &Call) -> String {
+    let &Call::Release { handle, .. } = call else { unreachable!("only a release asks for what is pinned") };
+    match watch.trail.released(handle) {
+        None => "it was never pinned".into(),
+        Some(line) => format!("it was released at line {line}"),
+    }
 }
 
 fn past_the_end(watch: &Watch, call: &Call) -> String {

@@ -34,6 +34,7 @@ pub struct Gone {
 pub struct Trail {
     standing: BTreeMap<u32, Vec<Set>>,
     gone: BTreeMap<u32, Gone>,
+    released: BTreeMap<u32, usize>,
 }
 
 impl Trail {
@@ -50,6 +51,11 @@ impl Trail {
     /// Since when an object is gone, and with what.
     pub fn gone(&self, handle: u32) -> Option<Gone> {
         self.gone.get(&handle).copied()
+    }
+
+    /// The line at which an object was released.
+    pub fn released(&self, handle: u32) -> Option<usize> {
+        self.released.get(&handle).copied()
     }
 
     pub fn set(&mut self, handle: u32, set: Set) {
@@ -73,13 +79,19 @@ impl Trail {
         self.standing.iter_mut().filter_map(|(&handle, sets)| some(sets).then_some(handle)).collect()
     }
 
-    /// Ends these expirations at this line. Gives the handles of the objects that go with their last one; where several
+    /// Ends what pins an object at this line. Gives its handle if it goes with it.
+    pub fn release(&mut self, line: usize, handle: u32) -> Vec<u32> {
+        self.released.insert(handle, line);
+        self.end(line, |object, one| object == handle && one.is_pinned())
+    }
+
+    /// Ends these expirations of these objects at this line. Gives the handles of the objects that go with their last one; where several
     /// end together, the one that was set last is the last.
-    pub fn end(&mut self, line: usize, ends: impl Fn(&Expiration) -> bool) -> Vec<u32> {
+    pub fn end(&mut self, line: usize, ends: impl Fn(u32, &Expiration) -> bool) -> Vec<u32> {
         let (mut went, gone) = (Vec::new(), &mut self.gone);
         self.standing.retain(|&handle, sets| {
             let newest = sets.last().copied();
-            sets.retain(|set| !ends(&set.expiration));
+            sets.retain(|set| !ends(handle, &set.expiration));
             if let (true, Some(last)) = (sets.is_empty(), newest) {
                 went.push(handle);
                 gone.insert(handle, Gone { line, last });

@@ -94,8 +94,9 @@ impl Watch {
     fn end_expirations(&mut self, call: &Call) -> Vec<u32> {
         let tasks = self.ledger.tasks();
         match *call {
-            Call::Leave { task } => self.trail.end(self.line, |set| set.is_local_of(task) || set.is_due(tasks)),
-            Call::Block { .. } | Call::Tick { .. } => self.trail.end(self.line, |set| set.is_due(tasks)),
+            Call::Leave { task } => self.trail.end(self.line, |_, one| one.is_local_of(task) || one.is_due(tasks)),
+            Call::Block { .. } | Call::Tick { .. } => self.trail.end(self.line, |_, one| one.is_due(tasks)),
+            Call::Release { handle, .. } => self.trail.release(self.line, handle),
             _ => Vec::new(),
         }
     }

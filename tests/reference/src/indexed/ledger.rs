@@ -1,4 +1,4 @@
-//! The pool's rules and refusals 1 to 13 and 20, by schedules and slots.
+//! The pool's rules and refusals 1 to 13 and 20 to 22, by schedules and slots.
 
 use super::globals::Globals;
 use super::objects::Objects;
@@ -7,7 +7,7 @@ use super::tasks::Tasks;
 use crate::call::{Accepted, Answer, Figures, Handles, Kind, Lifetime, Model, Refusal};
 use crate::expiration::Remaining;
 use crate::ledger::Standing;
-use crate::limits::{check_batch, check_extension, Store, LARGEST_BATCH, MOST_EXPIRATIONS, TASKS};
+use crate::limits::{check_batch, check_extension, check_refreshing, Store, LARGEST_BATCH, MOST_EXPIRATIONS, TASKS};
 use crate::tasks::Task;
 
 #[derive(Clone, Debug)]
@@ -39,7 +39,7 @@ impl Model for Ledger {
     fn leave(&mut self, task: u8) -> Answer<'static> {
         let advanced = self.tasks.leave(task)?;
         for slot in self.local[usize::from(task)].take_all() {
-            self.objects.release(slot);
+            self.objects.let_go(slot);
         }
         self.global.depart(task);
         self.expire_global(advanced)
@@ -58,14 +58,14 @@ impl Model for Ledger {
     fn tick(&mut self, task: u8) -> Answer<'static> {
         let advanced = self.tasks.tick(task)?;
         for slot in self.local[usize::from(task)].take_due(self.tasks.clock(task)) {
-            self.objects.release(slot);
+            self.objects.let_go(slot);
         }
         self.expire_global(advanced)
     }
 
     fn make(&mut self, task: u8, kind: Kind, extension: u8, length: u16) -> Answer<'static> {
         self.tasks.check_running(task)?;
-        check_extension(extension)?;
+        check_extension(kind, extension)?;
         let store = Store::holding(length)?;
         if self.given == u32::MAX {
             return Err(Refusal::AllHandlesGiven);
@@ -82,7 +82,8 @@ impl Model for Ledger {
 
     fn refresh(&mut self, task: u8, kind: Kind, extension: u8, handle: u32) -> Answer<'static> {
         self.tasks.check_running(task)?;
-        check_extension(extension)?;
+        check_refreshing(kind)?;
+        check_extension(kind, extension)?;
         let slot = self.check_standing(handle)?;
         self.check_expirations()?;
         self.set_expiration(slot, task, kind, extension);
@@ -122,7 +123,8 @@ impl Model for Ledger {
     fn batch(&mut self, task: u8, kind: Kind, extension: u8, handles: Handles) -> Answer<'static> {
         self.tasks.check_running(task)?;
         check_batch(handles.count())?;
-        check_extension(extension)?;
+        check_refreshing(kind)?;
+        check_extension(kind, extension)?;
         let (mut slots, mut gone) = ([0; LARGEST_BATCH], false);
         let slots = &mut slots[..handles.count()];
         for (slot, handle) in slots.iter_mut().zip(handles.iter()) {
@@ -141,6 +143,16 @@ impl Model for Ledger {
         for &slot in slots.iter() {
             self.set_expiration(slot, task, kind, extension);
         }
+        Ok(Accepted::Done)
+    }
+
+    fn release(&mut self, task: u8, handle: u32) -> Answer<'static> {
+        self.tasks.check_running(task)?;
+        let slot = self.check_standing(handle)?;
+        if !self.objects.is_pinned(slot) {
+            return Err(Refusal::NotPinned);
+        }
+        self.objects.unpin(slot);
         Ok(Accepted::Done)
     }
 }
@@ -178,13 +190,13 @@ impl Ledger {
     fn expire_global(&mut self, advanced: bool) -> Answer<'static> {
         if advanced {
             for slot in self.global.advance(self.tasks.waiting()) {
-                self.objects.release(slot);
+                self.objects.let_go(slot);
             }
         }
         Ok(Accepted::Advanced(advanced))
     }
 
-    /// A local expiration is due one unit after its extension, a global one two.
+    /// A local expiration is due one unit after its extension, a global one two, and a pinned one never.
     fn set_expiration(&mut self, slot: u8, task: u8, kind: Kind, extension: u8) {
         let extension = u64::from(extension);
         self.objects.hold(slot);
@@ -194,6 +206,7 @@ impl Ledger {
                 self.local[usize::from(task)].set(due, slot);
             }
             Kind::Global => self.global.set(task, extension + 2, slot),
+            Kind::Pinned => self.objects.pin(slot),
         }
     }
 
@@ -217,7 +230,8 @@ impl Ledger {
             let remaining = self.local[usize::from(setter)].remaining(slot, self.tasks.clock(setter));
             remaining.map(move |units| Remaining::Local { setter, units })
         });
-        local.chain(self.global.remaining(slot)).collect()
+        let pinned = self.objects.is_pinned(slot).then_some(Remaining::Pinned);
+        local.chain(self.global.remaining(slot)).chain(pinned).collect()
     }
 }
 

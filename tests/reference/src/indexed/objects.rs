@@ -1,4 +1,4 @@
-//! The standing objects in order of handle, with their bytes and the count of their expirations.
+//! The standing objects in order of handle, with their bytes, the count of their expirations, and whether one of these is pinned.
 
 use crate::limits::{Store, LONGEST};
 
@@ -11,11 +11,12 @@ struct Object {
     length: u16,
     store: Store,
     expirations: u16,
+    pinned: bool,
     bytes: [u8; LONGEST as usize],
 }
 
 const UNUSED: Object =
-    Object { handle: 0, length: 0, store: Store::Small, expirations: 0, bytes: [0; LONGEST as usize] };
+    Object { handle: 0, length: 0, store: Store::Small, expirations: 0, pinned: false, bytes: [0; LONGEST as usize] };
 
 /// An object keeps its slot while it stands. Handles only go up, so `order` is sorted by them.
 #[derive(Clone, Debug)]
@@ -86,8 +87,23 @@ impl Objects {
         self.slots[usize::from(slot)].expirations += 1;
     }
 
+    /// The last one that was set is pinned.
+    pub fn pin(&mut self, slot: u8) {
+        self.slots[usize::from(slot)].pinned = true;
+    }
+
+    pub fn is_pinned(&self, slot: u8) -> bool {
+        self.slots[usize::from(slot)].pinned
+    }
+
+    /// The pinned one less.
+    pub fn unpin(&mut self, slot: u8) {
+        self.slots[usize::from(slot)].pinned = false;
+        self.let_go(slot);
+    }
+
     /// One expiration less; with the last the object is gone.
-    pub fn release(&mut self, slot: u8) {
+    pub fn let_go(&mut self, slot: u8) {
         self.expirations -= 1;
         let object = &mut self.slots[usize::from(slot)];
         object.expirations -= 1;

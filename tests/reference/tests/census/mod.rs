@@ -1,9 +1,11 @@
 //! How often the scripts of the generator meet what.
 
 pub mod batch;
+pub mod pinned;
 pub mod remaining;
 pub mod waiting;
 
+use pinned::Pins;
 use reference::call::{Accepted, Answer, Call, Model, Refusal};
 use reference::frame::decode;
 use reference::ledger::Ledger;
@@ -12,23 +14,24 @@ use waiting::{Before, Setters};
 
 /// Each operation and the refusals that its frames and calls may give, in the order of the tests. The ledger gives neither
 /// 14 nor 15.
-pub const OPERATIONS: [(&str, &[usize]); 12] = [
+pub const OPERATIONS: [(&str, &[usize]); 13] = [
     ("join", &[18, 1, 2]),
     ("leave", &[18, 1, 3]),
     ("block", &[18, 1, 3, 4]),
     ("resume", &[18, 1, 3, 5]),
     ("tick", &[18, 1, 3, 4]),
     ("make", &[18, 19, 1, 3, 4, 6, 7, 8, 9, 10]),
-    ("refresh", &[18, 19, 1, 3, 4, 6, 11, 12, 10]),
+    ("refresh", &[18, 19, 1, 3, 4, 21, 6, 11, 12, 10]),
     ("read", &[18, 1, 3, 4, 11, 12]),
     ("write", &[18, 1, 3, 4, 11, 12, 13]),
     ("report", &[18]),
     ("remaining", &[18, 1, 3, 4, 11, 12]),
-    ("batch", &[18, 19, 1, 3, 4, 20, 6, 11, 12, 10]),
+    ("batch", &[18, 19, 1, 3, 4, 20, 21, 6, 11, 12, 10]),
+    ("release", &[18, 1, 3, 4, 11, 12, 22]),
 ];
 
-/// The refusals are 1 to 20.
-const NUMBERS: usize = 21;
+/// The refusals are 1 to 22.
+const NUMBERS: usize = 23;
 
 #[derive(Default)]
 pub struct Census {
@@ -48,6 +51,7 @@ pub struct Census {
     pub remaining: [usize; remaining::SITUATIONS.len()],
     pub batch: [usize; batch::SITUATIONS.len()],
     pub waiting: [usize; waiting::SITUATIONS.len()],
+    pub pinned: [usize; pinned::SITUATIONS.len()],
 }
 
 impl Census {
@@ -60,18 +64,20 @@ impl Census {
     fn take(&mut self, script: &[u8]) {
         self.longest_output = self.longest_output.max(run(script).len());
         let (mut ledger, mut room) = (Ledger::fresh(), vec![0; script.len()]);
-        let mut setters = Setters::default();
+        let (mut setters, mut pins) = (Setters::default(), Pins::default());
         for line in lines(script) {
             match decode(line, &mut room) {
                 Err(refusal) => self.note_frame(line, refusal),
                 Ok(call) => {
                     batch::note(&mut self.batch, &call, &ledger);
-                    let before = Before::of(&call, &ledger);
+                    let before = (Before::of(&call, &ledger), pins.before(&call, &ledger));
                     let answer = ledger.call(&call);
                     self.note(&call, answer);
-                    if answer.is_ok() {
-                        setters.note(&mut self.waiting, &call, before, &ledger);
+                    let number = answer.err().map_or(0, |refusal| refusal as usize);
+                    if number == 0 {
+                        setters.note(&mut self.waiting, &call, before.0, &ledger);
                     }
+                    pins.note(&mut self.pinned, &call, number, before.1, &ledger);
                     self.note_state(&ledger);
                     remaining::note(&mut self.remaining, &call, &ledger);
                 }
@@ -82,7 +88,7 @@ impl Census {
     /// A frame that is refused with 18 or 19 has a known operation.
     fn note_frame(&mut self, line: &[u8], refusal: Refusal) {
         self.refused[refusal as usize] += 1;
-        if matches!(refusal, Refusal::WrongFrameLength | Refusal::KindAbove1) {
+        if matches!(refusal, Refusal::WrongFrameLength | Refusal::KindAbove2) {
             let operation = str::from_utf8(&line[..2]).ok().and_then(|digits| usize::from_str_radix(digits, 16).ok());
             self.refused_by[operation.expect("two digits") - 1][refusal as usize] += 1;
         }
@@ -134,6 +140,9 @@ impl Census {
         }
         for ((name, _), count) in waiting::SITUATIONS.iter().zip(self.waiting) {
             println!("waiting, {name}: {count}");
+        }
+        for ((name, _), count) in pinned::SITUATIONS.iter().zip(self.pinned) {
+            println!("pinned, {name}: {count}");
         }
     }
 }

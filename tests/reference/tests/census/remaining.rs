@@ -45,6 +45,7 @@ pub fn note(met: &mut [usize; SITUATIONS.len()], call: &Call, ledger: &Ledger) {
             Remaining::Local { setter, units } if setter == task => asked.own.push(units),
             Remaining::Local { units, .. } => asked.others.push(units),
             Remaining::Global { units, .. } => asked.global.push(units),
+            Remaining::Pinned => {}
         }
     }
     for (met, (_, holds)) in met.iter_mut().zip(SITUATIONS) {

@@ -110,6 +110,7 @@ impl Before {
             match remaining {
                 Remaining::Local { setter, .. } => locals.push(setter),
                 Remaining::Global { setter, units } => globals.push((setter, units)),
+                Remaining::Pinned => {}
             }
         }
         Before { global: ledger.tasks().global(), locals, globals, waiting }

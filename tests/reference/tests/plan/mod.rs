@@ -50,6 +50,9 @@ struct Lasting {
     last: usize,
 }
 
+/// The last round of what is pinned.
+const FOR_EVER: usize = usize::MAX;
+
 pub struct Plan {
     random: Random,
     pub list: List,
@@ -98,7 +101,8 @@ impl Plan {
             self.list.extend(ticks.chain(block));
         }
         self.list.push(Call::Resume { task });
-        self.expirations.iter_mut().filter(|one| one.setter == task).for_each(|one| one.last += 1);
+        let put_off = |one: &&mut Lasting| one.setter == task && one.last != FOR_EVER;
+        self.expirations.iter_mut().filter(put_off).for_each(|one| one.last += 1);
         self.next_round();
     }
 
@@ -109,13 +113,15 @@ impl Plan {
     }
 
     fn step(&mut self) {
-        match self.random.below(13) {
+        match self.random.below(16) {
             0..=2 => self.make(),
             3 | 4 => self.refresh(),
             5 | 6 => self.read(),
             7 | 8 => self.write(),
             9 => self.block_and_resume(),
             10 => self.batch(),
+            11 => self.make_pinned(),
+            12 | 13 => self.release(),
             _ => self.left_aside(),
         }
     }
@@ -126,8 +132,11 @@ impl Plan {
 
     /// The last round before an expiration set now: its local clock or global time passes it then.
     fn last(&self, kind: Kind, extension: u8) -> usize {
-        let more = if kind == Kind::Global { 1 } else { 0 };
-        self.round + usize::from(extension) + more
+        match kind {
+            Kind::Local => self.round + usize::from(extension),
+            Kind::Global => self.round + usize::from(extension) + 1,
+            Kind::Pinned => FOR_EVER,
+        }
     }
 
     fn set(&mut self, place: usize, setter: u8, kind: Kind, extension: u8) {
@@ -151,8 +160,16 @@ impl Plan {
     }
 
     fn make(&mut self) {
-        let (task, kind) = (self.task(), random_kind(&mut self.random));
-        let extension = self.random.below(31) as u8;
+        let (kind, extension) = (random_kind(&mut self.random), self.random.below(31) as u8);
+        self.make_if_free(kind, extension);
+    }
+
+    fn make_pinned(&mut self) {
+        self.make_if_free(Kind::Pinned, 0);
+    }
+
+    fn make_if_free(&mut self, kind: Kind, extension: u8) {
+        let task = self.task();
         let length = 1 + self.random.below(256) as u16;
         let full = if length <= 32 { self.standing(1..=32) >= 64 } else { self.standing(33..=256) >= 32 };
         if !full && self.expirations.len() < 256 {
@@ -199,6 +216,21 @@ impl Plan {
         self.list.push(Call::Batch { task, kind, extension, handles: kept(&handles) });
     }
 
+    /// Of any object that stands: where it is not pinned, or no longer, a release refused with 22 is a use like any other.
+    fn release(&mut self) {
+        let task = self.task();
+        let pinned = self.expirations.iter().find(|one| one.last == FOR_EVER).map(|one| one.place);
+        let any = self.any_standing();
+        if let Some(place) = pinned.filter(|_| self.random.one_in(2)).or(any) {
+            self.release_now(place, task);
+        }
+    }
+
+    fn release_now(&mut self, place: usize, task: u8) {
+        self.list.push(Call::Release { task, handle: self.objects[place].handle });
+        self.expirations.retain(|one| one.place != place || one.last != FOR_EVER);
+    }
+
     fn read(&mut self) {
         let task = self.task();
         if let Some(place) = self.any_standing() {
@@ -237,6 +269,10 @@ impl Plan {
             Call::Resume { task },
             Call::Make { task, kind, extension: 31, length: 1 },
             Call::Make { task, kind, extension: 30, length: 257 },
+            Call::Make { task, kind: Kind::Pinned, extension: 1, length: 1 },
+            Call::Refresh { task, kind: Kind::Pinned, extension: 0, handle: any },
+            Call::Batch { task, kind: Kind::Pinned, extension: 0, handles: kept(&[any]) },
+            Call::Release { task, handle },
             Call::Refresh { task, kind, extension: 30, handle },
             Call::Read { task, handle },
             Call::Write { task, handle, offset: 255, bytes: &BYTES },
@@ -261,12 +297,18 @@ impl Plan {
         self.list.len() - 1
     }
 
+    /// Gone by time, or by its release.
     fn use_gone(&mut self) {
         let (task, kind) = (self.task(), random_kind(&mut self.random));
         let extension = self.random.below(31) as u8;
         self.make_room();
-        self.make_now(task, kind, extension, 4);
-        let place = self.objects.len() - 1;
+        let place = self.objects.len();
+        if self.random.one_in(3) {
+            self.make_now(task, Kind::Pinned, 0, 4);
+            self.release_now(place, task);
+        } else {
+            self.make_now(task, kind, extension, 4);
+        }
         while self.stands(place) {
             self.end_round();
         }
@@ -277,6 +319,7 @@ impl Plan {
             Call::Batch { task, kind, extension, handles: kept(&[handle, self.given]) },
             Call::Batch { task, kind, extension, handles: kept(&[self.given, self.given, handle]) },
             Call::Read { task, handle },
+            Call::Release { task, handle },
             Call::Refresh { task, kind, extension, handle },
             Call::Write { task, handle, offset: 4, bytes: &[] },
             Call::Write { task, handle, offset: 4, bytes: &[1] },
@@ -327,8 +370,11 @@ impl Plan {
         self.objects[place].handle
     }
 
-    /// Lets everything lapse.
+    /// Lets everything lapse that is not pinned, and that is released.
     fn make_room(&mut self) {
+        while let Some(place) = self.expirations.iter().find(|one| one.last == FOR_EVER).map(|one| one.place) {
+            self.release_now(place, 0);
+        }
         while !self.expirations.is_empty() {
             self.end_round();
         }

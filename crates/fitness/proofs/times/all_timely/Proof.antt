@@ -3,7 +3,7 @@ use mathlib.Core.Path.{_∙_}
 use borrow.Author.Needs.{needs}
 use Rattle.record.specs.Tables.{entriesOf}
 use Rattle.record.proofs.Types.{head-typed}
-use Rattle.fitness.proofs.Within.{all-timely}
+use Rattle.fitness.proofs.Within.{all-timely, dues-below}
 use Rattle.fitness.proofs.times.all_timely.Statement.{statement}
 use Rattle.fitness.proofs.times.all_timely.Tie as tie
 
@@ -14,7 +14,10 @@ returns c =
     let s = firsts .before .before in
     record {
       so = λ named n.
-          c .all-within .ensures .so named n ∙ all-timely (head-typed (s .args .h) _ (s .good .0)) (firsts .firsts .ensures) (units .units .ensures) (entriesOf (s .args .clocks .now) named (s .args .dues .now));
+          c .all-within .ensures .so named n
+          ∙ all-timely (head-typed (s .args .h) _ (s .good .0)) (firsts .firsts .ensures) (units .units .ensures)
+          (entriesOf (s .args .clocks .now) named (s .args .dues .now))
+          (dues-below (s .args .clocks .now) named (s .args .dues .now) (s .pre .codes .size) n (s .pre .of-dues) (c .all-within .ensures .below));
     }
 
 pub all-timely-spec : {M : Type 1} → statement M

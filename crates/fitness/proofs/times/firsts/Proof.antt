@@ -29,6 +29,7 @@ firsts-spec =
     Inv-loop
     μ-loop
     (λ c κs. search needs)
+    (λ c. search needs)
     (λ c. laid-start noTime _ 16 16 _)
     (λ c. search needs)
     (λ c. search needs)

@@ -23,6 +23,7 @@ units-spec =
     μ-loop
     (λ c. search needs)
     (λ c. search needs)
+    (λ c. search needs)
     (λ c. units-start)
     (λ c. search needs)
     (λ c. search needs)

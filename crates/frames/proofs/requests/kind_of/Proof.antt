@@ -9,4 +9,5 @@ kind-of-spec =
     (tie.spec
     (λ c. rw (c .match .keys1))
     (λ c. rw (c .match .keys2))
-    (λ c. rw (ne-eqb _ 0 (c .match .rest .0 .1), ne-eqb _ 1 (c .match .rest .1))))
+    (λ c. rw (c .match .keys3))
+    (λ c. rw (ne-eqb _ 0 (c .match .rest .0 .0 .1), ne-eqb _ 1 (c .match .rest .0 .1), ne-eqb _ 2 (c .match .rest .1))))

@@ -16,10 +16,10 @@ plan-batch-spec =
     (λ c κs.
     let tested = c .before .before in
     let start = tested .before .before .before in
-    (start .pre, batch-fits (start .args .task) (start .args .extension) (start .args .h .tasks) _ (sym (tested .batch-call-verdict .ensures) ∙ c .enum-told .given .1)))
+    (start .pre, batch-fits (start .args .task) (start .args .kind) (start .args .extension) (start .args .h .tasks) _ (sym (tested .batch-call-verdict .ensures) ∙ c .enum-told .given .1)))
     (λ c. search needs)
     (λ c κs. search needs)
-    (λ c. plan-refused _ _ _ _ _ _ (handles-count _) (sym (c .before .before .before .batch-call-verdict .ensures) ∙ c .before .why .given .1))
+    (λ c. plan-refused _ _ _ _ _ _ _ (handles-count _) (sym (c .before .before .before .batch-call-verdict .ensures) ∙ c .before .why .given .1))
     (λ c.
     let found = c .before .before in
-    plan-found _ _ _ _ _ _ (handles-count _) (sym (found .before .before .before .batch-call-verdict .ensures) ∙ found .before .enum-told .given .1) (found .find-batch .ensures) (c .batch-objects-verdict .ensures)))
+    plan-found _ _ _ _ _ _ _ (handles-count _) (sym (found .before .before .before .batch-call-verdict .ensures) ∙ found .before .enum-told .given .1) (found .find-batch .ensures) (c .batch-objects-verdict .ensures)))

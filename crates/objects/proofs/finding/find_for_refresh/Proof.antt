@@ -8,21 +8,21 @@ use Rattle.objects.proofs.finding.find_for_refresh.Statement.{statement
 use Rattle.objects.proofs.finding.find_for_refresh.Tie as tie
 
 -- the tests before it
-first : (c : tie.After-and-then) → let a = c .before .before .before .before .args in c .and-then .result ≡ firstVerdict (a .task) (a .extension) (a .h)
-first c = rw (c .and-then .ensures, c .before .extension-verdict .ensures, c .before .before .task-verdict .ensures)
+first : (c : tie.After-and-then) → let a = c .before .before .before .before .args in c .and-then .result ≡ firstVerdict (a .task) (a .kind) (a .extension) (a .h)
+first c = rw (c .and-then .ensures, c .before .set-verdict .ensures, c .before .before .task-verdict .ensures)
 
 find-requires : tie.Need-find-requires
 find-requires c κs =
     let tests = c .before .before in
     let start = tests .before .before .before .before in
-    let (task, extension) = both-accept (taskVerdict (start .args .task) (start .args .h .tasks)) _ (sym (first tests) ∙ c .enum-told .given .1) in
+    let (task, kind) = both-accept (taskVerdict (start .args .task) (start .args .h .tasks)) _ (sym (first tests) ∙ c .enum-told .given .1) in
     (start .pre .0, start .pre .1, task-known (start .args .task) (start .args .h .tasks) task)
 
 returns : tie.Need-returns
 returns c =
     let tests = c .before .before .before in
     let a = tests .before .before .before .before .args in
-    refresh-refused (a .task) (a .extension) (a .handle) (a .h) _ _ _ _ _ (sym (first tests) ∙ c .before .why .given .1)
+    refresh-refused (a .task) (a .kind) (a .extension) (a .handle) (a .h) _ _ _ _ _ (sym (first tests) ∙ c .before .why .given .1)
 
 returns-2 : tie.Need-returns-2
 returns-2 c =
@@ -31,7 +31,7 @@ returns-2 c =
     let start = tests .before .before .before .before in
     let a = start .args in
     rw (c .found-if .ensures, c .before .room-verdict .ensures, c .before .before .standing .ensures, found .find .ensures)
-    (refresh-found (a .task) (a .extension) (a .handle) (a .h) _ _ _ _ _ (start .pre .0 .entries) (sym (first tests) ∙ found .before .enum-told .given .1))
+    (refresh-found (a .task) (a .kind) (a .extension) (a .handle) (a .h) _ _ _ _ _ (start .pre .0 .entries) (sym (first tests) ∙ found .before .enum-told .given .1))
 
 pub find-for-refresh-spec : {M : Type 1} → statement M
 find-for-refresh-spec =

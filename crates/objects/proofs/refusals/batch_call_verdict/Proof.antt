@@ -12,4 +12,4 @@ batch-call-verdict-spec =
     (λ c κs. search needs)
     (λ c κs. search needs)
     (λ c κs. search needs)
-    (λ c. rw (c .and-then2 .ensures, c .before .and-then .ensures, c .before .before .extension-verdict .ensures, c .before .before .before .refuse-if .ensures, c .before .before .before .before .task-verdict .ensures)))
+    (λ c. rw (c .and-then2 .ensures, c .before .and-then .ensures, c .before .before .set-verdict .ensures, c .before .before .before .refuse-if .ensures, c .before .before .before .before .task-verdict .ensures)))

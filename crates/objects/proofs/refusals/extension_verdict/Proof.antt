@@ -1,8 +1,12 @@
--- By what refuse_if ensures of the code's constant.
+-- By the kind's longest extension.
 use borrow.Author.Needs.{needs}
-use Rattle.ledger.proofs.Figures.{at-capacity}
 use Rattle.objects.proofs.refusals.extension_verdict.Statement.{statement}
 use Rattle.objects.proofs.refusals.extension_verdict.Tie as tie
 
 pub extension-verdict-spec : {M : Type 1} → statement M
-extension-verdict-spec = tie.close (tie.spec (λ c κs. search needs) (λ c. rw at-capacity (c .refuse-if .ensures)))
+extension-verdict-spec =
+    tie.close
+    (tie.spec
+    (λ c κs. search needs)
+    (λ c κs. search needs)
+    (λ c. rw (c .refuse-if .ensures, c .before .most-extension .ensures)))

@@ -15,14 +15,24 @@ global : tie.Need-returns-2
 unfolding dueBy
 global c = rw (ne-eqb _ _ (c .before .before .if1 .left), sym (c .before .is-global .ensures) ∙ c .if2 .taken)
 
--- by a task's clock, and by none
+-- by a task's clock, by none, and unknown
 local : tie.Need-returns-3
 unfolding dueBy
 local c = rw (ne-eqb _ _ (c .before .before .before .if1 .left), sym (c .before .before .is-global .ensures) ∙ c .before .if2 .left, c .if3 .taken)
 
-unknown : tie.Need-returns-4
+pinned : tie.Need-returns-4
 unfolding dueBy
-unknown c = rw (ne-eqb _ _ (c .before .before .before .if1 .left), sym (c .before .before .is-global .ensures) ∙ c .before .if2 .left, c .if3 .left)
+pinned c = rw (ne-eqb _ _ (c .before .before .before .before .if1 .left), sym (c .before .before .before .is-global .ensures) ∙ c .before .before .if2 .left, c .before .if3 .left, c .if4 .taken)
+
+unknown : tie.Need-returns-5
+unfolding dueBy
+unknown c =
+    rw (
+      ne-eqb _ _ (c .before .before .before .before .if1 .left),
+      sym (c .before .before .before .is-global .ensures) ∙ c .before .before .if2 .left,
+      c .before .if3 .left,
+      ne-eqb _ _ (c .if4 .left),
+    )
 
 pub due-by-spec : {M : Type 1} → statement M
 unfolding dueBy
@@ -35,4 +45,5 @@ due-by-spec =
     global
     (λ c. leb-true localCode _ (and-eq-true-iff _ _ .0 (c .if3 .taken) .0))
     local
+    pinned
     unknown)

@@ -22,7 +22,7 @@ const FRAME_STACK: usize = 10 * 1024;
 const TYPICAL_STANDING: usize = 128;
 
 /// Each row: its call, and the case that is typical of it. The rows of a frame are by what it asks.
-const ROWS: [(&str, &str); 20] = [
+const ROWS: [(&str, &str); 22] = [
     ("fresh", "fresh"),
     ("join", "join"),
     ("leave", "leave"),
@@ -32,6 +32,7 @@ const ROWS: [(&str, &str); 20] = [
     ("make", "make 32"),
     ("refresh", "refresh"),
     ("batch", "batch of 16"),
+    ("release", "release, gone"),
     ("read", "read 32"),
     ("write", "write 32"),
     ("report", "report"),
@@ -39,6 +40,7 @@ const ROWS: [(&str, &str); 20] = [
     ("frame: tick", "frame: tick"),
     ("frame: make", "frame: make 32"),
     ("frame: batch", "frame: batch of 16"),
+    ("frame: release", "frame: release"),
     ("frame: read", "frame: read 256"),
     ("frame: write", "frame: write 256"),
     ("frame: report", "frame: report"),

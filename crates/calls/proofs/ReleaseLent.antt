@@ -1,0 +1,70 @@
+-- Release on lent tables, by what was found: refused or carried out.
+use Prim.Native.Nat.{ℕ, _<_}
+use mathlib.Core.Bool.{true, false}
+use mathlib.Core.List.{List, map}
+use mathlib.Core.Path.{_≡_, sym, _∙_}
+use Rattle.ledger.specs.declared.Answer.the-variants.{Done}
+use Rattle.ledger.specs.declared.Answer.the-variants.{Refused as RefusedAnswer}
+use Rattle.ledger.specs.declared.Call.the-variants.{Release}
+use Rattle.ledger.specs.declared.Life.{Life}
+use Rattle.ledger.specs.declared.Refusal.{Refusal}
+use Rattle.ledger.specs.declared.Request.the-variants.{Use}
+use Rattle.ledger.specs.declared.Verdict.the-variants.{Accepted}
+use Rattle.record.specs.Pools.{isWellFormed}
+use Rattle.record.specs.Reading.{HeadTyped, Typed}
+use Rattle.record.specs.Tables.{Sized, blocksOf, tablesBy, tablesOf, lent, pooled, blockEntries}
+use Rattle.record.specs.declared.Head.{Head}
+use Rattle.steps.specs.Objects.{placeOf, taskVerdict, handleVerdict, readVerdict, releaseVerdict, releasedPool}
+use Rattle.steps.proofs.Chosen.{both-accept, place-listed}
+use Rattle.objects.specs.Outcomes.{foundIn}
+use Rattle.objects.specs.declared.Found.{Found}
+use Rattle.objects.specs.declared.Found.the-variants.{At}
+use Rattle.objects.specs.declared.Found.the-variants.{Refused as RefusedFound}
+use Rattle.objects.proofs.Outcomes.{found-refused, found-accepted}
+use Rattle.expirations.specs.Pinning.{Releases}
+use Rattle.calls.specs.Contract.{Follows}
+use Rattle.calls.proofs.Lent.{tables-of, lent-typed}
+use Rattle.calls.proofs.Outcomes.{release-refused, release-done}
+
+module _ {h : Head} {hs ls cs ns ds : List ℕ} (types : HeadTyped h) (sized : Sized hs ls cs ns ds) (task handle : ℕ) (f : Found)
+    (so : f ≡ foundIn false (releaseVerdict task handle) task handle (lent h hs ls cs ns ds)) where
+  of-entries : Typed (tablesOf (pooled h hs ls cs ns ds))
+  of-entries = lent-typed h hs ls cs ns ds types (sized .blocks) (sized .entries)
+
+  pub release-kept : isWellFormed (pooled h hs ls cs ns ds) ≡ true → {why : Refusal} → f ≡ RefusedFound why
+      → Sized hs ls cs ns ds × Follows (Use (Release task handle)) (pooled h hs ls cs ns ds) (RefusedAnswer why) (pooled h hs ls cs ns ds)
+  release-kept w e = (
+    sized,
+    λ small large. release-refused _ of-entries w small large task handle _
+        (rw (tables-of h hs ls cs ns ds) (found-refused false task handle (lent h hs ls cs ns ds) _ (sym so ∙ e))),
+  )
+
+  module _ {block count : ℕ} {life : Life} (at : f ≡ At block count life) where
+    accepted : (releaseVerdict task handle (lent h hs ls cs ns ds) ≡ Accepted) × (placeOf handle (lent h hs ls cs ns ds .blocks) ≡ block)
+    accepted = let (v, place, size) = found-accepted false task handle (lent h hs ls cs ns ds) _ (sym so ∙ at) in (v, place)
+
+    -- the block is one that there is
+    pub release-known : block < blockEntries
+    unfolding releaseVerdict readVerdict tablesBy
+    release-known =
+        let p = lent h hs ls cs ns ds in
+        let (v, place) = accepted in
+        let (read, pinned) = both-accept (readVerdict task handle p) _ v in
+        let (task-ok, found) = both-accept (taskVerdict task (h .tasks)) _ read in
+        rw (← place) (place-listed handle (h .given) (placeOf handle (blocksOf hs ls)) found)
+
+    -- the tables that are left are those of the released record
+    released-left : {hs′ cs′ : List ℕ} → Releases block ns hs cs hs′ cs′
+        → tablesOf (pooled h hs′ ls cs′ ns ds) ≡ releasedPool handle (tablesOf (pooled h hs ls cs ns ds))
+    unfolding tablesOf tablesBy releasedPool
+    released-left r = rw (r .blocks ls ds (sized .blocks .of-lengths) (sized .entries .of-dues), r .entries ds (sized .entries .of-dues), accepted .1)
+
+    pub release-carried : isWellFormed (pooled h hs ls cs ns ds) ≡ true → {hs′ cs′ : List ℕ} → Releases block ns hs cs hs′ cs′
+        → Sized hs′ ls cs′ ns ds × Follows (Use (Release task handle)) (pooled h hs ls cs ns ds) Done (pooled h hs′ ls cs′ ns ds)
+    release-carried w r = (
+      record {
+        blocks = record { of-handles = r .handlesSize; of-lengths = sized .blocks .of-lengths };
+        entries = record { of-clocks = r .clocksSize; of-named = sized .entries .of-named; of-dues = sized .entries .of-dues };
+      },
+      λ small large. release-done _ of-entries w small large task handle (released-left r) (rw (tables-of h hs ls cs ns ds) (accepted .0)),
+    )

@@ -1,0 +1,21 @@
+-- Its clock first, then the blocks.
+use borrow.Author.Needs.{needs}
+use Rattle.expirations.proofs.Pins.{releases}
+use Rattle.expirations.proofs.pinning.release.Statement.{statement}
+use Rattle.expirations.proofs.pinning.release.Tie as tie
+
+returns : tie.Need-returns
+returns c =
+    let unpinned = c .before .before .before .before in
+    let pre = unpinned .before .before .pre in
+    releases (pre .2) (pre .3) (unpinned .unpin .ensures) (pre .1) (c .before .before .flags-of .ensures) (c .keep-named .ensures)
+
+pub release-spec : {M : Type 1} → statement M
+release-spec =
+    tie.close
+    (tie.spec
+    (λ c. search needs)
+    (λ c κs. search needs)
+    (λ c κs. search needs)
+    (λ c κs. search needs)
+    returns)

@@ -1,0 +1,10 @@
+-- By what the two loops leave.
+use borrow.Author.Needs.{needs}
+use Rattle.fitness.proofs.codes.flags_of.Statement.{statement}
+use Rattle.fitness.proofs.codes.flags_of.Tie as tie
+
+returns : tie.Need-returns
+returns c = record { bytes = c .before .slots .result; slots = c .before .slots .ensures; marks = c .marks .ensures }
+
+pub flags-of-spec : {M : Type 1} → statement M
+flags-of-spec = tie.close (tie.spec (λ c κs. search needs) (λ c κs. search needs) returns)

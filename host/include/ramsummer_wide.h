@@ -1,0 +1,105 @@
+/*
+ * Ramsummer: any number for a task, a kind, an extension, a length or an offset. ramsummer.h includes it at its end.
+ *
+ * The library takes them in eight or sixteen bits, and C would cut an int to fit: task 256 would be task 0. So the name
+ * of each call that takes one is here that of a function which takes the number as it comes. What the library's type
+ * cannot hold it passes on as the largest number that it can, and that is refused with the same number, in the same
+ * order of tests: 255 is no task, no kind and no extension, and 65,535 no length. A negative int comes as a large
+ * unsigned. Once compiled it costs a comparison for an int, and nothing for a constant or a uint8_t.
+ *
+ * The names are macros without parameters: a call may take its first arguments from one macro of the author's, a pointer
+ * to ramsummer_join is one to the function here, and a debugger that stops at ramsummer_join stops in the library.
+ */
+#ifndef RAMSUMMER_H
+#error "include ramsummer.h, which includes this"
+#endif
+#ifndef RAMSUMMER_WIDE_H
+#define RAMSUMMER_WIDE_H
+
+static inline uint8_t ramsummer_to_byte(size_t number) { return (uint8_t)(number > 0xFF ? 0xFF : number); }
+
+static inline uint16_t ramsummer_to_length(size_t number) { return (uint16_t)(number > 0xFFFF ? 0xFFFF : number); }
+
+RAMSUMMER_CHECKED static inline uint8_t ramsummer_join_wide(ramsummer_pool *pool, unsigned task) {
+    return ramsummer_join(pool, ramsummer_to_byte(task));
+}
+
+RAMSUMMER_CHECKED static inline uint8_t ramsummer_leave_wide(ramsummer_pool *pool, unsigned task, uint8_t *advanced) {
+    return ramsummer_leave(pool, ramsummer_to_byte(task), advanced);
+}
+
+RAMSUMMER_CHECKED static inline uint8_t ramsummer_block_wide(ramsummer_pool *pool, unsigned task, uint8_t *advanced) {
+    return ramsummer_block(pool, ramsummer_to_byte(task), advanced);
+}
+
+RAMSUMMER_CHECKED static inline uint8_t ramsummer_resume_wide(ramsummer_pool *pool, unsigned task) {
+    return ramsummer_resume(pool, ramsummer_to_byte(task));
+}
+
+RAMSUMMER_CHECKED static inline uint8_t ramsummer_tick_wide(ramsummer_pool *pool, unsigned task, uint8_t *advanced) {
+    return ramsummer_tick(pool, ramsummer_to_byte(task), advanced);
+}
+
+RAMSUMMER_CHECKED static inline uint8_t ramsummer_make_wide(ramsummer_pool *pool, uint8_t *small_store,
+                                                            size_t small_length, uint8_t *large_store,
+                                                            size_t large_length, unsigned task, unsigned kind,
+                                                            unsigned extension, size_t length, uint32_t *handle) {
+    return ramsummer_make(pool, small_store, small_length, large_store, large_length, ramsummer_to_byte(task),
+                          ramsummer_to_byte(kind), ramsummer_to_byte(extension), ramsummer_to_length(length), handle);
+}
+
+RAMSUMMER_CHECKED static inline uint8_t ramsummer_refresh_wide(ramsummer_pool *pool, unsigned task, unsigned kind,
+                                                               unsigned extension, uint32_t handle) {
+    return ramsummer_refresh(pool, ramsummer_to_byte(task), ramsummer_to_byte(kind), ramsummer_to_byte(extension),
+                             handle);
+}
+
+RAMSUMMER_CHECKED static inline uint8_t ramsummer_refresh_all_wide(ramsummer_pool *pool, unsigned task, unsigned kind,
+                                                                   unsigned extension, const uint32_t *handles,
+                                                                   size_t count) {
+    return ramsummer_refresh_all(pool, ramsummer_to_byte(task), ramsummer_to_byte(kind), ramsummer_to_byte(extension),
+                                 handles, count);
+}
+
+RAMSUMMER_CHECKED static inline uint8_t ramsummer_release_wide(ramsummer_pool *pool, unsigned task, uint32_t handle) {
+    return ramsummer_release(pool, ramsummer_to_byte(task), handle);
+}
+
+RAMSUMMER_CHECKED static inline uint8_t ramsummer_read_wide(ramsummer_pool *pool, const uint8_t *small_store,
+                                                            size_t small_length, const uint8_t *large_store,
+                                                            size_t large_length, unsigned task, uint32_t handle,
+                                                            uint8_t *out, size_t out_length, size_t *count) {
+    return ramsummer_read(pool, small_store, small_length, large_store, large_length, ramsummer_to_byte(task), handle,
+                          out, out_length, count);
+}
+
+/* 255 may be an offset, but two bytes from there on end past every object: 13 comes in its turn. Nothing is written. */
+RAMSUMMER_CHECKED static inline uint8_t ramsummer_write_wide(ramsummer_pool *pool, uint8_t *small_store,
+                                                             size_t small_length, uint8_t *large_store,
+                                                             size_t large_length, unsigned task, uint32_t handle,
+                                                             size_t offset, const uint8_t *bytes, size_t count) {
+    static const uint8_t two[2] = {0, 0};
+    int is_wide = offset > 0xFF;
+    return ramsummer_write(pool, small_store, small_length, large_store, large_length, ramsummer_to_byte(task), handle,
+                           ramsummer_to_byte(offset), is_wide ? two : bytes, is_wide ? sizeof two : count);
+}
+
+RAMSUMMER_CHECKED static inline uint8_t ramsummer_remaining_wide(ramsummer_pool *pool, unsigned task, uint32_t handle,
+                                                                 uint8_t *local, uint8_t *global) {
+    return ramsummer_remaining(pool, ramsummer_to_byte(task), handle, local, global);
+}
+
+#define ramsummer_join ramsummer_join_wide
+#define ramsummer_leave ramsummer_leave_wide
+#define ramsummer_block ramsummer_block_wide
+#define ramsummer_resume ramsummer_resume_wide
+#define ramsummer_tick ramsummer_tick_wide
+#define ramsummer_make ramsummer_make_wide
+#define ramsummer_refresh ramsummer_refresh_wide
+#define ramsummer_refresh_all ramsummer_refresh_all_wide
+#define ramsummer_release ramsummer_release_wide
+#define ramsummer_read ramsummer_read_wide
+#define ramsummer_write ramsummer_write_wide
+#define ramsummer_remaining ramsummer_remaining_wide
+
+#endif

@@ -1,0 +1,34 @@
+//! Programs in C, which are compiled with every warning an error and linked with the library.
+
+use std::path::{Path, PathBuf};
+use std::process::Command;
+
+pub fn host() -> &'static Path {
+    Path::new(env!("CARGO_MANIFEST_DIR"))
+}
+
+pub fn scratch(name: &str) -> PathBuf {
+    Path::new(env!("CARGO_TARGET_TMPDIR")).join(name)
+}
+
+/// The program of this source by this standard, such as `c99` or `c++17`; or none where there is no compiler for it.
+pub fn built(name: &str, source: &Path, standard: &str) -> Option<PathBuf> {
+    let binary = scratch(name);
+    let language = if standard.starts_with("c++") { "c++" } else { "c" };
+    let mut cc = Command::new("cc");
+    cc.args(["-Wall", "-Wextra", "-Wconversion", "-Wsign-conversion", "-Werror", "-pedantic", "-O1", "-I"]);
+    cc.arg(host().join("include")).arg(format!("-std={standard}")).args(["-x", language]).arg(source);
+    cc.args(["-x", "none", env!("RAMSUMMER_ARCHIVE"), "-o"]).arg(&binary);
+    let Ok(said) = cc.output() else { return left_out(name) };
+    let errors = String::from_utf8_lossy(&said.stderr);
+    if errors.contains("cc1plus") {
+        return left_out(name);
+    }
+    assert!(said.status.success(), "{name} by {standard}: {errors}");
+    Some(binary)
+}
+
+fn left_out(name: &str) -> Option<PathBuf> {
+    eprintln!("there is no compiler for {name} here: it was left out");
+    None
+}

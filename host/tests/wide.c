@@ -1,0 +1,192 @@
+/*
+ * The C side of tests/wide_c.rs: an int that the library's type for an argument cannot hold is refused with the number of
+ * one that is too large, in its turn among the tests, and nothing changes. Prints what was otherwise.
+ */
+#include <limits.h>
+#include <stdio.h>
+#include <string.h>
+
+#include "ramsummer.h"
+
+/* The ints come as an author has them. */
+#if defined(__GNUC__)
+#pragma GCC diagnostic ignored "-Wsign-conversion"
+#endif
+
+enum { RUNS = 0, WAITS = 1, ABSENT = 2, NEVER = 99 };
+
+/* All that a call could change. */
+typedef struct world {
+    ramsummer_pool pool;
+    uint8_t small[RAMSUMMER_SMALL], large[RAMSUMMER_LARGE], out[RAMSUMMER_LONGEST];
+    uint8_t advanced, local, global;
+    uint32_t handle;
+    size_t count;
+} world;
+
+static world w, before;
+static uint32_t gone, stands, longest, pinned;
+static const uint8_t bytes[RAMSUMMER_LONGEST + 1] = {1, 2, 3};
+static int faults;
+
+#define POOL &w.pool, w.small, sizeof w.small, w.large, sizeof w.large
+#define NO_POOL &w.pool, w.small, sizeof w.small - 1, w.large, sizeof w.large
+
+static void expect(int line, int argument, uint8_t answer, uint8_t number) {
+    if (answer == number && memcmp(&w, &before, sizeof w) == 0) return;
+    printf("line %d, %d: answered %d and not %d, or something changed\n", line, argument, answer, number);
+    faults++;
+}
+
+/* The argument n of this call is refused with this number. */
+#define REFUSED(number, call) expect(__LINE__, n, call, number)
+#define DONE(call) do if (call != RAMSUMMER_DONE) printf("line %d\n", __LINE__), faults++; while (0)
+
+/* Three tasks and four objects: one that is gone, a short one, one of 256 bytes and one that is pinned. */
+static void begin(void) {
+    ramsummer_fresh(&w.pool);
+    DONE(ramsummer_join(&w.pool, RUNS));
+    DONE(ramsummer_join(&w.pool, WAITS));
+    DONE(ramsummer_block(&w.pool, WAITS, &w.advanced));
+    DONE(ramsummer_make(POOL, RUNS, RAMSUMMER_LOCAL, 0, 4, &gone));
+    DONE(ramsummer_tick(&w.pool, RUNS, &w.advanced));
+    DONE(ramsummer_make(POOL, RUNS, RAMSUMMER_LOCAL, 30, 4, &stands));
+    DONE(ramsummer_make(POOL, RUNS, RAMSUMMER_LOCAL, 30, RAMSUMMER_LONGEST, &longest));
+    DONE(ramsummer_make(POOL, RUNS, RAMSUMMER_PINNED, 0, 4, &pinned));
+    before = w;
+}
+
+/* No task: 1, before all that is wrong with the arguments after it. */
+static void no_task(int n) {
+    REFUSED(1, ramsummer_join(&w.pool, n));
+    REFUSED(1, ramsummer_leave(&w.pool, n, &w.advanced));
+    REFUSED(1, ramsummer_block(&w.pool, n, &w.advanced));
+    REFUSED(1, ramsummer_resume(&w.pool, n));
+    REFUSED(1, ramsummer_tick(&w.pool, n, &w.advanced));
+    REFUSED(1, ramsummer_make(POOL, n, RAMSUMMER_LOCAL, 0, 4, &w.handle));
+    REFUSED(1, ramsummer_make(POOL, n, RAMSUMMER_LOCAL, 256, 65540, &w.handle));
+    REFUSED(1, ramsummer_refresh(&w.pool, n, RAMSUMMER_LOCAL, 0, stands));
+    REFUSED(1, ramsummer_refresh(&w.pool, n, RAMSUMMER_LOCAL, 256, NEVER));
+    REFUSED(1, ramsummer_refresh_all(&w.pool, n, RAMSUMMER_LOCAL, 0, &stands, 1));
+    REFUSED(1, ramsummer_refresh_all(&w.pool, n, RAMSUMMER_LOCAL, 256, &stands, 0));
+    REFUSED(1, ramsummer_release(&w.pool, n, pinned));
+    REFUSED(1, ramsummer_release(&w.pool, n, NEVER));
+    REFUSED(1, ramsummer_read(POOL, n, stands, w.out, sizeof w.out, &w.count));
+    REFUSED(1, ramsummer_write(POOL, n, stands, 0, bytes, 1));
+    REFUSED(1, ramsummer_write(POOL, n, NEVER, 256, bytes, 1));
+    REFUSED(1, ramsummer_remaining(&w.pool, n, stands, &w.local, &w.global));
+}
+
+/* 14 comes before 1. */
+static void with_a_short_store(int n) {
+    REFUSED(14, ramsummer_make(NO_POOL, n, RAMSUMMER_LOCAL, n, n, &w.handle));
+    REFUSED(14, ramsummer_read(NO_POOL, n, stands, w.out, sizeof w.out, &w.count));
+    REFUSED(14, ramsummer_write(NO_POOL, n, stands, n, bytes, 1));
+}
+
+/* 19 comes before all else. */
+static void no_kind(int n) {
+    REFUSED(19, ramsummer_make(POOL, RUNS, n, 0, 4, &w.handle));
+    REFUSED(19, ramsummer_make(NO_POOL, 256, n, 256, 65540, &w.handle));
+    REFUSED(19, ramsummer_refresh(&w.pool, RUNS, n, 0, stands));
+    REFUSED(19, ramsummer_refresh(&w.pool, 256, n, 256, NEVER));
+    REFUSED(19, ramsummer_refresh_all(&w.pool, RUNS, n, 0, &stands, 1));
+    REFUSED(19, ramsummer_refresh_all(&w.pool, 256, n, 256, &stands, 0));
+}
+
+/* 6: after the task, the size of a batch and 21, before the length and the object. */
+static void no_extension(int n) {
+    REFUSED(6, ramsummer_make(POOL, RUNS, RAMSUMMER_PINNED, n, 4, &w.handle));
+    REFUSED(21, ramsummer_refresh(&w.pool, RUNS, RAMSUMMER_PINNED, n, stands));
+    REFUSED(21, ramsummer_refresh_all(&w.pool, RUNS, RAMSUMMER_PINNED, n, &stands, 1));
+    REFUSED(6, ramsummer_make(POOL, RUNS, RAMSUMMER_GLOBAL, n, 4, &w.handle));
+    REFUSED(6, ramsummer_make(POOL, RUNS, RAMSUMMER_LOCAL, n, 65540, &w.handle));
+    REFUSED(6, ramsummer_refresh(&w.pool, RUNS, RAMSUMMER_GLOBAL, n, stands));
+    REFUSED(6, ramsummer_refresh(&w.pool, RUNS, RAMSUMMER_LOCAL, n, NEVER));
+    REFUSED(6, ramsummer_refresh_all(&w.pool, RUNS, RAMSUMMER_LOCAL, n, &gone, 1));
+    REFUSED(20, ramsummer_refresh_all(&w.pool, RUNS, RAMSUMMER_LOCAL, n, &stands, 0));
+    REFUSED(3, ramsummer_make(POOL, ABSENT, RAMSUMMER_LOCAL, n, 4, &w.handle));
+    REFUSED(3, ramsummer_refresh(&w.pool, ABSENT, RAMSUMMER_LOCAL, n, stands));
+    REFUSED(4, ramsummer_make(POOL, WAITS, RAMSUMMER_LOCAL, n, 4, &w.handle));
+    REFUSED(4, ramsummer_refresh_all(&w.pool, WAITS, RAMSUMMER_LOCAL, n, &stands, 1));
+}
+
+/* 7: after the task and the extension. */
+static void no_length(int n) {
+    REFUSED(7, ramsummer_make(POOL, RUNS, RAMSUMMER_LOCAL, 30, n, &w.handle));
+    REFUSED(6, ramsummer_make(POOL, RUNS, RAMSUMMER_LOCAL, 31, n, &w.handle));
+    REFUSED(3, ramsummer_make(POOL, ABSENT, RAMSUMMER_LOCAL, 30, n, &w.handle));
+    REFUSED(4, ramsummer_make(POOL, WAITS, RAMSUMMER_LOCAL, 30, n, &w.handle));
+}
+
+/* 13: after all else, however many bytes are to be written, and to the longest object too. */
+static void no_offset(int n) {
+    REFUSED(13, ramsummer_write(POOL, RUNS, stands, n, bytes, 1));
+    REFUSED(13, ramsummer_write(POOL, RUNS, longest, n, bytes, 0));
+    REFUSED(13, ramsummer_write(POOL, RUNS, longest, n, bytes, 1));
+    REFUSED(13, ramsummer_write(POOL, RUNS, longest, n, bytes, sizeof bytes));
+    REFUSED(12, ramsummer_write(POOL, RUNS, gone, n, bytes, 1));
+    REFUSED(11, ramsummer_write(POOL, RUNS, NEVER, n, bytes, 1));
+    REFUSED(3, ramsummer_write(POOL, ABSENT, stands, n, bytes, 1));
+    REFUSED(4, ramsummer_write(POOL, WAITS, stands, n, bytes, 1));
+}
+
+/* 15 comes before all but a kind. */
+static void on_a_damaged_record(int n) {
+    w.pool.tasks[ABSENT].clock = 1;
+    before = w;
+    REFUSED(15, ramsummer_join(&w.pool, n));
+    REFUSED(15, ramsummer_leave(&w.pool, n, &w.advanced));
+    REFUSED(15, ramsummer_block(&w.pool, n, &w.advanced));
+    REFUSED(15, ramsummer_resume(&w.pool, n));
+    REFUSED(15, ramsummer_tick(&w.pool, n, &w.advanced));
+    REFUSED(15, ramsummer_make(NO_POOL, n, RAMSUMMER_LOCAL, n, n, &w.handle));
+    REFUSED(15, ramsummer_refresh(&w.pool, n, RAMSUMMER_LOCAL, n, stands));
+    REFUSED(15, ramsummer_refresh_all(&w.pool, n, RAMSUMMER_LOCAL, n, &stands, 0));
+    REFUSED(15, ramsummer_release(&w.pool, n, pinned));
+    REFUSED(15, ramsummer_read(NO_POOL, n, stands, w.out, sizeof w.out, &w.count));
+    REFUSED(15, ramsummer_write(NO_POOL, n, stands, n, bytes, 1));
+    REFUSED(15, ramsummer_remaining(&w.pool, n, stands, &w.local, &w.global));
+    no_kind(n);
+    w.pool.tasks[ABSENT].clock = 0;
+    before = w;
+}
+
+static void refused(int n) {
+    no_task(n);
+    with_a_short_store(n);
+    no_kind(n);
+    no_extension(n);
+    if (n != RAMSUMMER_LONGEST) no_length(n);
+    no_offset(n);
+    on_a_damaged_record(n);
+}
+
+/* What fits goes on as it is. */
+static void fits(void) {
+    int n;
+    for (n = 0; n <= 30; n++) DONE(ramsummer_refresh(&w.pool, RUNS, n % 2, n, stands));
+    for (n = 0; n < RAMSUMMER_LONGEST; n++) DONE(ramsummer_write(POOL, RUNS, longest, n, bytes + 1, 1));
+    DONE(ramsummer_read(POOL, RUNS, longest, w.out, sizeof w.out, &w.count));
+    for (n = 0; n < RAMSUMMER_LONGEST; n++) DONE((w.out[n] != bytes[1]));
+    for (n = ABSENT; n < RAMSUMMER_TASKS; n++) DONE(ramsummer_join(&w.pool, n));
+    DONE(ramsummer_release(&w.pool, n - 1, pinned));
+    before = w;
+    for (n = RAMSUMMER_TASKS; n <= 255; n++) no_task(n);
+    for (n = RAMSUMMER_PINNED + 1; n <= 255; n++) no_kind(n);
+    for (n = RAMSUMMER_MAX_EXTENSION + 1; n <= 255; n++)
+        REFUSED(6, ramsummer_refresh(&w.pool, RUNS, RAMSUMMER_LOCAL, n, stands));
+}
+
+int main(void) {
+    static const int extremes[] = {65535, 65536, 65540, 65792, 1 << 24, INT_MAX, -1, -252, -256, -65532, INT_MIN};
+    uint8_t (*join)(ramsummer_pool *, unsigned) = ramsummer_join;
+    size_t i;
+    int n;
+    begin();
+    for (n = 256; n < 1100; n++) refused(n);
+    for (i = 0; i < sizeof extremes / sizeof *extremes; i++) refused(extremes[i]);
+    REFUSED(1, join(&w.pool, 256));
+    fits();
+    return faults == 0 ? 0 : 1;
+}
