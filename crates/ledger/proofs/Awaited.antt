@@ -12,7 +12,7 @@ use Rattle.lists.proofs.Cases.{by-test, not-and-not}
 use Rattle.ledger.specs.Tasks.{Task, Clocks, isRunning, isTested, allTicked, tasksAfter, advances, clocksAfter}
 use Rattle.ledger.specs.Objects.{Memory, memoryAfter, expirationsAfter}
 use Rattle.ledger.specs.Ledger.{Ledger, Sent, settled, afterBy, verdictOn, next, afterRequest, afterAll}
-use Rattle.ledger.specs.Awaited.{isAwaited, awaitedOf, isNobodyAwaited, isAccepted, isLastAwaited, isRoundEnd, roundsEnded, globalOf, Awaited}
+use Rattle.ledger.specs.Awaited.{isAwaited, awaitedOf, isNobodyAwaited, isAccepted, isLastAwaited, bringsAdvance, advancesIn, globalOf, Awaited}
 use Rattle.ledger.specs.declared.Call.{Call}
 use Rattle.ledger.specs.declared.Call.the-variants.{Schedule, Make, Refresh, Read, Write, Batch, Release}
 use Rattle.ledger.specs.declared.Event.{Event}
@@ -46,7 +46,7 @@ carried (Write task handle offset) new m = omega arith
 carried (Batch task kind extension) new m = omega arith
 carried (Release task handle) new m = omega arith
 
-one : (L : Ledger) (request : Request) (new : List ℕ) → globalOf (afterRequest L request new) ≡ globalOf L + cond (isRoundEnd L request new) 1 0
+one : (L : Ledger) (request : Request) (new : List ℕ) → globalOf (afterRequest L request new) ≡ globalOf L + cond (bringsAdvance L request new) 1 0
 unfolding next
 one L Report new = omega arith
 one L (Remaining task handle) new = omega arith
@@ -58,8 +58,8 @@ one L (Use call) new = by (verdictOn L call new)
     by none = carried call new (L .memory)
     by (some r) = omega arith
 
-every : (L : Ledger) (ss : List Sent) → globalOf (afterAll L ss) ≡ globalOf L + roundsEnded L ss
-unfolding afterAll roundsEnded
+every : (L : Ledger) (ss : List Sent) → globalOf (afterAll L ss) ≡ globalOf L + advancesIn L ss
+unfolding afterAll advancesIn
 every L [] = omega arith
 every L (s ∷ ss) = rw (every (afterRequest L (s .request) (s .bytes)) ss, one L (s .request) (s .bytes)) (omega arith)
 

@@ -1,26 +1,28 @@
 -- Every ledger from fresh on keeps what `Kept` says.
-use Prim.Native.Nat.{ℕ, _+_, zero-le}
+use Prim.Native.Nat.{ℕ, _+_, _≤_, zero-le}
+use native.Mathlib.Omega.{arith}
 use mathlib.Core.Bool.{true, or-true}
 use mathlib.Core.List.{List, [], _∷_}
 use mathlib.Core.Option.{Option, none, some}
 use mathlib.Core.Path.{_≡_, refl}
-use borrow.Author.Tests.{not-false, leb-false, ltb-false, eqb-true, eq-eqb}
+use borrow.Author.Tests.{not-false, leb-false, ltb-false, eqb-true, eq-eqb, ne-eqb}
+use Rattle.lists.specs.Tests.{count}
 use Rattle.lists.proofs.All.{all-imp, all-filter, all-replicate, found, none→All}
-use Rattle.lists.proofs.Counts.{any-append, any-map}
+use Rattle.lists.proofs.Counts.{any-append, any-map, count-none}
 use Rattle.ledger.specs.Limits.{taskCount}
 use Rattle.ledger.specs.Tasks.{freshClocks, allTicked}
-use Rattle.ledger.specs.Expirations.{Expiration, isOf}
+use Rattle.ledger.specs.Expirations.{Expiration, isOf, isPinOf}
 use Rattle.ledger.specs.Objects.{Object, Memory, freshMemory, stands, written, memoryAfter, expirationsAfter, handlesOf}
 use Rattle.ledger.specs.Refusals.{testsOf}
 use Rattle.ledger.specs.Ledger.{Ledger, Sent, fresh, settled, afterBy, verdictOn, next, afterRequest, afterAll}
-use Rattle.ledger.specs.Kept.{TaskKept, ClocksKept, ObjectsKept, ExpirationsKept, PinsKept, Kept}
+use Rattle.ledger.specs.Kept.{TaskKept, ClocksKept, ObjectsKept, ExpirationKept, ExpirationsKept, PinsKept, PinnedOnceKept, Kept}
 use Rattle.ledger.specs.declared.Call.{Call}
 use Rattle.ledger.specs.declared.Call.the-variants.{Schedule, Make, Refresh, Read, Write, Batch, Release}
 use Rattle.ledger.specs.declared.Refusal.{Refusal}
 use Rattle.ledger.specs.declared.Request.{Request}
 use Rattle.ledger.specs.declared.Request.the-variants.{Use, Report, Remaining}
 use Rattle.ledger.proofs.Passed.{Passed, passed}
-use Rattle.ledger.proofs.KeptPins.{pins-carried}
+use Rattle.ledger.proofs.KeptPins.{SetsNoPin, pins-carried, once-carried}
 use Rattle.ledger.proofs.KeptTasks.{absent-kept, clocks-after}
 use Rattle.ledger.proofs.KeptObjects.{objects-settled, objects-made, objects-written}
 use Rattle.ledger.proofs.KeptExpirations.{isListed, expirations-after, reowned, expirations-settled, expirations-released, expirations-set, expirations-set-each}
@@ -33,18 +35,20 @@ kept-fresh =
       objects = record { each = tt; ascending = tt; numbers = zero-le; small = zero-le; large = zero-le };
       expirations = record { each = tt; room = zero-le };
       pins = λ handle. refl;
+      once = λ handle. zero-le;
       standing = tt;
     }
 
 -- what is kept but for objects without an expiration is kept whole once these are gone
 kept-settled : {m : Memory} {xs : List Expiration} → ClocksKept (m .clocks) → ObjectsKept (m .given) (m .objects)
-    → ExpirationsKept (m .clocks) (m .objects) xs → PinsKept (m .pinned) xs → Kept (settled m xs)
-kept-settled {m} {xs} c o x p =
+    → ExpirationsKept (m .clocks) (m .objects) xs → PinsKept (m .pinned) xs × PinnedOnceKept xs → Kept (settled m xs)
+kept-settled {m} {xs} c o x (p, once) =
     record {
       clocks = c;
       objects = objects-settled xs o;
       expirations = expirations-settled x;
       pins = p;
+      once = once;
       standing = all-filter (λ (o : Object). stands xs (o .handle)) (λ o e k. e) (m .objects) (o .each);
     }
 
@@ -53,6 +57,20 @@ pub owned-by : (m : Memory) (xs : List Expiration) → Kept (record { memory = m
     → isListed handle (m .objects) ≡ true
 owned-by m xs k handle s = found (isOf handle) (λ x e h. rw (eqb-true (x .handle) handle e) at (h .owned)) xs s (k .expirations .each)
 
+-- no expiration is of the next handle
+next-unpinned : (m : Memory) (xs : List Expiration) → Kept (record { memory = m; expirations = xs }) → count (isPinOf (m .given + 1)) xs ≡ 0
+next-unpinned m xs k =
+    count-none _ xs
+    (all-imp (λ x h. rw (ne-eqb (x .handle) (m .given + 1) (λ q. omega (arith, q, owner x h)))) xs (k .expirations .each))
+  where
+    owner : (x : Expiration) → ExpirationKept (m .clocks) (m .objects) x → x .handle ≤ m .given
+    owner x h = found (λ (o : Object). isOf (o .handle) x) (λ o e n. rw (eqb-true (x .handle) (o .handle) e) (n .numbered .1)) (m .objects) (h .owned) (k .objects .each)
+
+-- what is pinned after a call, and that it is once
+pins-after : (m : Memory) (xs : List Expiration) (call : Call) (new : List ℕ) → SetsNoPin call → Kept (record { memory = m; expirations = xs })
+    → PinsKept (memoryAfter call new m .pinned) (expirationsAfter call new m xs) × PinnedOnceKept (expirationsAfter call new m xs)
+pins-after m xs call new s k = (pins-carried m xs call new s (k .pins), once-carried m xs call new s (next-unpinned m xs k) (k .once))
+
 -- a call that is carried out
 kept-carried : (m : Memory) (xs : List Expiration) (call : Call) (new : List ℕ) → Passed m xs call new
     → Kept (record { memory = m; expirations = xs }) → Kept (settled (memoryAfter call new m) (expirationsAfter call new m xs))
@@ -60,34 +78,34 @@ unfolding testsOf memoryAfter expirationsAfter written
 kept-carried m xs (Schedule event task) new c k =
     kept-settled (clocks-after m xs new task event c (k .clocks)) (k .objects)
     (expirations-after m xs new task event c (k .expirations))
-    (pins-carried m xs (Schedule event task) new tt (k .pins))
+    (pins-after m xs (Schedule event task) new tt k)
 kept-carried m xs (Make task kind extension size) new c k =
     let (exists, (present, (active, (short, (range, (spent, (block, (room, end)))))))) = c in
     kept-settled (k .clocks) (objects-made size range spent block (k .objects))
     (expirations-set task kind extension (m .given + 1) present short (leb-false _ _ room)
     (rw (any-append, eq-eqb (m .given + 1) (m .given + 1) refl, or-true))
     (reowned (λ x e o. rw (any-append, o)) (k .expirations)))
-    (pins-carried m xs (Make task kind extension size) new tt (k .pins))
+    (pins-after m xs (Make task kind extension size) new tt k)
 kept-carried m xs (Refresh task kind extension handle) new c k =
     let (exists, (present, (active, (lasts, (short, (given, (gone, (room, end)))))))) = c in
     kept-settled (k .clocks) (k .objects)
     (expirations-set task kind extension handle present short (leb-false _ _ room)
     (owned-by m xs k handle (not-false _ gone))
     (k .expirations))
-    (pins-carried m xs (Refresh task kind extension handle) new lasts (k .pins))
-kept-carried m xs (Read task handle) new c k = kept-settled (k .clocks) (k .objects) (k .expirations) (k .pins)
+    (pins-after m xs (Refresh task kind extension handle) new lasts k)
+kept-carried m xs (Read task handle) new c k = kept-settled (k .clocks) (k .objects) (k .expirations) (k .pins, k .once)
 kept-carried m xs (Write task handle offset) new c k =
     let (exists, (present, (active, (given, (gone, (outside, end)))))) = c in
     kept-settled (k .clocks) (objects-written handle offset new outside (k .objects))
-    (reowned (λ x e o. rw any-map o) (k .expirations)) (k .pins)
+    (reowned (λ x e o. rw any-map o) (k .expirations)) (k .pins, k .once)
 kept-carried m xs (Batch task kind extension) new c k =
     let (exists, (present, (active, (range, (lasts, (short, (given, (gone, (room, end))))))))) = c in
     kept-settled (k .clocks) (k .objects)
     (expirations-set-each task kind extension present short (handlesOf new) xs (ltb-false _ _ room)
     (all-imp (λ h e. owned-by m xs k h (not-false _ e)) (handlesOf new) (none→All _ (handlesOf new) gone)) (k .expirations))
-    (pins-carried m xs (Batch task kind extension) new lasts (k .pins))
+    (pins-after m xs (Batch task kind extension) new lasts k)
 kept-carried m xs (Release task handle) new c k =
-    kept-settled (k .clocks) (k .objects) (expirations-released handle (k .expirations)) (pins-carried m xs (Release task handle) new tt (k .pins))
+    kept-settled (k .clocks) (k .objects) (expirations-released handle (k .expirations)) (pins-after m xs (Release task handle) new tt k)
 
 pub kept-request : (L : Ledger) → Kept L → (request : Request) (new : List ℕ) → Kept (afterRequest L request new)
 unfolding next

@@ -1,19 +1,20 @@
--- What is pinned has a pinned expiration, after every call as before it.
+-- What is pinned has a pinned expiration, and but one, after every call as before it.
 use Prim.Native.Nat.{ℕ, _+_}
+use native.Mathlib.Nat.{le-refl, le-trans}
 use mathlib.Core.Bool.{Bool, true, false, not, and-eq-true-iff, and-true, and-false}
 use mathlib.Core.List.{List, [], _∷_}
 use mathlib.Core.Path.{_≡_, refl, sym, _∙_}
 use borrow.Author.Tests.{eqb-true, eqb-false, eq-eqb, ne-eqb}
 use lib.Dec.{eqb}
-use Rattle.lists.specs.Tests.{any, filter}
+use Rattle.lists.specs.Tests.{any, filter, count}
 use Rattle.lists.proofs.All.{all-every}
 use Rattle.lists.proofs.Cases.{by-test}
-use Rattle.lists.proofs.Counts.{any-left, any-map, any-same}
+use Rattle.lists.proofs.Counts.{any-left, any-map, any-same, count-map, count-same, count-filter}
 use Rattle.ledger.specs.Tasks.{Clocks}
 use Rattle.ledger.specs.Expirations.{DueTime, byLocal, byGlobal, pinned, Expiration, dueAfter, isLive, isSetBy, isPinned, isOf, isPinOf, putOff, deserted, eachDue, stillLive, lasting, released, setOnEach}
 use Rattle.ledger.specs.Objects.{Memory, pinnedBy, unpinned, memoryAfter, expirationsAfter, handlesOf}
 use Rattle.ledger.specs.Refusals.{isPinning}
-use Rattle.ledger.specs.Kept.{PinsKept}
+use Rattle.ledger.specs.Kept.{PinsKept, PinnedOnceKept}
 use Rattle.ledger.specs.declared.Kind.{Kind}
 use Rattle.ledger.specs.declared.Kind.the-variants.{Local, Global, Pinned}
 use Rattle.ledger.specs.declared.Event.{Event}
@@ -125,3 +126,56 @@ pins-carried m xs (Write task handle offset) new s k = k
 pins-carried m xs (Batch task kind extension) new s k =
     λ handle. k handle ∙ sym (set-pins _ (unpinned-due (m .clocks) task extension kind ∙ s) handle (handlesOf new) xs)
 pins-carried m xs (Release task handle) new s k = released-pins handle (m .pinned) xs k
+
+-- no event adds a pinned one: what is put off or deserted is pinned as before, and a filter only takes out
+each-count : (f : DueTime → DueTime) → ((due : DueTime) → isPinned (f due) ≡ isPinned due) → (handle : ℕ) (xs : List Expiration)
+    → count (isPinOf handle) (eachDue f xs) ≡ count (isPinOf handle) xs
+each-count f same handle xs =
+    count-map (isPinOf handle) _ xs ∙ count-same _ (isPinOf handle) xs (all-every _ (λ x. rw (same (x .due))) xs)
+
+each-once : (f : DueTime → DueTime) → ((due : DueTime) → isPinned (f due) ≡ isPinned due) → (xs : List Expiration)
+    → PinnedOnceKept xs → PinnedOnceKept (eachDue f xs)
+each-once f same xs k handle = rw (each-count f same handle xs) (k handle)
+
+filter-once : (p : Expiration → Bool) (xs : List Expiration) → PinnedOnceKept xs → PinnedOnceKept (filter p xs)
+filter-once p xs k handle = le-trans (count-filter (isPinOf handle) p xs) (k handle)
+
+live-once : (advanced : Bool) (clocks : Clocks) (xs : List Expiration) → PinnedOnceKept xs → PinnedOnceKept (stillLive advanced clocks xs)
+live-once advanced clocks xs k = filter-once (isLive clocks) (eachDue (putOff advanced clocks) xs) (each-once (putOff advanced clocks) (put-pin advanced clocks) xs k)
+
+lasting-once : (event : Event) (task : ℕ) (advanced : Bool) (clocks : Clocks) (xs : List Expiration) → PinnedOnceKept xs
+    → PinnedOnceKept (lasting event task advanced clocks xs)
+unfolding lasting
+lasting-once Join task advanced clocks xs k = k
+lasting-once Block task advanced clocks xs k = live-once advanced clocks xs k
+lasting-once Resume task advanced clocks xs k = k
+lasting-once Leave task advanced clocks xs k =
+    let isOthers : Expiration → Bool = λ x. not (isSetBy task (x .due)) in
+    live-once advanced clocks (eachDue (deserted task) (filter isOthers xs)) (each-once (deserted task) (deserted-pin task) (filter isOthers xs) (filter-once isOthers xs k))
+lasting-once Tick task advanced clocks xs k = live-once advanced clocks xs k
+
+-- one is set on an object that has no pinned one
+made-once : (x : Expiration) (xs : List Expiration) → count (isPinOf (x .handle)) xs ≡ 0 → PinnedOnceKept xs → PinnedOnceKept (x ∷ xs)
+made-once x xs none k handle =
+    by-test (isPinOf handle x)
+    (λ e. rw (e, ← eqb-true (x .handle) handle (and-eq-true-iff (isOf handle x) (isPinned (x .due)) .0 e .0), none) (le-refl 1))
+    (λ e. rw e (k handle))
+
+-- or one that is not pinned
+set-once : (due : DueTime) → isPinned due ≡ false → (handles : List ℕ) (xs : List Expiration) → PinnedOnceKept xs → PinnedOnceKept (setOnEach due handles xs)
+unfolding setOnEach
+set-once due e [] xs k = k
+set-once due e (h ∷ hs) xs k = set-once due e hs (record { handle = h; due = due } ∷ xs) (λ handle. rw (e, and-false) (k handle))
+
+-- a call that is carried out, where no expiration is of the next handle
+pub once-carried : (m : Memory) (xs : List Expiration) (call : Call) (new : List ℕ) → SetsNoPin call → count (isPinOf (m .given + 1)) xs ≡ 0 → PinnedOnceKept xs
+    → PinnedOnceKept (expirationsAfter call new m xs)
+unfolding expirationsAfter released
+once-carried m xs (Schedule event task) new s none k = lasting-once event task _ _ xs k
+once-carried m xs (Make task kind extension size) new s none k =
+    made-once (record { handle = m .given + 1; due = dueAfter (m .clocks) task kind extension }) xs none k
+once-carried m xs (Refresh task kind extension handle) new s none k = λ other. rw (unpinned-due (m .clocks) task extension kind, s, and-false) (k other)
+once-carried m xs (Read task handle) new s none k = k
+once-carried m xs (Write task handle offset) new s none k = k
+once-carried m xs (Batch task kind extension) new s none k = set-once _ (unpinned-due (m .clocks) task extension kind ∙ s) (handlesOf new) xs k
+once-carried m xs (Release task handle) new s none k = filter-once (λ (x : Expiration). not (isPinOf handle x)) xs k

@@ -18,18 +18,20 @@ use Rattle.ledger.specs.OutlivesRows.{Part, Trial, trials, sorts, allCal
 use Rattle.ledger.specs.Rows.{join, tick, make}
 use Rattle.ledger.specs.declared.Kind.the-variants.{Global}
 
--- a trial's three equations as a test
+-- a trial's four equations as a test
 passes : Trial → Bool
 passes t =
-    sameBy eqb (sorts (ledgerOf t) (datesOf t) (t .parts)) (map (λ (r : Part). r .sort) (t .parts))
-    && (eqb (countOf (isTickOf 0) (ledgerOf t) (allCalls t)) (t .ticks) && eqb (length (followed (ledgerOf t) (allCalls t) (datesOf t))) (t .left))
+    eqb (length (datesOf t)) (t .set)
+    && (sameBy eqb (sorts (ledgerOf t) (datesOf t) (t .parts)) (map (λ (r : Part). r .sort) (t .parts))
+    && (eqb (countOf (isTickOf 0) (ledgerOf t) (allCalls t)) (t .ticks) && eqb (length (followed (ledgerOf t) (allCalls t) (datesOf t))) (t .left)))
 
 passing-holds : (t : Trial) → T (passes t) → TrialHolds t
 unfolding passes
 passing-holds t p =
-    let (parts, rest) = both (sameBy eqb (sorts (ledgerOf t) (datesOf t) (t .parts)) (map (λ (r : Part). r .sort) (t .parts))) _ p in
-    let (ticks, left) = both (eqb (countOf (isTickOf 0) (ledgerOf t) (allCalls t)) (t .ticks)) _ rest in
-    record { parts = sameBy→eq eqb eqb→eq _ _ parts; ticks = eqb→eq _ _ ticks; left = eqb→eq _ _ left }
+    let (set, rest) = both (eqb (length (datesOf t)) (t .set)) _ p in
+    let (parts, figures) = both (sameBy eqb (sorts (ledgerOf t) (datesOf t) (t .parts)) (map (λ (r : Part). r .sort) (t .parts))) _ rest in
+    let (ticks, left) = both (eqb (countOf (isTickOf 0) (ledgerOf t) (allCalls t)) (t .ticks)) _ figures in
+    record { set = eqb→eq _ _ set; parts = sameBy→eq eqb eqb→eq _ _ parts; ticks = eqb→eq _ _ ticks; left = eqb→eq _ _ left }
 
 all-pass : T (all passes trials)
 unfolding passes trials fresh next afterAll testsOf verdict moveOf moveIn setIn followed countOf isRound isFree
@@ -39,7 +41,8 @@ unfolding passes trials fresh next afterAll testsOf verdict moveOf moveIn setIn 
 all-pass = tt
 
 pub trials-hold : TrialsHold
-trials-hold = all→All passes passing-holds trials all-pass
+unfolding trials
+trials-hold = record { twelve = refl; each = all→All passes passing-holds trials all-pass }
 
 -- task 0 makes an object with a global expiration of extension 1, two tasks being there
 setting : Setting

@@ -39,7 +39,7 @@ isShared [] = true
 isShared (shared r holds ∷ ts) = isShared ts
 isShared (own r holds ∷ ts) = false
 
--- each refusal that is left aside is tested before the pool's own ones, and 13 after them
+-- each refusal that is left aside is tested before the pool's own ones, and 13 and 22 after them
 abbrev pub isOrdered : List Test → Bool
 isOrdered [] = true
 isOrdered (shared r holds ∷ ts) = not (isOwn r) && (isLeftAside (some r) || isShared ts) && isOrdered ts

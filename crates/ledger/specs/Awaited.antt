@@ -46,15 +46,15 @@ isLastAwaited (Batch task kind extension) clocks = false
 isLastAwaited (Release task handle) clocks = false
 
 -- such a call, accepted
-abbrev pub isRoundEnd : Ledger → Request → List ℕ → Bool
-isRoundEnd L (Use call) new = isAccepted (verdictOn L call new) && isLastAwaited call (L .memory .clocks)
-isRoundEnd L Report new = false
-isRoundEnd L (Remaining task handle) new = false
+abbrev pub bringsAdvance : Ledger → Request → List ℕ → Bool
+bringsAdvance L (Use call) new = isAccepted (verdictOn L call new) && isLastAwaited call (L .memory .clocks)
+bringsAdvance L Report new = false
+bringsAdvance L (Remaining task handle) new = false
 
 -- and how many of a list of calls are such
-unfoldable pub roundsEnded : Ledger → List Sent → ℕ
-roundsEnded L [] = 0
-roundsEnded L (s ∷ ss) = cond (isRoundEnd L (s .request) (s .bytes)) 1 0 + roundsEnded (afterRequest L (s .request) (s .bytes)) ss
+unfoldable pub advancesIn : Ledger → List Sent → ℕ
+advancesIn L [] = 0
+advancesIn L (s ∷ ss) = cond (bringsAdvance L (s .request) (s .bytes)) 1 0 + advancesIn (afterRequest L (s .request) (s .bytes)) ss
 
 abbrev pub globalOf : Ledger → ℕ
 globalOf L = L .memory .clocks .global
@@ -63,8 +63,8 @@ pub record Awaited : Type 0 where
   -- T20: the advance test by who is awaited
   pub test : (event : Event) (task : ℕ) (clocks : Clocks) → advances event task clocks ≡ isLastAwaited (Schedule event task) clocks
   -- T21: from any ledger, a call makes the global time advance by 1 exactly where it is such a one, and else leaves it;
-  pub one : (L : Ledger) (request : Request) (new : List ℕ) → globalOf (afterRequest L request new) ≡ globalOf L + cond (isRoundEnd L request new) 1 0
+  pub one : (L : Ledger) (request : Request) (new : List ℕ) → globalOf (afterRequest L request new) ≡ globalOf L + cond (bringsAdvance L request new) 1 0
   -- so over any list of calls it grows by as many as these are;
-  pub every : (L : Ledger) (ss : List Sent) → globalOf (afterAll L ss) ≡ globalOf L + roundsEnded L ss
+  pub every : (L : Ledger) (ss : List Sent) → globalOf (afterAll L ss) ≡ globalOf L + advancesIn L ss
   -- and from fresh on, between two calls, somebody is awaited wherever some task runs: such a call empties a set that was not empty
   pub between : (ss : List Sent) → isNobodyAwaited (afterAll fresh ss .memory .clocks .tasks) ≡ false

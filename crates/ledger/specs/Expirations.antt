@@ -18,7 +18,7 @@ pub data DueTime : Type 0 where
   -- E22: or never: it is pinned (02: kept)
   pinned : DueTime
 
--- E21: the setter of a global one whose setter has left (01: "left"): no task has this number
+-- E21: the setter of a global one whose setter has left (02: "left"): no task has this number
 abbrev pub departed : ℕ
 departed = taskCount
 
@@ -48,6 +48,7 @@ isPinned pinned = true
 abbrev pub isLive : Clocks → Expiration → Bool
 isLive clocks x = isPinned (x .due) || ltb 0 (remaining clocks (x .due))
 
+-- E9, E15: a local one that this task set; no leave ends a global or a pinned one (E10, E22)
 abbrev pub isSetBy : ℕ → DueTime → Bool
 isSetBy task (byLocal setter at) = eqb setter task
 isSetBy task (byGlobal setter at) = false

@@ -5,7 +5,7 @@ use mathlib.Core.List.{List, [], _∷_}
 use mathlib.Core.Path.{_≡_}
 use lib.Dec.{eqb}
 use lib.ListN.{length}
-use Rattle.lists.specs.Tests.{any, All}
+use Rattle.lists.specs.Tests.{any, count, All}
 use Rattle.ledger.specs.Limits.{limits, taskCount, largeSize, lastHandle}
 use Rattle.ledger.specs.Tasks.{Task, Clocks, taskAt, isAbsent, isRunning, allTicked}
 use Rattle.ledger.specs.Expirations.{DueTime, byLocal, byGlobal, pinned, departed, Expiration, remaining, isLive, isOf, isPinOf}
@@ -72,10 +72,15 @@ pub record ExpirationsKept (clocks : Clocks) (os : List Object) (xs : List Expir
 abbrev pub PinsKept : List ℕ → List Expiration → Type 0
 PinsKept handles xs = (handle : ℕ) → any (eqb handle) handles ≡ any (isPinOf handle) xs
 
+-- W16: of one object no more than one is pinned
+abbrev pub PinnedOnceKept : List Expiration → Type 0
+PinnedOnceKept xs = (handle : ℕ) → count (isPinOf handle) xs ≤ 1
+
 pub record Kept (L : Ledger) : Type 0 where
   pub clocks : ClocksKept (L .memory .clocks)
   pub objects : ObjectsKept (L .memory .given) (L .memory .objects)
   pub expirations : ExpirationsKept (L .memory .clocks) (L .memory .objects) (L .expirations)
   pub pins : PinsKept (L .memory .pinned) (L .expirations)
+  pub once : PinnedOnceKept (L .expirations)
   -- W2: each object has an expiration
   pub standing : All (λ (o : Object). stands (L .expirations) (o .handle) ≡ true) (L .memory .objects)

@@ -13,7 +13,7 @@ use Rattle.ledger.specs.declared.Refusal.{Refusal}
 use Rattle.ledger.specs.declared.Request.{Request}
 use Rattle.ledger.specs.declared.Request.the-variants.{Use, Report, Remaining}
 
--- L1: tasks, times, handles given and objects are its memory; the expirations stand beside it
+-- L1: tasks, times, handles given, objects and what is pinned are its memory; the expirations stand beside it
 pub record Ledger : Type 0 where
   pub memory : Memory
   pub expirations : List Expiration

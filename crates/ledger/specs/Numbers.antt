@@ -1,4 +1,4 @@
--- Document 01's number for each refusal, and the number and values of each answer.
+-- The number of documents 01 and 02 for each refusal, and the number and values of each answer.
 use Prim.Native.Nat.{ℕ}
 use mathlib.Core.Bool.{cond}
 use mathlib.Core.List.{List, [], _∷_}

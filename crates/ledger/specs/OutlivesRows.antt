@@ -26,57 +26,58 @@ held calls = record { calls = calls; sort = 1 }
 abbrev pub loose : List Sent → Part
 loose calls = record { calls = calls; sort = 0 }
 
--- A trial: the calls before, the call of task 0 that sets the date or dates, the parts, the ticks of task 0 since, and how many of the dates are left.
+-- A trial: the calls before, the call of task 0 that sets the date or dates, how many it sets, the parts, the ticks of task 0 since, and how many of the dates are left.
 pub record Trial : Type 0 where
   pub earlier : List Sent
   pub call : Sent
+  pub set : ℕ
   pub parts : List Part
   pub ticks : ℕ
   pub left : ℕ
 
-abbrev pub trial : List Sent → Sent → List Part → ℕ → ℕ → Trial
-trial earlier call parts ticks left = record { earlier = earlier; call = call; parts = parts; ticks = ticks; left = left }
+abbrev pub trial : List Sent → Sent → ℕ → List Part → ℕ → ℕ → Trial
+trial earlier call set parts ticks left = record { earlier = earlier; call = call; set = set; parts = parts; ticks = ticks; left = left }
 
 unfoldable pub trials : List Trial
 trials =
     -- The first claim: e 1 outlives one tick of its setter, who was ticked when it set the date.
-    trial (join 0 ∷ join 1 ∷ tick 0 ∷ []) (make 0 Global 1 4)
+    trial (join 0 ∷ join 1 ∷ tick 0 ∷ []) (make 0 Global 1 4) 1
     (round (tick 1 ∷ tick 0 ∷ tick 1 ∷ []) ∷ []) 1 1 ∷
     -- It is sharp: e 0 does not.
-    trial (join 0 ∷ join 1 ∷ tick 0 ∷ []) (make 0 Global 0 4)
+    trial (join 0 ∷ join 1 ∷ tick 0 ∷ []) (make 0 Global 0 4) 1
     (round (tick 1 ∷ tick 0 ∷ tick 1 ∷ []) ∷ []) 1 0 ∷
     -- The setter's own blocks bring three advances, and none of its ticks: each puts the date off. Judged by the state before the block, the second would end it.
-    trial (join 0 ∷ join 1 ∷ []) (make 0 Global 0 4)
+    trial (join 0 ∷ join 1 ∷ []) (make 0 Global 0 4) 1
     (loose (tick 1 ∷ block 0 ∷ resume 0 ∷ tick 1 ∷ block 0 ∷ resume 0 ∷ tick 1 ∷ block 0 ∷ []) ∷ []) 0 1 ∷
     -- A refused tick does not count: task 0 waits.
-    trial (join 0 ∷ join 1 ∷ []) (make 0 Global 0 4)
+    trial (join 0 ∷ join 1 ∷ []) (make 0 Global 0 4) 1
     (held (block 0 ∷ tick 0 ∷ tick 1 ∷ tick 1 ∷ tick 1 ∷ []) ∷ []) 0 1 ∷
     -- A release ends the pinned one of its object, and not this one.
-    trial (join 0 ∷ make 0 Pinned 0 4 ∷ []) (refresh 0 1 Global 1)
+    trial (join 0 ∷ make 0 Pinned 0 4 ∷ []) (refresh 0 1 Global 1) 1
     (round (tick 0 ∷ release 0 1 ∷ []) ∷ []) 1 1 ∷
     -- The second claim: e 0 is gone after two rounds. A refused join, a refused resume and calls that are no events break no round, and the setter may wait between two.
-    trial (join 0 ∷ join 1 ∷ []) (make 0 Global 0 4)
+    trial (join 0 ∷ join 1 ∷ []) (make 0 Global 0 4) 1
     (round (tick 0 ∷ join 0 ∷ tick 1 ∷ []) ∷ loose (block 0 ∷ resume 0 ∷ []) ∷ round (make 1 Local 0 4 ∷ tick 1 ∷ resume 1 ∷ tick 0 ∷ []) ∷ []) 2 0 ∷
     -- So are both dates of a batch, and the date of a refresh with e 1 after three.
-    trial (join 0 ∷ make 0 Local 9 4 ∷ []) (batch 0 Global 0 (1 ∷ 1 ∷ []))
+    trial (join 0 ∷ make 0 Local 9 4 ∷ []) (batch 0 Global 0 (1 ∷ 1 ∷ [])) 2
     (round (tick 0 ∷ []) ∷ round (tick 0 ∷ []) ∷ []) 2 0 ∷
-    trial (join 0 ∷ make 0 Local 9 4 ∷ []) (refresh 0 1 Global 1)
+    trial (join 0 ∷ make 0 Local 9 4 ∷ []) (refresh 0 1 Global 1) 1
     (round (tick 0 ∷ []) ∷ round (tick 0 ∷ []) ∷ round (tick 0 ∷ []) ∷ []) 3 0 ∷
     -- It is sharp: after one round e 0 stands.
-    trial (join 0 ∷ join 1 ∷ []) (make 0 Global 0 4)
+    trial (join 0 ∷ join 1 ∷ []) (make 0 Global 0 4) 1
     (round (tick 0 ∷ tick 1 ∷ []) ∷ []) 1 1 ∷
     -- A setter that has left does not wait, and who has its number since may.
-    trial (join 0 ∷ join 1 ∷ []) (make 0 Global 0 4)
+    trial (join 0 ∷ join 1 ∷ []) (make 0 Global 0 4) 1
     (loose (leave 0 ∷ []) ∷ round (tick 1 ∷ []) ∷ loose (join 0 ∷ block 0 ∷ []) ∷ round (tick 1 ∷ []) ∷ []) 0 0 ∷
     -- Were the setter asked only at the end of a round, two rounds would not be enough: here it waits in the first, and leaves in it.
-    trial (join 0 ∷ join 1 ∷ []) (make 0 Global 0 4)
+    trial (join 0 ∷ join 1 ∷ []) (make 0 Global 0 4) 1
     (loose (block 0 ∷ []) ∷ held (tick 1 ∷ leave 0 ∷ []) ∷ round (tick 1 ∷ []) ∷ []) 0 1 ∷
     -- Nor would they be, were resumes allowed in a round: all that run have ticked in both, and only the second brings an advance.
-    trial (join 0 ∷ join 1 ∷ []) (make 0 Global 0 4)
+    trial (join 0 ∷ join 1 ∷ []) (make 0 Global 0 4) 1
     (loose (tick 1 ∷ block 1 ∷ resume 1 ∷ tick 0 ∷ []) ∷ round (tick 0 ∷ tick 1 ∷ []) ∷ []) 2 1 ∷
     []
 
--- What the ledger makes of a trial: the sort of each part, the ticks, and what is left.
+-- What the ledger makes of a trial: the dates set, the sort of each part, the ticks, and what is left.
 abbrev pub sorts : Ledger → List Expiration → List Part → List ℕ
 sorts L xs [] = []
 sorts L xs (r ∷ rs) = cond (isRound L (r .calls)) (cond (isFree L (r .calls) xs) 2 1) 0 ∷ sorts (afterAll L (r .calls)) (followed L (r .calls) xs) rs
@@ -91,12 +92,14 @@ abbrev pub ledgerOf : Trial → Ledger
 ledgerOf t = afterSent (afterAll fresh (t .earlier)) (t .call)
 
 pub record TrialHolds (t : Trial) : Type 0 where
+  pub set : length (datesOf t) ≡ t .set
   pub parts : sorts (ledgerOf t) (datesOf t) (t .parts) ≡ map (λ (r : Part). r .sort) (t .parts)
   pub ticks : countOf (isTickOf 0) (ledgerOf t) (allCalls t) ≡ t .ticks
   pub left : length (followed (ledgerOf t) (allCalls t) (datesOf t)) ≡ t .left
 
-abbrev pub TrialsHold : Type 0
-TrialsHold = All TrialHolds trials
+pub record TrialsHold : Type 0 where
+  pub twelve : length trials ≡ 12
+  pub each : All TrialHolds trials
 
 -- Neither claim is empty: there are a setting and calls that meet the premises of the first, with as many ticks as it allows, and a setting and rounds that meet those of the second.
 pub record ClaimsApply : Type 0 where

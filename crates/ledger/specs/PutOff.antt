@@ -1,12 +1,12 @@
 -- The claim of E20 and E21 (order 4 of document 02): waiting eats none of a task's global expirations, over any advance and in four rows.
-use Prim.Native.Nat.{ℕ, _-_}
+use Prim.Native.Nat.{ℕ, _-_, _≤_}
 use mathlib.Core.Bool.{Bool, true, false}
 use mathlib.Core.List.{List, [], _∷_}
 use mathlib.Core.Path.{_≡_}
 use lib.ListN.{length}
 use Rattle.lists.specs.Tests.{All}
 use Rattle.ledger.specs.Tasks.{Clocks, taskAt, isWaiting, advances, clocksAfter}
-use Rattle.ledger.specs.Expirations.{byGlobal, departed, remaining, putOff}
+use Rattle.ledger.specs.Expirations.{byGlobal, departed, Expiration, remaining, lasting}
 use Rattle.ledger.specs.Kept.{ClocksKept}
 use Rattle.ledger.specs.Ledger.{fresh}
 use Rattle.ledger.specs.Rows.{join, leave, block, resume, tick, make, read, remaining as left, refused, done, standsStill, advanced, handle, zeros, lasts, _⇒_, _⨾_, Row, _runs_clockReads_, RowHolds}
@@ -15,15 +15,19 @@ use Rattle.ledger.specs.declared.Kind.the-variants.{Local, Global}
 
 unfoldable pub waitingEdges : List Row
 waitingEdges =
-    -- 1. The setter waits through two advances: its global expiration has what it had, and then counts on. Its local one is not put off.
+    -- 1. The setter waits through two advances, of which a tick brings one and the leave of another task the other: its global expiration has what it had, and then
+    -- counts on. Its local one is not put off.
     fresh runs
     join 0 ⇒ done ⨾
     join 1 ⇒ done ⨾
+    join 2 ⇒ done ⨾
     make 0 Global 0 4 ⇒ handle 1 ⨾
     make 0 Local 0 4 ⇒ handle 2 ⨾
     block 0 ⇒ standsStill ⨾
+    tick 2 ⇒ standsStill ⨾
     tick 1 ⇒ advanced ⨾
-    tick 1 ⇒ advanced ⨾
+    tick 1 ⇒ standsStill ⨾
+    leave 2 ⇒ advanced ⨾
     left 1 1 ⇒ lasts 0 2 ⨾
     resume 0 ⇒ done ⨾
     read 0 1 ⇒ zeros 4 ⨾
@@ -74,24 +78,37 @@ waitingEdges =
     clockReads 0 ∷
     []
 
--- An event that makes the global time advance, and a global expiration of this setter by the clocks after it
-module _ (event : Event) (task : ℕ) (clocks : Clocks) (setter at : ℕ) where
-  abbrev pub unitsAfter : ℕ
-  unitsAfter = let after = clocksAfter event task clocks in remaining after (putOff (advances event task clocks) after (byGlobal setter at))
+-- What an event leaves of one global expiration, by the ledger's rule
+abbrev pub globalOne : ℕ → ℕ → ℕ → Expiration
+globalOne handle setter at = record { handle = handle; due = byGlobal setter at }
 
-  abbrev pub unitsBefore : ℕ
-  unitsBefore = remaining clocks (byGlobal setter at)
+abbrev pub leftOfOne : Event → ℕ → Clocks → Expiration → List Expiration
+leftOfOne event task clocks x = lasting event task (advances event task clocks) (clocksAfter event task clocks) (x ∷ [])
+
+-- it is left, of the same object and with so many units
+pub record LeftWith (event : Event) (task : ℕ) (clocks : Clocks) (x : Expiration) (count : ℕ) : Type 0 where
+  pub one : Expiration
+  pub left : leftOfOne event task clocks x ≡ one ∷ []
+  pub object : one .handle ≡ x .handle
+  pub units : remaining (clocksAfter event task clocks) (one .due) ≡ count
+
+-- a task waits after the event
+abbrev pub waitsAfter : Event → ℕ → Clocks → ℕ → Bool
+waitsAfter event task clocks who = isWaiting (taskAt (clocksAfter event task clocks) who .state)
 
 pub record WaitingEatsNothing : Type 0 where
-  -- E20: where the setter waits after the event, all units are left,
-  pub waits : (event : Event) (task : ℕ) (clocks : Clocks) (setter at : ℕ) → advances event task clocks ≡ true
-      → isWaiting (taskAt (clocksAfter event task clocks) setter .state) ≡ true
-      → unitsAfter event task clocks setter at ≡ unitsBefore event task clocks setter at
-  -- and else one goes;
-  pub counts : (event : Event) (task : ℕ) (clocks : Clocks) (setter at : ℕ) → advances event task clocks ≡ true
-      → isWaiting (taskAt (clocksAfter event task clocks) setter .state) ≡ false
-      → unitsAfter event task clocks setter at ≡ unitsBefore event task clocks setter at - 1
-  -- E21: a departed setter never waits
+  -- E20: at an advance, whoever brings it, a global expiration whose setter waits then keeps all its units,
+  pub waits : (event : Event) (task : ℕ) (clocks : Clocks) (handle setter at : ℕ) → advances event task clocks ≡ true
+      → waitsAfter event task clocks setter ≡ true → waitsAfter event task clocks departed ≡ false → 1 ≤ remaining clocks (byGlobal setter at)
+      → LeftWith event task clocks (globalOne handle setter at) (remaining clocks (byGlobal setter at))
+  -- and any other has one less, or ends with its last.
+  pub counts : (event : Event) (task : ℕ) (clocks : Clocks) (handle setter at : ℕ) → advances event task clocks ≡ true
+      → waitsAfter event task clocks setter ≡ false → waitsAfter event task clocks departed ≡ false → 2 ≤ remaining clocks (byGlobal setter at)
+      → LeftWith event task clocks (globalOne handle setter at) (remaining clocks (byGlobal setter at) - 1)
+  pub ends : (event : Event) (task : ℕ) (clocks : Clocks) (handle setter at : ℕ) → advances event task clocks ≡ true
+      → waitsAfter event task clocks setter ≡ false → waitsAfter event task clocks departed ≡ false → remaining clocks (byGlobal setter at) ≡ 1
+      → leftOfOne event task clocks (globalOne handle setter at) ≡ []
+  -- E21: no departed setter waits, from fresh on
   pub gone : (clocks : Clocks) → ClocksKept clocks → isWaiting (taskAt clocks departed .state) ≡ false
   pub four : length waitingEdges ≡ 4
   pub rows : All RowHolds waitingEdges

@@ -17,7 +17,7 @@ use Rattle.ledger.specs.declared.Call.{Call}
 use Rattle.ledger.specs.declared.Call.the-variants.{Schedule, Make, Refresh, Read, Write, Batch, Release}
 use Rattle.ledger.specs.declared.Request.the-variants.{Use, Report, Remaining}
 
--- The calls, by their names in 01 and with its arguments in its order. Only a write brings bytes, and a batch its handles.
+-- The calls, by their names in documents 01 and 02 and with the arguments in their order. Only a write brings bytes, and a batch its handles.
 abbrev pub send : Call → List ℕ → Sent
 send call new = record { request = Use call; bytes = new }
 

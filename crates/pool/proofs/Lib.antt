@@ -3,3 +3,4 @@ pub mod ByValue
 pub mod Demands
 pub mod Outlives
 pub mod Pinned
+pub mod PutOff

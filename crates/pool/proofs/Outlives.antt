@@ -4,24 +4,27 @@ use mathlib.Core.Bool.{true}
 use mathlib.Core.List.{List, [], _∷_, _++_, append-assoc, List·Permᴰ, List·Permᴰ·trans}
 use mathlib.Core.Path.{_≡_, refl, sym, ap, subst, _∙_}
 use native.Mathlib.Omega.{arith}
+use lib.Dec.{eqb}
 use Rattle.lists.proofs.Cases.{by-test}
-use Rattle.lists.proofs.Counts.{any-append}
+use Rattle.lists.proofs.Counts.{any-append, any-map}
 use Rattle.lists.proofs.Permutations.{exchange-perm, any-perm, map-perm}
 use Rattle.ledger.specs.Expirations.{Expiration, isOf}
-use Rattle.ledger.specs.Objects.{Reply, stands}
+use Rattle.ledger.specs.Objects.{Object, Reply, stands}
 use Rattle.ledger.specs.Ledger.{Ledger, Sent, fresh, afterSent, afterAll}
-use Rattle.ledger.specs.Compared.{viewOf, shown}
+use Rattle.ledger.specs.Compared.{viewOf, shown, shownObject}
 use Rattle.ledger.specs.Outlives.{setIn, leftIn, followed, Setting, whenSet, callsOf}
 use Rattle.ledger.specs.declared.Answer.the-variants.{Refused}
 use Rattle.ledger.specs.declared.Refusal.the-variants.{ObjectGone, WrongStoreLength}
+use Rattle.ledger.proofs.Kept.{owned-by, kept-all}
 use Rattle.ledger.proofs.Following.{following}
 use Rattle.ledger.proofs.OutlivesTicks.{outlives-ticks}
 use Rattle.ledger.proofs.GoneAfterRounds.{gone-after-rounds}
 use Rattle.ledger.proofs.Pinned.{read-stands}
+use Rattle.record.specs.Reading.{isWhole}
 use Rattle.record.specs.Pools.{Reads}
 use Rattle.record.specs.declared.Pool.{Pool}
 use Rattle.calls.specs.Contract.{areWhole}
-use Rattle.pool.specs.Outlives.{FreshRun, NotGone, followedNew, beside, othersOf, PoolFollows, PoolOutlivesTicks, PoolGoneAfterRounds}
+use Rattle.pool.specs.Outlives.{FreshRun, StandsIn, followedNew, beside, othersOf, PoolFollows, PoolOutlivesTicks, PoolGoneAfterRounds}
 use Rattle.pool.proofs.Demands.{demand2}
 
 -- a list of calls after another
@@ -33,15 +36,23 @@ after-append (s ∷ ss) more L = after-append ss more (afterSent L s)
 wrong-store : Refused WrongStoreLength ≡ Refused ObjectGone → ⊥
 wrong-store e = let z : _≡_ {A = ℕ} 0 1 = cc in omega arith
 
--- after a list of calls no read of an object that stands in the ledger is answered 12
-pub not-gone : (ss : List Sent) (p′ : Pool) (small′ large′ : List ℕ) → FreshRun ss p′ small′ large′
-    → (handle : ℕ) → stands (afterAll fresh ss .expirations) handle ≡ true → NotGone handle p′ small′ large′
-not-gone ss p′ small′ large′ r handle here task y p″ small″ large″ o e =
+-- after a list of calls an object that stands in the ledger stands in the pool
+pub stands-in : (ss : List Sent) (p′ : Pool) (small′ large′ : List ℕ) → FreshRun ss p′ small′ large′
+    → (handle : ℕ) → stands (afterAll fresh ss .expirations) handle ≡ true → StandsIn handle p′ small′ large′
+unfolding viewOf
+stands-in ss p′ small′ large′ r handle here =
     let (same, reads, fit) = demand2 (r .small) (r .large) (r .smallWhole) (r .largeWhole) ss (r .replies) p′ small′ large′ (r .runs) in
     let N = afterAll fresh ss in
-    by-test (areWhole small′ large′)
-    (λ w. read-stands N task handle here (ap (λ (y : Reply). y .answer) (sym (o .answers fit (λ u. w) N reads)) ∙ e))
-    (λ w. wrong-store (sym (ap (λ (y : Reply). y .answer) (o .wrong fit refl w .refused)) ∙ e))
+    record {
+      has =
+          any-perm _ (reads .alike .objects)
+          ∙ any-map (λ (o : Object). eqb handle (o .handle)) (shownObject (isWhole small′ large′)) (N .memory .objects)
+          ∙ owned-by (N .memory) (N .expirations) (kept-all ss) handle here;
+      reads = λ task y p″ small″ large″ o e.
+          by-test (areWhole small′ large′)
+          (λ w. read-stands N task handle here (ap (λ (y : Reply). y .answer) (sym (o .answers fit (λ u. w) N reads)) ∙ e))
+          (λ w. wrong-store (sym (ap (λ (y : Reply). y .answer) (o .wrong fit refl w .refused)) ∙ e));
+    }
 
 -- the ledger after the whole list
 after-set : (d : Setting) (ss : List Sent) → afterAll fresh (d .earlier ++ (d .call ∷ ss)) ≡ afterAll (whenSet d) ss
@@ -93,10 +104,16 @@ pool-follows d ss p′ small′ large′ r =
 pub pool-outlives-ticks : PoolOutlivesTicks
 pool-outlives-ticks d ss p′ small′ large′ r stays few =
     let handle = d .date .handle in
+    let left = outlives-ticks d ss stays few .0 in
     let here : stands (afterAll (whenSet d) ss .expirations) handle ≡ true =
-    any-perm (isOf handle) (with-others d ss) ∙ any-append (isOf handle) (followed (whenSet d) ss (d .date ∷ [])) (othersOf d ss) ∙ rw (outlives-ticks d ss stays few .0) in
-    not-gone (d .earlier ++ (d .call ∷ ss)) p′ small′ large′ r handle
-    (subst (λ (L : Ledger). stands (L .expirations) handle ≡ true) (sym (after-set d ss)) here)
+    any-perm (isOf handle) (with-others d ss) ∙ any-append (isOf handle) (followed (whenSet d) ss (d .date ∷ [])) (othersOf d ss) ∙ rw left in
+    record {
+      left = left;
+      shows = pool-follows d ss p′ small′ large′ r;
+      object =
+          stands-in (d .earlier ++ (d .call ∷ ss)) p′ small′ large′ r handle
+          (subst (λ (L : Ledger). stands (L .expirations) handle ≡ true) (sym (after-set d ss)) here);
+    }
 
 pub pool-gone-after-rounds : PoolGoneAfterRounds
 pool-gone-after-rounds d rs rest p′ small′ large′ r n e =

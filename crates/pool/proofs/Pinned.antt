@@ -7,12 +7,12 @@ use Rattle.ledger.specs.Ledger.{Ledger, fresh, afterAll}
 use Rattle.ledger.specs.Pinned.{madeBy, whenMade}
 use Rattle.ledger.proofs.Pinned.{stands-until}
 use Rattle.pool.specs.Pinned.{PoolStandsUntilReleased}
-use Rattle.pool.proofs.Outlives.{after-append, not-gone}
+use Rattle.pool.proofs.Outlives.{after-append, stands-in}
 
 pub pool-stands-until : PoolStandsUntilReleased
 unfolding afterAll
 pool-stands-until m ss p′ small′ large′ r e =
     let all = m .earlier ++ (madeBy m ∷ ss) in
     let same : afterAll fresh all ≡ afterAll (whenMade m) ss = after-append (m .earlier) (madeBy m ∷ ss) fresh in
-    not-gone all p′ small′ large′ r (m .object)
+    stands-in all p′ small′ large′ r (m .object)
     (subst (λ (L : Ledger). stands (L .expirations) (m .object) ≡ true) (sym same) (stands-until m ss e .0))

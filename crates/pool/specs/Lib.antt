@@ -1,3 +1,4 @@
 pub mod Demands
 pub mod Outlives
 pub mod Pinned
+pub mod PutOff

@@ -3,9 +3,11 @@ use Prim.Native.Nat.{ℕ, _+_, _≤_}
 use mathlib.Core.Bool.{true}
 use mathlib.Core.List.{List, [], _∷_, _++_, map, List·Permᴰ}
 use mathlib.Core.Path.{_≡_}
+use lib.Dec.{eqb}
 use lib.ListN.{length}
+use Rattle.lists.specs.Tests.{any}
 use Rattle.ledger.specs.Expirations.{Expiration}
-use Rattle.ledger.specs.Objects.{Reply}
+use Rattle.ledger.specs.Objects.{Object, Reply, stands}
 use Rattle.ledger.specs.Ledger.{Ledger, Sent, fresh, afterSent, afterAll}
 use Rattle.ledger.specs.Compared.{shown}
 use Rattle.ledger.specs.Outlives.{setIn, leftIn, followed, isTickOf, isLeaveOf, countOf, Setting, whenSet, Stretch, callsOf, areRounds}
@@ -32,11 +34,13 @@ pub record FreshRun (ss : List Sent) (p′ : Pool) (small′ large′ : List ℕ
 abbrev pub SetRun : Setting → List Sent → Pool → List ℕ → List ℕ → Type 0
 SetRun d ss p′ small′ large′ = FreshRun (d .earlier ++ (d .call ∷ ss)) p′ small′ large′
 
--- and from there no read of an object is answered 12
-abbrev pub NotGone : ℕ → Pool → List ℕ → List ℕ → Type 0
-NotGone handle p small large =
-    (task : ℕ) (y : Reply) (p′ : Pool) (small′ large′ : List ℕ) → Obeys (Use (Read task handle)) [] p small large y p′ small′ large′
-    → y .answer ≡ Refused ObjectGone → ⊥
+-- An object stands in the pool:
+pub record StandsIn (handle : ℕ) (p : Pool) (small large : List ℕ) : Type 0 where
+  -- the record has an object with this handle,
+  pub has : any (λ (o : Object). eqb handle (o .handle)) (recordView (tablesOf p) small large .objects) ≡ true
+  -- and no read of it is answered 12.
+  pub reads : (task : ℕ) (y : Reply) (p′ : Pool) (small′ large′ : List ℕ) → Obeys (Use (Read task handle)) [] p small large y p′ small′ large′
+      → y .answer ≡ Refused ObjectGone → ⊥
 
 -- what a list of calls leaves of the expirations that it sets itself
 unfoldable pub followedNew : Ledger → List Sent → List Expiration
@@ -56,18 +60,27 @@ othersOf d ss = followedNew (whenSet d) ss ++ followed (whenSet d) ss (d .front 
 abbrev pub Shows : Pool → List ℕ → List ℕ → Ledger → List Expiration → Type 0
 Shows p small large L xs = List·Permᴰ (recordView (tablesOf p) small large .expirations) (map (shown (L .memory .clocks)) xs)
 
--- To follow an expiration in the ledger is to follow it in the record,
+-- To follow an expiration in the ledger is to follow it in the record.
 abbrev pub PoolFollows : Type 0
 PoolFollows =
     (d : Setting) (ss : List Sent) (p′ : Pool) (small′ large′ : List ℕ) → SetRun d ss p′ small′ large′
     → Shows p′ small′ large′ (afterAll (whenSet d) ss) (followed (whenSet d) ss (d .date ∷ []) ++ othersOf d ss)
 
--- so the first claim (U6): while the setter has not left and has made at most e ticks since, no read of the object is answered 12,
+-- What it is to have outlived these calls:
+pub record Outlived (d : Setting) (ss : List Sent) (p′ : Pool) (small′ large′ : List ℕ) : Type 0 where
+  -- this very expiration is left,
+  pub left : stands (followed (whenSet d) ss (d .date ∷ [])) (d .date .handle) ≡ true
+  -- the record has it, beside the others,
+  pub shows : Shows p′ small′ large′ (afterAll (whenSet d) ss) (followed (whenSet d) ss (d .date ∷ []) ++ othersOf d ss)
+  -- and the object stands.
+  pub object : StandsIn (d .date .handle) p′ small′ large′
+
+-- So the first claim (U6): an expiration outlives all calls while its setter has not left and has made at most e ticks since,
 abbrev pub PoolOutlivesTicks : Type 0
 PoolOutlivesTicks =
     (d : Setting) (ss : List Sent) (p′ : Pool) (small′ large′ : List ℕ) → SetRun d ss p′ small′ large′
     → countOf (isLeaveOf (d .setter)) (whenSet d) ss ≡ 0 → countOf (isTickOf (d .setter)) (whenSet d) ss ≤ d .extension
-    → NotGone (d .date .handle) p′ small′ large′
+    → Outlived d ss p′ small′ large′
 
 -- and the second (U10): after e + 2 rounds, in none of which the setter waits, the record has the others alone.
 abbrev pub PoolGoneAfterRounds : Type 0

@@ -6,9 +6,9 @@ use mathlib.Core.Path.{_≡_}
 use Rattle.ledger.specs.Ledger.{Sent}
 use Rattle.ledger.specs.Pinned.{PinnedMake, madeBy, whenMade, isReleased}
 use Rattle.record.specs.declared.Pool.{Pool}
-use Rattle.pool.specs.Outlives.{FreshRun, NotGone}
+use Rattle.pool.specs.Outlives.{FreshRun, StandsIn}
 
 abbrev pub PoolStandsUntilReleased : Type 0
 PoolStandsUntilReleased =
     (m : PinnedMake) (ss : List Sent) (p′ : Pool) (small′ large′ : List ℕ) → FreshRun (m .earlier ++ (madeBy m ∷ ss)) p′ small′ large′
-    → isReleased (m .object) (whenMade m) ss ≡ false → NotGone (m .object) p′ small′ large′
+    → isReleased (m .object) (whenMade m) ss ≡ false → StandsIn (m .object) p′ small′ large′

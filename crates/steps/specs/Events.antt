@@ -85,7 +85,7 @@ leaverOf Resume task = taskCount
 leaverOf Leave task = task
 leaverOf Tick task = taskCount
 
--- E21: the clock of an entry, after the leave of this task; of taskCount nothing is left
+-- E21: the clock of an entry, after the leave of this task; where nobody leaves (taskCount) every clock stays
 abbrev pub desertedClock : ℕ → ℕ → ℕ
 desertedClock leaver clock = cond (isGlobalClock clock && eqb (clock - globalCode) leaver) departedCode clock
 

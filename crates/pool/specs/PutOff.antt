@@ -1,0 +1,57 @@
+-- E20 of the pool, over lists of calls: waiting eats none of a task's global expirations in the record.
+use Prim.Native.Nat.{ℕ, _-_, _≤_}
+use mathlib.Core.Bool.{true, false}
+use mathlib.Core.List.{List, [], _∷_, _++_}
+use mathlib.Core.Path.{_≡_}
+use Rattle.ledger.specs.Tasks.{Clocks, advances}
+use Rattle.ledger.specs.Expirations.{Expiration, byGlobal, remaining}
+use Rattle.ledger.specs.Ledger.{Ledger, Sent, fresh, afterSent, afterAll}
+use Rattle.ledger.specs.Outlives.{happens, moveIn, setIn, leftIn}
+use Rattle.ledger.specs.PutOff.{globalOne, LeftWith, waitsAfter}
+use Rattle.ledger.specs.declared.Event.{Event}
+use Rattle.record.specs.declared.Pool.{Pool}
+use Rattle.pool.specs.Outlives.{FreshRun, Shows}
+
+-- Calls from fresh on, and then an accepted event that makes the global time advance; before it a global expiration stood, between these others.
+pub record AtAdvance : Type 0 where
+  pub earlier : List Sent
+  pub call : Sent
+  pub event : Event
+  pub task : ℕ
+  pub happened : moveIn (afterAll fresh earlier) (call .request) (call .bytes) ≡ happens event task
+  pub advanced : advances event task (afterAll fresh earlier .memory .clocks) ≡ true
+  pub handle : ℕ
+  pub setter : ℕ
+  pub at : ℕ
+  pub front : List Expiration
+  pub back : List Expiration
+  pub among : afterAll fresh earlier .expirations ≡ front ++ (globalOne handle setter at ∷ back)
+
+abbrev pub before : AtAdvance → Ledger
+before a = afterAll fresh (a .earlier)
+
+abbrev pub clocksBefore : AtAdvance → Clocks
+clocksBefore a = before a .memory .clocks
+
+abbrev pub unitsBefore : AtAdvance → ℕ
+unitsBefore a = remaining (clocksBefore a) (byGlobal (a .setter) (a .at))
+
+-- what the call leaves of some expirations, and so of all others
+abbrev pub leftAt : AtAdvance → List Expiration → List Expiration
+leftAt a xs = leftIn (before a) (a .call .request) (a .call .bytes) xs
+
+abbrev pub othersAt : AtAdvance → List Expiration
+othersAt a = setIn (before a) (a .call .request) (a .call .bytes) ++ (leftAt a (a .front) ++ leftAt a (a .back))
+
+-- the record has it with so many units, and the others
+pub record ShownWith (a : AtAdvance) (p′ : Pool) (small′ large′ : List ℕ) (count : ℕ) : Type 0 where
+  pub left : LeftWith (a .event) (a .task) (clocksBefore a) (globalOne (a .handle) (a .setter) (a .at)) count
+  pub shows : Shows p′ small′ large′ (afterSent (before a) (a .call)) (left .one ∷ othersAt a)
+
+pub record PoolWaitingEatsNothing : Type 0 where
+  -- where its setter waits after the event it has all the units that it had,
+  pub waits : (a : AtAdvance) (p′ : Pool) (small′ large′ : List ℕ) → FreshRun (a .earlier ++ (a .call ∷ [])) p′ small′ large′
+      → waitsAfter (a .event) (a .task) (clocksBefore a) (a .setter) ≡ true → ShownWith a p′ small′ large′ (unitsBefore a)
+  -- and else one less
+  pub counts : (a : AtAdvance) (p′ : Pool) (small′ large′ : List ℕ) → FreshRun (a .earlier ++ (a .call ∷ [])) p′ small′ large′
+      → waitsAfter (a .event) (a .task) (clocksBefore a) (a .setter) ≡ false → 2 ≤ unitsBefore a → ShownWith a p′ small′ large′ (unitsBefore a - 1)
