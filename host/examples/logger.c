@@ -4,8 +4,8 @@
  * Each cycle every task makes a block for its reading, task 0 reads them all, and every task ticks. The readings are
  * for another task, so their expirations are global: due once every running task has ticked twice. Task 0 also keeps
  * the last scan that is whole, with a reading of every sensor: it refreshes all of them by one call, and only where they
- * would be gone at the next look. What the task with the dead sensor has asked it for nobody refreshes: it is put off
- * for as long as the task waits, and is there when the task comes back. And the calibration of the site must not lapse at
+ * would be gone at the next look. Nobody refreshes the request of the task whose sensor is dead: it is put off for as long
+ * as the task waits, and is there when the task comes back. And the calibration of the site must not lapse at
  * all: it is pinned, and released when the site is taken down.
  */
 #include <stdbool.h>
@@ -66,8 +66,8 @@ static uint8_t read_reading(uint8_t task, uint8_t cycle, unsigned *read) {
     return RAMSUMMER_DONE;
 }
 
-/* Task 0 looks at the whole scan once a cycle, and refreshes it where it would be gone an advance later. Its readings
- * live and lapse together, so that one of them tells for all. */
+/* Task 0 looks at the whole scan once a cycle, and refreshes it where it would be gone an advance later. None of its
+ * readings goes before that of task 0, which does not wait; so that one tells for all. */
 static uint8_t keep(bool *refreshed) {
     uint8_t local, global;
     uint8_t refusal = ramsummer_remaining(&pool, READER, whole[0], &local, &global);

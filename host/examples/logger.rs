@@ -3,8 +3,8 @@
 //! Each cycle every task makes a block for its reading, task 0 reads them all, and every task ticks. The readings are
 //! for another task, so their expirations are global: due once every running task has ticked twice. Task 0 also keeps
 //! the last scan that is whole, with a reading of every sensor: it refreshes all of them by one call, and only where they
-//! would be gone at the next look. What the task with the dead sensor has asked it for nobody refreshes: it is put off
-//! for as long as the task waits, and is there when the task comes back. And the calibration of the site must not lapse at
+//! would be gone at the next look. Nobody refreshes the request of the task whose sensor is dead: it is put off for as long
+//! as the task waits, and is there when the task comes back. And the calibration of the site must not lapse at
 //! all: it is pinned, and released when the site is taken down.
 
 use ramsummer::{Gauged, Handle, Kind, Pool, Refusal};
@@ -124,8 +124,8 @@ fn run(Logger { pool, newest, whole, .. }: &mut Logger, cycle: u8) -> Result<(us
     Ok((read, refreshed))
 }
 
-/// Task 0 looks at the scan once a cycle, and refreshes it where it would be gone an advance later. Its readings live
-/// and lapse together, so that one of them tells for all.
+/// Task 0 looks at the scan once a cycle, and refreshes it where it would be gone an advance later. None of its readings
+/// goes before that of task 0, which does not wait; so that one tells for all.
 fn keep(pool: &mut Gauged<Pool>, scan: &Scan) -> Result<bool, Refusal> {
     let would_go = pool.remaining(READER, scan[0])?.global <= 1;
     if would_go {

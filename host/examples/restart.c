@@ -9,7 +9,7 @@
 #include "ramsummer_image.h"
 #include "ramsummer_text.h"
 
-enum { LENGTH = 7, EXTENSION = 3 };
+enum { LENGTH = 7 };
 
 static ramsummer_pool pool;
 static uint8_t small[RAMSUMMER_SMALL], large[RAMSUMMER_LARGE];
@@ -20,7 +20,7 @@ static uint8_t small[RAMSUMMER_SMALL], large[RAMSUMMER_LARGE];
 static struct {
     uint8_t images[2][RAMSUMMER_IMAGE_WITH_STORES];
     uint8_t record[RAMSUMMER_IMAGE_RECORD_ALONE];
-    uint32_t level, rain, battery;
+    uint32_t level, rain, battery, calibration;
 } kept;
 
 static uint8_t print_figures(const char *before) {
@@ -34,19 +34,20 @@ static uint8_t print_figures(const char *before) {
     return RAMSUMMER_DONE;
 }
 
-static uint8_t reading(uint8_t task, uint8_t kind, const char *text, uint32_t *handle) {
-    uint8_t refusal = ramsummer_make(POOL, task, kind, EXTENSION, LENGTH, handle);
+static uint8_t reading(uint8_t task, uint8_t kind, uint8_t extension, const char *text, uint32_t *handle) {
+    uint8_t refusal = ramsummer_make(POOL, task, kind, extension, LENGTH, handle);
     return refusal ? refusal : ramsummer_write(POOL, task, *handle, 0, (const uint8_t *)text, LENGTH);
 }
 
-/* Before the restart: three readings, a tick of each task, and two images. */
+/* Before the restart: three readings and a calibration, which is pinned, a tick of each task, and two images. */
 static uint8_t run(void) {
     uint8_t advanced, refusal = ramsummer_fresh(&pool);
     if (!refusal) refusal = ramsummer_join(&pool, 0);
     if (!refusal) refusal = ramsummer_join(&pool, 1);
-    if (!refusal) refusal = reading(0, RAMSUMMER_LOCAL, "12.50 m", &kept.level);
-    if (!refusal) refusal = reading(1, RAMSUMMER_LOCAL, "0.40 mm", &kept.rain);
-    if (!refusal) refusal = reading(1, RAMSUMMER_GLOBAL, "13.20 V", &kept.battery);
+    if (!refusal) refusal = reading(0, RAMSUMMER_LOCAL, 3, "12.50 m", &kept.level);
+    if (!refusal) refusal = reading(1, RAMSUMMER_LOCAL, 3, "0.40 mm", &kept.rain);
+    if (!refusal) refusal = reading(1, RAMSUMMER_GLOBAL, 3, "13.20 V", &kept.battery);
+    if (!refusal) refusal = reading(0, RAMSUMMER_PINNED, 0, "+2.50 m", &kept.calibration);
     if (!refusal) refusal = ramsummer_tick(&pool, 0, &advanced);
     if (!refusal) refusal = ramsummer_tick(&pool, 1, &advanced);
     if (refusal) return refusal;
@@ -84,6 +85,8 @@ static uint8_t go_on(void) {
     printf("task 0 joins: refused with %d, %s\n", refusal, ramsummer_text(refusal));
     refusal = look(0, kept.level, text, &local, &global);
     if (!refusal) printf("task 0 goes on: %s, for %d ticks more\n", text, local);
+    if (!refusal) refusal = look(0, kept.calibration, text, &local, &global);
+    if (!refusal) printf("task 0 has its calibration still: %s\n", text);
     return refusal;
 }
 
@@ -100,7 +103,18 @@ static uint8_t start_anew(void) {
     return refusal;
 }
 
-/* The record is back and the stores are not: each object stands with wrong bytes, until time has passed over it. */
+/* What is pinned, found by the record: also where its handle is lost. */
+static uint8_t release_pinned(uint8_t task) {
+    uint8_t refusal = RAMSUMMER_DONE;
+    size_t i;
+    for (i = 0; i < RAMSUMMER_EXPIRATIONS && !refusal; i++)
+        if (pool.clocks[i] == RAMSUMMER_CLOCK_PINNED)
+            refusal = ramsummer_release(&pool, task, pool.handles[pool.named[i]]);
+    return refusal;
+}
+
+/* The record is back and the stores are not: each object stands with wrong bytes, until it is released or time has passed
+ * over it. */
 static uint8_t lose_stores(void) {
     char text[LENGTH + 1];
     uint8_t advanced, local, global, task, ticks, refusal;
@@ -115,8 +129,9 @@ static uint8_t lose_stores(void) {
         if (refusal && refusal != RAMSUMMER_TASK_ABSENT) return refusal;
     }
     refusal = ramsummer_join(&pool, 0);
+    if (!refusal) refusal = release_pinned(0);
     for (ticks = 0; ticks < 32 && !refusal; ticks++) refusal = ramsummer_tick(&pool, 0, &advanced);
-    return refusal ? refusal : print_figures("all have left, one joins and ticks 32 times");
+    return refusal ? refusal : print_figures("all have left, one joins, releases what is pinned and ticks 32 times");
 }
 
 int main(void) {

@@ -1,7 +1,7 @@
 //! A logger is restarted: one of two saved images is damaged, the tasks come back and find themselves joined; and then
 //! a record comes back without its stores. docs/RESTART.md is the recipe; examples/restart.c is the same in C.
 
-use ramsummer::{image, Handle, Kind, Pool, Refusal};
+use ramsummer::{image, Handle, Kind, Pool, Record, Refusal, CLOCK_PINNED};
 
 /// What outlives the restart. The tasks' handles are kept with the images, of the same moment: the record does not say
 /// whose an object is.
@@ -11,6 +11,7 @@ struct Kept {
     level: Handle,
     rain: Handle,
     battery: Handle,
+    calibration: Handle,
 }
 
 fn main() -> Result<(), Refusal> {
@@ -22,14 +23,15 @@ fn main() -> Result<(), Refusal> {
     lose_stores(&kept)
 }
 
-/// Before the restart: three readings, a tick of each task, and two images.
+/// Before the restart: three readings and a calibration, which is pinned, a tick of each task, and two images.
 fn run() -> Result<Kept, Refusal> {
     let mut pool = Pool::new();
     pool.join(0)?;
     pool.join(1)?;
-    let level = reading(&mut pool, 0, Kind::Local, b"12.50 m")?;
-    let rain = reading(&mut pool, 1, Kind::Local, b"0.40 mm")?;
-    let battery = reading(&mut pool, 1, Kind::Global, b"13.20 V")?;
+    let level = reading(&mut pool, 0, Kind::Local, 3, b"12.50 m")?;
+    let rain = reading(&mut pool, 1, Kind::Local, 3, b"0.40 mm")?;
+    let battery = reading(&mut pool, 1, Kind::Global, 3, b"13.20 V")?;
+    let calibration = reading(&mut pool, 0, Kind::Pinned, 0, b"+2.50 m")?;
     pool.tick(0)?;
     pool.tick(1)?;
     let mut images = [[0; image::WITH_STORES]; 2];
@@ -39,11 +41,11 @@ fn run() -> Result<Kept, Refusal> {
     let mut record = [0; image::RECORD_ALONE];
     image::save(pool.record(), &mut record).expect("there is room");
     println!("saved: {pool}");
-    Ok(Kept { images, record, level, rain, battery })
+    Ok(Kept { images, record, level, rain, battery, calibration })
 }
 
-fn reading(pool: &mut Pool, task: u8, kind: Kind, text: &[u8; 7]) -> Result<Handle, Refusal> {
-    let handle = pool.make(task, kind, 3, 7)?;
+fn reading(pool: &mut Pool, task: u8, kind: Kind, extension: u8, text: &[u8; 7]) -> Result<Handle, Refusal> {
+    let handle = pool.make(task, kind, extension, 7)?;
     pool.write(task, handle, 0, text)?;
     Ok(handle)
 }
@@ -71,6 +73,7 @@ fn go_on(pool: &mut Pool, kept: &Kept) -> Result<(), Refusal> {
     }
     let left = pool.remaining(0, kept.level)?.local;
     println!("task 0 goes on: {}, for {left} ticks more", text(&pool.read_to_vec(0, kept.level)?));
+    println!("task 0 has its calibration still: {}", text(&pool.read_to_vec(0, kept.calibration)?));
     Ok(())
 }
 
@@ -86,7 +89,14 @@ fn start_anew(pool: &mut Pool, kept: &Kept) -> Result<(), Refusal> {
     Ok(())
 }
 
-/// The record is back and the stores are not: each object stands with wrong bytes, until time has passed over it.
+/// The objects that are pinned, found by the record: also those whose handles are lost.
+fn pinned(record: &Record) -> Vec<Handle> {
+    let entries = record.clocks.iter().zip(record.named).filter(|(&clock, _)| clock == CLOCK_PINNED);
+    entries.map(|(_, block)| Handle::from(record.handles[usize::from(block)])).collect()
+}
+
+/// The record is back and the stores are not: each object stands with wrong bytes, until it is released or time has passed
+/// over it.
 fn lose_stores(kept: &Kept) -> Result<(), Refusal> {
     let record = image::restore(&kept.record).expect("the image is whole");
     let mut pool = Pool::over(record, [0; ramsummer::SMALL], [0; ramsummer::LARGE]);
@@ -98,10 +108,13 @@ fn lose_stores(kept: &Kept) -> Result<(), Refusal> {
         }
     }
     pool.join(0)?;
+    for handle in pinned(pool.record()) {
+        pool.release(0, handle)?;
+    }
     for _ in 0..32 {
         pool.tick(0)?;
     }
-    println!("all have left, one joins and ticks 32 times: {pool}");
+    println!("all have left, one joins, releases what is pinned and ticks 32 times: {pool}");
     Ok(())
 }
 

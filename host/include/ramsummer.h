@@ -4,10 +4,11 @@
  * What a caller owes, for every call:
  *   - each pointer is non-null and aligned, also where its count is 0, and leads to as many bytes as its length says;
  *   - what two pointers of one call lead to does not overlap;
- *   - a pool and its stores are used by one thread at a time.
+ *   - a pool and its stores are used by one thread or interrupt handler at a time.
  * All the rest is tested: any record, any bytes and any number may be passed, and what is wrong is refused. A task, a
  * kind, an extension, a length and an offset may be any unsigned or int: the types below are the library's own, and a
  * number that they cannot hold is refused as too large, and not cut (ramsummer_wide.h, which is included at the end).
+ * But a task, a kind, an extension or a handle of 64 bits is cut to 32 before the call, and -Wconversion says so.
  *
  * No call takes a const record. Read, write, report, remaining and awaited are proved to leave it as it was; but every
  * entry of the library is lent the record for itself alone (`&mut` in the proved source), so that it must not lie in
@@ -15,7 +16,7 @@
  *
  * Each call returns 0 where it was carried out, else the number of its refusal (enum ramsummer_answer). After a
  * refusal the pool, the stores and what the pointers lead to are as before; ramsummer_frame alone also writes the
- * answer line of a refusal.
+ * answer line of a refusal. Of what is wrong with a call the first is told, in the order that stands at each call.
  */
 #ifndef RAMSUMMER_H
 #define RAMSUMMER_H
@@ -66,15 +67,23 @@ enum ramsummer_answer {
     RAMSUMMER_OBJECT_GONE = 12,         /* the object's last expiration has ended */
     RAMSUMMER_OUTSIDE_OBJECT = 13,      /* write: offset plus count above the object's length */
     RAMSUMMER_WRONG_STORE_LENGTH = 14,  /* a store is not RAMSUMMER_SMALL or RAMSUMMER_LARGE long */
-    RAMSUMMER_NOT_WELL_FORMED = 15,     /* the record is damaged; tested first by every call but fresh */
+    RAMSUMMER_NOT_WELL_FORMED = 15,     /* the record is damaged; only 16 to 19 and a frame's 255 are tested before */
     RAMSUMMER_NOT_HEXADECIMAL = 16,     /* frame: not all pairs of digits 0-9, A-F */
     RAMSUMMER_UNKNOWN_OPERATION = 17,   /* frame: no or an unknown operation */
     RAMSUMMER_WRONG_FRAME_LENGTH = 18,  /* frame: wrong length for its operation */
-    RAMSUMMER_UNKNOWN_KIND = 19,        /* kind above 2; tested before all else */
+    RAMSUMMER_UNKNOWN_KIND = 19,        /* kind above 2; tested before the record is */
     RAMSUMMER_BATCH_OUT_OF_RANGE = 20,  /* a batch of no object, or of more than 32 */
     RAMSUMMER_ONLY_MAKE_PINS = 21,      /* a refresh or a batch of kind pinned */
     RAMSUMMER_NOT_PINNED = 22,          /* release: the object stands, and is not pinned, or no longer */
     RAMSUMMER_BUFFER_TOO_SHORT = 255    /* read, frame: no room for the answer */
+};
+
+/* The clock of an expiration in the record, which is no kind of a call. 0 is a free entry. */
+enum ramsummer_clock {
+    RAMSUMMER_CLOCK_LOCAL = 16,    /* and the number of a task: the local time of that task */
+    RAMSUMMER_CLOCK_GLOBAL = 32,   /* and the number of a task: global time, and that task set it */
+    RAMSUMMER_CLOCK_DEPARTED = 48, /* global time, and its setter has left since */
+    RAMSUMMER_CLOCK_PINNED = 49    /* none: what pins an object, and is due at 0 */
 };
 
 /* A task. State 0 is absent, 1 running, 2 waiting; ticked is 1 where it has ticked in this period of global time. */
@@ -88,9 +97,8 @@ typedef struct ramsummer_task_entry {
  * The record of a pool. A fresh one is all zeros.
  *
  * Store block i has the object handles[i] of lengths[i] bytes; handle 0 is a free one. Expiration i belongs to the
- * object in store block named[i], and is due when the clock clocks[i] reads dues[i]: 16 + t is the local time of task t,
- * 32 + t global time where task t set it, 48 global time where its setter has left since, 49 none where it is pinned, and
- * then dues[i] is 0; and 0 a free entry. The other fields of a free one of either have no meaning and may hold anything.
+ * object in store block named[i], and is due when the clock clocks[i] (enum ramsummer_clock) reads dues[i]. The other
+ * fields of a free one of either have no meaning and may hold anything.
  */
 typedef struct ramsummer_pool {
     ramsummer_task_entry tasks[RAMSUMMER_TASKS];
@@ -136,68 +144,74 @@ RAMSUMMER_ASSERT(offsetof(ramsummer_pool, dues) == 1224);
 /* Makes the record that of a fresh pool, whatever it held. Always 0. The stores may hold any bytes. */
 uint8_t ramsummer_fresh(ramsummer_pool *pool);
 
-/* Absent to running, with clock 0. */
+/* Absent to running, with clock 0. Tests 15, 1, 2. */
 RAMSUMMER_CHECKED uint8_t ramsummer_join(ramsummer_pool *pool, uint8_t task);
 
 /* To absent; the local expirations that this task set go, and the global ones count on, whoever joins by its number
- * later. Advanced is 1 if global time advanced, else 0. */
+ * later. Advanced is 1 if global time advanced, else 0. Tests 15, 1, 3. */
 RAMSUMMER_CHECKED uint8_t ramsummer_leave(ramsummer_pool *pool, uint8_t task, uint8_t *advanced);
 
 /* Running to waiting: global time goes on without this task, and each advance, that of this call too, puts the global
- * expirations that it set off by one. Advanced as for leave. */
+ * expirations that it set off by one. Advanced as for leave. Tests 15, 1, 3, 4. */
 RAMSUMMER_CHECKED uint8_t ramsummer_block(ramsummer_pool *pool, uint8_t task, uint8_t *advanced);
 
-/* Waiting to running. */
+/* Waiting to running. Tests 15, 1, 3, 5. */
 RAMSUMMER_CHECKED uint8_t ramsummer_resume(ramsummer_pool *pool, uint8_t task);
 
-/* One unit of the task's local time; once all running tasks have ticked, one of global time. Advanced as for leave. */
+/* One unit of the task's local time; once all running tasks have ticked, one of global time. Advanced as for leave.
+ * Tests 15, 1, 3, 4. */
 RAMSUMMER_CHECKED uint8_t ramsummer_tick(ramsummer_pool *pool, uint8_t task, uint8_t *advanced);
 
-/* A new object of zero bytes with one expiration, which pins it where the kind says so. Handle is set to its number. */
+/* A new object of zero bytes with one expiration, which pins it where the kind says so. Handle is set to its number.
+ * Tests 19, 15, 14, 1, 3, 4, 6, 7, 8, 9, 10. */
 RAMSUMMER_CHECKED uint8_t ramsummer_make(ramsummer_pool *pool, uint8_t *small_store, size_t small_length,
                                          uint8_t *large_store, size_t large_length, uint8_t task, uint8_t kind,
                                          uint8_t extension, uint16_t length, uint32_t *handle);
 
-/* One more expiration for the object; those that it has stay. */
+/* One more expiration for the object; those that it has stay. Tests 19, 15, 1, 3, 4, 21, 6, 11, 12, 10. */
 RAMSUMMER_CHECKED uint8_t ramsummer_refresh(ramsummer_pool *pool, uint8_t task, uint8_t kind, uint8_t extension,
                                             uint32_t handle);
 
 /* A batch: one more expiration for each of count objects, 1 to RAMSUMMER_LARGEST_BATCH, or for none of them where one
- * is refused. An object that is named twice gets two. */
+ * is refused. An object that is named twice gets two. Tests 19, 15, 1, 3, 4, 20, 21, 6, then 11 for any of the objects,
+ * 12 for any, 10 for all. */
 RAMSUMMER_CHECKED uint8_t ramsummer_refresh_all(ramsummer_pool *pool, uint8_t task, uint8_t kind, uint8_t extension,
                                                 const uint32_t *handles, size_t count);
 
 /* Ends what pins the object, whoever pinned it. It stands on where another expiration does, else its store block is free
- * at once. */
+ * at once. A handle that is lost can be found in the record: where clocks[i] is RAMSUMMER_CLOCK_PINNED, it is
+ * handles[named[i]]. Tests 15, 1, 3, 4, 11, 12, 22. */
 RAMSUMMER_CHECKED uint8_t ramsummer_release(ramsummer_pool *pool, uint8_t task, uint32_t handle);
 
-/* The object's bytes go to the start of out, and count says how many; the rest of out stays. */
+/* The object's bytes go to the start of out, and count says how many; the rest of out stays.
+ * Tests 15, 14, 1, 3, 4, 11, 12, 255. */
 RAMSUMMER_CHECKED uint8_t ramsummer_read(ramsummer_pool *pool, const uint8_t *small_store, size_t small_length,
                                          const uint8_t *large_store, size_t large_length, uint8_t task, uint32_t handle,
                                          uint8_t *out, size_t out_length, size_t *count);
 
 /* Replaces count bytes of the object from offset on. An offset above 255 lies outside every object, also where count is
- * 0. */
+ * 0. Tests 15, 14, 1, 3, 4, 11, 12, 13. */
 RAMSUMMER_CHECKED uint8_t ramsummer_write(ramsummer_pool *pool, uint8_t *small_store, size_t small_length,
                                           uint8_t *large_store, size_t large_length, uint8_t task, uint32_t handle,
                                           uint8_t offset, const uint8_t *bytes, size_t count);
 
-/* Small and large objects that stand, expirations that stand, handles given so far. */
+/* Small and large objects that stand, expirations that stand, handles given so far. Tests 15. */
 RAMSUMMER_CHECKED uint8_t ramsummer_report(ramsummer_pool *pool, uint8_t *small_objects, uint8_t *large_objects,
                                            uint16_t *expirations, uint32_t *given);
 
 /* How long the object stands without a refresh. Local is set to the ticks of this task until the last of its local
  * expirations is due, global to the advances until the last global one is, whoever set it, where its setter does not
- * wait meanwhile; 0 where there is none. What pins the object adds to neither. */
+ * wait meanwhile; 0 where there is none. What pins the object adds to neither. Tests 15, 1, 3, 4, 11, 12. */
 RAMSUMMER_CHECKED uint8_t ramsummer_remaining(ramsummer_pool *pool, uint8_t task, uint32_t handle, uint8_t *local,
                                               uint8_t *global);
 
 /* For whom global time waits: the tasks that run and have not ticked since it last advanced, bit t for task t. It
- * advances with the tick, block or leave that leaves no bit set while some task runs. */
+ * advances with the tick, block or leave that leaves no bit set while some task runs. Tests 15. */
 RAMSUMMER_CHECKED uint8_t ramsummer_awaited(ramsummer_pool *pool, uint16_t *tasks);
 
 /* Carries out one call frame. Line is without its LF; the answer line goes to the start of out with its LF, and count
- * says how many bytes. The number is the one that the answer line starts with. */
+ * says how many bytes. The number is the one that the answer line starts with. Tests 255, 16, 17, 18, 19, then as the
+ * call does from 15 on. */
 RAMSUMMER_CHECKED uint8_t ramsummer_frame(ramsummer_pool *pool, uint8_t *small_store, size_t small_length,
                                           uint8_t *large_store, size_t large_length, const uint8_t *line,
                                           size_t line_length, uint8_t *out, size_t out_length, size_t *count);

@@ -143,7 +143,7 @@ static inline void ramsummer_image_put_sum(uint8_t *image, size_t size) {
 }
 
 /* Whether the first bytes are an image of this size. */
-static inline uint8_t ramsummer_image_test(const uint8_t *image, size_t length, size_t size) {
+RAMSUMMER_CHECKED static inline uint8_t ramsummer_image_test(const uint8_t *image, size_t length, size_t size) {
     const uint8_t *head = image, *sum;
     if (length < size) return RAMSUMMER_FAULT_TOO_SHORT;
     sum = image + size - RAMSUMMER_IMAGE_SUM;
@@ -156,7 +156,7 @@ static inline uint8_t ramsummer_image_test(const uint8_t *image, size_t length, 
 }
 
 /* Writes an image of the record alone, RAMSUMMER_IMAGE_RECORD_ALONE bytes; the rest of the room stays. */
-static inline uint8_t ramsummer_image_save(const ramsummer_pool *pool, uint8_t *image, size_t room) {
+RAMSUMMER_CHECKED static inline uint8_t ramsummer_image_save(const ramsummer_pool *pool, uint8_t *image, size_t room) {
     if (room < RAMSUMMER_IMAGE_RECORD_ALONE) return RAMSUMMER_FAULT_TOO_SHORT;
     ramsummer_image_put_head(image, RAMSUMMER_IMAGE_RECORD_ALONE, pool);
     ramsummer_image_put_sum(image, RAMSUMMER_IMAGE_RECORD_ALONE);
@@ -164,9 +164,9 @@ static inline uint8_t ramsummer_image_save(const ramsummer_pool *pool, uint8_t *
 }
 
 /* Writes an image of the record and both stores, RAMSUMMER_IMAGE_WITH_STORES bytes; the rest of the room stays. */
-static inline uint8_t ramsummer_image_save_with_stores(const ramsummer_pool *pool, const uint8_t *small_store,
-                                                       size_t small_length, const uint8_t *large_store,
-                                                       size_t large_length, uint8_t *image, size_t room) {
+RAMSUMMER_CHECKED static inline uint8_t ramsummer_image_save_with_stores(
+    const ramsummer_pool *pool, const uint8_t *small_store, size_t small_length, const uint8_t *large_store,
+    size_t large_length, uint8_t *image, size_t room) {
     uint8_t *at;
     if (small_length != RAMSUMMER_SMALL || large_length != RAMSUMMER_LARGE) return RAMSUMMER_FAULT_STORE_LENGTH;
     if (room < RAMSUMMER_IMAGE_WITH_STORES) return RAMSUMMER_FAULT_TOO_SHORT;
@@ -178,16 +178,17 @@ static inline uint8_t ramsummer_image_save_with_stores(const ramsummer_pool *poo
 }
 
 /* The record of an image that ramsummer_image_save wrote. Bytes after the image may be anything. */
-static inline uint8_t ramsummer_image_restore(ramsummer_pool *pool, const uint8_t *image, size_t length) {
+RAMSUMMER_CHECKED static inline uint8_t ramsummer_image_restore(ramsummer_pool *pool, const uint8_t *image,
+                                                                size_t length) {
     uint8_t fault = ramsummer_image_test(image, length, RAMSUMMER_IMAGE_RECORD_ALONE);
     if (!fault) ramsummer_image_take_record(image + RAMSUMMER_IMAGE_HEAD, pool);
     return fault;
 }
 
 /* The record and the stores of an image that ramsummer_image_save_with_stores wrote. Bytes after it may be anything. */
-static inline uint8_t ramsummer_image_restore_with_stores(ramsummer_pool *pool, uint8_t *small_store,
-                                                          size_t small_length, uint8_t *large_store,
-                                                          size_t large_length, const uint8_t *image, size_t length) {
+RAMSUMMER_CHECKED static inline uint8_t ramsummer_image_restore_with_stores(
+    ramsummer_pool *pool, uint8_t *small_store, size_t small_length, uint8_t *large_store, size_t large_length,
+    const uint8_t *image, size_t length) {
     const uint8_t *at;
     uint8_t fault;
     if (small_length != RAMSUMMER_SMALL || large_length != RAMSUMMER_LARGE) return RAMSUMMER_FAULT_STORE_LENGTH;

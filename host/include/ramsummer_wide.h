@@ -1,11 +1,12 @@
 /*
- * Ramsummer: any number for a task, a kind, an extension, a length or an offset. ramsummer.h includes it at its end.
+ * Ramsummer: any int or unsigned for a task, a kind, an extension, a length or an offset. Included by ramsummer.h.
  *
  * The library takes them in eight or sixteen bits, and C would cut an int to fit: task 256 would be task 0. So the name
  * of each call that takes one is here that of a function which takes the number as it comes. What the library's type
  * cannot hold it passes on as the largest number that it can, and that is refused with the same number, in the same
  * order of tests: 255 is no task, no kind and no extension, and 65,535 no length. A negative int comes as a large
- * unsigned. Once compiled it costs a comparison for an int, and nothing for a constant or a uint8_t.
+ * unsigned. A task, a kind or an extension of 64 bits is cut to 32 before the call, and -Wconversion says so. Once
+ * compiled it costs a comparison for an int, and nothing for a constant or a uint8_t.
  *
  * The names are macros without parameters: a call may take its first arguments from one macro of the author's, a pointer
  * to ramsummer_join is one to the function here, and a debugger that stops at ramsummer_join stops in the library.

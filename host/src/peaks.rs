@@ -64,7 +64,8 @@ impl fmt::Display for Peaks {
 }
 
 /// A pool that keeps its high-water marks: each accepted make, refresh, batch and frame is followed by a report, and
-/// costs that much more. All other calls are the pool's own.
+/// costs that much more. All other calls are the pool's own; `fresh` leaves the marks: call
+/// [`reset_peaks`](Gauged::reset_peaks) after it.
 ///
 /// ```
 /// # use ramsummer::*;

@@ -15,6 +15,9 @@ pub const LARGE: usize = 8192;
 /// The length of the longest object: room for any read.
 pub const LONGEST: usize = 256;
 
+/// The longest extension of an expiration; one that is pinned has 0.
+pub const MAX_EXTENSION: u8 = 30;
+
 /// The most objects that [`Pool::refresh_all`] takes.
 pub const LARGEST_BATCH: usize = 32;
 
@@ -169,8 +172,8 @@ where
         sys::tick(self.record.borrow_mut(), task)
     }
 
-    /// A new object of `length` zero bytes, 1 to [`LONGEST`], with one expiration. The extension is 0 to 30, and 0
-    /// where the object is pinned, which is until its [`release`](Pool::release).
+    /// A new object of `length` zero bytes, 1 to [`LONGEST`], with one expiration. The extension is 0 to [`MAX_EXTENSION`],
+    /// and 0 where the object is pinned, which is until its [`release`](Pool::release).
     ///
     /// ```
     /// # use ramsummer::*;
@@ -188,7 +191,8 @@ where
         sys::make(record, small, large, task, kind, extension, length)
     }
 
-    /// One more expiration for the object; those that it has stay. The extension is 0 to 30. It pins nothing.
+    /// One more expiration for the object; those that it has stay. The extension is 0 to [`MAX_EXTENSION`]. Kind
+    /// [`Pinned`](Kind::Pinned) is refused with [`OnlyMakePins`](Refusal::OnlyMakePins).
     ///
     /// ```
     /// # use ramsummer::*;
@@ -233,8 +237,8 @@ where
     /// Ends what pins the object, whoever pinned it. It stands on where another expiration does; else its store block is
     /// free at once.
     ///
-    /// What is pinned takes a store block and one of the expirations until then. Its handle is the only way to release
-    /// it: it has to be kept as long.
+    /// What is pinned takes a store block and one of the expirations until then. A handle that is lost can still be found
+    /// in the record: where `clocks` is [`CLOCK_PINNED`](crate::CLOCK_PINNED), it is `handles` of the block `named`.
     ///
     /// ```
     /// # use ramsummer::*;
@@ -281,7 +285,7 @@ where
         self.read(task, handle, &mut [0; LONGEST]).map(<[u8]>::to_vec)
     }
 
-    /// Replaces as many of the object's bytes, from `offset` on.
+    /// Replaces `bytes.len()` bytes of the object, from `offset` on.
     pub fn write(&mut self, task: u8, handle: Handle, offset: u8, bytes: &[u8]) -> Result<(), Refusal> {
         let (record, small, large) = self.parts();
         sys::write(record, small, large, task, handle, offset, bytes)
@@ -289,7 +293,7 @@ where
 
     /// The pool's figures. The only refusal is that of a record that is not well-formed.
     ///
-    /// The library is lent a copy of the record, so that a pool can be asked that is only looked at.
+    /// The library is lent a copy of the record, on the stack, so that a pool can be asked that is only looked at.
     ///
     /// ```
     /// # use ramsummer::*;

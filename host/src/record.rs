@@ -12,6 +12,18 @@ pub const STORE_BLOCKS: usize = 96;
 /// The expirations that may stand at a time, in all.
 pub const EXPIRATIONS: usize = 256;
 
+/// In [`Record::clocks`], with the number of a task added: the local time of that task.
+pub const CLOCK_LOCAL: u8 = 16;
+
+/// In [`Record::clocks`], with the number of a task added: global time, and that task set the expiration.
+pub const CLOCK_GLOBAL: u8 = 32;
+
+/// In [`Record::clocks`]: global time, and the setter has left since.
+pub const CLOCK_DEPARTED: u8 = 48;
+
+/// In [`Record::clocks`]: none, since the expiration pins its object.
+pub const CLOCK_PINNED: u8 = 49;
+
 /// The size of a record in bytes.
 pub const RECORD: usize = 2248;
 
@@ -30,8 +42,9 @@ pub struct TaskEntry {
 
 /// All that a pool knows, but for the objects' bytes, which are in the stores.
 ///
-/// It holds nothing but numbers, and any numbers may be in it: each call tests first whether the record is well-formed,
-/// and refuses with [`NotWellFormed`](crate::Refusal::NotWellFormed) where it is not.
+/// It holds nothing but numbers, and any numbers may be in it: each call but `fresh` tests whether the record is
+/// well-formed, before all else but what is wrong with a frame itself, and refuses with
+/// [`NotWellFormed`](crate::Refusal::NotWellFormed) where it is not.
 ///
 /// Store block `i` and the object in it are `handles[i]` and `lengths[i]`; 0 to 63 are the small store's, 64 to 95 the
 /// large one's. Expiration `i` is `clocks[i]`, `named[i]` and `dues[i]`; they stand in no order. The other fields of a
@@ -50,9 +63,10 @@ pub struct Record {
     pub handles: [u32; STORE_BLOCKS],
     /// The length of the object in each store block.
     pub lengths: [u16; STORE_BLOCKS],
-    /// The clock that each expiration goes by, and who set it: 16 and the number of a task for the task's local time, 32
-    /// and the number of the task that set it for global time, 48 for global time where the setter has left since, 49 for
-    /// none where it is pinned, and 0 where the entry is free. (A call's [`Kind`](crate::Kind) is another number.)
+    /// The clock that each expiration goes by, and who set it: [`CLOCK_LOCAL`] and the number of a task for the task's
+    /// local time, [`CLOCK_GLOBAL`] and the number of the task that set it for global time, [`CLOCK_DEPARTED`] for global
+    /// time where the setter has left since, [`CLOCK_PINNED`] for none where it is pinned, and 0 where the entry is free.
+    /// (A call's [`Kind`](crate::Kind) is another number.)
     pub clocks: [u8; EXPIRATIONS],
     /// The store block with the object that each expiration belongs to.
     pub named: [u8; EXPIRATIONS],
@@ -86,8 +100,8 @@ impl Record {
         }
     }
 
-    /// The record as its bytes, in the order of this machine. To keep it over a restart, [`image`](crate::image) has a
-    /// sum too.
+    /// The record as its bytes, in the order of this machine. They have no version: after an update of the library begin
+    /// with [`Record::fresh`], or keep an [`image`](crate::image), which has a version and a sum.
     ///
     /// ```
     /// # use ramsummer::{Pool, Record, LARGE, SMALL};

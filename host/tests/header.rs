@@ -37,11 +37,16 @@ fn claims() -> Vec<(String, usize)> {
         ("RAMSUMMER_TASKS", ramsummer::TASKS),
         ("RAMSUMMER_STORE_BLOCKS", ramsummer::STORE_BLOCKS),
         ("RAMSUMMER_EXPIRATIONS", ramsummer::EXPIRATIONS),
+        ("RAMSUMMER_MAX_EXTENSION", ramsummer::MAX_EXTENSION.into()),
         ("RAMSUMMER_LARGEST_BATCH", ramsummer::LARGEST_BATCH),
         ("RAMSUMMER_DONE", 0),
         ("RAMSUMMER_LOCAL", Kind::Local.number().into()),
         ("RAMSUMMER_GLOBAL", Kind::Global.number().into()),
         ("RAMSUMMER_PINNED", Kind::Pinned.number().into()),
+        ("RAMSUMMER_CLOCK_LOCAL", ramsummer::CLOCK_LOCAL.into()),
+        ("RAMSUMMER_CLOCK_GLOBAL", ramsummer::CLOCK_GLOBAL.into()),
+        ("RAMSUMMER_CLOCK_DEPARTED", ramsummer::CLOCK_DEPARTED.into()),
+        ("RAMSUMMER_CLOCK_PINNED", ramsummer::CLOCK_PINNED.into()),
         ("sizeof(ramsummer_task_entry)", size_of::<TaskEntry>()),
         ("sizeof(ramsummer_pool)", size_of::<Record>()),
         ("offsetof(ramsummer_task_entry, state)", offset_of!(TaskEntry, state)),
@@ -122,7 +127,11 @@ fn the_compiler_warns_of_an_answer_that_nobody_looks_at() {
         let Some(checked) = cc(&options) else { return };
         assert_eq!(checked.status.success(), !is_warned_of, "{}", String::from_utf8_lossy(&checked.stderr));
     }
-    let headers = concat!(include_str!("../include/ramsummer.h"), include_str!("../include/ramsummer_wide.h"));
+    let headers = concat!(
+        include_str!("../include/ramsummer.h"),
+        include_str!("../include/ramsummer_wide.h"),
+        include_str!("../include/ramsummer_image.h")
+    );
     let is_never_refused = |line: &str| line.contains("ramsummer_fresh(") || line.contains("ramsummer_to_byte(");
     let calls = headers.lines().filter(|line| line.contains("uint8_t ramsummer_") && !is_never_refused(line));
     assert_eq!(calls.filter(|line| !line.starts_with("RAMSUMMER_CHECKED ")).count(), 0);

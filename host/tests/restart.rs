@@ -1,7 +1,7 @@
 //! What docs/RESTART.md says of tasks that come back, held on pools that calls lead to.
 
 use lives::pools;
-use ramsummer::{image, Handle, Kind, Pool, Record, Refusal, Report, TASKS};
+use ramsummer::{image, Handle, Kind, Pool, Record, Refusal, Report, CLOCK_LOCAL, CLOCK_PINNED, TASKS};
 
 mod lives;
 
@@ -24,12 +24,12 @@ fn restarted() -> impl Iterator<Item = Pool> {
 
 /// The local expirations of a task.
 fn local(record: &Record, task: u8) -> usize {
-    record.clocks.iter().filter(|&&clock| clock == 16 + task).count()
+    record.clocks.iter().filter(|&&clock| clock == CLOCK_LOCAL + task).count()
 }
 
 /// The objects that are pinned.
 fn pinned(record: &Record) -> Vec<Handle> {
-    let entries = record.clocks.iter().zip(record.named).filter(|(&clock, _)| clock == 49);
+    let entries = record.clocks.iter().zip(record.named).filter(|(&clock, _)| clock == CLOCK_PINNED);
     entries.map(|(_, block)| Handle::from(record.handles[usize::from(block)])).collect()
 }
 

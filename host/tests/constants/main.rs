@@ -1,5 +1,5 @@
 //! All constants of the C header are those of the proved source, where it stands beside this crate: sizes, counts, kinds,
-//! answers, and the places of the record's fields.
+//! clocks, answers, and the places of the record's fields.
 
 mod layout;
 mod source;
@@ -40,6 +40,10 @@ fn proved() -> Numbers {
         ("MAX_EXTENSION", value("ledger", "LIMITS.extension")),
         ("LARGEST_BATCH", value("ledger", "LARGEST_BATCH")),
         ("BUFFER_TOO_SHORT", value("numbered", "TOO_SHORT")),
+        ("CLOCK_LOCAL", value("record", "LOCAL")),
+        ("CLOCK_GLOBAL", value("record", "GLOBAL")),
+        ("CLOCK_DEPARTED", value("record", "DEPARTED")),
+        ("CLOCK_PINNED", value("record", "PINNED")),
     ]
     .map(|(name, number)| (plain(name), number))
     .into();
@@ -68,7 +72,11 @@ fn places() -> Vec<(&'static str, &'static str, u64)> {
 fn the_header_has_the_constants_of_the_proved_source() {
     if is_here() {
         assert_eq!(constants(), proved());
-        assert_eq!(constants().len(), 10 + 3 + 1 + 22 + 1, "sizes and counts, kinds, done, refusals, buffer too short");
+        assert_eq!(
+            constants().len(),
+            10 + 3 + 4 + 1 + 22 + 1,
+            "sizes and counts, kinds, clocks, done, refusals, buffer too short"
+        );
     }
 }
 
