@@ -113,8 +113,8 @@ static uint8_t release_pinned(uint8_t task) {
     return refusal;
 }
 
-/* The record is back and the stores are not: each object stands with wrong bytes, until it is released or time has passed
- * over it. */
+/* The record is back and the stores are not: each object stands with wrong bytes, which a read notices where their sum is
+ * another, until it is released or time has passed over it. */
 static uint8_t lose_stores(void) {
     char text[LENGTH + 1];
     uint8_t advanced, local, global, task, ticks, refusal;
@@ -122,8 +122,7 @@ static uint8_t lose_stores(void) {
     memset(small, 0, sizeof small);
     memset(large, 0, sizeof large);
     refusal = look(1, kept.battery, text, &local, &global);
-    if (refusal) return refusal;
-    printf("stores lost: the battery's first byte is %d, and no call tells\n", text[0]);
+    printf("stores lost: the battery is refused with %d, %s\n", refusal, ramsummer_text(refusal));
     for (task = 0; task < RAMSUMMER_TASKS; task++) {
         refusal = ramsummer_leave(&pool, task, &advanced);
         if (refusal && refusal != RAMSUMMER_TASK_ABSENT) return refusal;

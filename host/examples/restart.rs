@@ -95,12 +95,14 @@ fn pinned(record: &Record) -> Vec<Handle> {
     entries.map(|(_, block)| Handle::from(record.handles[usize::from(block)])).collect()
 }
 
-/// The record is back and the stores are not: each object stands with wrong bytes, until it is released or time has passed
-/// over it.
+/// The record is back and the stores are not: each object stands with wrong bytes, which a read notices where their sum is
+/// another, until it is released or time has passed over it.
 fn lose_stores(kept: &Kept) -> Result<(), Refusal> {
     let record = image::restore(&kept.record).expect("the image is whole");
     let mut pool = Pool::over(record, [0; ramsummer::SMALL], [0; ramsummer::LARGE]);
-    println!("stores lost: the battery's first byte is {}, and no call tells", pool.read_to_vec(1, kept.battery)?[0]);
+    if let Err(refusal) = pool.read_to_vec(1, kept.battery) {
+        println!("stores lost: the battery is refused with {}, {refusal}", refusal.number());
+    }
     for task in 0..16 {
         match pool.leave(task) {
             Ok(_) | Err(Refusal::TaskAbsent) => {}

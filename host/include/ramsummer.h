@@ -10,9 +10,12 @@
  * number that they cannot hold is refused as too large, and not cut (ramsummer_wide.h, which is included at the end).
  * But a task, a kind, an extension or a handle of 64 bits is cut to 32 before the call, and -Wconversion says so.
  *
- * No call takes a const record. Read, write, report, remaining and awaited are proved to leave it as it was; but every
- * entry of the library is lent the record for itself alone (`&mut` in the proved source), so that it must not lie in
- * read-only memory, and nobody may look at it meanwhile. All else that a call only reads is const.
+ * No call takes a const record. Read, report, remaining and awaited are proved to leave it as it was; but every entry of
+ * the library is lent the record for itself alone (`&mut` in the proved source), so that it must not lie in read-only
+ * memory, and nobody may look at it meanwhile. All else that a call only reads is const.
+ *
+ * The bytes of a store block in use are changed by ramsummer_write alone, which keeps their sum in the record. Whoever else
+ * writes there makes read and write refuse the object with 23, unless the changes cancel out in the sum.
  *
  * Each call returns 0 where it was carried out, else the number of its refusal (enum ramsummer_answer). After a
  * refusal the pool, the stores and what the pointers lead to are as before; ramsummer_frame alone also writes the
@@ -33,7 +36,7 @@ extern "C" {
 #define RAMSUMMER_LARGE 8192  /* the large store: 32 blocks of 256, for objects of 33 to 256 bytes */
 #define RAMSUMMER_LONGEST 256 /* the longest object: room for any read */
 #define RAMSUMMER_LINE 531    /* the room that ramsummer_frame asks for; an answer line has at most 515 bytes */
-#define RAMSUMMER_RECORD 2248 /* the record, ramsummer_pool */
+#define RAMSUMMER_RECORD 2440 /* the record, ramsummer_pool */
 
 /* Counts. */
 #define RAMSUMMER_TASKS 16         /* tasks are 0 to 15 */
@@ -75,6 +78,7 @@ enum ramsummer_answer {
     RAMSUMMER_BATCH_OUT_OF_RANGE = 20,  /* a batch of no object, or of more than 32 */
     RAMSUMMER_ONLY_MAKE_PINS = 21,      /* a refresh or a batch of kind pinned */
     RAMSUMMER_NOT_PINNED = 22,          /* release: the object stands, and is not pinned, or no longer */
+    RAMSUMMER_SUM_DIFFERS = 23,         /* read, write: the bytes of the object's block were changed from outside */
     RAMSUMMER_BUFFER_TOO_SHORT = 255    /* read, frame: no room for the answer */
 };
 
@@ -96,16 +100,17 @@ typedef struct ramsummer_task_entry {
 /*
  * The record of a pool. A fresh one is all zeros.
  *
- * Store block i has the object handles[i] of lengths[i] bytes; handle 0 is a free one. Expiration i belongs to the
- * object in store block named[i], and is due when the clock clocks[i] (enum ramsummer_clock) reads dues[i]. The other
- * fields of a free one of either have no meaning and may hold anything.
+ * Store block i has the object handles[i]; handle 0 is a free one. The low 16 bits of extents[i] are the object's length,
+ * the high 16 the sum of all bytes of its block, 32 or 256 of them. Expiration i belongs to the object in store block
+ * named[i], and is due when the clock clocks[i] (enum ramsummer_clock) reads dues[i]. The other fields of a free one of
+ * either have no meaning and may hold anything.
  */
 typedef struct ramsummer_pool {
     ramsummer_task_entry tasks[RAMSUMMER_TASKS];
     uint32_t global;                          /* global time */
     uint32_t given;                           /* handles given so far */
     uint32_t handles[RAMSUMMER_STORE_BLOCKS]; /* those of the small store's blocks, then those of the large one's */
-    uint16_t lengths[RAMSUMMER_STORE_BLOCKS];
+    uint32_t extents[RAMSUMMER_STORE_BLOCKS];
     uint8_t clocks[RAMSUMMER_EXPIRATIONS];    /* in no order */
     uint8_t named[RAMSUMMER_EXPIRATIONS];
     uint32_t dues[RAMSUMMER_EXPIRATIONS];
@@ -125,10 +130,10 @@ RAMSUMMER_ASSERT(offsetof(ramsummer_task_entry, clock) == 4);
 RAMSUMMER_ASSERT(offsetof(ramsummer_pool, global) == 128);
 RAMSUMMER_ASSERT(offsetof(ramsummer_pool, given) == 132);
 RAMSUMMER_ASSERT(offsetof(ramsummer_pool, handles) == 136);
-RAMSUMMER_ASSERT(offsetof(ramsummer_pool, lengths) == 520);
-RAMSUMMER_ASSERT(offsetof(ramsummer_pool, clocks) == 712);
-RAMSUMMER_ASSERT(offsetof(ramsummer_pool, named) == 968);
-RAMSUMMER_ASSERT(offsetof(ramsummer_pool, dues) == 1224);
+RAMSUMMER_ASSERT(offsetof(ramsummer_pool, extents) == 520);
+RAMSUMMER_ASSERT(offsetof(ramsummer_pool, clocks) == 904);
+RAMSUMMER_ASSERT(offsetof(ramsummer_pool, named) == 1160);
+RAMSUMMER_ASSERT(offsetof(ramsummer_pool, dues) == 1416);
 #undef RAMSUMMER_ASSERT
 #endif
 
@@ -184,13 +189,13 @@ RAMSUMMER_CHECKED uint8_t ramsummer_refresh_all(ramsummer_pool *pool, uint8_t ta
 RAMSUMMER_CHECKED uint8_t ramsummer_release(ramsummer_pool *pool, uint8_t task, uint32_t handle);
 
 /* The object's bytes go to the start of out, and count says how many; the rest of out stays.
- * Tests 15, 14, 1, 3, 4, 11, 12, 255. */
+ * Tests 15, 14, 1, 3, 4, 11, 12, 23, 255. */
 RAMSUMMER_CHECKED uint8_t ramsummer_read(ramsummer_pool *pool, const uint8_t *small_store, size_t small_length,
                                          const uint8_t *large_store, size_t large_length, uint8_t task, uint32_t handle,
                                          uint8_t *out, size_t out_length, size_t *count);
 
-/* Replaces count bytes of the object from offset on. An offset above 255 lies outside every object, also where count is
- * 0. Tests 15, 14, 1, 3, 4, 11, 12, 13. */
+/* Replaces count bytes of the object from offset on; the record gets the block's new sum. An offset above 255 lies outside
+ * every object, also where count is 0. Tests 15, 14, 1, 3, 4, 11, 12, 23, 13. */
 RAMSUMMER_CHECKED uint8_t ramsummer_write(ramsummer_pool *pool, uint8_t *small_store, size_t small_length,
                                           uint8_t *large_store, size_t large_length, uint8_t task, uint32_t handle,
                                           uint8_t offset, const uint8_t *bytes, size_t count);

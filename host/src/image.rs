@@ -1,4 +1,5 @@
-//! A saved image of a pool, to be kept where it outlives a restart: with a sum that notices what refusal 15 cannot.
+//! A saved image of a pool, to be kept where it outlives a restart: with a CRC-32 that notices what refusal 15
+//! cannot.
 //!
 //! An image is bytes in a fixed order, the same on every machine; all numbers are little-endian:
 //!
@@ -7,7 +8,7 @@
 //! | 4 | [`MAGIC`] |
 //! | 4 | the layout's [`VERSION`] |
 //! | 4 | the length of the image in bytes, all of it |
-//! | 2,248 | the record, field by field in the order of [`Record`] |
+//! | 2,440 | the record, field by field in the order of [`Record`] |
 //! | 2,048 and 8,192 | the small store and the large one, where the image has them |
 //! | 4 | CRC-32 of all bytes before it |
 //!
@@ -41,8 +42,8 @@ use core::fmt;
 pub const MAGIC: [u8; 4] = *b"RSMR";
 
 /// The version of the layout. It changes with the order or the count of the record's fields, and with what their numbers
-/// mean. Up to 1 an image did not tell who had set a global expiration.
-pub const VERSION: u32 = 2;
+/// mean. Up to 1 an image did not tell who had set a global expiration, and up to 2 it had no sums of blocks.
+pub const VERSION: u32 = 3;
 
 /// The size of an image of the record alone, in bytes.
 pub const RECORD_ALONE: usize = HEAD + RECORD + SUM;
@@ -234,7 +235,7 @@ impl Writer<'_> {
         self.u32(record.global);
         self.u32(record.given);
         record.handles.iter().for_each(|&handle| self.u32(handle));
-        record.lengths.iter().for_each(|&length| self.u16(length));
+        record.extents.iter().for_each(|&extent| self.u32(extent));
         self.bytes(&record.clocks);
         self.bytes(&record.named);
         record.dues.iter().for_each(|&due| self.u32(due));
@@ -272,7 +273,7 @@ impl Reader<'_> {
             global: self.u32(),
             given: self.u32(),
             handles: from_fn(|_| self.u32()),
-            lengths: from_fn(|_| self.u16()),
+            extents: from_fn(|_| self.u32()),
             clocks: self.array(),
             named: self.array(),
             dues: from_fn(|_| self.u32()),

@@ -78,6 +78,33 @@
 //!
 //! `examples/firmware` is a whole program of this sort.
 //!
+//! # Bytes changed from outside
+//!
+//! The stores are the host's memory, and a fault elsewhere may write there. So the record has the sum of all bytes of each
+//! block in use; a read and a write compare it with the bytes, and are refused with [`Refusal::SumDiffers`] where it is
+//! another.
+//!
+//! ```
+//! use ramsummer::{Kind, Pool, Record, Refusal, LARGE, SMALL};
+//!
+//! let mut pool = Pool::over(Record::fresh(), [0; SMALL], [0; LARGE]);
+//! pool.join(0)?;
+//! let handle = pool.make(0, Kind::Local, 0, 4)?;
+//! pool.write(0, handle, 0, b"12.5")?;
+//!
+//! let (record, mut small, large) = pool.into_parts();
+//! small.iter_mut().step_by(32).for_each(|byte| *byte += 1); // one byte of each small block
+//! let mut pool = Pool::over(record, small, large);
+//! assert_eq!(pool.read(0, handle, &mut [0; 4]), Err(Refusal::SumDiffers));
+//! assert_eq!(pool.write(0, handle, 0, b"12.5"), Err(Refusal::SumDiffers));
+//! assert_eq!(pool.remaining(0, handle)?.local, 1); // it does not look
+//! # Ok::<(), Refusal>(())
+//! ```
+//!
+//! One byte with another value is always noticed, wherever in the block it is, and the object is lost until it goes. Changes
+//! that cancel out are not: one byte more by as much as another is less, so that `12.50` and `15.20` have one sum. No other
+//! call looks. Who puts an object's bytes into a store by other means than a write, by DMA say, is such a fault himself.
+//!
 //! # What is proved
 //!
 //! What the calls do is proved of the library, in the repository that this crate is part of. Of this crate nothing is

@@ -262,7 +262,8 @@ where
         sys::release(self.record.borrow_mut(), task, handle)
     }
 
-    /// The object's bytes, copied to the start of `out`; the rest of `out` stays.
+    /// The object's bytes, copied to the start of `out`; the rest of `out` stays. Where they were changed from outside it is
+    /// refused with [`SumDiffers`](Refusal::SumDiffers), [as far as a sum can tell](crate#bytes-changed-from-outside).
     ///
     /// ```
     /// # use ramsummer::*;
@@ -285,7 +286,8 @@ where
         self.read(task, handle, &mut [0; LONGEST]).map(<[u8]>::to_vec)
     }
 
-    /// Replaces `bytes.len()` bytes of the object, from `offset` on.
+    /// Replaces `bytes.len()` bytes of the object, from `offset` on. The record gets the new sum of its block. Refused with
+    /// [`SumDiffers`](Refusal::SumDiffers) as a read is: what was changed from outside cannot be written over.
     pub fn write(&mut self, task: u8, handle: Handle, offset: u8, bytes: &[u8]) -> Result<(), Refusal> {
         let (record, small, large) = self.parts();
         sys::write(record, small, large, task, handle, offset, bytes)

@@ -25,7 +25,7 @@ pub const CLOCK_DEPARTED: u8 = 48;
 pub const CLOCK_PINNED: u8 = 49;
 
 /// The size of a record in bytes.
-pub const RECORD: usize = 2248;
+pub const RECORD: usize = 2440;
 
 /// A task. State 0 is absent, 1 running, 2 waiting.
 #[repr(C)]
@@ -46,7 +46,7 @@ pub struct TaskEntry {
 /// well-formed, before all else but what is wrong with a frame itself, and refuses with
 /// [`NotWellFormed`](crate::Refusal::NotWellFormed) where it is not.
 ///
-/// Store block `i` and the object in it are `handles[i]` and `lengths[i]`; 0 to 63 are the small store's, 64 to 95 the
+/// Store block `i` and the object in it are `handles[i]` and `extents[i]`; 0 to 63 are the small store's, 64 to 95 the
 /// large one's. Expiration `i` is `clocks[i]`, `named[i]` and `dues[i]`; they stand in no order. The other fields of a
 /// free store block or expiration have no meaning, and may hold anything.
 #[repr(C)]
@@ -61,8 +61,9 @@ pub struct Record {
     pub given: u32,
     /// The handle of the object in each store block; 0 where it is free.
     pub handles: [u32; STORE_BLOCKS],
-    /// The length of the object in each store block.
-    pub lengths: [u16; STORE_BLOCKS],
+    /// Of each store block the length of its object, in the low 16 bits, and the sum of all its bytes, 32 or 256 of them,
+    /// in the high 16. A read and a write compare the sum with the bytes.
+    pub extents: [u32; STORE_BLOCKS],
     /// The clock that each expiration goes by, and who set it: [`CLOCK_LOCAL`] and the number of a task for the task's
     /// local time, [`CLOCK_GLOBAL`] and the number of the task that set it for global time, [`CLOCK_DEPARTED`] for global
     /// time where the setter has left since, [`CLOCK_PINNED`] for none where it is pinned, and 0 where the entry is free.
@@ -81,8 +82,8 @@ const _: () = {
     assert!(offset_of!(TaskEntry, clock) == 4);
     assert!(size_of::<Record>() == RECORD && align_of::<Record>() == 4);
     assert!(offset_of!(Record, tasks) == 0 && offset_of!(Record, global) == 128 && offset_of!(Record, given) == 132);
-    assert!(offset_of!(Record, handles) == 136 && offset_of!(Record, lengths) == 520);
-    assert!(offset_of!(Record, clocks) == 712 && offset_of!(Record, named) == 968 && offset_of!(Record, dues) == 1224);
+    assert!(offset_of!(Record, handles) == 136 && offset_of!(Record, extents) == 520);
+    assert!(offset_of!(Record, clocks) == 904 && offset_of!(Record, named) == 1160 && offset_of!(Record, dues) == 1416);
 };
 
 impl Record {
@@ -93,7 +94,7 @@ impl Record {
             global: 0,
             given: 0,
             handles: [0; STORE_BLOCKS],
-            lengths: [0; STORE_BLOCKS],
+            extents: [0; STORE_BLOCKS],
             clocks: [0; EXPIRATIONS],
             named: [0; EXPIRATIONS],
             dues: [0; EXPIRATIONS],
@@ -101,7 +102,7 @@ impl Record {
     }
 
     /// The record as its bytes, in the order of this machine. They have no version: after an update of the library begin
-    /// with [`Record::fresh`], or keep an [`image`](crate::image), which has a version and a sum.
+    /// with [`Record::fresh`], or keep an [`image`](crate::image), which has a version and a CRC-32.
     ///
     /// ```
     /// # use ramsummer::{Pool, Record, LARGE, SMALL};

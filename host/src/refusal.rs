@@ -60,6 +60,8 @@ pub enum Refusal {
     OnlyMakePins = 21,
     /// Release: the object stands, and is not pinned, or no longer.
     NotPinned = 22,
+    /// Read, write: the sum of the block's bytes is another than the record's, so that they were changed from outside.
+    SumDiffers = 23,
     /// Read, frame: no room for the answer in the caller's buffer. It is no refusal of the documents.
     BufferTooShort = 255,
 }
@@ -89,6 +91,7 @@ impl Refusal {
         Refusal::BatchOutOfRange,
         Refusal::OnlyMakePins,
         Refusal::NotPinned,
+        Refusal::SumDiffers,
         Refusal::BufferTooShort,
     ];
 
@@ -126,6 +129,7 @@ impl Refusal {
             Refusal::BatchOutOfRange => "the batch has no object, or more than 32",
             Refusal::OnlyMakePins => "only a make pins an object",
             Refusal::NotPinned => "the object is not pinned",
+            Refusal::SumDiffers => "the sum differs: the block's bytes were changed from outside",
             Refusal::BufferTooShort => "the buffer is too short for the answer",
         }
     }

@@ -214,6 +214,76 @@ fn a_read_fills_the_start_of_its_room() {
     refused(&mut pool, Refusal::TaskWaiting, |pool| pool.read(1, handle, &mut []).map(<[u8]>::len));
 }
 
+/// From then on each read and write is refused, before what is wrong with the write itself, and no other call looks. It is
+/// as before once the byte is.
+#[test]
+fn a_byte_that_is_changed_from_outside_is_noticed() {
+    for length in [7, 40] {
+        let mut pool = pool();
+        let handle = pool.make(0, Kind::Local, 3, length).unwrap();
+        pool.write(0, handle, 0, b"12.50 m").unwrap();
+        let whole = pool.clone();
+        // Bytes of the object and one behind its end, in whichever block it is.
+        for place in [0, 6, 31] {
+            pool = changed(pool, length, |block| block[place] ^= 0x80);
+            refused(&mut pool, Refusal::SumDiffers, |pool| pool.read_to_vec(0, handle));
+            refused(&mut pool, Refusal::SumDiffers, |pool| pool.read(0, handle, &mut []).map(<[u8]>::len));
+            refused(&mut pool, Refusal::SumDiffers, |pool| pool.write(0, handle, 0, b"12.50 m"));
+            refused(&mut pool, Refusal::SumDiffers, |pool| pool.write(0, handle, 0, &[]));
+            refused(&mut pool, Refusal::SumDiffers, |pool| pool.write(0, handle, 0, &[1; LONGEST]));
+            refused(&mut pool, Refusal::TaskWaiting, |pool| pool.read_to_vec(1, handle));
+            refused(&mut pool, Refusal::NotPinned, |pool| pool.release(0, handle));
+            assert_eq!((pool.report(), pool.remaining(0, handle)), (whole.report(), whole.remaining(0, handle)));
+            pool = changed(pool, length, |block| block[place] ^= 0x80);
+            assert!(pool == whole);
+        }
+        assert_eq!(pool.read_to_vec(0, handle).unwrap()[..7], *b"12.50 m");
+    }
+}
+
+/// It lapses like any other, and its block is given out again.
+#[test]
+fn what_was_changed_from_outside_goes_in_its_time() {
+    let mut pool = pool();
+    let handle = pool.make(0, Kind::Local, 0, 4).unwrap();
+    let mut pool = changed(pool, 4, |block| block[2] = 1);
+    refused(&mut pool, Refusal::SumDiffers, |pool| pool.read_to_vec(0, handle));
+    pool.refresh(0, Kind::Local, 1, handle).unwrap();
+    pool.refresh_all(0, Kind::Local, 1, &[handle]).unwrap();
+    pool.tick(0).unwrap();
+    refused(&mut pool, Refusal::SumDiffers, |pool| pool.read_to_vec(0, handle));
+    pool.tick(0).unwrap();
+    refused(&mut pool, Refusal::ObjectGone, |pool| pool.read_to_vec(0, handle));
+    for _ in 0..64 {
+        let anew = pool.make(0, Kind::Local, 0, 32).unwrap();
+        assert_eq!(pool.read_to_vec(0, anew).unwrap(), [0; 32]);
+    }
+}
+
+/// Nor does a release ask what is in the block.
+#[test]
+fn changes_that_cancel_out_are_not_noticed() {
+    let mut pool = pool();
+    let handle = pool.make(0, Kind::Pinned, 0, 5).unwrap();
+    pool.write(0, handle, 0, b"12.50").unwrap();
+    let mut pool = changed(pool, 5, |block| block.swap(1, 3));
+    assert_eq!(pool.read_to_vec(0, handle).unwrap(), b"15.20");
+    pool.write(0, handle, 4, b"1").unwrap();
+    assert_eq!(pool.read_to_vec(0, handle).unwrap(), b"15.21");
+    let mut pool = changed(pool, 5, |block| block[0] += 1);
+    refused(&mut pool, Refusal::SumDiffers, |pool| pool.read_to_vec(0, handle));
+    pool.release(0, handle).unwrap();
+    refused(&mut pool, Refusal::ObjectGone, |pool| pool.read_to_vec(0, handle));
+}
+
+/// Every block of the store for this length is changed so, from outside.
+fn changed(pool: Pool, length: u16, change: impl Fn(&mut [u8])) -> Pool {
+    let (record, mut small, mut large) = pool.into_parts();
+    let (store, size) = if length <= 32 { (&mut small, 32) } else { (&mut large, 256) };
+    store.chunks_mut(size).for_each(change);
+    Pool::over(record, small, large)
+}
+
 #[test]
 fn tasks_are_tested() {
     let mut pool = pool();
@@ -347,12 +417,14 @@ fn the_record_shows_objects_and_expirations() {
     let record = pool.record().clone();
     let block = record.handles.iter().position(|number| *number == u32::from(handle)).unwrap();
     assert!((64..96).contains(&block));
-    assert_eq!(record.lengths[block], 40);
+    assert_eq!(record.extents[block], 40); // and a sum of 0
     let entry = |clock| record.clocks.iter().position(|other| *other == clock).unwrap();
     let (local, global) = (entry(16 + 1), entry(32));
     assert_eq!([record.named[local], record.named[global]], [block as u8; 2]);
     assert_eq!(record.dues[local], record.tasks[1].clock + 3 + 1);
     assert_eq!(record.dues[global], record.global + 4 + 2);
+    pool.write(0, handle, 38, &[250, 7]).unwrap();
+    assert_eq!(pool.record().extents[block], 257 << 16 | 40);
     pool.leave(1).unwrap();
     assert_eq!((pool.record().clocks[local], pool.record().clocks[global]), (0, 32));
     pool.leave(0).unwrap();
@@ -388,7 +460,7 @@ fn what_a_task_has_set_by_global_time_waits_with_it() {
 #[test]
 fn what_else_stands_in_free_entries_has_no_meaning() {
     let mut record = Record::fresh();
-    (record.lengths, record.named, record.dues) = ([999; STORE_BLOCKS], [255; EXPIRATIONS], [7; EXPIRATIONS]);
+    (record.extents, record.named, record.dues) = ([u32::MAX; STORE_BLOCKS], [255; EXPIRATIONS], [7; EXPIRATIONS]);
     let mut pool: Pool = Pool::over(record.into(), vec![0; SMALL].into(), vec![0; LARGE].into());
     pool.join(0).unwrap();
     let handle = pool.make(0, Kind::Local, 0, 2).unwrap();

@@ -56,7 +56,7 @@ fn claims() -> Vec<(String, usize)> {
         ("offsetof(ramsummer_pool, global)", offset_of!(Record, global)),
         ("offsetof(ramsummer_pool, given)", offset_of!(Record, given)),
         ("offsetof(ramsummer_pool, handles)", offset_of!(Record, handles)),
-        ("offsetof(ramsummer_pool, lengths)", offset_of!(Record, lengths)),
+        ("offsetof(ramsummer_pool, extents)", offset_of!(Record, extents)),
         ("offsetof(ramsummer_pool, clocks)", offset_of!(Record, clocks)),
         ("offsetof(ramsummer_pool, named)", offset_of!(Record, named)),
         ("offsetof(ramsummer_pool, dues)", offset_of!(Record, dues)),
@@ -149,6 +149,6 @@ fn the_refusals_are_those_of_the_documents() {
 fn numbers_and_refusals_go_both_ways() {
     for number in 0..=255 {
         let back = Refusal::from_number(number).map(Refusal::number);
-        assert_eq!(back, matches!(number, 1..=22 | 255).then_some(number));
+        assert_eq!(back, matches!(number, 1..=23 | 255).then_some(number));
     }
 }

@@ -72,19 +72,20 @@ fn the_layout_is_that_of_its_version() {
     let counted: Vec<u8> = (0..RECORD).map(|place| (place % 251) as u8).collect();
     let mut image = vec![0; RECORD_ALONE];
     image[..4].copy_from_slice(b"RSMR");
-    image[4] = 2;
-    image[8..12].copy_from_slice(&2264_u32.to_le_bytes());
+    image[4] = 3;
+    image[8..12].copy_from_slice(&2456_u32.to_le_bytes());
     image[12..12 + RECORD].copy_from_slice(&counted);
     let sum = crc32(&image[..RECORD_ALONE - 4]);
     image[RECORD_ALONE - 4..].copy_from_slice(&sum.to_le_bytes());
     let record = restore(&image).unwrap();
     assert_eq!((record.tasks[0].state, record.tasks[0].ticked, record.tasks[0].clock), (0x0100, 0x0302, 0x0706_0504));
-    assert_eq!((record.global, record.handles[0], record.clocks[0]), (0x8382_8180, 0x8B8A_8988, (712 % 251) as u8));
+    assert_eq!((record.global, record.handles[0], record.extents[0]), (0x8382_8180, 0x8B8A_8988, 0x1514_1312));
+    assert_eq!((record.clocks[0], record.named[0]), ((904 % 251) as u8, (1160 % 251) as u8));
     assert_eq!(image_of(&record), image);
     // The sums of fresh images, by Python's zlib.
-    assert_eq!(image_of(&Record::fresh())[RECORD_ALONE - 4..], 0xC92C_8F57_u32.to_le_bytes());
-    assert_eq!(whole_image_of(&Pool::new())[WITH_STORES - 4..], 0x8544_AF7C_u32.to_le_bytes());
-    assert_eq!((MAGIC, VERSION, RECORD_ALONE, WITH_STORES), (*b"RSMR", 2, 2264, 12_504));
+    assert_eq!(image_of(&Record::fresh())[RECORD_ALONE - 4..], 0x5A13_EC91_u32.to_le_bytes());
+    assert_eq!(whole_image_of(&Pool::new())[WITH_STORES - 4..], 0x7747_717D_u32.to_le_bytes());
+    assert_eq!((MAGIC, VERSION, RECORD_ALONE, WITH_STORES), (*b"RSMR", 3, 2456, 12_696));
 }
 
 #[test]
@@ -146,7 +147,7 @@ fn bytes_after_an_image_may_be_anything() {
 fn other_versions_and_the_other_kind_are_told() {
     let pool = late_pool();
     let mut image = image_of(pool.record());
-    for version in [0, 1, 3, 256, u32::MAX] {
+    for version in [0, 1, 2, 4, 256, u32::MAX] {
         image[4..8].copy_from_slice(&version.to_le_bytes());
         assert_eq!(restore(&image), Err(Fault::Version));
     }

@@ -1,11 +1,12 @@
 //! What docs/RESTART.md says of tasks that come back, held on pools that calls lead to.
 
 use lives::pools;
-use ramsummer::{image, Handle, Kind, Pool, Record, Refusal, Report, CLOCK_LOCAL, CLOCK_PINNED, TASKS};
+use ramsummer::{image, Handle, Kind, Pool, Record, Refusal, Report, CLOCK_LOCAL, CLOCK_PINNED, LARGE, SMALL, TASKS};
 
 mod lives;
 
 const ABSENT: u16 = 0;
+const RUNNING: u16 = 1;
 const WAITING: u16 = 2;
 
 fn restored(record: &Record) -> Record {
@@ -70,6 +71,23 @@ fn or_it_goes_on_and_everything_of_it_is_as_it_was() {
     }
 }
 
+/// Without the stores, where zeros stand in their place: what has other bytes than zeros is refused.
+#[test]
+fn a_read_without_the_stores_is_refused() {
+    let mut refused = 0;
+    for pool in restarted() {
+        let Some(task) = pool.record().tasks.iter().position(|task| task.state == RUNNING) else { continue };
+        let mut pool = Pool::over(pool.record().clone(), [0; SMALL], [0; LARGE]);
+        let Record { handles, extents, .. } = *pool.record();
+        for (handle, extent) in handles.into_iter().zip(extents).filter(|(handle, _)| *handle != 0) {
+            let told = pool.read(task as u8, handle.into(), &mut [0; ramsummer::LONGEST]).err();
+            assert_eq!(told, (extent >> 16 != 0).then_some(Refusal::SumDiffers));
+            refused += u32::from(told.is_some());
+        }
+    }
+    assert!(refused > 1000, "{refused}");
+}
+
 /// Without the stores: no object stands after 32 ticks of one task, once all have left and what is pinned is released; and no
 /// handle is given again.
 #[test]
@@ -107,6 +125,6 @@ fn an_older_image_gives_handles_again() {
     pool.join(0).unwrap();
     let old = restored(pool.record());
     let first = pool.make(0, Kind::Global, 30, 8).unwrap();
-    let mut back = Pool::over(old, [0; ramsummer::SMALL], [0; ramsummer::LARGE]);
+    let mut back = Pool::over(old, [0; SMALL], [0; LARGE]);
     assert_eq!(back.make(0, Kind::Local, 0, 200), Ok(first));
 }

@@ -131,6 +131,19 @@ static void no_offset(int n) {
     REFUSED(4, ramsummer_write(POOL, WAITS, stands, n, bytes, 1));
 }
 
+/* 23 comes before 13. */
+static void with_changed_bytes(int n) {
+    size_t i;
+    for (i = 0; i < sizeof w.large; i += RAMSUMMER_LONGEST) w.large[i] ^= 1;
+    before = w;
+    REFUSED(23, ramsummer_read(POOL, RUNS, longest, w.out, sizeof w.out, &w.count));
+    REFUSED(23, ramsummer_write(POOL, RUNS, longest, n, bytes, 0));
+    REFUSED(23, ramsummer_write(POOL, RUNS, longest, n, bytes, sizeof bytes));
+    REFUSED(12, ramsummer_write(POOL, RUNS, gone, n, bytes, 1));
+    for (i = 0; i < sizeof w.large; i += RAMSUMMER_LONGEST) w.large[i] ^= 1;
+    before = w;
+}
+
 /* 15 comes before all but a kind. */
 static void on_a_damaged_record(int n) {
     w.pool.tasks[ABSENT].clock = 1;
@@ -159,6 +172,7 @@ static void refused(int n) {
     no_extension(n);
     if (n != RAMSUMMER_LONGEST) no_length(n);
     no_offset(n);
+    with_changed_bytes(n);
     on_a_damaged_record(n);
 }
 

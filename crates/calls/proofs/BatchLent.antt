@@ -41,7 +41,7 @@ module _ {h : Head} {hs ls cs ns ds : List ℕ} (types : HeadTyped h) (sized : S
 
   -- places by the handles are those of the blocks
   places : (handle : ℕ) → placeOf handle (blocksOf hs ls) ≡ placeIn handle hs
-  places handle = sym (place-of hs ls (sized .blocks .of-handles) (sized .blocks .of-lengths) handle)
+  places handle = sym (place-of hs ls (sized .blocks .of-handles) (sized .blocks .of-extents) handle)
 
   -- the plan's verdict is the record's
   missing : isMissing (blocksOf hs ls) ≡ isMissingIn hs

@@ -11,20 +11,20 @@ use Rattle.record.specs.declared.Head.{Head}
 use Rattle.record.proofs.Columns.{length-blocks, length-entries}
 use Rattle.record.proofs.Types.{typed-by}
 
-module _ (h : Head) (handles lengths clocks named dues : List ℕ) where
-  pub tables-of : tablesOf (pooled h handles lengths clocks named dues) ≡ tablesBy h (blocksOf handles lengths) (entriesOf clocks named dues)
+module _ (h : Head) (handles extents clocks named dues : List ℕ) where
+  pub tables-of : tablesOf (pooled h handles extents clocks named dues) ≡ tablesBy h (blocksOf handles extents) (entriesOf clocks named dues)
   unfolding tablesOf
   tables-of = refl
 
   -- its well-formedness is that of the tables
-  pub lent-fits : isWellFormed (pooled h handles lengths clocks named dues) ≡ true
-      → WellFormed.isWellFormed (lent h handles lengths clocks named dues) ≡ true
+  pub lent-fits : isWellFormed (pooled h handles extents clocks named dues) ≡ true
+      → WellFormed.isWellFormed (lent h handles extents clocks named dues) ≡ true
   unfolding tablesOf
   lent-fits w = w
 
-  pub lent-typed : HeadTyped h → SizedBlocks handles lengths → SizedEntries clocks named dues → Typed (tablesOf (pooled h handles lengths clocks named dues))
+  pub lent-typed : HeadTyped h → SizedBlocks handles extents → SizedEntries clocks named dues → Typed (tablesOf (pooled h handles extents clocks named dues))
   lent-typed t b e =
       rw tables-of
-      (typed-by (blocksOf handles lengths) (entriesOf clocks named dues) t
-      (length-blocks handles lengths (b .of-handles) (b .of-lengths))
+      (typed-by (blocksOf handles extents) (entriesOf clocks named dues) t
+      (length-blocks handles extents (b .of-handles) (b .of-extents))
       (length-entries clocks named dues (e .of-clocks) (e .of-named) (e .of-dues)))

@@ -16,9 +16,9 @@ use Rattle.ledger.specs.declared.Refusal.{Refusal}
 use Rattle.ledger.specs.declared.Refusal.the-variants.{LengthOutOfRange, HandlesSpent, NoFreeBlock}
 use Rattle.ledger.specs.declared.Request.the-variants.{Use}
 use Rattle.ledger.specs.declared.Verdict.the-variants.{Accepted, Refused}
-use Rattle.stores.specs.Places.{sizeOf, InBlock, smallAfter, largeAfter}
-use Rattle.record.specs.Reading.{HeadTyped, Typed}
-use Rattle.record.specs.Tables.{BlockEntry, Sized, blocksOf, entriesOf, tablesBy, tablesOf, pooled, blockEntries, expirationEntries}
+use Rattle.stores.specs.Places.{InBlock, smallAfter, largeAfter}
+use Rattle.record.specs.Reading.{HeadTyped, Typed, sizeOf}
+use Rattle.record.specs.Tables.{BlockEntry, Sized, extentOf, blocksOf, entriesOf, tablesBy, tablesOf, pooled, blockEntries, expirationEntries}
 use Rattle.record.specs.declared.Head.{Head}
 use Rattle.record.proofs.Columns.{block-at}
 use Rattle.steps.specs.Objects.{endFor, freePlace, freePlaceIn, refuseIf, taskVerdict, extensionVerdict, roomVerdict, makeVerdict}
@@ -45,12 +45,12 @@ module _ {h : Head} (hs ls cs : List ℕ) {ns ds : List ℕ} (types : HeadTyped 
 
   planned-place : plan .place ≡ freePlace size (tablesOf (pooled h hs ls cs ns ds) .blocks)
   unfolding makePlan tablesOf tablesBy
-  planned-place = rw so (free-place-of hs ls (sized .blocks .of-handles) (sized .blocks .of-lengths) size)
+  planned-place = rw so (free-place-of hs ls (sized .blocks .of-handles) (sized .blocks .of-extents) size)
 
   verdict-of : makeVerdict task kind extension size (tablesOf (pooled h hs ls cs ns ds)) ≡ plan .verdict
   verdict-of =
       rw (so, standing-of (sized .entries), tables-of h hs ls cs ns ds)
-      (sym (make-planned hs ls (sized .blocks .of-handles) (sized .blocks .of-lengths) h (entriesOf cs ns ds) task kind extension size))
+      (sym (make-planned hs ls (sized .blocks .of-handles) (sized .blocks .of-extents) h (entriesOf cs ns ds) task kind extension size))
 
   pub make-refused-lent : {why : Refusal} → plan .verdict ≡ Refused why
       → Makes task kind extension size (pooled h hs ls cs ns ds) small large (outcomeOf (record { answer = RefusedAnswer why; head = h }) hs ls cs ns ds) small large
@@ -93,7 +93,7 @@ module _ {h : Head} (hs ls cs : List ℕ) {ns ds : List ℕ} (types : HeadTyped 
     unfolding tablesOf tablesBy
     free =
         rw planned-place
-        (sym (ap (λ (b : BlockEntry). b .handle) (block-at hs ls (sized .blocks .of-handles) (sized .blocks .of-lengths) (freePlace size (blocksOf hs ls))))
+        (sym (ap (λ (b : BlockEntry). b .handle) (block-at hs ls (sized .blocks .of-handles) (sized .blocks .of-extents) (freePlace size (blocksOf hs ls))))
         ∙ taken .block .free)
 
     holds : getD (set hs (plan .place) (h .given + 1)) (plan .place) 0 ≡ h .given + 1
@@ -103,15 +103,15 @@ module _ {h : Head} (hs ls cs : List ℕ) {ns ds : List ℕ} (types : HeadTyped 
         → {small′ large′ : List ℕ} → small′ ≡ smallAfter (plan .place) 0 (replicate (sizeOf (plan .place)) 0) small
         → large′ ≡ largeAfter (plan .place) 0 (replicate (sizeOf (plan .place)) 0) large
         → (let hs′ = set hs (plan .place) (h .given + 1) in
-        let ls′ = set ls (plan .place) size in
+        let ls′ = set ls (plan .place) (extentOf size 0) in
         Sized hs′ ls′ cs′ ns′ ds′
         × Makes task kind extension size (pooled h hs ls cs ns ds) small large
         (outcomeOf (record { answer = Handle (h .given + 1); head = withGiven h (h .given + 1) }) hs′ ls′ cs′ ns′ ds′) small′ large′)
     make-set-lent sets s l = (
       record {
-        blocks = record { of-handles = rw length-set (sized .blocks .of-handles); of-lengths = rw length-set (sized .blocks .of-lengths) };
+        blocks = record { of-handles = rw length-set (sized .blocks .of-handles); of-extents = rw length-set (sized .blocks .of-extents) };
         entries = sets .sized;
       },
       make-cleared of-entries ready (plan .place) planned-place free holds
-          (made-left h hs ls cs ns ds kind task extension (plan .place) sets size at-free) (verdict-of ∙ v) s l,
+          (made-left h hs ls cs ns ds kind task extension (plan .place) sets size (omega (arith, taken .block .most)) at-free) (verdict-of ∙ v) s l,
     )

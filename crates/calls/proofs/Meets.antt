@@ -5,37 +5,38 @@ use mathlib.Core.Bool.{true, false, true≢false, and-eq-true-iff}
 use mathlib.Core.List.{List, []}
 use mathlib.Core.Path.{_≡_, refl, sym, ap, _∙_}
 use lib.ListN.{length, getD, replicate}
+use Rattle.lists.specs.Sums.{total}
 use Rattle.ledger.specs.Objects.{plain}
 use Rattle.ledger.specs.declared.Kind.{Kind}
 use Rattle.ledger.specs.declared.Answer.the-variants.{Done, Handle, Bytes}
 use Rattle.ledger.specs.declared.Answer.the-variants.{Refused as RefusedAnswer}
 use Rattle.ledger.specs.declared.Call.the-variants.{Make, Read, Write}
-use Rattle.ledger.specs.declared.Life.{Life}
 use Rattle.ledger.specs.declared.Refusal.{Refusal}
 use Rattle.ledger.specs.declared.Request.the-variants.{Use}
 use Rattle.ledger.specs.declared.Verdict.{Verdict}
 use Rattle.ledger.specs.declared.Verdict.the-variants.{Accepted, Refused}
-use Rattle.stores.specs.Places.{blockCount, sizeOf, InBlock, smallAfter, largeAfter}
+use Rattle.stores.specs.Places.{blockCount, InBlock, smallAfter, largeAfter, sumAt, sumAfter}
 use Rattle.stores.proofs.Places.{all-blocks}
-use Rattle.record.specs.Reading.{isWholeSmall, isWholeLarge, blockBytes, Typed}
+use Rattle.stores.proofs.Changes.{bytes-changed}
+use Rattle.record.specs.Reading.{isWholeSmall, isWholeLarge, blockBytes, Typed, sizeOf}
 use Rattle.record.specs.Tables.{tablesOf}
 use Rattle.record.specs.declared.Pool.{Pool}
-use Rattle.steps.specs.Objects.{placeIn, placeOf, freePlace, makeVerdict, readVerdict, writeVerdict, madePool}
-use Rattle.objects.specs.Outcomes.{foundBy, foundIn}
-use Rattle.objects.specs.declared.Found.{Found}
-use Rattle.objects.specs.declared.Found.the-variants.{At}
-use Rattle.objects.specs.declared.Found.the-variants.{Refused as RefusedFound}
-use Rattle.objects.proofs.Outcomes.{found-refused, found-accepted}
+use Rattle.steps.specs.Objects.{placeIn, placeOf, freePlace, makeVerdict, readVerdict, writeVerdict, madePool, writtenPool}
+use Rattle.objects.specs.Outcomes.{bytesBy, bytesIn}
+use Rattle.objects.specs.declared.FoundBytes.{FoundBytes}
+use Rattle.objects.specs.declared.FoundBytes.the-variants.{At}
+use Rattle.objects.specs.declared.FoundBytes.the-variants.{Refused as RefusedBytes}
+use Rattle.objects.proofs.Outcomes.{bytes-refused, bytes-accepted}
 use Rattle.steps.proofs.ObjectsFollow.{read-place, write-place}
 use Rattle.record.proofs.Exists.{every-fit-record-reads}
 use Rattle.record.specs.Codes.{freeBlock}
-use Rattle.steps.proofs.Chosen.{make-takes}
-use Rattle.calls.specs.Contract.{areWhole, Ready, Obeys, Makes, Locates, ReadsBack, Writes}
+use Rattle.steps.proofs.Chosen.{make-takes, write-begins, read-sum}
+use Rattle.calls.specs.Contract.{areWhole, Ready, Obeys, Makes, Locates, ReadsBack, summed, Writes}
 use Rattle.calls.proofs.Promises.{isRefusal}
 use Rattle.calls.proofs.Outcomes.{make-refused, make-done, read-refused, read-done, write-refused, write-done}
 
 -- both stores, each by itself
-halves : (small large : List ℕ) → areWhole small large ≡ true → (isWholeSmall small ≡ true) × (isWholeLarge large ≡ true)
+pub halves : (small large : List ℕ) → areWhole small large ≡ true → (isWholeSmall small ≡ true) × (isWholeLarge large ≡ true)
 halves small large = and-eq-true-iff (isWholeSmall small) (isWholeLarge large) .0
 
 -- a make that is refused takes no block
@@ -47,26 +48,22 @@ refused-makes task kind extension size p small large r o = record { obeys = o; p
 -- a write that is refused changes nothing
 pub refused-writes : (task handle offset : ℕ) (new : List ℕ) (p : Pool) (small large : List ℕ) (r : Refusal)
     → Obeys (Use (Write task handle offset)) new p small large (plain (RefusedAnswer r)) p small large
-    → Writes task handle offset new p small large (RefusedAnswer r) small large
+    → Writes task handle offset new p small large (RefusedAnswer r) p small large
 refused-writes task handle offset new p small large r o =
-    record {
-      obeys = o;
-      smallWritten = λ d. absurd (true≢false (ap isRefusal d));
-      largeWritten = λ d. absurd (true≢false (ap isRefusal d));
-    }
+    record { obeys = o; written = λ d. absurd (true≢false (ap isRefusal d)) }
 
 -- a read that is refused finds no block
 pub refused-locates : (task handle : ℕ) (p : Pool) (small large : List ℕ) (r : Refusal)
     → Obeys (Use (Read task handle)) [] p small large (plain (RefusedAnswer r)) p small large
-    → Locates task handle p small large (RefusedFound r)
+    → Locates task handle p small large (RefusedBytes r)
 refused-locates task handle p small large r o =
-    record { reads = o; inside = λ block count life f. let z : _≡_ {A = ℕ} 0 1 = cc in absurd (omega arith) }
+    record { reads = o; inside = λ block count sum f. let z : _≡_ {A = ℕ} 0 1 = cc in absurd (omega arith) }
 
-module _ {task handle : ℕ} {p : Pool} {small large : List ℕ} {f : Found} (l : Locates task handle p small large f) where
-  pub read-refusal : {why : Refusal} → f ≡ RefusedFound why → ReadsBack task handle p small large (RefusedAnswer why) []
+module _ {task handle : ℕ} {p : Pool} {small large : List ℕ} {f : FoundBytes} (l : Locates task handle p small large f) where
+  pub read-refusal : {why : Refusal} → f ≡ RefusedBytes why → ReadsBack task handle p small large (RefusedAnswer why) []
   read-refusal e = rw e at (l .reads)
 
-  pub read-part : {block count : ℕ} {life : Life} → f ≡ At block count life → ReadsBack task handle p small large Bytes (blockBytes small large block count)
+  pub read-part : {block count sum : ℕ} → f ≡ At block count sum → ReadsBack task handle p small large Bytes (blockBytes small large block count)
   read-part e = rw e at (l .reads)
 
 -- make, refused or carried out
@@ -109,11 +106,11 @@ module _ {task : ℕ} {kind : Kind} {extension size : ℕ} {p : Pool} {small lar
 
 -- an object that is found, or why not
 module _ {task handle : ℕ} {p : Pool} {small large : List ℕ} (types : Typed (tablesOf p)) (ready : Ready (Use (Read task handle)) p small large) where
-  locates-by : (v : Verdict) → readVerdict task handle (tablesOf p) ≡ v → Locates task handle p small large (foundBy false v task handle (tablesOf p))
+  locates-by : (v : Verdict) → readVerdict task handle small large (tablesOf p) ≡ v → Locates task handle p small large (bytesBy v handle (tablesOf p))
   locates-by Accepted e =
       record {
         reads = read-done p types (ready .fit) small large (ready .whole refl) task handle e;
-        inside = λ block count life f.
+        inside = λ block count sum f.
             let b : placeOf handle (tablesOf p .blocks) ≡ block = cc in
             let n : getD (tablesOf p .blocks) (placeOf handle (tablesOf p .blocks)) freeBlock .length ≡ count = cc in
             let (small-whole, large-whole) = halves small large (ready .whole refl) in
@@ -123,29 +120,48 @@ module _ {task handle : ℕ} {p : Pool} {small large : List ℕ} (types : Typed 
   locates-by (Refused r) e =
       refused-locates task handle p small large r (read-refused p types (ready .fit) small large (ready .whole refl) task handle r e)
 
-  pub locates : (f : Found) → f ≡ foundIn false (readVerdict task handle) task handle (tablesOf p) → Locates task handle p small large f
-  locates f e = rw e (locates-by (readVerdict task handle (tablesOf p)) refl)
+  pub locates : (f : FoundBytes) → f ≡ bytesIn (readVerdict task handle small large) handle (tablesOf p) → Locates task handle p small large f
+  locates f e = rw e (locates-by (readVerdict task handle small large (tablesOf p)) refl)
 
 module _ {task handle offset : ℕ} {p : Pool} {small large : List ℕ} (types : Typed (tablesOf p)) (ready : Ready (Use (Write task handle offset)) p small large)
     (here : placeIn handle (p .handles) ≡ placeOf handle (tablesOf p .blocks)) (new : List ℕ) where
-  module _ (f : Found) (so : f ≡ foundIn false (writeVerdict task handle offset (length new)) task handle (tablesOf p)) where
-    pub write-kept : (why : Refusal) → f ≡ RefusedFound why → Writes task handle offset new p small large (RefusedAnswer why) small large
+  module _ (f : FoundBytes) (so : f ≡ bytesIn (writeVerdict task handle offset (length new) small large) handle (tablesOf p)) where
+    pub write-kept : (why : Refusal) → f ≡ RefusedBytes why → Writes task handle offset new p small large (RefusedAnswer why) p small large
     write-kept why g =
         refused-writes task handle offset new p small large why
-        (write-refused p types (ready .fit) small large (ready .whole refl) task handle offset new why (found-refused false task handle (tablesOf p) _ (sym so ∙ g)))
+        (write-refused p types (ready .fit) small large (ready .whole refl) task handle offset new why (bytes-refused handle (tablesOf p) _ (sym so ∙ g)))
 
-    pub write-found : (block count : ℕ) (life : Life) → f ≡ At block count life
-        → InBlock small large block (offset + length new)
-        × Writes task handle offset new p small large Done (smallAfter block offset new small) (largeAfter block offset new large)
-    write-found block count life g =
-        let (e, b, n) = found-accepted false task handle (tablesOf p) _ (sym so ∙ g) in
-        let (small-whole, large-whole) = halves small large (ready .whole refl) in
-        let (L, reads) = every-fit-record-reads p types (ready .fit) small large in
-        rw (← b) (
-          write-place (ready .fit) types reads small-whole large-whole task handle offset new e,
+    module _ {block count sum : ℕ} (g : f ≡ At block count sum) where
+      accepted : (writeVerdict task handle offset (length new) small large (tablesOf p) ≡ Accepted) × (placeOf handle (tablesOf p .blocks) ≡ block)
+          × (getD (tablesOf p .blocks) (placeOf handle (tablesOf p .blocks)) freeBlock .length ≡ count)
+          × (getD (tablesOf p .blocks) (placeOf handle (tablesOf p .blocks)) freeBlock .sum ≡ sum)
+      accepted = bytes-accepted handle (tablesOf p) _ (sym so ∙ g)
+
+      -- the bytes lie in the object's block, whose sum agrees
+      pub write-in : InBlock small large block (offset + length new)
+      write-in =
+          let (small-whole, large-whole) = halves small large (ready .whole refl) in
+          let (L, reads) = every-fit-record-reads p types (ready .fit) small large in
+          rw (← accepted .1) (write-place (ready .fit) types reads small-whole large-whole task handle offset new (accepted .0))
+
+      pub write-sum : sum ≡ sumAt small large block
+      write-sum =
+          let begins = write-begins task handle offset (length new) small large (tablesOf p) (accepted .0) in
+          rw (← accepted .1, ← accepted .3) (sym (read-sum task handle small large (tablesOf p) begins))
+
+      -- the sum that is left is that of the bytes which are there then
+      sum-left : sumAt (smallAfter block offset new small) (largeAfter block offset new large) block ≡ sumAfter small large block offset new
+      sum-left =
+          let q = write-in in
+          let whole : InBlock small large block (sizeOf block) = record { known = q .known; small-whole = q .small-whole; large-whole = q .large-whole; within = omega arith } in
+          ap total (bytes-changed offset new q .block-bytes (sizeOf block) whole (q .within))
+
+      -- carried out: the record is that with the new sum
+      pub write-found : {p′ : Pool} → tablesOf p′ ≡ writtenPool handle offset new small large (tablesOf p) → p′ ≡ summed block (sumAfter small large block offset new) p
+          → Writes task handle offset new p small large Done p′ (smallAfter block offset new small) (largeAfter block offset new large)
+      write-found {p′} left same =
+          let place : placeIn handle (p .handles) ≡ block = here ∙ accepted .1 in
           record {
-            obeys = write-done p types (ready .fit) small large (ready .whole refl) task handle offset new e;
-            smallWritten = λ d. rw here;
-            largeWritten = λ d. rw here;
-          },
-        )
+            obeys = rw (← accepted .1) (write-done p types (ready .fit) small large (ready .whole refl) task handle offset new left (accepted .0));
+            written = λ d. record { inSmall = rw place; inLarge = rw place; inRecord = rw (place, sum-left) same };
+          }

@@ -15,20 +15,20 @@ use Rattle.ledger.specs.declared.Call.the-variants.{Make, Refresh, Read, Write,
 use Rattle.ledger.specs.declared.Refusal.{Refusal}
 use Rattle.ledger.specs.declared.Request.the-variants.{Use}
 use Rattle.ledger.specs.declared.Verdict.the-variants.{Accepted, Refused}
-use Rattle.stores.specs.Places.{sizeOf, smallAfter, largeAfter}
-use Rattle.record.specs.Reading.{isWholeSmall, isWholeLarge, blockBytes, Typed}
+use Rattle.stores.specs.Places.{smallAfter, largeAfter}
+use Rattle.record.specs.Reading.{isWholeSmall, isWholeLarge, blockBytes, Typed, sizeOf}
 use Rattle.record.specs.Tables.{tablesBy, tablesOf, blockEntries}
 use Rattle.record.specs.Pools.{isWellFormed, Reads}
 use Rattle.record.specs.declared.Pool.{Pool}
 use Rattle.record.proofs.Facts.{fit-parts}
 use Rattle.record.proofs.Exists.{every-fit-record-reads}
-use Rattle.steps.specs.Objects.{placeOf, freePlace, makeVerdict, refreshVerdict, readVerdict, writeVerdict, batchVerdict, releaseVerdict, madePool, refreshedPool, batchedPool, releasedPool}
+use Rattle.steps.specs.Objects.{placeOf, freePlace, makeVerdict, refreshVerdict, readVerdict, writeVerdict, batchVerdict, releaseVerdict, madePool, refreshedPool, batchedPool, writtenPool, releasedPool}
 use Rattle.steps.proofs.Chosen.{make-takes}
 use Rattle.steps.proofs.Finding.{blockOf, every-object-stands}
 use Rattle.steps.proofs.StoreBytes.{made-bytes}
-use Rattle.steps.proofs.Staying.{same-stays, make-stays, refresh-stays}
+use Rattle.steps.proofs.Staying.{same-stays, make-stays, refresh-stays, write-stays}
 use Rattle.steps.proofs.Verdicts.{make-verdict, refresh-verdict, read-verdict, write-verdict, batch-verdict, release-verdict}
-use Rattle.steps.proofs.ObjectsFollow.{same-given, make-fits, make-reads, refresh-fits, refresh-reads, read-bytes, write-sizes, write-reads}
+use Rattle.steps.proofs.ObjectsFollow.{same-given, make-fits, make-reads, refresh-fits, refresh-reads, read-bytes, write-fits, write-sizes, write-reads}
 use Rattle.steps.proofs.Batches.{batch-fits, batch-reads, batch-stays}
 use Rattle.steps.proofs.Releases.{release-fits, release-reads, release-stays}
 use Rattle.calls.specs.Contract.{areWhole, Obeys}
@@ -125,35 +125,37 @@ module _ (p : Pool) (types : Typed (tablesOf p)) (w : isWellFormed p ≡ true) (
           (bytes .small-size, bytes .large-size)
 
     module _ (task handle : ℕ) where
-      pub read-refused : (r : Refusal) → readVerdict task handle (tablesOf p) ≡ Refused r
+      pub read-refused : (r : Refusal) → readVerdict task handle small large (tablesOf p) ≡ Refused r
           → Obeys (Use (Read task handle)) [] p small large (plain (RefusedAnswer r)) p small large
       read-refused r v =
           refused-obeys _ [] p small large w (λ s. whole) r
-          (λ L reads. read-verdict types (fit-parts (tablesOf p) w) reads task handle [] ∙ ap asRefusal v)
+          (λ L reads. read-verdict types (fit-parts (tablesOf p) w) reads small-whole large-whole task handle [] ∙ ap asRefusal v)
 
-      pub read-done : readVerdict task handle (tablesOf p) ≡ Accepted
+      pub read-done : readVerdict task handle small large (tablesOf p) ≡ Accepted
           → Obeys (Use (Read task handle)) [] p small large
           (record { answer = Bytes; bytes = blockBytes small large (placeOf handle (tablesOf p .blocks)) (blockOf handle (tablesOf p .blocks) .length) }) p small large
       unfolding replyTo memoryAfter expirationsAfter
       read-done v =
           carried-obeys _ [] p small large w (λ s. whole) _ p small large refl
-          (λ L reads. read-verdict types (fit-parts (tablesOf p) w) reads task handle [] ∙ ap asRefusal v)
+          (λ L reads. read-verdict types (fit-parts (tablesOf p) w) reads small-whole large-whole task handle [] ∙ ap asRefusal v)
           (λ L reads. rw (read-bytes w types reads small-whole large-whole task handle v))
           (λ L reads. rw (every-object-stands (fit-parts (tablesOf p) w) reads) reads) w (same-stays refl refl) (refl, refl)
 
       module _ (offset : ℕ) (new : List ℕ) where
-        pub write-refused : (r : Refusal) → writeVerdict task handle offset (length new) (tablesOf p) ≡ Refused r
+        pub write-refused : (r : Refusal) → writeVerdict task handle offset (length new) small large (tablesOf p) ≡ Refused r
             → Obeys (Use (Write task handle offset)) new p small large (plain (RefusedAnswer r)) p small large
         write-refused r v =
             refused-obeys _ new p small large w (λ s. whole) r
-            (λ L reads. write-verdict types (fit-parts (tablesOf p) w) reads task handle offset new ∙ ap asRefusal v)
+            (λ L reads. write-verdict types (fit-parts (tablesOf p) w) reads small-whole large-whole task handle offset new ∙ ap asRefusal v)
 
-        pub write-done : writeVerdict task handle offset (length new) (tablesOf p) ≡ Accepted
-            → Obeys (Use (Write task handle offset)) new p small large (plain Done) p
+        pub write-done : {p′ : Pool} → tablesOf p′ ≡ writtenPool handle offset new small large (tablesOf p)
+            → writeVerdict task handle offset (length new) small large (tablesOf p) ≡ Accepted
+            → Obeys (Use (Write task handle offset)) new p small large (plain Done) p′
             (smallAfter (placeOf handle (tablesOf p .blocks)) offset new small) (largeAfter (placeOf handle (tablesOf p .blocks)) offset new large)
         unfolding replyTo
-        write-done v =
-            carried-obeys _ new p small large w (λ s. whole) (plain Done) p _ _ refl
-            (λ L reads. write-verdict types (fit-parts (tablesOf p) w) reads task handle offset new ∙ ap asRefusal v)
-            (λ L reads. refl) (λ L reads. write-reads w types reads small-whole large-whole task handle offset new v)
-            w (same-stays refl refl) (write-sizes w types (some .1) small-whole large-whole task handle offset new v)
+        write-done {p′} left v =
+            carried-obeys _ new p small large w (λ s. whole) (plain Done) p′ _ _ refl
+            (λ L reads. write-verdict types (fit-parts (tablesOf p) w) reads small-whole large-whole task handle offset new ∙ ap asRefusal v)
+            (λ L reads. refl) (λ L reads. rw left (write-reads w types reads small-whole large-whole task handle offset new v))
+            (rw left (write-fits w types (some .1) handle offset new)) (rw left (write-stays handle offset new small large (tablesOf p)))
+            (write-sizes w types (some .1) small-whole large-whole task handle offset new v)

@@ -50,9 +50,9 @@ module _ {h : Head} {hs ls cs ns ds : List ℕ} (types : HeadTyped h) (sized : S
       refresh-refused _ of-entries w small large task kind extension handle _
       (rw (tables-of h hs ls cs ns ds) (found-refused false task handle (lent h hs ls cs ns ds) _ (sym so ∙ e)))
 
-  module _ {block count : ℕ} {life : Life} (at : f ≡ At block count life) where
+  module _ {block : ℕ} {life : Life} (at : f ≡ At block life) where
     accepted : (refreshVerdict task kind extension handle (lent h hs ls cs ns ds) ≡ Accepted) × (placeOf handle (lent h hs ls cs ns ds .blocks) ≡ block)
-    accepted = let (v, place, size) = found-accepted false task handle (lent h hs ls cs ns ds) _ (sym so ∙ at) in (v, place)
+    accepted = found-accepted false task handle (lent h hs ls cs ns ds) _ (sym so ∙ at)
 
     pub refresh-set : isWellFormed (pooled h hs ls cs ns ds) ≡ true → {cs′ ns′ ds′ : List ℕ}
         → Sets (newEntry (h .tasks) (h .global) kind task extension block) cs ns ds cs′ ns′ ds′

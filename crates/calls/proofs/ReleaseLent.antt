@@ -14,7 +14,7 @@ use Rattle.record.specs.Pools.{isWellFormed}
 use Rattle.record.specs.Reading.{HeadTyped, Typed}
 use Rattle.record.specs.Tables.{Sized, blocksOf, tablesBy, tablesOf, lent, pooled, blockEntries}
 use Rattle.record.specs.declared.Head.{Head}
-use Rattle.steps.specs.Objects.{placeOf, taskVerdict, handleVerdict, readVerdict, releaseVerdict, releasedPool}
+use Rattle.steps.specs.Objects.{placeOf, taskVerdict, handleVerdict, standingVerdict, releaseVerdict, releasedPool}
 use Rattle.steps.proofs.Chosen.{both-accept, place-listed}
 use Rattle.objects.specs.Outcomes.{foundIn}
 use Rattle.objects.specs.declared.Found.{Found}
@@ -39,17 +39,17 @@ module _ {h : Head} {hs ls cs ns ds : List ℕ} (types : HeadTyped h) (sized : S
         (rw (tables-of h hs ls cs ns ds) (found-refused false task handle (lent h hs ls cs ns ds) _ (sym so ∙ e))),
   )
 
-  module _ {block count : ℕ} {life : Life} (at : f ≡ At block count life) where
+  module _ {block : ℕ} {life : Life} (at : f ≡ At block life) where
     accepted : (releaseVerdict task handle (lent h hs ls cs ns ds) ≡ Accepted) × (placeOf handle (lent h hs ls cs ns ds .blocks) ≡ block)
-    accepted = let (v, place, size) = found-accepted false task handle (lent h hs ls cs ns ds) _ (sym so ∙ at) in (v, place)
+    accepted = found-accepted false task handle (lent h hs ls cs ns ds) _ (sym so ∙ at)
 
     -- the block is one that there is
     pub release-known : block < blockEntries
-    unfolding releaseVerdict readVerdict tablesBy
+    unfolding releaseVerdict standingVerdict tablesBy
     release-known =
         let p = lent h hs ls cs ns ds in
         let (v, place) = accepted in
-        let (read, pinned) = both-accept (readVerdict task handle p) _ v in
+        let (read, pinned) = both-accept (standingVerdict task handle p) _ v in
         let (task-ok, found) = both-accept (taskVerdict task (h .tasks)) _ read in
         rw (← place) (place-listed handle (h .given) (placeOf handle (blocksOf hs ls)) found)
 
@@ -57,13 +57,13 @@ module _ {h : Head} {hs ls cs ns ds : List ℕ} (types : HeadTyped h) (sized : S
     released-left : {hs′ cs′ : List ℕ} → Releases block ns hs cs hs′ cs′
         → tablesOf (pooled h hs′ ls cs′ ns ds) ≡ releasedPool handle (tablesOf (pooled h hs ls cs ns ds))
     unfolding tablesOf tablesBy releasedPool
-    released-left r = rw (r .blocks ls ds (sized .blocks .of-lengths) (sized .entries .of-dues), r .entries ds (sized .entries .of-dues), accepted .1)
+    released-left r = rw (r .blocks ls ds (sized .blocks .of-extents) (sized .entries .of-dues), r .entries ds (sized .entries .of-dues), accepted .1)
 
     pub release-carried : isWellFormed (pooled h hs ls cs ns ds) ≡ true → {hs′ cs′ : List ℕ} → Releases block ns hs cs hs′ cs′
         → Sized hs′ ls cs′ ns ds × Follows (Use (Release task handle)) (pooled h hs ls cs ns ds) Done (pooled h hs′ ls cs′ ns ds)
     release-carried w r = (
       record {
-        blocks = record { of-handles = r .handlesSize; of-lengths = sized .blocks .of-lengths };
+        blocks = record { of-handles = r .handlesSize; of-extents = sized .blocks .of-extents };
         entries = record { of-clocks = r .clocksSize; of-named = sized .entries .of-named; of-dues = sized .entries .of-dues };
       },
       λ small large. release-done _ of-entries w small large task handle (released-left r) (rw (tables-of h hs ls cs ns ds) (accepted .0)),

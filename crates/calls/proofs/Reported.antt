@@ -13,11 +13,11 @@ use Rattle.record.specs.Tables.{Sized, tablesOf, lent, pooled}
 use Rattle.record.specs.declared.Head.{Head}
 use Rattle.record.specs.declared.Pool.{Pool}
 use Rattle.record.proofs.Facts.{fit-parts}
-use Rattle.steps.specs.Objects.{readVerdict}
+use Rattle.steps.specs.Objects.{standingVerdict}
 use Rattle.steps.specs.Usage.{usageOf}
 use Rattle.steps.proofs.ObjectsFollow.{read-life}
 use Rattle.steps.proofs.Rooms.{usage-alike}
-use Rattle.steps.proofs.Verdicts.{read-verdict}
+use Rattle.steps.proofs.Verdicts.{standing-verdict}
 use Rattle.objects.specs.Outcomes.{foundBy, foundIn}
 use Rattle.objects.specs.declared.Found.{Found}
 use Rattle.calls.specs.Contract.{Follows}
@@ -31,17 +31,17 @@ report-obeys p w =
 
 -- the life that was found is the ledger's, and so is the refusal
 module _ (task handle : ℕ) {p : Pool} (types : Typed (tablesOf p)) (w : isWellFormed p ≡ true) where
-  life-by : (v : Verdict) → readVerdict task handle (tablesOf p) ≡ v → Follows (Remaining task handle) p (lifeFound (foundBy true v task handle (tablesOf p))) p
+  life-by : (v : Verdict) → standingVerdict task handle (tablesOf p) ≡ v → Follows (Remaining task handle) p (lifeFound (foundBy true v task handle (tablesOf p))) p
   life-by Accepted e =
       tells-obeys (Remaining task handle) p w refl (λ L. refl) _
-      (λ small large L reads. rw (read-verdict types (fit-parts (tablesOf p) w) reads task handle [], e, read-life w types reads task handle e))
+      (λ small large L reads. rw (standing-verdict types (fit-parts (tablesOf p) w) reads task handle, e, read-life w types reads task handle e))
   life-by (Refused r) e =
       tells-obeys (Remaining task handle) p w refl (λ L. refl) _
-      (λ small large L reads. rw (read-verdict types (fit-parts (tablesOf p) w) reads task handle [], e))
+      (λ small large L reads. rw (standing-verdict types (fit-parts (tablesOf p) w) reads task handle, e))
 
 pub life-obeys : {h : Head} {hs ls cs ns ds : List ℕ} → HeadTyped h → Sized hs ls cs ns ds → isWellFormed (pooled h hs ls cs ns ds) ≡ true → (task handle : ℕ) {f : Found}
-    → f ≡ foundIn true (readVerdict task handle) task handle (lent h hs ls cs ns ds)
+    → f ≡ foundIn true (standingVerdict task handle) task handle (lent h hs ls cs ns ds)
     → Follows (Remaining task handle) (pooled h hs ls cs ns ds) (lifeFound f) (pooled h hs ls cs ns ds)
 life-obeys {h} {hs} {ls} {cs} {ns} {ds} types sized w task handle so =
     rw (so, ← tables-of h hs ls cs ns ds)
-    (life-by task handle (lent-typed h hs ls cs ns ds types (sized .blocks) (sized .entries)) w (readVerdict task handle (tablesOf (pooled h hs ls cs ns ds))) refl)
+    (life-by task handle (lent-typed h hs ls cs ns ds types (sized .blocks) (sized .entries)) w (standingVerdict task handle (tablesOf (pooled h hs ls cs ns ds))) refl)

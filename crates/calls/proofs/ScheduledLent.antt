@@ -42,7 +42,7 @@ module _ {h : Head} {hs cs ns ds : List ℕ} (types : HeadTyped h) (a : length h
         sized = e;
         follows = λ ls l w small large.
             let p : Pool = pooled h hs ls cs ns ds in
-            let t = lent-typed h hs ls cs ns ds types (record { of-handles = a; of-lengths = l }) e in
+            let t = lent-typed h hs ls cs ns ds types (record { of-handles = a; of-extents = l }) e in
             schedule-obeys event task {p = p} {p′ = pooled (headAfter q h) hs ls cs ns ds} t w small large
             (rw so (planned-answer event task (tablesOf p)))
             (rw so (sym (still-planned event task (tablesOf p) t w (rw so at s))))
@@ -98,7 +98,7 @@ module _ {h : Head} {hs cs ns ds : List ℕ} (types : HeadTyped h) (a : length h
         sized = record { of-clocks = ends .clocksSize; of-named = e .of-named; of-dues = ends .duesSize };
         follows = λ ls l w small large.
             let p : Pool = pooled h hs ls cs ns ds in
-            let t = lent-typed h hs ls cs ns ds types (record { of-handles = a; of-lengths = l }) e in
+            let t = lent-typed h hs ls cs ns ds types (record { of-handles = a; of-extents = l }) e in
             schedule-obeys event task {p = p} {p′ = pooled (headAfter q h) hs′ ls cs′ ns ds′} t w small large
             (rw so (planned-answer event task (tablesOf p)))
             (ended-left s ends ls l w)

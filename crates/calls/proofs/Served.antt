@@ -21,8 +21,6 @@ use Rattle.ledger.specs.declared.Request.{Request}
 use Rattle.ledger.specs.declared.Request.the-variants.{Use, Report, Remaining}
 use Rattle.record.specs.Reading.{isWholeSmall, blockBytes}
 use Rattle.record.specs.declared.Pool.{Pool}
-use Rattle.objects.specs.declared.Found.{Found}
-use Rattle.objects.specs.declared.Found.the-variants.{At, Refused}
 use Rattle.calls.specs.Contract.{Obeys, FollowsWith, Follows, Makes, Locates, Writes}
 use Rattle.calls.specs.Served.{withoutBytes, Beyond, Serves}
 use Rattle.calls.specs.declared.Outcome.{Outcome}
@@ -122,7 +120,7 @@ module _ (new : List ℕ) (p : Pool) (small large : List ℕ) where
   unfolding reply next testsOf memoryAfter expirationsAfter
   make-serves task kind extension size o small′ large′ m = serves-plain (m .placed) (whatever-bytes new (λ L. refl) (λ L. refl) (m .obeys))
 
-  pub write-serves : (task handle offset : ℕ) (answer : Answer) (small′ large′ : List ℕ)
-      → Writes task handle offset new p small large answer small′ large′
-      → Serves (Use (Write task handle offset)) new p small large (withoutBytes answer p) small′ large′
-  write-serves task handle offset answer small′ large′ w = serves-plain (λ d. (w .smallWritten d, w .largeWritten d)) (w .obeys)
+  pub write-serves : (task handle offset : ℕ) (answer : Answer) (p′ : Pool) (small′ large′ : List ℕ)
+      → Writes task handle offset new p small large answer p′ small′ large′
+      → Serves (Use (Write task handle offset)) new p small large (withoutBytes answer p′) small′ large′
+  write-serves task handle offset answer p′ small′ large′ w = serves-plain (w .written) (w .obeys)

@@ -1,28 +1,30 @@
 -- Read and write on lent tables, by what was found.
-use Prim.Native.Nat.{ℕ, _+_}
-use mathlib.Core.Bool.{false}
+use Prim.Native.Nat.{ℕ, _+_, _<_}
+use native.Mathlib.Omega.{arith}
 use mathlib.Core.List.{List}
-use mathlib.Core.Path.{_≡_}
-use lib.ListN.{length}
+use mathlib.Core.Path.{_≡_, sym, ap, _∙_}
+use lib.ListN.{length, getD, set, length-set}
 use Rattle.ledger.specs.declared.Answer.the-variants.{Done}
 use Rattle.ledger.specs.declared.Answer.the-variants.{Refused as RefusedAnswer}
 use Rattle.ledger.specs.declared.Call.the-variants.{Read, Write}
-use Rattle.ledger.specs.declared.Life.{Life}
 use Rattle.ledger.specs.declared.Refusal.{Refusal}
 use Rattle.ledger.specs.declared.Request.the-variants.{Use}
-use Rattle.stores.specs.Places.{InBlock, smallAfter, largeAfter}
+use Rattle.stores.specs.Places.{InBlock, smallAfter, largeAfter, sumAt, sumAfter}
+use Rattle.stores.proofs.Places.{all-blocks}
 use Rattle.record.specs.Reading.{HeadTyped, Typed}
-use Rattle.record.specs.Tables.{Sized, tablesBy, tablesOf, lent, pooled}
+use Rattle.record.specs.Tables.{BlockEntry, Sized, lengthIn, extentOf, blocksOf, entriesOf, tablesBy, tablesOf, lent, pooled, blockEntries}
+use Rattle.record.proofs.Columns.{block-at, extents-set, entry-of}
 use Rattle.record.specs.declared.Head.{Head}
-use Rattle.steps.specs.Objects.{placeIn, placeOf, readVerdict, writeVerdict}
-use Rattle.objects.specs.Outcomes.{foundIn}
-use Rattle.objects.specs.declared.Found.{Found}
-use Rattle.objects.specs.declared.Found.the-variants.{At}
-use Rattle.objects.specs.declared.Found.the-variants.{Refused as RefusedFound}
+use Rattle.steps.specs.Objects.{placeIn, placeOf, readVerdict, writeVerdict, writtenPool}
+use Rattle.objects.specs.Outcomes.{bytesIn}
+use Rattle.objects.specs.declared.FoundBytes.{FoundBytes}
+use Rattle.objects.specs.declared.FoundBytes.the-variants.{At}
+use Rattle.objects.specs.declared.FoundBytes.the-variants.{Refused as RefusedBytes}
+use Rattle.objects.proofs.Outcomes.{bytes-accepted}
 use Rattle.objects.proofs.Laws.{place-of}
 use Rattle.calls.specs.Contract.{Ready, Locates, Writes}
 use Rattle.calls.proofs.Lent.{tables-of, lent-typed}
-use Rattle.calls.proofs.Meets.{locates, write-kept, write-found}
+use Rattle.calls.proofs.Meets.{locates, write-kept, write-in, write-sum, write-found}
 
 module _ {h : Head} {hs ls cs ns ds : List ℕ} (types : HeadTyped h) (sized : Sized hs ls cs ns ds) where
   of-entries : Typed (tablesOf (pooled h hs ls cs ns ds))
@@ -30,28 +32,57 @@ module _ {h : Head} {hs ls cs ns ds : List ℕ} (types : HeadTyped h) (sized : S
 
   here : (handle : ℕ) → placeIn handle hs ≡ placeOf handle (tablesOf (pooled h hs ls cs ns ds) .blocks)
   unfolding tablesOf tablesBy
-  here = place-of hs ls (sized .blocks .of-handles) (sized .blocks .of-lengths)
+  here = place-of hs ls (sized .blocks .of-handles) (sized .blocks .of-extents)
 
   -- where a read finds its object
   pub read-locates : (task handle : ℕ) {small large : List ℕ} → Ready (Use (Read task handle)) (pooled h hs ls cs ns ds) small large
-      → (f : Found) → f ≡ foundIn false (readVerdict task handle) task handle (lent h hs ls cs ns ds)
+      → (f : FoundBytes) → f ≡ bytesIn (readVerdict task handle small large) handle (lent h hs ls cs ns ds)
       → Locates task handle (pooled h hs ls cs ns ds) small large f
   read-locates task handle ready f so = locates of-entries ready f (rw (tables-of h hs ls cs ns ds) so)
 
   module _ (task handle offset : ℕ) (new : List ℕ) {small large : List ℕ} (ready : Ready (Use (Write task handle offset)) (pooled h hs ls cs ns ds) small large)
-      (f : Found) (so : f ≡ foundIn false (writeVerdict task handle offset (length new)) task handle (lent h hs ls cs ns ds)) where
-    found : f ≡ foundIn false (writeVerdict task handle offset (length new)) task handle (tablesOf (pooled h hs ls cs ns ds))
+      (f : FoundBytes) (so : f ≡ bytesIn (writeVerdict task handle offset (length new) small large) handle (lent h hs ls cs ns ds)) where
+    found : f ≡ bytesIn (writeVerdict task handle offset (length new) small large) handle (tablesOf (pooled h hs ls cs ns ds))
     found = rw (tables-of h hs ls cs ns ds) so
 
-    pub write-refused-lent : {why : Refusal} → f ≡ RefusedFound why
-        → Writes task handle offset new (pooled h hs ls cs ns ds) small large (RefusedAnswer why) small large
+    pub write-refused-lent : {why : Refusal} → f ≡ RefusedBytes why
+        → Writes task handle offset new (pooled h hs ls cs ns ds) small large (RefusedAnswer why) (pooled h hs ls cs ns ds) small large
     write-refused-lent {why} g = write-kept of-entries ready (here handle) new f found why g
 
-    module _ {block count : ℕ} {life : Life} (at : f ≡ At block count life) where
-      -- the bytes lie in the object's block
-      pub write-within : InBlock small large block (offset + length new)
-      write-within = write-found of-entries ready (here handle) new f found block count life at .0
+    module _ {block count sum : ℕ} (at : f ≡ At block count sum) where
+      place-count : (placeOf handle (blocksOf hs ls) ≡ block) × (lengthIn (getD ls block 0) ≡ count)
+      unfolding tablesBy
+      place-count =
+          let v = writeVerdict task handle offset (length new) small large (lent h hs ls cs ns ds) in
+          let (_, place, size, _) = bytes-accepted handle (lent h hs ls cs ns ds) v (sym so ∙ at) in
+          (place, ap (λ (b : BlockEntry). b .length) (sym (block-at hs ls (sized .blocks .of-handles) (sized .blocks .of-extents) block)) ∙ rw (← place) size)
 
-      pub write-done-lent : {small′ large′ : List ℕ} → small′ ≡ smallAfter block offset new small → large′ ≡ largeAfter block offset new large
-          → Writes task handle offset new (pooled h hs ls cs ns ds) small large Done small′ large′
-      write-done-lent s l = rw (s, l) (write-found of-entries ready (here handle) new f found block count life at .1)
+      -- the block is one that there is,
+      pub write-listed : block < blockEntries
+      write-listed = omega (arith, all-blocks, write-in of-entries ready (here handle) new f found at .known)
+
+      -- the bytes lie in it, and its sum agrees
+      pub write-within : InBlock small large block (offset + length new)
+      write-within = write-in of-entries ready (here handle) new f found at
+
+      pub write-agrees : sum ≡ sumAt small large block
+      write-agrees = write-sum of-entries ready (here handle) new f found at
+
+      -- the tables that are left are those of the written record
+      written-left : (after : ℕ) → after ≡ sumAfter small large block offset new
+          → tablesOf (pooled h hs (set ls block (extentOf count after)) cs ns ds) ≡ writtenPool handle offset new small large (tablesOf (pooled h hs ls cs ns ds))
+      unfolding tablesOf tablesBy writtenPool
+      written-left after e =
+          let (place, size) = place-count in
+          rw (extents-set hs ls block (extentOf count after), place, block-at hs ls (sized .blocks .of-handles) (sized .blocks .of-extents) block, ← e)
+          (ap (λ (b : BlockEntry). tablesBy h (set (blocksOf hs ls) block b) (entriesOf cs ns ds))
+          (entry-of (getD hs block 0) count after (omega (arith, size)) ∙ rw size))
+
+      pub write-done-lent : {small′ large′ : List ℕ} (after : ℕ) → after ≡ sumAfter small large block offset new
+          → small′ ≡ smallAfter block offset new small → large′ ≡ largeAfter block offset new large
+          → (length (set ls block (extentOf count after)) ≡ blockEntries)
+          × Writes task handle offset new (pooled h hs ls cs ns ds) small large Done (pooled h hs (set ls block (extentOf count after)) cs ns ds) small′ large′
+      write-done-lent after e s l = (
+        rw length-set (sized .blocks .of-extents),
+        rw (s, l) (write-found of-entries ready (here handle) new f found at (written-left after e) (rw (place-count .1, ← e))),
+      )

@@ -3,7 +3,7 @@ use Prim.Native.Nat.{ℕ, _<_}
 use mathlib.Core.Bool.{Bool, true, false, _&&_}
 use mathlib.Core.List.{List, []}
 use mathlib.Core.Path.{_≡_}
-use lib.ListN.{length, getD, replicate}
+use lib.ListN.{length, getD, set, replicate}
 use Rattle.ledger.specs.Numbers.{answerNumber}
 use Rattle.ledger.specs.Objects.{Reply, plain}
 use Rattle.ledger.specs.Ledger.{Ledger, replyToRequest, afterRequest}
@@ -11,21 +11,20 @@ use Rattle.ledger.specs.declared.Kind.{Kind}
 use Rattle.ledger.specs.declared.Answer.{Answer}
 use Rattle.ledger.specs.declared.Answer.the-variants.{Refused, Done, Handle, Bytes}
 use Rattle.ledger.specs.declared.Call.the-variants.{Schedule, Make, Refresh, Read, Write, Batch, Release}
-use Rattle.ledger.specs.declared.Life.{Life}
 use Rattle.ledger.specs.declared.Refusal.{Refusal}
 use Rattle.ledger.specs.declared.Refusal.the-variants.{WrongStoreLength, NotWellFormed}
 use Rattle.ledger.specs.declared.Request.{Request}
 use Rattle.ledger.specs.declared.Request.the-variants.{Use, Report, Remaining}
-use Rattle.stores.specs.Places.{blockCount, sizeOf, InBlock, smallAfter, largeAfter}
-use Rattle.record.specs.Reading.{isWholeSmall, isWholeLarge, blockBytes, Typed}
-use Rattle.record.specs.Tables.{tablesOf}
+use Rattle.stores.specs.Places.{blockCount, InBlock, smallAfter, largeAfter, sumAt}
+use Rattle.record.specs.Reading.{isWholeSmall, isWholeLarge, blockBytes, Typed, sizeOf}
+use Rattle.record.specs.Tables.{lengthIn, extentOf, tablesOf}
 use Rattle.record.specs.Pools.{isWellFormed, Reads}
 use Rattle.record.specs.declared.Pool.{Pool}
 use Rattle.steps.specs.Objects.{placeIn}
 use Rattle.steps.specs.Staying.{Stays}
-use Rattle.objects.specs.declared.Found.{Found}
-use Rattle.objects.specs.declared.Found.the-variants.{At}
-use Rattle.objects.specs.declared.Found.the-variants.{Refused as RefusedFound}
+use Rattle.objects.specs.declared.FoundBytes.{FoundBytes}
+use Rattle.objects.specs.declared.FoundBytes.the-variants.{At}
+use Rattle.objects.specs.declared.FoundBytes.the-variants.{Refused as RefusedBytes}
 use Rattle.calls.specs.declared.Outcome.{Outcome}
 
 -- R35: the calls that test 14
@@ -107,11 +106,29 @@ pub record Makes (task : ℕ) (kind : Kind) (extension size : ℕ) (p : Pool) (s
   pub obeys : Obeys (Use (Make task kind extension size)) [] p small large (plain (r .answer)) (r .pool) small′ large′
   pub placed : (handle : ℕ) → r .answer ≡ Handle handle → (block : ℕ) × Placed p small large handle (r .pool) small′ large′ block
 
--- O20, O21, write: the record stays, the bytes go into its block, and the rest of both stores is as it was
-pub record Writes (task handle offset : ℕ) (new : List ℕ) (p : Pool) (small large : List ℕ) (answer : Answer) (small′ large′ : List ℕ) : Type 0 where
-  pub obeys : Obeys (Use (Write task handle offset)) new p small large (plain answer) p small′ large′
-  pub smallWritten : answer ≡ Done → small′ ≡ smallAfter (placeIn handle (p .handles)) offset new small
-  pub largeWritten : answer ≡ Done → large′ ≡ largeAfter (placeIn handle (p .handles)) offset new large
+-- O35: the record in which a block has another sum, all else as it was
+abbrev pub summed : ℕ → ℕ → Pool → Pool
+summed block sum p =
+    record {
+      tasks = p .tasks;
+      global = p .global;
+      given = p .given;
+      handles = p .handles;
+      extents = set (p .extents) block (extentOf (lengthIn (getD (p .extents) block 0)) sum);
+      clocks = p .clocks;
+      named = p .named;
+      dues = p .dues;
+    }
+
+-- O20, O21, O35, write: the bytes go into its block, the sum of those that are there then into the block's entry, and the rest of record and stores is as it was
+pub record Written (handle offset : ℕ) (new : List ℕ) (p : Pool) (small large : List ℕ) (p′ : Pool) (small′ large′ : List ℕ) : Type 0 where
+  pub inSmall : small′ ≡ smallAfter (placeIn handle (p .handles)) offset new small
+  pub inLarge : large′ ≡ largeAfter (placeIn handle (p .handles)) offset new large
+  pub inRecord : p′ ≡ summed (placeIn handle (p .handles)) (sumAt small′ large′ (placeIn handle (p .handles))) p
+
+pub record Writes (task handle offset : ℕ) (new : List ℕ) (p : Pool) (small large : List ℕ) (answer : Answer) (p′ : Pool) (small′ large′ : List ℕ) : Type 0 where
+  pub obeys : Obeys (Use (Write task handle offset)) new p small large (plain answer) p′ small′ large′
+  pub written : answer ≡ Done → Written handle offset new p small large p′ small′ large′
 
 -- O19, read: the part that it hands back, of no bytes where it is refused
 abbrev pub ReadsBack : ℕ → ℕ → Pool → List ℕ → List ℕ → Answer → List ℕ → Type 0
@@ -119,19 +136,14 @@ ReadsBack task handle p small large answer part =
     Obeys (Use (Read task handle)) [] p small large (record { answer = answer; bytes = part }) p small large
 
 -- the reply of a read that was found in a block, or was refused
-abbrev pub replyFound : List ℕ → List ℕ → Found → Reply
-replyFound small large (RefusedFound why) = plain (Refused why)
-replyFound small large (At block count life) = record { answer = Bytes; bytes = blockBytes small large block count }
+abbrev pub replyFound : List ℕ → List ℕ → FoundBytes → Reply
+replyFound small large (RefusedBytes why) = plain (Refused why)
+replyFound small large (At block count sum) = record { answer = Bytes; bytes = blockBytes small large block count }
 
 -- where a read finds its object: those bytes are its reply, and they lie in a block
-pub record Locates (task handle : ℕ) (p : Pool) (small large : List ℕ) (f : Found) : Type 0 where
+pub record Locates (task handle : ℕ) (p : Pool) (small large : List ℕ) (f : FoundBytes) : Type 0 where
   pub reads : Obeys (Use (Read task handle)) [] p small large (replyFound small large f) p small large
-  pub inside : (block count : ℕ) (life : Life) → f ≡ At block count life → InBlock small large block count
-
--- the same for whatever stores have these lengths
-abbrev pub LocatesIn : ℕ → ℕ → ℕ → ℕ → Pool → Found → Type 0
-LocatesIn smallBytes largeBytes task handle p f =
-    (small large : List ℕ) → length small ≡ smallBytes → length large ≡ largeBytes → Locates task handle p small large f
+  pub inside : (block count sum : ℕ) → f ≡ At block count sum → InBlock small large block count
 
 -- its answer by the number: 0, or that of the refusal
 pub record ReadsTo (task handle : ℕ) (p : Pool) (small large : List ℕ) (number : ℕ) (part : List ℕ) : Type 0 where

@@ -26,19 +26,19 @@ refusedBy (Refused why) h = record { answer = RefusedAnswer why; head = h }
 -- the remaining life that was found, or why nothing was
 abbrev pub lifeFound : Found → Answer
 lifeFound (RefusedFound why) = RefusedAnswer why
-lifeFound (At block length life) = Lasts life
+lifeFound (At block life) = Lasts life
 
 abbrev pub withGiven : Head → ℕ → Head
 withGiven h given = record { tasks = h .tasks; global = h .global; given = given }
 
 -- what a caller by value is given, with the columns that were left
 abbrev pub outcomeOf : Step → List ℕ → List ℕ → List ℕ → List ℕ → List ℕ → Outcome
-outcomeOf r handles lengths clocks named dues = record { answer = r .answer; pool = pooled (r .head) handles lengths clocks named dues }
+outcomeOf r handles extents clocks named dues = record { answer = r .answer; pool = pooled (r .head) handles extents clocks named dues }
 
--- A call that touches no store and no length, whatever lengths stand beside the handles.
+-- A call that touches no store and no extent, whatever extents stand beside the handles.
 pub record FollowsBeside (request : Request) (h : Head) (handles clocks named dues : List ℕ) (answer : Answer) (h′ : Head) (handles′ clocks′ named′ dues′ : List ℕ)
     : Type 0 where
   pub handlesSize : length handles′ ≡ blockEntries
   pub sized : SizedEntries clocks′ named′ dues′
-  pub follows : (lengths : List ℕ) → length lengths ≡ blockEntries → isWellFormed (pooled h handles lengths clocks named dues) ≡ true
-      → Follows request (pooled h handles lengths clocks named dues) answer (pooled h′ handles′ lengths clocks′ named′ dues′)
+  pub follows : (extents : List ℕ) → length extents ≡ blockEntries → isWellFormed (pooled h handles extents clocks named dues) ≡ true
+      → Follows request (pooled h handles extents clocks named dues) answer (pooled h′ handles′ extents clocks′ named′ dues′)

@@ -8,11 +8,10 @@ use Rattle.ledger.specs.declared.Answer.the-variants.{Done, Handle}
 use Rattle.ledger.specs.declared.Call.the-variants.{Schedule, Make, Refresh, Read, Write, Batch, Release}
 use Rattle.ledger.specs.declared.Request.{Request}
 use Rattle.ledger.specs.declared.Request.the-variants.{Use, Report, Remaining}
-use Rattle.stores.specs.Places.{InBlock, smallAfter, largeAfter}
+use Rattle.stores.specs.Places.{InBlock}
 use Rattle.record.specs.Reading.{blockBytes}
 use Rattle.record.specs.declared.Pool.{Pool}
-use Rattle.steps.specs.Objects.{placeIn}
-use Rattle.calls.specs.Contract.{Obeys, Placed}
+use Rattle.calls.specs.Contract.{Obeys, Placed, Written}
 use Rattle.calls.specs.declared.Called.{Called}
 
 abbrev pub withoutBytes : Answer → Pool → Called
@@ -22,7 +21,7 @@ withoutBytes answer p = record { answer = answer; pool = p; block = 0; length = 
 abbrev pub replyOf : Called → List ℕ → List ℕ → Reply
 replyOf r small large = record { answer = r .answer; bytes = blockBytes small large (r .block) (r .length) }
 
--- make's block, and the bytes of a write
+-- make's block, and the bytes and the sum of a write
 abbrev pub Beyond : Request → List ℕ → Pool → List ℕ → List ℕ → Answer → Pool → List ℕ → List ℕ → Type 0
 Beyond (Use (Schedule event task)) new p small large answer p′ small′ large′ = Unit
 Beyond (Use (Make task kind extension size)) new p small large answer p′ small′ large′ =
@@ -30,8 +29,7 @@ Beyond (Use (Make task kind extension size)) new p small large answer p′ small
 Beyond (Use (Refresh task kind extension handle)) new p small large answer p′ small′ large′ = Unit
 Beyond (Use (Read task handle)) new p small large answer p′ small′ large′ = Unit
 Beyond (Use (Write task handle offset)) new p small large answer p′ small′ large′ =
-    answer ≡ Done
-    → (small′ ≡ smallAfter (placeIn handle (p .handles)) offset new small) × (large′ ≡ largeAfter (placeIn handle (p .handles)) offset new large)
+    answer ≡ Done → Written handle offset new p small large p′ small′ large′
 Beyond (Use (Batch task kind extension)) new p small large answer p′ small′ large′ = Unit
 Beyond (Use (Release task handle)) new p small large answer p′ small′ large′ = Unit
 Beyond Report new p small large answer p′ small′ large′ = Unit

@@ -20,17 +20,20 @@ use ledger::Event;
 use ledger::Kind;
 use ledger::Verdict;
 use objects::Found;
-use objects::find_for_read;
+use objects::FoundBytes;
 use objects::find_for_refresh;
 use objects::find_for_release;
 use objects::find_for_write;
+use objects::find_standing;
 use objects::plan_batch;
 use objects::plan_make;
 use record::BLOCK_COUNT;
 use record::EXPIRATION_COUNT;
 use record::Head;
 use record::Pool;
+use record::codes::extent_of;
 use stores::clear_place;
+use stores::sum_after;
 use stores::write_place;
 use tasks::plan;
 
@@ -126,7 +129,7 @@ pub fn schedule(
 pub fn make(
     h: Head,
     handles: &mut [u32; BLOCK_COUNT],
-    lengths: &mut [u16; BLOCK_COUNT],
+    extents: &mut [u32; BLOCK_COUNT],
     clocks: &mut [u8; EXPIRATION_COUNT],
     named: &mut [u8; EXPIRATION_COUNT],
     dues: &mut [u32; EXPIRATION_COUNT],
@@ -137,8 +140,8 @@ pub fn make(
     extension: u8,
     size: u16,
 ) -> Step
-    requires { ⌜ Sized (now handles) (now lengths) (now clocks) (now named) (now dues) × Ready (Use (Make task kind extension size)) (pooled h (now handles) (now lengths) (now clocks) (now named) (now dues)) (now small) (now large) ⌝ }
-    ensures { λ r. ⌜ Sized (now (handles .exit)) (now (lengths .exit)) (now (clocks .exit)) (now (named .exit)) (now (dues .exit)) × Makes task kind extension size (pooled h (now (handles .entry)) (now (lengths .entry)) (now (clocks .entry)) (now (named .entry)) (now (dues .entry))) (now (small .entry)) (now (large .entry)) (outcomeOf r (now (handles .exit)) (now (lengths .exit)) (now (clocks .exit)) (now (named .exit)) (now (dues .exit))) (now (small .exit)) (now (large .exit)) ⌝ }
+    requires { ⌜ Sized (now handles) (now extents) (now clocks) (now named) (now dues) × Ready (Use (Make task kind extension size)) (pooled h (now handles) (now extents) (now clocks) (now named) (now dues)) (now small) (now large) ⌝ }
+    ensures { λ r. ⌜ Sized (now (handles .exit)) (now (extents .exit)) (now (clocks .exit)) (now (named .exit)) (now (dues .exit)) × Makes task kind extension size (pooled h (now (handles .entry)) (now (extents .entry)) (now (clocks .entry)) (now (named .entry)) (now (dues .entry))) (now (small .entry)) (now (large .entry)) (outcomeOf r (now (handles .exit)) (now (extents .exit)) (now (clocks .exit)) (now (named .exit)) (now (dues .exit))) (now (small .exit)) (now (large .exit)) ⌝ }
 {
     let plan = plan_make(h, handles, standing(clocks), task, kind, extension, size);
     let verdict = plan.verdict;
@@ -150,7 +153,7 @@ pub fn make(
     clear_place(small, large, place);
     let handle = h.given + 1;
     handles[place] = handle;
-    lengths[place] = size;
+    extents[place] = extent_of(size, 0);
     Step {
         answer: Answer::Handle(handle),
         head: with_given(h, handle),
@@ -161,7 +164,7 @@ pub fn make(
 pub fn refresh<'a>(
     h: Head,
     handles: &'a [u32; BLOCK_COUNT],
-    lengths: &'a [u16; BLOCK_COUNT],
+    extents: &'a [u32; BLOCK_COUNT],
     clocks: &mut [u8; EXPIRATION_COUNT],
     named: &mut [u8; EXPIRATION_COUNT],
     dues: &mut [u32; EXPIRATION_COUNT],
@@ -170,13 +173,13 @@ pub fn refresh<'a>(
     extension: u8,
     handle: u32,
 ) -> Step
-    requires { ⌜ Sized (now handles) (now lengths) (now clocks) (now named) (now dues) × (isWellFormed (pooled h (now handles) (now lengths) (now clocks) (now named) (now dues)) ≡ true) ⌝ }
-    ensures { λ r. ⌜ SizedEntries (now (clocks .exit)) (now (named .exit)) (now (dues .exit)) × Follows (Use (Refresh task kind extension handle)) (pooled h (now (handles .entry)) (now (lengths .entry)) (now (clocks .entry)) (now (named .entry)) (now (dues .entry))) (r .answer) (pooled (r .head) (now (handles .entry)) (now (lengths .entry)) (now (clocks .exit)) (now (named .exit)) (now (dues .exit))) ⌝ }
+    requires { ⌜ Sized (now handles) (now extents) (now clocks) (now named) (now dues) × (isWellFormed (pooled h (now handles) (now extents) (now clocks) (now named) (now dues)) ≡ true) ⌝ }
+    ensures { λ r. ⌜ SizedEntries (now (clocks .exit)) (now (named .exit)) (now (dues .exit)) × Follows (Use (Refresh task kind extension handle)) (pooled h (now (handles .entry)) (now (extents .entry)) (now (clocks .entry)) (now (named .entry)) (now (dues .entry))) (r .answer) (pooled (r .head) (now (handles .entry)) (now (extents .entry)) (now (clocks .exit)) (now (named .exit)) (now (dues .exit))) ⌝ }
 {
     match find_for_refresh(
         h,
         handles,
-        lengths,
+        extents,
         clocks,
         named,
         dues,
@@ -189,11 +192,7 @@ pub fn refresh<'a>(
             answer: Answer::Refused(why),
             head: h,
         },
-        Found::At {
-            block,
-            length: _,
-            life: _,
-        } => {
+        Found::At { block, life: _ } => {
             set(h, kind, task, extension, block, clocks, named, dues);
             Step {
                 answer: Answer::Done,
@@ -207,26 +206,22 @@ pub fn refresh<'a>(
 pub fn release<'a>(
     h: Head,
     handles: &mut [u32; BLOCK_COUNT],
-    lengths: &'a [u16; BLOCK_COUNT],
+    extents: &'a [u32; BLOCK_COUNT],
     clocks: &mut [u8; EXPIRATION_COUNT],
     named: &'a [u8; EXPIRATION_COUNT],
     dues: &'a [u32; EXPIRATION_COUNT],
     task: u8,
     handle: u32,
 ) -> Step
-    requires { ⌜ Sized (now handles) (now lengths) (now clocks) (now named) (now dues) × (isWellFormed (pooled h (now handles) (now lengths) (now clocks) (now named) (now dues)) ≡ true) ⌝ }
-    ensures { λ r. ⌜ Sized (now (handles .exit)) (now (lengths .entry)) (now (clocks .exit)) (now (named .entry)) (now (dues .entry)) × Follows (Use (Release task handle)) (pooled h (now (handles .entry)) (now (lengths .entry)) (now (clocks .entry)) (now (named .entry)) (now (dues .entry))) (r .answer) (pooled (r .head) (now (handles .exit)) (now (lengths .entry)) (now (clocks .exit)) (now (named .entry)) (now (dues .entry))) ⌝ }
+    requires { ⌜ Sized (now handles) (now extents) (now clocks) (now named) (now dues) × (isWellFormed (pooled h (now handles) (now extents) (now clocks) (now named) (now dues)) ≡ true) ⌝ }
+    ensures { λ r. ⌜ Sized (now (handles .exit)) (now (extents .entry)) (now (clocks .exit)) (now (named .entry)) (now (dues .entry)) × Follows (Use (Release task handle)) (pooled h (now (handles .entry)) (now (extents .entry)) (now (clocks .entry)) (now (named .entry)) (now (dues .entry))) (r .answer) (pooled (r .head) (now (handles .exit)) (now (extents .entry)) (now (clocks .exit)) (now (named .entry)) (now (dues .entry))) ⌝ }
 {
-    match find_for_release(h, handles, lengths, clocks, named, dues, task, handle) {
+    match find_for_release(h, handles, extents, clocks, named, dues, task, handle) {
         Found::Refused(why) => Step {
             answer: Answer::Refused(why),
             head: h,
         },
-        Found::At {
-            block,
-            length: _,
-            life: _,
-        } => {
+        Found::At { block, life: _ } => {
             expirations::release(block, handles, clocks, named);
             Step {
                 answer: Answer::Done,
@@ -240,7 +235,7 @@ pub fn release<'a>(
 pub fn batch<'a>(
     h: Head,
     handles: &'a [u32; BLOCK_COUNT],
-    lengths: &'a [u16; BLOCK_COUNT],
+    extents: &'a [u32; BLOCK_COUNT],
     clocks: &mut [u8; EXPIRATION_COUNT],
     named: &mut [u8; EXPIRATION_COUNT],
     dues: &mut [u32; EXPIRATION_COUNT],
@@ -249,8 +244,8 @@ pub fn batch<'a>(
     extension: u8,
     bytes: &[u8],
 ) -> Step
-    requires { ⌜ Sized (now handles) (now lengths) (now clocks) (now named) (now dues) × (isWellFormed (pooled h (now handles) (now lengths) (now clocks) (now named) (now dues)) ≡ true) ⌝ }
-    ensures { λ r. ⌜ SizedEntries (now (clocks .exit)) (now (named .exit)) (now (dues .exit)) × FollowsWith (Use (Batch task kind extension)) (now (bytes .entry)) (pooled h (now (handles .entry)) (now (lengths .entry)) (now (clocks .entry)) (now (named .entry)) (now (dues .entry))) (r .answer) (pooled (r .head) (now (handles .entry)) (now (lengths .entry)) (now (clocks .exit)) (now (named .exit)) (now (dues .exit))) ⌝ }
+    requires { ⌜ Sized (now handles) (now extents) (now clocks) (now named) (now dues) × (isWellFormed (pooled h (now handles) (now extents) (now clocks) (now named) (now dues)) ≡ true) ⌝ }
+    ensures { λ r. ⌜ SizedEntries (now (clocks .exit)) (now (named .exit)) (now (dues .exit)) × FollowsWith (Use (Batch task kind extension)) (now (bytes .entry)) (pooled h (now (handles .entry)) (now (extents .entry)) (now (clocks .entry)) (now (named .entry)) (now (dues .entry))) (r .answer) (pooled (r .head) (now (handles .entry)) (now (extents .entry)) (now (clocks .exit)) (now (named .exit)) (now (dues .exit))) ⌝ }
 {
     let plan = plan_batch(h, handles, standing(clocks), task, kind, extension, bytes);
     let verdict = plan.verdict;
@@ -275,11 +270,11 @@ pub fn batch<'a>(
     }
 }
 
-// Replaces bytes of an object; the record stays.
+// Replaces bytes of an object, and with them the sum of its block's bytes.
 pub fn write<'a>(
     h: Head,
     handles: &'a [u32; BLOCK_COUNT],
-    lengths: &'a [u16; BLOCK_COUNT],
+    extents: &mut [u32; BLOCK_COUNT],
     clocks: &'a [u8; EXPIRATION_COUNT],
     named: &'a [u8; EXPIRATION_COUNT],
     dues: &'a [u32; EXPIRATION_COUNT],
@@ -290,28 +285,29 @@ pub fn write<'a>(
     offset: u8,
     bytes: &[u8],
 ) -> Answer
-    requires { ⌜ Sized (now handles) (now lengths) (now clocks) (now named) (now dues) × Ready (Use (Write task handle offset)) (pooled h (now handles) (now lengths) (now clocks) (now named) (now dues)) (now small) (now large) ⌝ }
-    ensures { λ r. ⌜ Writes task handle offset (now (bytes .entry)) (pooled h (now (handles .entry)) (now (lengths .entry)) (now (clocks .entry)) (now (named .entry)) (now (dues .entry))) (now (small .entry)) (now (large .entry)) r (now (small .exit)) (now (large .exit)) ⌝ }
+    requires { ⌜ Sized (now handles) (now extents) (now clocks) (now named) (now dues) × Ready (Use (Write task handle offset)) (pooled h (now handles) (now extents) (now clocks) (now named) (now dues)) (now small) (now large) ⌝ }
+    ensures { λ r. ⌜ (length (now (extents .exit)) ≡ blockEntries) × Writes task handle offset (now (bytes .entry)) (pooled h (now (handles .entry)) (now (extents .entry)) (now (clocks .entry)) (now (named .entry)) (now (dues .entry))) (now (small .entry)) (now (large .entry)) r (pooled h (now (handles .entry)) (now (extents .exit)) (now (clocks .entry)) (now (named .entry)) (now (dues .entry))) (now (small .exit)) (now (large .exit)) ⌝ }
 {
     match find_for_write(
         h,
         handles,
-        lengths,
+        extents,
         clocks,
         named,
         dues,
+        small,
+        large,
         task,
         handle,
         offset,
         bytes.len(),
     ) {
-        Found::Refused(why) => Answer::Refused(why),
-        Found::At {
-            block,
-            length: _,
-            life: _,
-        } => {
-            write_place(small, large, block, offset as usize, bytes);
+        FoundBytes::Refused(why) => Answer::Refused(why),
+        FoundBytes::At { block, length, sum } => {
+            let offset = offset as usize;
+            let after = sum_after(small, large, block, offset, bytes, sum);
+            write_place(small, large, block, offset, bytes);
+            extents[block] = extent_of(length, after);
             Answer::Done
         }
     }
@@ -321,22 +317,18 @@ pub fn write<'a>(
 pub fn remaining<'a>(
     h: Head,
     handles: &'a [u32; BLOCK_COUNT],
-    lengths: &'a [u16; BLOCK_COUNT],
+    extents: &'a [u32; BLOCK_COUNT],
     clocks: &'a [u8; EXPIRATION_COUNT],
     named: &'a [u8; EXPIRATION_COUNT],
     dues: &'a [u32; EXPIRATION_COUNT],
     task: u8,
     handle: u32,
 ) -> Answer
-    requires { ⌜ Sized (now handles) (now lengths) (now clocks) (now named) (now dues) × (isWellFormed (pooled h (now handles) (now lengths) (now clocks) (now named) (now dues)) ≡ true) ⌝ }
-    ensures { λ r. ⌜ Follows (Remaining task handle) (pooled h (now (handles .entry)) (now (lengths .entry)) (now (clocks .entry)) (now (named .entry)) (now (dues .entry))) r (pooled h (now (handles .entry)) (now (lengths .entry)) (now (clocks .entry)) (now (named .entry)) (now (dues .entry))) ⌝ }
+    requires { ⌜ Sized (now handles) (now extents) (now clocks) (now named) (now dues) × (isWellFormed (pooled h (now handles) (now extents) (now clocks) (now named) (now dues)) ≡ true) ⌝ }
+    ensures { λ r. ⌜ Follows (Remaining task handle) (pooled h (now (handles .entry)) (now (extents .entry)) (now (clocks .entry)) (now (named .entry)) (now (dues .entry))) r (pooled h (now (handles .entry)) (now (extents .entry)) (now (clocks .entry)) (now (named .entry)) (now (dues .entry))) ⌝ }
 {
-    match find_for_read(h, handles, lengths, clocks, named, dues, task, handle, true) {
+    match find_standing(h, handles, extents, clocks, named, dues, task, handle, true) {
         Found::Refused(why) => Answer::Refused(why),
-        Found::At {
-            block: _,
-            length: _,
-            life,
-        } => Answer::Lasts(life),
+        Found::At { block: _, life } => Answer::Lasts(life),
     }
 }

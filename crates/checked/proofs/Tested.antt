@@ -8,31 +8,31 @@ use lib.ListN.{length}
 use Rattle.ledger.specs.Objects.{plain}
 use Rattle.ledger.specs.declared.Answer.{Answer}
 use Rattle.ledger.specs.declared.Answer.the-variants.{Refused}
-use Rattle.ledger.specs.declared.Call.the-variants.{Make}
+use Rattle.ledger.specs.declared.Call.the-variants.{Make, Write}
 use Rattle.ledger.specs.declared.Kind.{Kind}
 use Rattle.ledger.specs.declared.Refusal.the-variants.{NotWellFormed, WrongStoreLength}
 use Rattle.ledger.specs.declared.Request.{Request}
 use Rattle.ledger.specs.declared.Request.the-variants.{Use}
-use Rattle.record.specs.Tables.{Sized, SizedEntries, lent, headOf, pooled}
+use Rattle.record.specs.Tables.{Sized, SizedEntries, lent, headOf, pooled, blockEntries}
 use Rattle.record.specs.WellFormed as WellFormed
 use Rattle.record.specs.Pools.{isWellFormed}
 use Rattle.record.specs.declared.Head.{Head}
 use Rattle.record.specs.declared.Pool.{Pool}
-use Rattle.calls.specs.Contract.{TellsWhole, Ready, Obeys, FollowsWith, Follows, Makes}
+use Rattle.calls.specs.Contract.{isStored, TellsWhole, Ready, Obeys, FollowsWith, Follows, Makes, Writes}
 use Rattle.calls.specs.Engine.{FollowsBeside}
-use Rattle.calls.proofs.Meets.{refused-makes}
+use Rattle.calls.proofs.Meets.{refused-makes, refused-writes}
 use Rattle.calls.proofs.Promises.{unfit-obeys, wrong-obeys, ready}
 use Rattle.pool.proofs.ByValue.{fits-by-value}
 
 -- 15, by the test of the columns
-module _ (p : Pool) {h : Head} (e : h ≡ headOf p) {fit : Bool} (f : fit ≡ WellFormed.isWellFormed (lent h (p .handles) (p .lengths) (p .clocks) (p .named) (p .dues))) where
+module _ (p : Pool) {h : Head} (e : h ≡ headOf p) {fit : Bool} (f : fit ≡ WellFormed.isWellFormed (lent h (p .handles) (p .extents) (p .clocks) (p .named) (p .dues))) where
   pub unfit-by-value : {request : Request} {new : List ℕ} → not fit ≡ true → (small large : List ℕ) → Obeys request new p small large (plain (Refused NotWellFormed)) p small large
   unfit-by-value refused small large = unfit-obeys _ _ _ small large (sym (fits-by-value p e f) ∙ not-true fit refused)
 
   pub fit-by-value : not fit ≡ false → isWellFormed p ≡ true
   fit-by-value passed = sym (fits-by-value p e f) ∙ not-false fit passed
 
-  pub columns-fit : not fit ≡ false → isWellFormed (pooled h (p .handles) (p .lengths) (p .clocks) (p .named) (p .dues)) ≡ true
+  pub columns-fit : not fit ≡ false → isWellFormed (pooled h (p .handles) (p .extents) (p .clocks) (p .named) (p .dues)) ≡ true
   columns-fit passed = rw e (fit-by-value passed)
 
 pub lent-fit : (h : Head) (hs ls cs ns ds : List ℕ) {fit : Bool} → fit ≡ WellFormed.isWellFormed (lent h hs ls cs ns ds) → not fit ≡ false
@@ -54,21 +54,35 @@ module _ {h : Head} {hs ls cs ns ds : List ℕ} (sized : Sized hs ls cs ns ds) {
       × Makes task kind extension size (pooled h hs ls cs ns ds) small large (record { answer = Refused NotWellFormed; pool = pooled h hs ls cs ns ds }) small large
   unfit-made refused = (sized, refused-makes _ _ _ _ _ _ _ _ (unfit-by-value (pooled h hs ls cs ns ds) refl f refused _ _))
 
+  pub unfit-written : {task handle offset : ℕ} {new small large : List ℕ} → not fit ≡ true
+      → (length ls ≡ blockEntries)
+      × Writes task handle offset new (pooled h hs ls cs ns ds) small large (Refused NotWellFormed) (pooled h hs ls cs ns ds) small large
+  unfit-written refused = (sized .blocks .of-extents, refused-writes _ _ _ _ _ _ _ _ (unfit-by-value (pooled h hs ls cs ns ds) refl f refused _ _))
+
   module _ (passed : not fit ≡ false) where
     -- an event
     pub fit-lent : {request : Request} {answer : Answer} {h′ : Head} {hs′ cs′ ns′ ds′ : List ℕ} → FollowsBeside request h hs cs ns ds answer h′ hs′ cs′ ns′ ds′
         → Sized hs′ ls cs′ ns′ ds′ × Follows request (pooled h hs ls cs ns ds) answer (pooled h′ hs′ ls cs′ ns′ ds′)
     fit-lent done = (
-      record { blocks = record { of-handles = done .handlesSize; of-lengths = sized .blocks .of-lengths }; entries = done .sized },
-      done .follows ls (sized .blocks .of-lengths) (lent-fit h hs ls cs ns ds f passed),
+      record { blocks = record { of-handles = done .handlesSize; of-extents = sized .blocks .of-extents }; entries = done .sized },
+      done .follows ls (sized .blocks .of-extents) (lent-fit h hs ls cs ns ds f passed),
     )
 
-    -- 14, of a make
-    module _ {task : ℕ} {kind : Kind} {extension size : ℕ} {small large : List ℕ} {whole : Bool} (tells : TellsWhole (length small) (length large) whole) where
-      pub wrong-made : not whole ≡ true
+    -- 14, where a store is touched
+    module _ {small large : List ℕ} {whole : Bool} (tells : TellsWhole (length small) (length large) whole) where
+      pub ready-lent : (request : Request) → true ≡ isStored request → not whole ≡ false → Ready request (pooled h hs ls cs ns ds) small large
+      ready-lent request stored passed-too = ready (fits-by-value (pooled h hs ls cs ns ds) refl f) passed stored tells passed-too
+
+      wrong-lent : {request : Request} {new : List ℕ} → true ≡ isStored request → not whole ≡ true
+          → Obeys request new (pooled h hs ls cs ns ds) small large (plain (Refused WrongStoreLength)) (pooled h hs ls cs ns ds) small large
+      wrong-lent stored refused = wrong-obeys (fits-by-value (pooled h hs ls cs ns ds) refl f) passed stored tells refused
+
+      pub wrong-made : {task : ℕ} {kind : Kind} {extension size : ℕ} → not whole ≡ true
           → Sized hs ls cs ns ds
           × Makes task kind extension size (pooled h hs ls cs ns ds) small large (record { answer = Refused WrongStoreLength; pool = pooled h hs ls cs ns ds }) small large
-      wrong-made refused = (sized, refused-makes _ _ _ _ _ _ _ _ (wrong-obeys (fits-by-value (pooled h hs ls cs ns ds) refl f) passed refl tells refused))
+      wrong-made refused = (sized, refused-makes _ _ _ _ _ _ _ _ (wrong-lent refl refused))
 
-      pub make-ready : not whole ≡ false → Ready (Use (Make task kind extension size)) (pooled h hs ls cs ns ds) small large
-      make-ready passed-too = ready (fits-by-value (pooled h hs ls cs ns ds) refl f) passed refl tells passed-too
+      pub wrong-written : {task handle offset : ℕ} {new : List ℕ} → not whole ≡ true
+          → (length ls ≡ blockEntries)
+          × Writes task handle offset new (pooled h hs ls cs ns ds) small large (Refused WrongStoreLength) (pooled h hs ls cs ns ds) small large
+      wrong-written refused = (sized .blocks .of-extents, refused-writes _ _ _ _ _ _ _ _ (wrong-lent refl refused))

@@ -1,9 +1,10 @@
 // The calls that change the record, on lent columns: 15 first, then 14 where a store is touched, and then the call itself. Who lends them never looks at the record again.
 ghost use mathlib.Core.Path.{_≡_};
+ghost use lib.ListN.{length};
 ghost use Rattle.ledger.specs.declared.Call.the-variants.{Schedule, Refresh, Batch, Release};
 ghost use Rattle.ledger.specs.declared.Request.the-variants.{Use};
-ghost use Rattle.record.specs.Tables.{pooled, Sized, SizedEntries};
-ghost use Rattle.calls.specs.Contract.{FollowsWith, Follows, Makes};
+ghost use Rattle.record.specs.Tables.{pooled, Sized, SizedEntries, blockEntries};
+ghost use Rattle.calls.specs.Contract.{FollowsWith, Follows, Makes, Writes};
 ghost use Rattle.calls.specs.Engine.{outcomeOf};
 use calls;
 use calls::Step;
@@ -21,17 +22,17 @@ use record::Head;
 pub fn schedule<'a>(
     h: Head,
     handles: &mut [u32; BLOCK_COUNT],
-    lengths: &'a [u16; BLOCK_COUNT],
+    extents: &'a [u32; BLOCK_COUNT],
     clocks: &mut [u8; EXPIRATION_COUNT],
     named: &'a [u8; EXPIRATION_COUNT],
     dues: &mut [u32; EXPIRATION_COUNT],
     event: Event,
     task: u8,
 ) -> Step
-    requires { ⌜ Sized (now handles) (now lengths) (now clocks) (now named) (now dues) ⌝ }
-    ensures { λ r. ⌜ Sized (now (handles .exit)) (now (lengths .entry)) (now (clocks .exit)) (now (named .entry)) (now (dues .exit)) × Follows (Use (Schedule event task)) (pooled h (now (handles .entry)) (now (lengths .entry)) (now (clocks .entry)) (now (named .entry)) (now (dues .entry))) (r .answer) (pooled (r .head) (now (handles .exit)) (now (lengths .entry)) (now (clocks .exit)) (now (named .entry)) (now (dues .exit))) ⌝ }
+    requires { ⌜ Sized (now handles) (now extents) (now clocks) (now named) (now dues) ⌝ }
+    ensures { λ r. ⌜ Sized (now (handles .exit)) (now (extents .entry)) (now (clocks .exit)) (now (named .entry)) (now (dues .exit)) × Follows (Use (Schedule event task)) (pooled h (now (handles .entry)) (now (extents .entry)) (now (clocks .entry)) (now (named .entry)) (now (dues .entry))) (r .answer) (pooled (r .head) (now (handles .exit)) (now (extents .entry)) (now (clocks .exit)) (now (named .entry)) (now (dues .exit))) ⌝ }
 {
-    if !is_well_formed(h, handles, lengths, clocks, named, dues) {
+    if !is_well_formed(h, handles, extents, clocks, named, dues) {
         return Step {
             answer: Answer::Refused(Refusal::NotWellFormed),
             head: h,
@@ -43,7 +44,7 @@ pub fn schedule<'a>(
 pub fn make(
     h: Head,
     handles: &mut [u32; BLOCK_COUNT],
-    lengths: &mut [u16; BLOCK_COUNT],
+    extents: &mut [u32; BLOCK_COUNT],
     clocks: &mut [u8; EXPIRATION_COUNT],
     named: &mut [u8; EXPIRATION_COUNT],
     dues: &mut [u32; EXPIRATION_COUNT],
@@ -54,10 +55,10 @@ pub fn make(
     extension: u8,
     size: u16,
 ) -> Step
-    requires { ⌜ Sized (now handles) (now lengths) (now clocks) (now named) (now dues) ⌝ }
-    ensures { λ r. ⌜ Sized (now (handles .exit)) (now (lengths .exit)) (now (clocks .exit)) (now (named .exit)) (now (dues .exit)) × Makes task kind extension size (pooled h (now (handles .entry)) (now (lengths .entry)) (now (clocks .entry)) (now (named .entry)) (now (dues .entry))) (now (small .entry)) (now (large .entry)) (outcomeOf r (now (handles .exit)) (now (lengths .exit)) (now (clocks .exit)) (now (named .exit)) (now (dues .exit))) (now (small .exit)) (now (large .exit)) ⌝ }
+    requires { ⌜ Sized (now handles) (now extents) (now clocks) (now named) (now dues) ⌝ }
+    ensures { λ r. ⌜ Sized (now (handles .exit)) (now (extents .exit)) (now (clocks .exit)) (now (named .exit)) (now (dues .exit)) × Makes task kind extension size (pooled h (now (handles .entry)) (now (extents .entry)) (now (clocks .entry)) (now (named .entry)) (now (dues .entry))) (now (small .entry)) (now (large .entry)) (outcomeOf r (now (handles .exit)) (now (extents .exit)) (now (clocks .exit)) (now (named .exit)) (now (dues .exit))) (now (small .exit)) (now (large .exit)) ⌝ }
 {
-    if !is_well_formed(h, handles, lengths, clocks, named, dues) {
+    if !is_well_formed(h, handles, extents, clocks, named, dues) {
         return Step {
             answer: Answer::Refused(Refusal::NotWellFormed),
             head: h,
@@ -72,7 +73,7 @@ pub fn make(
     calls::make(
         h,
         handles,
-        lengths,
+        extents,
         clocks,
         named,
         dues,
@@ -88,29 +89,29 @@ pub fn make(
 pub fn release<'a>(
     h: Head,
     handles: &mut [u32; BLOCK_COUNT],
-    lengths: &'a [u16; BLOCK_COUNT],
+    extents: &'a [u32; BLOCK_COUNT],
     clocks: &mut [u8; EXPIRATION_COUNT],
     named: &'a [u8; EXPIRATION_COUNT],
     dues: &'a [u32; EXPIRATION_COUNT],
     task: u8,
     handle: u32,
 ) -> Step
-    requires { ⌜ Sized (now handles) (now lengths) (now clocks) (now named) (now dues) ⌝ }
-    ensures { λ r. ⌜ Sized (now (handles .exit)) (now (lengths .entry)) (now (clocks .exit)) (now (named .entry)) (now (dues .entry)) × Follows (Use (Release task handle)) (pooled h (now (handles .entry)) (now (lengths .entry)) (now (clocks .entry)) (now (named .entry)) (now (dues .entry))) (r .answer) (pooled (r .head) (now (handles .exit)) (now (lengths .entry)) (now (clocks .exit)) (now (named .entry)) (now (dues .entry))) ⌝ }
+    requires { ⌜ Sized (now handles) (now extents) (now clocks) (now named) (now dues) ⌝ }
+    ensures { λ r. ⌜ Sized (now (handles .exit)) (now (extents .entry)) (now (clocks .exit)) (now (named .entry)) (now (dues .entry)) × Follows (Use (Release task handle)) (pooled h (now (handles .entry)) (now (extents .entry)) (now (clocks .entry)) (now (named .entry)) (now (dues .entry))) (r .answer) (pooled (r .head) (now (handles .exit)) (now (extents .entry)) (now (clocks .exit)) (now (named .entry)) (now (dues .entry))) ⌝ }
 {
-    if !is_well_formed(h, handles, lengths, clocks, named, dues) {
+    if !is_well_formed(h, handles, extents, clocks, named, dues) {
         return Step {
             answer: Answer::Refused(Refusal::NotWellFormed),
             head: h,
         };
     }
-    calls::release(h, handles, lengths, clocks, named, dues, task, handle)
+    calls::release(h, handles, extents, clocks, named, dues, task, handle)
 }
 
 pub fn refresh<'a>(
     h: Head,
     handles: &'a [u32; BLOCK_COUNT],
-    lengths: &'a [u16; BLOCK_COUNT],
+    extents: &'a [u32; BLOCK_COUNT],
     clocks: &mut [u8; EXPIRATION_COUNT],
     named: &mut [u8; EXPIRATION_COUNT],
     dues: &mut [u32; EXPIRATION_COUNT],
@@ -119,10 +120,10 @@ pub fn refresh<'a>(
     extension: u8,
     handle: u32,
 ) -> Step
-    requires { ⌜ Sized (now handles) (now lengths) (now clocks) (now named) (now dues) ⌝ }
-    ensures { λ r. ⌜ SizedEntries (now (clocks .exit)) (now (named .exit)) (now (dues .exit)) × Follows (Use (Refresh task kind extension handle)) (pooled h (now (handles .entry)) (now (lengths .entry)) (now (clocks .entry)) (now (named .entry)) (now (dues .entry))) (r .answer) (pooled (r .head) (now (handles .entry)) (now (lengths .entry)) (now (clocks .exit)) (now (named .exit)) (now (dues .exit))) ⌝ }
+    requires { ⌜ Sized (now handles) (now extents) (now clocks) (now named) (now dues) ⌝ }
+    ensures { λ r. ⌜ SizedEntries (now (clocks .exit)) (now (named .exit)) (now (dues .exit)) × Follows (Use (Refresh task kind extension handle)) (pooled h (now (handles .entry)) (now (extents .entry)) (now (clocks .entry)) (now (named .entry)) (now (dues .entry))) (r .answer) (pooled (r .head) (now (handles .entry)) (now (extents .entry)) (now (clocks .exit)) (now (named .exit)) (now (dues .exit))) ⌝ }
 {
-    if !is_well_formed(h, handles, lengths, clocks, named, dues) {
+    if !is_well_formed(h, handles, extents, clocks, named, dues) {
         return Step {
             answer: Answer::Refused(Refusal::NotWellFormed),
             head: h,
@@ -131,7 +132,7 @@ pub fn refresh<'a>(
     calls::refresh(
         h,
         handles,
-        lengths,
+        extents,
         clocks,
         named,
         dues,
@@ -145,7 +146,7 @@ pub fn refresh<'a>(
 pub fn batch<'a>(
     h: Head,
     handles: &'a [u32; BLOCK_COUNT],
-    lengths: &'a [u16; BLOCK_COUNT],
+    extents: &'a [u32; BLOCK_COUNT],
     clocks: &mut [u8; EXPIRATION_COUNT],
     named: &mut [u8; EXPIRATION_COUNT],
     dues: &mut [u32; EXPIRATION_COUNT],
@@ -154,10 +155,10 @@ pub fn batch<'a>(
     extension: u8,
     bytes: &[u8],
 ) -> Step
-    requires { ⌜ Sized (now handles) (now lengths) (now clocks) (now named) (now dues) ⌝ }
-    ensures { λ r. ⌜ SizedEntries (now (clocks .exit)) (now (named .exit)) (now (dues .exit)) × FollowsWith (Use (Batch task kind extension)) (now (bytes .entry)) (pooled h (now (handles .entry)) (now (lengths .entry)) (now (clocks .entry)) (now (named .entry)) (now (dues .entry))) (r .answer) (pooled (r .head) (now (handles .entry)) (now (lengths .entry)) (now (clocks .exit)) (now (named .exit)) (now (dues .exit))) ⌝ }
+    requires { ⌜ Sized (now handles) (now extents) (now clocks) (now named) (now dues) ⌝ }
+    ensures { λ r. ⌜ SizedEntries (now (clocks .exit)) (now (named .exit)) (now (dues .exit)) × FollowsWith (Use (Batch task kind extension)) (now (bytes .entry)) (pooled h (now (handles .entry)) (now (extents .entry)) (now (clocks .entry)) (now (named .entry)) (now (dues .entry))) (r .answer) (pooled (r .head) (now (handles .entry)) (now (extents .entry)) (now (clocks .exit)) (now (named .exit)) (now (dues .exit))) ⌝ }
 {
-    if !is_well_formed(h, handles, lengths, clocks, named, dues) {
+    if !is_well_formed(h, handles, extents, clocks, named, dues) {
         return Step {
             answer: Answer::Refused(Refusal::NotWellFormed),
             head: h,
@@ -166,13 +167,52 @@ pub fn batch<'a>(
     calls::batch(
         h,
         handles,
-        lengths,
+        extents,
         clocks,
         named,
         dues,
         task,
         kind,
         extension,
+        bytes,
+    )
+}
+
+pub fn write<'a>(
+    h: Head,
+    handles: &'a [u32; BLOCK_COUNT],
+    extents: &mut [u32; BLOCK_COUNT],
+    clocks: &'a [u8; EXPIRATION_COUNT],
+    named: &'a [u8; EXPIRATION_COUNT],
+    dues: &'a [u32; EXPIRATION_COUNT],
+    small: &mut [u8],
+    large: &mut [u8],
+    task: u8,
+    handle: u32,
+    offset: u8,
+    bytes: &[u8],
+) -> Answer
+    requires { ⌜ Sized (now handles) (now extents) (now clocks) (now named) (now dues) ⌝ }
+    ensures { λ r. ⌜ (length (now (extents .exit)) ≡ blockEntries) × Writes task handle offset (now (bytes .entry)) (pooled h (now (handles .entry)) (now (extents .entry)) (now (clocks .entry)) (now (named .entry)) (now (dues .entry))) (now (small .entry)) (now (large .entry)) r (pooled h (now (handles .entry)) (now (extents .exit)) (now (clocks .entry)) (now (named .entry)) (now (dues .entry))) (now (small .exit)) (now (large .exit)) ⌝ }
+{
+    if !is_well_formed(h, handles, extents, clocks, named, dues) {
+        return Answer::Refused(Refusal::NotWellFormed);
+    }
+    if !are_whole(small.len(), large.len()) {
+        return Answer::Refused(Refusal::WrongStoreLength);
+    }
+    calls::write(
+        h,
+        handles,
+        extents,
+        clocks,
+        named,
+        dues,
+        small,
+        large,
+        task,
+        handle,
+        offset,
         bytes,
     )
 }

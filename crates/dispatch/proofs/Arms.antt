@@ -1,8 +1,8 @@
 -- The arms of the dispatch: what each call promises on lent tables serves its request.
 use Prim.Native.Nat.{ℕ}
-use mathlib.Core.Bool.{false}
 use mathlib.Core.List.{List}
 use mathlib.Core.Path.{_≡_, refl}
+use lib.ListN.{length}
 use Rattle.ledger.specs.Objects.{memoryAfter, expirationsAfter}
 use Rattle.ledger.specs.Refusals.{testsOf}
 use Rattle.ledger.specs.Ledger.{reply, next}
@@ -15,15 +15,15 @@ use Rattle.ledger.specs.declared.Kind.{Kind}
 use Rattle.ledger.specs.declared.Request.{Request}
 use Rattle.ledger.specs.declared.Request.the-variants.{Use, Report, Remaining}
 use Rattle.record.specs.Reading.{HeadTyped}
-use Rattle.record.specs.Tables.{SizedEntries, Sized, entriesOf, tablesOf, lent, pooled}
+use Rattle.record.specs.Tables.{SizedEntries, Sized, entriesOf, tablesOf, lent, pooled, blockEntries}
 use Rattle.record.specs.declared.Head.{Head}
 use Rattle.record.specs.declared.Pool.{Pool}
 use Rattle.expirations.specs.Standing.{standingOf}
 use Rattle.steps.specs.Objects.{readVerdict}
-use Rattle.objects.specs.Outcomes.{foundIn}
+use Rattle.objects.specs.Outcomes.{bytesIn}
 use Rattle.objects.specs.Usage.{usageIn}
-use Rattle.objects.specs.declared.Found.{Found}
-use Rattle.objects.specs.declared.Found.the-variants.{At, Refused}
+use Rattle.objects.specs.declared.FoundBytes.{FoundBytes}
+use Rattle.objects.specs.declared.FoundBytes.the-variants.{At, Refused}
 use Rattle.objects.proofs.Laws.{usage-of}
 use Rattle.calls.specs.Contract.{Ready, FollowsWith, Follows, Makes, Locates, Writes}
 use Rattle.calls.specs.Served.{Serves}
@@ -41,15 +41,15 @@ module _ (new : List ℕ) (h : Head) (hs ls cs ns ds small large : List ℕ) whe
   abbrev lentPool : Pool
   lentPool = pooled h hs ls cs ns ds
 
-  pub read-serves : (task handle : ℕ) (f : Found) → Locates task handle lentPool small large f
+  pub read-serves : (task handle : ℕ) (f : FoundBytes) → Locates task handle lentPool small large f
       → Serves (Use (Read task handle)) new lentPool small large (givenBack (whereFound f h) hs ls cs ns ds) small large
   unfolding reply next testsOf memoryAfter expirationsAfter
   read-serves task handle (Refused why) l = serves-plain tt (whatever-bytes new (λ L. refl) (λ L. refl) (l .reads))
-  read-serves task handle (At block count life) l =
+  read-serves task handle (At block count sum) l =
       record {
         obeys = whatever-bytes new (λ L. refl) (λ L. refl) (l .reads);
         beyond = tt;
-        inside = λ some. l .inside block count life refl;
+        inside = λ some. l .inside block count sum refl;
       }
 
 -- what is ready for a request is ready for the one that it is
@@ -70,8 +70,8 @@ module _ (new : List ℕ) {h : Head} {hs ls cs ns ds : List ℕ} (sized : Sized 
       → Served (Use call) new h hs ls cs ns ds small large r hs′ ls cs′ ns ds′ small large
   schedule-arm {event} {task} is {s} f so =
       rw (is, so) (
-        record { blocks = record { of-handles = f .handlesSize; of-lengths = sized .blocks .of-lengths }; entries = f .sized },
-        schedule-serves new _ small large event task (s .answer) _ (f .follows ls (sized .blocks .of-lengths) (ready .fit)),
+        record { blocks = record { of-handles = f .handlesSize; of-extents = sized .blocks .of-extents }; entries = f .sized },
+        schedule-serves new _ small large event task (s .answer) _ (f .follows ls (sized .blocks .of-extents) (ready .fit)),
       )
 
   pub refresh-arm : {task : ℕ} {kind : Kind} {extension handle : ℕ} → call ≡ Refresh task kind extension handle → {s : Step} {cs′ ns′ ds′ : List ℕ}
@@ -103,17 +103,21 @@ module _ (new : List ℕ) {h : Head} {hs ls cs ns ds : List ℕ} (sized : Sized 
   make-arm {task} {kind} {extension} {size} is (sized′, m) so =
       rw (is, so) (sized′, make-serves new _ small large task kind extension size _ _ _ m)
 
-  pub read-arm : HeadTyped h → {task handle : ℕ} → call ≡ Read task handle → {f : Found}
-      → f ≡ foundIn false (readVerdict task handle) task handle (lent h hs ls cs ns ds) → r ≡ whereFound f h
+  pub read-arm : HeadTyped h → {task handle : ℕ} → call ≡ Read task handle → {f : FoundBytes}
+      → f ≡ bytesIn (readVerdict task handle small large) handle (lent h hs ls cs ns ds) → r ≡ whereFound f h
       → Served (Use call) new h hs ls cs ns ds small large r hs ls cs ns ds small large
   read-arm types {task} {handle} is {f} found so =
       rw (is, so) (sized, read-serves new h hs ls cs ns ds small large task handle f (read-locates types sized task handle (rw is at ready) f found))
 
-  pub write-arm : {task handle offset : ℕ} → call ≡ Write task handle offset → {answer : Answer} {small′ large′ : List ℕ}
-      → Writes task handle offset new (pooled h hs ls cs ns ds) small large answer small′ large′ → r ≡ withoutBytes answer h
-      → Served (Use call) new h hs ls cs ns ds small large r hs ls cs ns ds small′ large′
-  write-arm {task} {handle} {offset} is {answer} w so =
-      rw (is, so) (sized, write-serves new _ small large task handle offset answer _ _ w)
+  pub write-arm : {task handle offset : ℕ} → call ≡ Write task handle offset → {answer : Answer} {ls′ small′ large′ : List ℕ}
+      → (length ls′ ≡ blockEntries)
+      × Writes task handle offset new (pooled h hs ls cs ns ds) small large answer (pooled h hs ls′ cs ns ds) small′ large′
+      → r ≡ withoutBytes answer h → Served (Use call) new h hs ls cs ns ds small large r hs ls′ cs ns ds small′ large′
+  write-arm {task} {handle} {offset} is {answer} (size, w) so =
+      rw (is, so) (
+        record { blocks = record { of-handles = sized .blocks .of-handles; of-extents = size }; entries = sized .entries },
+        write-serves new _ small large task handle offset answer _ _ _ w,
+      )
 
 -- report, remaining life, and any request by its call
 module _ (new : List ℕ) {h : Head} {hs ls cs ns ds : List ℕ} (sized : Sized hs ls cs ns ds) {small large : List ℕ} {request : Request}
@@ -122,7 +126,7 @@ module _ (new : List ℕ) {h : Head} {hs ls cs ns ds : List ℕ} (sized : Sized 
       → Served request new h hs ls cs ns ds small large r hs ls cs ns ds small large
   unfolding tablesOf
   report-arm is so =
-      let figures = usage-of hs ls (sized .blocks .of-handles) (sized .blocks .of-lengths) h (entriesOf cs ns ds) in
+      let figures = usage-of hs ls (sized .blocks .of-handles) (sized .blocks .of-extents) h (entriesOf cs ns ds) in
       rw (is, so, standing-of (sized .entries), figures)
       (sized, report-serves new (pooled h hs ls cs ns ds) small large _ (report-obeys (pooled h hs ls cs ns ds) (ready .fit)))
 

@@ -16,7 +16,7 @@ use expirations::standing;
 use ledger::Answer;
 use ledger::Call;
 use ledger::Request;
-use objects::Found;
+use objects::FoundBytes;
 use objects::find_for_read;
 use objects::usage;
 use record::BLOCK_COUNT;
@@ -42,15 +42,15 @@ fn without_bytes(answer: Answer, h: Head) -> Done
     }
 }
 
-fn where_found(found: Found, h: Head) -> Done
+fn where_found(found: FoundBytes, h: Head) -> Done
     ensures { λ r. ⌜ r ≡ whereFound found h ⌝ }
 {
     match found {
-        Found::Refused(why) => without_bytes(Answer::Refused(why), h),
-        Found::At {
+        FoundBytes::Refused(why) => without_bytes(Answer::Refused(why), h),
+        FoundBytes::At {
             block,
             length,
-            life: _,
+            sum: _,
         } => Done {
             answer: Answer::Bytes,
             head: h,
@@ -63,7 +63,7 @@ fn where_found(found: Found, h: Head) -> Done
 fn serve(
     h: Head,
     handles: &mut [u32; BLOCK_COUNT],
-    lengths: &mut [u16; BLOCK_COUNT],
+    extents: &mut [u32; BLOCK_COUNT],
     clocks: &mut [u8; EXPIRATION_COUNT],
     named: &mut [u8; EXPIRATION_COUNT],
     dues: &mut [u32; EXPIRATION_COUNT],
@@ -72,8 +72,8 @@ fn serve(
     call: Call,
     bytes: &[u8],
 ) -> Done
-    requires { ⌜ Sized (now handles) (now lengths) (now clocks) (now named) (now dues) × Ready (Use call) (pooled h (now handles) (now lengths) (now clocks) (now named) (now dues)) (now small) (now large) ⌝ }
-    ensures { λ r. ⌜ Sized (now (handles .exit)) (now (lengths .exit)) (now (clocks .exit)) (now (named .exit)) (now (dues .exit)) × Serves (Use call) (now (bytes .entry)) (pooled h (now (handles .entry)) (now (lengths .entry)) (now (clocks .entry)) (now (named .entry)) (now (dues .entry))) (now (small .entry)) (now (large .entry)) (givenBack r (now (handles .exit)) (now (lengths .exit)) (now (clocks .exit)) (now (named .exit)) (now (dues .exit))) (now (small .exit)) (now (large .exit)) ⌝ }
+    requires { ⌜ Sized (now handles) (now extents) (now clocks) (now named) (now dues) × Ready (Use call) (pooled h (now handles) (now extents) (now clocks) (now named) (now dues)) (now small) (now large) ⌝ }
+    ensures { λ r. ⌜ Sized (now (handles .exit)) (now (extents .exit)) (now (clocks .exit)) (now (named .exit)) (now (dues .exit)) × Serves (Use call) (now (bytes .entry)) (pooled h (now (handles .entry)) (now (extents .entry)) (now (clocks .entry)) (now (named .entry)) (now (dues .entry))) (now (small .entry)) (now (large .entry)) (givenBack r (now (handles .exit)) (now (extents .exit)) (now (clocks .exit)) (now (named .exit)) (now (dues .exit))) (now (small .exit)) (now (large .exit)) ⌝ }
 {
     match call {
         Call::Schedule { event, task } => {
@@ -91,7 +91,7 @@ fn serve(
             let step = make(
                 h,
                 handles,
-                lengths,
+                extents,
                 clocks,
                 named,
                 dues,
@@ -115,7 +115,7 @@ fn serve(
             let step = refresh(
                 h,
                 handles,
-                lengths,
+                extents,
                 clocks,
                 named,
                 dues,
@@ -132,13 +132,14 @@ fn serve(
             find_for_read(
                 h,
                 handles,
-                lengths,
+                extents,
                 clocks,
                 named,
                 dues,
+                small,
+                large,
                 task,
                 handle,
-                false,
             ),
             h,
         ),
@@ -150,7 +151,7 @@ fn serve(
             write(
                 h,
                 handles,
-                lengths,
+                extents,
                 clocks,
                 named,
                 dues,
@@ -171,7 +172,7 @@ fn serve(
             let step = batch(
                 h,
                 handles,
-                lengths,
+                extents,
                 clocks,
                 named,
                 dues,
@@ -185,7 +186,7 @@ fn serve(
             without_bytes(answer, head)
         }
         Call::Release { task, handle } => {
-            let step = release(h, handles, lengths, clocks, named, dues, task, handle);
+            let step = release(h, handles, extents, clocks, named, dues, task, handle);
             let answer = step.answer;
             let head = step.head;
             without_bytes(answer, head)
@@ -197,7 +198,7 @@ fn serve(
 pub fn call(
     h: Head,
     handles: &mut [u32; BLOCK_COUNT],
-    lengths: &mut [u16; BLOCK_COUNT],
+    extents: &mut [u32; BLOCK_COUNT],
     clocks: &mut [u8; EXPIRATION_COUNT],
     named: &mut [u8; EXPIRATION_COUNT],
     dues: &mut [u32; EXPIRATION_COUNT],
@@ -206,14 +207,14 @@ pub fn call(
     request: Request,
     bytes: &[u8],
 ) -> Done
-    requires { ⌜ Sized (now handles) (now lengths) (now clocks) (now named) (now dues) × Ready request (pooled h (now handles) (now lengths) (now clocks) (now named) (now dues)) (now small) (now large) ⌝ }
-    ensures { λ r. ⌜ Sized (now (handles .exit)) (now (lengths .exit)) (now (clocks .exit)) (now (named .exit)) (now (dues .exit)) × Serves request (now (bytes .entry)) (pooled h (now (handles .entry)) (now (lengths .entry)) (now (clocks .entry)) (now (named .entry)) (now (dues .entry))) (now (small .entry)) (now (large .entry)) (givenBack r (now (handles .exit)) (now (lengths .exit)) (now (clocks .exit)) (now (named .exit)) (now (dues .exit))) (now (small .exit)) (now (large .exit)) ⌝ }
+    requires { ⌜ Sized (now handles) (now extents) (now clocks) (now named) (now dues) × Ready request (pooled h (now handles) (now extents) (now clocks) (now named) (now dues)) (now small) (now large) ⌝ }
+    ensures { λ r. ⌜ Sized (now (handles .exit)) (now (extents .exit)) (now (clocks .exit)) (now (named .exit)) (now (dues .exit)) × Serves request (now (bytes .entry)) (pooled h (now (handles .entry)) (now (extents .entry)) (now (clocks .entry)) (now (named .entry)) (now (dues .entry))) (now (small .entry)) (now (large .entry)) (givenBack r (now (handles .exit)) (now (extents .exit)) (now (clocks .exit)) (now (named .exit)) (now (dues .exit))) (now (small .exit)) (now (large .exit)) ⌝ }
 {
     match request {
         Request::Use(c) => serve(
             h,
             handles,
-            lengths,
+            extents,
             clocks,
             named,
             dues,
@@ -227,7 +228,7 @@ pub fn call(
             h,
         ),
         Request::Remaining { task, handle } => without_bytes(
-            remaining(h, handles, lengths, clocks, named, dues, task, handle),
+            remaining(h, handles, extents, clocks, named, dues, task, handle),
             h,
         ),
     }

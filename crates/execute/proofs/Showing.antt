@@ -12,8 +12,8 @@ use Rattle.lists.proofs.Cases.{by-test}
 use Rattle.ledger.specs.Limits.{limits, smallSize, largeSize}
 use Rattle.ledger.specs.declared.Answer.{Answer}
 use Rattle.ledger.specs.declared.Request.{Request}
-use Rattle.stores.specs.Places.{sizeOf, InBlock}
-use Rattle.record.specs.Reading.{isSmallBlock, isWholeSmall, isWholeLarge, blockBytes}
+use Rattle.stores.specs.Places.{InBlock}
+use Rattle.record.specs.Reading.{isSmallBlock, isWholeSmall, isWholeLarge, blockBytes, sizeOf}
 use Rattle.record.specs.declared.Pool.{Pool}
 use Rattle.calls.specs.Served.{Serves}
 use Rattle.calls.specs.declared.Called.{Called}

@@ -105,9 +105,10 @@ flag-names {cs} {ns} {ds} s sized block l =
     asked-entries sized (isNaming block) (λ k. rw (dated-clock (getD cs k 0) (getD ds k 0))) (s .so block l)
 
 -- a block by its flag
-kept-entry : (flag : Bool) (handle size : ℕ) → blockEntry (cond flag handle 0) size ≡ cond flag (blockEntry handle size) (freedBlock (blockEntry handle size))
-kept-entry true handle size = refl
-kept-entry false handle size = refl
+kept-entry : (flag : Bool) (handle extent : ℕ)
+    → blockEntry (cond flag handle 0) extent ≡ cond flag (blockEntry handle extent) (freedBlock (blockEntry handle extent))
+kept-entry true handle extent = refl
+kept-entry false handle extent = refl
 
 -- the blocks after their handles are kept by the flags
 pub released : {cs ns hs hs′ : List ℕ} {flags : List Bool} (ls ds : List ℕ) → Flags cs ns expirationEntries flags → Changed 0 (keptByFlag flags) 0 blockEntries hs hs′

@@ -66,7 +66,7 @@ pub record Ends (t : Passing) (tasks : List TaskEntry) (named dues handles clock
   pub clocksSize : length clocks′ ≡ expirationEntries
   pub duesSize : length dues′ ≡ expirationEntries
   pub entries : entriesOf clocks′ named dues′ ≡ map (endedEntry t) (lateIn t tasks (entriesOf clocks named dues))
-  pub blocks : (lengths : List ℕ) → length lengths ≡ blockEntries
-      → blocksOf handles′ lengths
+  pub blocks : (extents : List ℕ) → length extents ≡ blockEntries
+      → blocksOf handles′ extents
       ≡ cond (any (λ (e : ExpirationEntry). isEnding t (dueOf e)) (lateIn t tasks (entriesOf clocks named dues)))
-      (mapFrom 0 (keptBlock (entriesOf clocks′ named dues′)) (blocksOf handles lengths)) (blocksOf handles lengths)
+      (mapFrom 0 (keptBlock (entriesOf clocks′ named dues′)) (blocksOf handles extents)) (blocksOf handles extents)

@@ -36,5 +36,5 @@ pub record Releases (block : ℕ) (named handles clocks handles′ clocks′ : L
   pub handlesSize : length handles′ ≡ blockEntries
   pub clocksSize : length clocks′ ≡ expirationEntries
   pub entries : (dues : List ℕ) → length dues ≡ expirationEntries → entriesOf clocks′ named dues ≡ map (unpinnedEntry block) (entriesOf clocks named dues)
-  pub blocks : (lengths dues : List ℕ) → length lengths ≡ blockEntries → length dues ≡ expirationEntries
-      → blocksOf handles′ lengths ≡ mapFrom 0 (keptBlock (entriesOf clocks′ named dues)) (blocksOf handles lengths)
+  pub blocks : (extents dues : List ℕ) → length extents ≡ blockEntries → length dues ≡ expirationEntries
+      → blocksOf handles′ extents ≡ mapFrom 0 (keptBlock (entriesOf clocks′ named dues)) (blocksOf handles extents)

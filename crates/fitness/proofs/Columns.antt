@@ -12,7 +12,7 @@ use Rattle.lists.specs.Tables.{allFrom}
 use Rattle.lists.proofs.Cases.{same-test}
 use Rattle.lists.proofs.Tables.{allFrom-each, allFrom-within}
 use Rattle.record.specs.Codes.{freeBlock}
-use Rattle.record.specs.Tables.{BlockEntry, blocksOf, SizedBlocks}
+use Rattle.record.specs.Tables.{BlockEntry, blocksOf, SizedBlocks, lengthIn}
 use Rattle.record.specs.WellFormed.{isSizedFor}
 use Rattle.record.proofs.Columns.{length-blocks, block-at}
 use Rattle.handles.specs.Handles.{Used}
@@ -25,13 +25,13 @@ apart true n s g h = rw (h refl)
 apart false true s g h = and-comm s g
 apart false false s g h = sym (and-false g)
 
-module _ (given : ℕ) (flags : List Bool) {handles lengths : List ℕ} (size : SizedBlocks handles lengths) {used sized : List Bool} (u : Used handles used)
-    (s : SizedTo lengths 96 sized) where
+module _ (given : ℕ) (flags : List Bool) {handles extents : List ℕ} (size : SizedBlocks handles extents) {used sized : List Bool} (u : Used handles used)
+    (s : SizedTo extents 96 sized) where
   abbrev blocks : List BlockEntry
-  blocks = blocksOf handles lengths
+  blocks = blocksOf handles extents
 
   count : length blocks ≡ 96
-  count = length-blocks handles lengths (size .of-handles) (size .of-lengths)
+  count = length-blocks handles extents (size .of-handles) (size .of-extents)
 
   -- what is asked of a block, and the two parts
   abbrev isFit : ℕ → Bool
@@ -45,8 +45,8 @@ module _ (given : ℕ) (flags : List Bool) {handles lengths : List ℕ} (size : 
 
   at : (k : ℕ) → k < 96 → isFit k ≡ (isGiven k && isNamed k)
   at k l =
-      rw (block-at handles lengths (size .of-handles) (size .of-lengths) k, u .so k l, s .so k l)
-      (apart (eqb (getD handles k 0) 0) (getD flags k false) (isSizedFor k (getD lengths k 0)) (isGiven k)
+      rw (block-at handles extents (size .of-handles) (size .of-extents) k, u .so k l, s .so k l)
+      (apart (eqb (getD handles k 0) 0) (getD flags k false) (isSizedFor k (lengthIn (getD extents k 0))) (isGiven k)
       (λ z. rw (eqb-true (getD handles k 0) 0 z) (le-leb 0 given (omega arith))))
 
   to : (allFrom 0 (isGivenAt given) handles && allFrom 0 (isNamedIn flags sized) used) ≡ true → allFrom 0 (isFitBlockIn given flags) blocks ≡ true

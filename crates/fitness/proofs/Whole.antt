@@ -16,18 +16,18 @@ use Rattle.fitness.specs.Checks.{isCoded, isTimely, Names, isFitBlockIn}
 use Rattle.fitness.proofs.Named.{isFitAlone, not-alone, named-right}
 use Rattle.fitness.proofs.Alone.{by-parts}
 
-module _ (h : Head) {handles lengths clocks named dues : List ℕ} (sized : Sized handles lengths clocks named dues) where
+module _ (h : Head) {handles extents clocks named dues : List ℕ} (sized : Sized handles extents clocks named dues) where
   abbrev isFit : Bool
-  isFit = isWellFormed (lent h handles lengths clocks named dues)
+  isFit = isWellFormed (lent h handles extents clocks named dues)
 
   abbrev blocks : List BlockEntry
-  blocks = blocksOf handles lengths
+  blocks = blocksOf handles extents
 
   abbrev xs : List ExpirationEntry
   xs = entriesOf clocks named dues
 
   size : length blocks ≡ 96
-  size = length-blocks handles lengths (sized .blocks .of-handles) (sized .blocks .of-lengths)
+  size = length-blocks handles extents (sized .blocks .of-handles) (sized .blocks .of-extents)
 
   pub unfit-tasks : all isFitTask (h .tasks) ≡ false → false ≡ isFit
   unfolding isWellFormed tablesBy
@@ -42,7 +42,7 @@ module _ (h : Head) {handles lengths clocks named dues : List ℕ} (sized : Size
       rest : isFit
           ≡ (all (isFitEntry (h .tasks) (h .global) blocks) xs && allFrom 0 (isFitBlock (h .given) xs) blocks && isDistinct handles && isPinnedOnce xs)
       unfolding isWellFormed tablesBy
-      rest = rw (tasks, unticked, handles-of handles lengths (sized .blocks .of-handles) (sized .blocks .of-lengths))
+      rest = rw (tasks, unticked, handles-of handles extents (sized .blocks .of-handles) (sized .blocks .of-extents))
 
       not-by-itself : all (isFitAlone (h .tasks) (h .global)) xs ≡ false → false ≡ isFit
       not-by-itself e = sym (rest ∙ rw (not-alone (h .tasks) (h .global) (h .given) blocks xs size e))

@@ -11,7 +11,7 @@ use Rattle.ledger.specs.Limits.{counterRange, limits, taskCount}
 use Rattle.ledger.specs.Tasks.{isAbsent}
 use Rattle.record.specs.Codes.{stateOf, dueOf, setterOf, leftAt, absentEntry, localCode, globalCode, departedCode, pinnedCode}
 use Rattle.record.specs.WellFormed.{isFitDue, isNaming, isSizedFor}
-use Rattle.record.specs.Tables.{BlockEntry, ExpirationEntry, entriesOf, blockEntries, expirationEntries, byteValues}
+use Rattle.record.specs.Tables.{BlockEntry, ExpirationEntry, entriesOf, blockEntries, expirationEntries, byteValues, lengthIn}
 use Rattle.record.specs.declared.GlobalTime.{GlobalTime}
 use Rattle.record.specs.declared.Head.{Head}
 use Rattle.record.specs.declared.LocalTime.{LocalTime}
@@ -142,7 +142,7 @@ pub record AllTimely (h : Head) (clocks dues : List ℕ) (r : Bool) : Type 0 whe
 
 -- of the first i blocks, whether they have a length of their store's range
 abbrev pub SizedTo : List ℕ → ℕ → List Bool → Type 0
-SizedTo lengths i r = Filled false (λ k x. x ≡ isSizedFor k (getD lengths k 0)) blockEntries i r
+SizedTo extents i r = Filled false (λ k x. x ≡ isSizedFor k (lengthIn (getD extents k 0))) blockEntries i r
 
 abbrev pub isGivenAt : ℕ → ℕ → ℕ → Bool
 isGivenAt given block handle = leb handle given

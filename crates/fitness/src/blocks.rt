@@ -12,6 +12,7 @@ use ledger::LIMITS;
 use ledger::SMALL_SIZE;
 use record::BLOCK_COUNT;
 use record::BYTE_VALUES;
+use record::codes::length_in;
 
 // The small store's blocks; the large one's follow.
 const SMALL_COUNT: usize = LIMITS.small_blocks;
@@ -28,25 +29,25 @@ fn is_sized_for(block: usize, length: u16) -> bool
 }
 
 // Which blocks have a length of their store's range: those of the small store,
-fn small_sized(lengths: &[u16; BLOCK_COUNT]) -> [bool; BLOCK_COUNT]
-    requires { ⌜ length (now lengths) ≡ blockEntries ⌝ }
-    ensures { λ r. ⌜ SizedTo (now (lengths .entry)) (capacity .smallBlocks) r ⌝ }
+fn small_sized(extents: &[u32; BLOCK_COUNT]) -> [bool; BLOCK_COUNT]
+    requires { ⌜ length (now extents) ≡ blockEntries ⌝ }
+    ensures { λ r. ⌜ SizedTo (now (extents .entry)) (capacity .smallBlocks) r ⌝ }
 {
     let mut out = [false; BLOCK_COUNT];
     for i in 0..SMALL_COUNT {
-        out[i] = is_sized_for(i, lengths[i]);
+        out[i] = is_sized_for(i, length_in(extents[i]));
     }
     out
 }
 
 // and then those of the large one.
-fn sized(lengths: &[u16; BLOCK_COUNT]) -> [bool; BLOCK_COUNT]
-    requires { ⌜ length (now lengths) ≡ blockEntries ⌝ }
-    ensures { λ r. ⌜ SizedTo (now (lengths .entry)) blockEntries r ⌝ }
+fn sized(extents: &[u32; BLOCK_COUNT]) -> [bool; BLOCK_COUNT]
+    requires { ⌜ length (now extents) ≡ blockEntries ⌝ }
+    ensures { λ r. ⌜ SizedTo (now (extents .entry)) blockEntries r ⌝ }
 {
-    let mut out = small_sized(lengths);
+    let mut out = small_sized(extents);
     for i in SMALL_COUNT..BLOCK_COUNT {
-        out[i] = is_sized_for(i, lengths[i]);
+        out[i] = is_sized_for(i, length_in(extents[i]));
     }
     out
 }
@@ -83,11 +84,11 @@ pub fn check_blocks<'a>(
     flags: [bool; BYTE_VALUES],
     used: [bool; BLOCK_COUNT],
     handles: &'a [u32; BLOCK_COUNT],
-    lengths: &'a [u16; BLOCK_COUNT],
+    extents: &'a [u32; BLOCK_COUNT],
 ) -> bool
-    requires { ⌜ SizedBlocks (now handles) (now lengths) × Used (now handles) used ⌝ }
-    ensures { λ r. ⌜ r ≡ allFrom 0 (isFitBlockIn given flags) (blocksOf (now (handles .entry)) (now (lengths .entry))) ⌝ }
+    requires { ⌜ SizedBlocks (now handles) (now extents) × Used (now handles) used ⌝ }
+    ensures { λ r. ⌜ r ≡ allFrom 0 (isFitBlockIn given flags) (blocksOf (now (handles .entry)) (now (extents .entry))) ⌝ }
 {
-    let sized = sized(lengths);
+    let sized = sized(extents);
     all_given(given, handles) & all_named(flags, sized, used)
 }

@@ -25,13 +25,13 @@ use times::all_timely;
 pub fn is_well_formed<'a>(
     h: Head,
     handles: &'a [u32; BLOCK_COUNT],
-    lengths: &'a [u16; BLOCK_COUNT],
+    extents: &'a [u32; BLOCK_COUNT],
     clocks: &'a [u8; EXPIRATION_COUNT],
     named: &'a [u8; EXPIRATION_COUNT],
     dues: &'a [u32; EXPIRATION_COUNT],
 ) -> bool
-    requires { ⌜ Sized (now handles) (now lengths) (now clocks) (now named) (now dues) ⌝ }
-    ensures { λ r. ⌜ r ≡ isWellFormed (lent h (now (handles .entry)) (now (lengths .entry)) (now (clocks .entry)) (now (named .entry)) (now (dues .entry))) ⌝ }
+    requires { ⌜ Sized (now handles) (now extents) (now clocks) (now named) (now dues) ⌝ }
+    ensures { λ r. ⌜ r ≡ isWellFormed (lent h (now (handles .entry)) (now (extents .entry)) (now (clocks .entry)) (now (named .entry)) (now (dues .entry))) ⌝ }
 {
     let tasks = h.tasks;
     if !all_fit_tasks(tasks) {
@@ -48,7 +48,7 @@ pub fn is_well_formed<'a>(
     }
     let flags = flags_of(clocks, named);
     let used = used_of(handles);
-    if !check_blocks(h.given, flags, used, handles, lengths) {
+    if !check_blocks(h.given, flags, used, handles, extents) {
         return false;
     }
     distinct(handles, &used) & pinned_once(clocks, named)

@@ -1,64 +1,70 @@
 -- Demand 3 of the ledger. While all use is in time and in bounds, the ledger is the heap with the book's expirations, swept of what does not stand.
-use Prim.Native.Nat.{ℕ, _+_, _≤_}
+use Prim.Native.Nat.{ℕ, _≤_}
 use native.Mathlib.Omega.{arith}
-use mathlib.Core.Bool.{Bool, true, false, true≢false, false≢true, not, _||_, and-eq-true-iff, and-true, Bool·not-not}
+use mathlib.Core.Bool.{Bool, true, false, true≢false, false≢true, _||_, and-eq-true-iff, and-true, Bool·not-not}
 use mathlib.Core.List.{List, [], _∷_, map, map-id, tail}
 use mathlib.Core.Logic.{_↔_}
 use mathlib.Core.Option.{Option, none, some}
 use mathlib.Core.Path.{_≡_, refl, sym, ap, _∙_}
-use borrow.Author.Tests.{not-false, eqb-true}
+use borrow.Author.Tests.{not-false, eq-eqb}
 use lib.Dec.{eqb}
 use Rattle.lists.specs.Columns.{_⊛_}
-use Rattle.lists.specs.Tests.{all, filter, All}
-use Rattle.lists.proofs.Cases.{by-test, not-leb, not-ltb, or-second, or-right}
-use Rattle.lists.proofs.Counts.{any-map, not-any-not}
-use Rattle.lists.proofs.All.{all-every, all-imp, all-append, all-map, all-widened}
-use Rattle.lists.proofs.Filters.{filter-map-filter, filter-filter, filter-filter-append, any-filter}
-use Rattle.ledger.specs.Tasks.{Clocks, isTested}
-use Rattle.ledger.specs.Expirations.{DueTime, Expiration, isOf, isSetBy, putOff, deserted, eachDue, stillLive, lasting, released, setOnEach}
-use Rattle.ledger.specs.Objects.{Object, Memory, Reply, freshMemory, objectAt, written, stands, standing, replyTo, memoryAfter, expirationsAfter, handlesOf}
+use Rattle.lists.specs.Sums.{total}
+use Rattle.lists.specs.Tests.{all, All}
+use Rattle.lists.proofs.Cases.{by-test, not-leb, not-ltb}
+use Rattle.lists.proofs.Counts.{not-any-not}
+use Rattle.lists.proofs.All.{all-imp, all-append, all-map}
+use Rattle.lists.proofs.Sums.{total-zeros}
+use Rattle.lists.proofs.Filters.{filter-map-filter, filter-filter, filter-filter-append}
+use Rattle.ledger.specs.Limits.{blockSize}
+use Rattle.ledger.specs.Expirations.{Expiration, released}
+use Rattle.ledger.specs.Objects.{Object, Memory, Reply, freshMemory, objectAt, isIntact, written, stands, standing, replyTo, memoryAfter, expirationsAfter, handlesOf}
 use Rattle.ledger.specs.Refusals.{testsOf}
 use Rattle.ledger.specs.Ledger.{settled, fresh, verdictOn, replyBy, afterBy, reply, next, replies}
 use Rattle.ledger.specs.Heap.{heapVerdictOn, heapReply, heapNext, heapReplies, bookNext, isInTimeAndBounds, isLeftAside, allInTimeAndBounds, Used, sent, Demand3}
 use Rattle.ledger.specs.declared.Refusal.{Refusal}
-use Rattle.ledger.specs.declared.Answer.{Answer}
-use Rattle.ledger.specs.declared.Answer.the-variants.{Refused, Done, Advanced, Handle, Bytes, Counted, Lasts}
 use Rattle.ledger.specs.declared.Call.{Call}
 use Rattle.ledger.specs.declared.Call.the-variants.{Schedule, Make, Refresh, Read, Write, Batch, Release}
-use Rattle.ledger.specs.declared.Event.{Event}
 use Rattle.ledger.specs.declared.Event.the-variants.{Join, Leave, Block, Resume, Tick}
-use Rattle.ledger.proofs.Verdicts.{isOwn, isOwnVerdict, isClear, isOrdered, Agree, Compared, alike, apart, compared, heap-not-own}
+use Rattle.ledger.proofs.KeptObjects.{intact-written}
+use Rattle.ledger.proofs.Passed.{refusalIn, refusal-told}
+use Rattle.ledger.proofs.Standing.{at-standing, setsOn, stood}
+use Rattle.ledger.proofs.Verdicts.{isOwnVerdict, isClear, isOrdered, Agree, Compared, alike, apart, compared, heap-not-own}
 
 -- the memory of the ledger that stands beside this heap and book
 abbrev swept : List Expiration → Memory → Memory
 swept xs m = settled m xs .memory
 
--- an object that stands is the same object among the standing ones
-at-standing : (xs : List Expiration) (handle : ℕ) (os : List Object) → stands xs handle ≡ true
-    → objectAt handle (standing xs os) ≡ objectAt handle os
-unfolding objectAt
-at-standing xs handle [] s = refl
-at-standing xs handle (o ∷ os) s =
-    by-test (eqb (o .handle) handle)
-    (λ e. let d : stands xs (o .handle) ≡ true = rw (eqb-true (o .handle) handle e) s in rw (d, e))
-    (λ e. by-test (stands xs (o .handle)) (λ d. rw (d, e) (at-standing xs handle os s)) (λ d. rw (d, e) (at-standing xs handle os s)))
+-- every object of the heap is intact, and its handle was given
+HeapKept : Memory → Type 0
+HeapKept m = All (λ (o : Object). (o .handle ≤ m .given) × (isIntact o ≡ true)) (m .objects)
+
+pub intact-at : (handle : ℕ) (os : List Object) → All (λ (o : Object). isIntact o ≡ true) os → isIntact (objectAt handle os) ≡ true
+unfolding objectAt total
+intact-at handle [] h = refl
+intact-at handle (o ∷ os) (h, hs) = by-test (eqb (o .handle) handle) (λ e. rw e h) (λ e. rw e (intact-at handle os hs))
+
+-- so it never gives 23
+never : (m : Memory) (handle : ℕ) → HeapKept m → isIntact (objectAt handle (m .objects)) ≡ true
+unfolding HeapKept
+never m handle k = intact-at handle (m .objects) (all-imp (λ o h. h .1) (m .objects) k)
 
 -- every call's tests are in an order that keeps demand 3
-ordered : (call : Call) (new : List ℕ) → isOrdered (testsOf call new) ≡ true
+ordered : (m : Memory) → HeapKept m → (call : Call) (new : List ℕ) → isOrdered m (testsOf call new) ≡ true
 unfolding testsOf
-ordered (Schedule Join task) new = refl
-ordered (Schedule Leave task) new = refl
-ordered (Schedule Block task) new = refl
-ordered (Schedule Resume task) new = refl
-ordered (Schedule Tick task) new = refl
-ordered (Make task kind extension size) new = refl
-ordered (Refresh task kind extension handle) new = refl
-ordered (Read task handle) new = refl
-ordered (Write task handle offset) new = refl
-ordered (Batch task kind extension) new = refl
-ordered (Release task handle) new = refl
+ordered m k (Schedule Join task) new = refl
+ordered m k (Schedule Leave task) new = refl
+ordered m k (Schedule Block task) new = refl
+ordered m k (Schedule Resume task) new = refl
+ordered m k (Schedule Tick task) new = refl
+ordered m k (Make task kind extension size) new = refl
+ordered m k (Refresh task kind extension handle) new = refl
+ordered m k (Read task handle) new = rw (never m handle k)
+ordered m k (Write task handle offset) new = rw (never m handle k)
+ordered m k (Batch task kind extension) new = refl
+ordered m k (Release task handle) new = refl
 
--- the shared tests come out the same of ledger and heap: but for 13, they look at no object
+-- the shared tests come out the same of ledger and heap: but for 13 and 23, they look at no object
 agreed : (m : Memory) (xs : List Expiration) (call : Call) (new : List ℕ) → Agree (swept xs m) xs m (testsOf call new)
 unfolding testsOf
 agreed m xs (Schedule Join task) new = search
@@ -68,9 +74,10 @@ agreed m xs (Schedule Resume task) new = search
 agreed m xs (Schedule Tick task) new = search
 agreed m xs (Make task kind extension size) new = (refl, (refl, (refl, (refl, (refl, (refl, λ b e. tt))))))
 agreed m xs (Refresh task kind extension handle) new = (refl, (refl, (refl, (refl, (refl, (refl, λ g e. tt))))))
-agreed m xs (Read task handle) new = (refl, (refl, (refl, (refl, λ g. tt))))
-agreed m xs (Write task handle offset) new =
+agreed m xs (Read task handle) new =
     (refl, (refl, (refl, (refl, λ g. (rw (at-standing xs handle (m .objects) (not-false _ g)), tt)))))
+agreed m xs (Write task handle offset) new =
+    (refl, (refl, (refl, (refl, λ g. (rw (at-standing xs handle (m .objects) (not-false _ g)), (rw (at-standing xs handle (m .objects) (not-false _ g)), tt))))))
 agreed m xs (Batch task kind extension) new = (refl, (refl, (refl, (refl, (refl, (refl, (refl, λ g e. tt)))))))
 agreed m xs (Release task handle) new = (refl, (refl, (refl, (refl, λ g. (refl, tt)))))
 
@@ -102,127 +109,71 @@ same-reply m xs (Write task handle offset) new e = refl
 same-reply m xs (Batch task kind extension) new e = refl
 same-reply m xs (Release task handle) new e = refl
 
--- the handles of the heap's objects are given
-Numbered : Memory → Type 0
-Numbered m = All (λ (o : Object). o .handle ≤ m .given) (m .objects)
-
--- an event sets no expiration
-due-stands : (f : DueTime → DueTime) (xs : List Expiration) (handle : ℕ) → stands (eachDue f xs) handle ≡ stands xs handle
-due-stands f xs handle = any-map (isOf handle) _ xs
-
-live-stands : (advanced : Bool) (clocks : Clocks) (xs : List Expiration) (handle : ℕ) → stands (stillLive advanced clocks xs) handle ≡ true
-    → stands xs handle ≡ true
-live-stands advanced clocks xs handle s =
-    rw (due-stands (putOff advanced clocks) xs handle) at (any-filter _ _ (eachDue (putOff advanced clocks) xs) s)
-
-lasting-stands : (event : Event) (task : ℕ) (advanced : Bool) (clocks : Clocks) (xs : List Expiration) (handle : ℕ)
-    → stands (lasting event task advanced clocks xs) handle ≡ true → stands xs handle ≡ true
-unfolding lasting
-lasting-stands Join task advanced clocks xs handle s = s
-lasting-stands Leave task advanced clocks xs handle s =
-    let others : List Expiration = filter (λ (x : Expiration). not (isSetBy task (x .due))) xs in
-    any-filter (isOf handle) _ xs (rw (due-stands (deserted task) others handle) at (live-stands advanced clocks (eachDue (deserted task) others) handle s))
-lasting-stands Block task advanced clocks xs handle s = live-stands advanced clocks xs handle s
-lasting-stands Resume task advanced clocks xs handle s = s
-lasting-stands Tick task advanced clocks xs handle s = live-stands advanced clocks xs handle s
-
--- nor does a batch set one where none stands
-each-stands : (due : DueTime) (handles : List ℕ) (xs : List Expiration) → all (stands xs) handles ≡ true → (handle : ℕ)
-    → stands (setOnEach due handles xs) handle ≡ true → stands xs handle ≡ true
-unfolding setOnEach
-each-stands due [] xs e handle s = s
-each-stands due (h ∷ hs) xs e handle s =
-    let (here, rest) = and-eq-true-iff (stands xs h) (all (stands xs) hs) .0 e in
-    or-second (eqb h handle) (λ a. rw (sym (eqb-true h handle a)) here) (each-stands due hs _ (all-widened (stands xs) _ (λ n t. or-right (eqb h n) t) hs rest) handle s)
-
--- a release sets none
-released-stands : (released-handle : ℕ) (xs : List Expiration) (handle : ℕ) → stands (released released-handle xs) handle ≡ true → stands xs handle ≡ true
-unfolding released
-released-stands gone xs handle s = any-filter (isOf handle) _ xs s
-
 -- a sweep changes nothing before one that leaves no more
 swept-twice : (xs ys : List Expiration) (os : List Object)
     → All (λ (o : Object). stands ys (o .handle) ≡ true → stands xs (o .handle) ≡ true) os
     → standing ys (standing xs os) ≡ standing ys os
 swept-twice xs ys os h = filter-filter _ _ os h
 
+-- an object of the heap that a call leaves standing stood before it
+all-stood : (m : Memory) (xs : List Expiration) (call : Call) (new : List ℕ) → all (stands xs) (setsOn call new) ≡ true → HeapKept m
+    → All (λ (o : Object). stands (expirationsAfter call new m xs) (o .handle) ≡ true → stands xs (o .handle) ≡ true) (m .objects)
+unfolding HeapKept
+all-stood m xs call new e k = all-imp (λ o h. stood m xs call new e (o .handle) (h .0)) (m .objects) k
+
 -- what the ledger sweeps away, the call's own sweep would have taken
-same-sweep : (m : Memory) (xs : List Expiration) (call : Call) (new : List ℕ) → Numbered m → isInTimeAndBounds m xs call new ≡ true
+same-sweep : (m : Memory) (xs : List Expiration) (call : Call) (new : List ℕ) → HeapKept m → isInTimeAndBounds m xs call new ≡ true
     → settled (memoryAfter call new (swept xs m)) (expirationsAfter call new (swept xs m) xs)
     ≡ settled (memoryAfter call new m) (expirationsAfter call new m xs)
-unfolding memoryAfter expirationsAfter isInTimeAndBounds Numbered written
-same-sweep m xs (Schedule event task) new k e =
-    rw (swept-twice xs _ (m .objects) (all-every _ (λ o. lasting-stands event task _ _ xs (o .handle)) (m .objects)))
+unfolding memoryAfter expirationsAfter isInTimeAndBounds HeapKept written
+same-sweep m xs (Schedule event task) new k e = rw (swept-twice xs _ (m .objects) (all-stood m xs (Schedule event task) new refl k))
 same-sweep m xs (Make task kind extension size) new k e =
-    rw
-    (filter-filter-append _ _ (m .objects) _
-    (all-imp (λ o h. or-second (eqb (m .given + 1) (o .handle)) (λ a. absurd (omega (arith, eqb-true (m .given + 1) (o .handle) a))))
-    (m .objects) k))
+    rw (filter-filter-append _ _ (m .objects) _ (all-stood m xs (Make task kind extension size) new refl k))
 same-sweep m xs (Refresh task kind extension handle) new k e =
-    let s : stands xs handle ≡ true = and-eq-true-iff _ _ .0 e .0 in
+    let stand : stands xs handle ≡ true = and-eq-true-iff _ _ .0 e .0 in
     rw
     (swept-twice xs (expirationsAfter (Refresh task kind extension handle) new m xs) (m .objects)
-    (all-every _ (λ (o : Object). or-second (eqb handle (o .handle)) (λ a. rw (sym (eqb-true handle (o .handle) a)) s)) (m .objects)))
-same-sweep m xs (Read task handle) new k e = rw (swept-twice xs xs (m .objects) (all-every _ (λ o s. s) (m .objects)))
+    (all-stood m xs (Refresh task kind extension handle) new (rw stand) k))
+same-sweep m xs (Read task handle) new k e = rw (swept-twice xs xs (m .objects) (all-stood m xs (Read task handle) new refl k))
 same-sweep m xs (Write task handle offset) new k e =
-    rw (filter-map-filter _ _ (written handle offset new) (m .objects) (all-every _ (λ o s. s) (m .objects)))
+    rw (filter-map-filter _ _ (written handle offset new) (m .objects) (all-stood m xs (Write task handle offset) new refl k))
 same-sweep m xs (Batch task kind extension) new k e =
-    let stand : all (stands xs) (handlesOf new) ≡ true = and-eq-true-iff _ _ .0 e .0 in
-    rw (swept-twice xs _ (m .objects) (all-every _ (λ (o : Object). each-stands _ (handlesOf new) xs stand (o .handle)) (m .objects)))
+    rw (swept-twice xs _ (m .objects) (all-stood m xs (Batch task kind extension) new (and-eq-true-iff _ _ .0 e .0) k))
 same-sweep m xs (Release task handle) new k e =
-    rw (swept-twice xs (released handle xs) (m .objects) (all-every _ (λ o. released-stands handle xs (o .handle)) (m .objects)))
+    rw (swept-twice xs (released handle xs) (m .objects) (all-stood m xs (Release task handle) new refl k))
 
--- the heap's handles stay given
-numbered-after : (m : Memory) (call : Call) (new : List ℕ) → Numbered m → Numbered (memoryAfter call new m)
-unfolding Numbered memoryAfter written
-numbered-after m (Schedule event task) new k = k
-numbered-after m (Make task kind extension size) new k =
-    all-append _ (m .objects) _ (all-imp (λ o h. omega arith) (m .objects) k) (omega arith, tt)
-numbered-after m (Refresh task kind extension handle) new k = k
-numbered-after m (Read task handle) new k = k
-numbered-after m (Write task handle offset) new k = all-map _ (written handle offset new) (m .objects) k
-numbered-after m (Batch task kind extension) new k = k
-numbered-after m (Release task handle) new k = k
+-- the heap's handles stay given, and its objects intact
+kept-after : (m : Memory) (call : Call) (new : List ℕ) → HeapKept m → HeapKept (memoryAfter call new m)
+unfolding HeapKept memoryAfter written
+kept-after m (Schedule event task) new k = k
+kept-after m (Make task kind extension size) new k =
+    all-append _ (m .objects) _ (all-imp (λ o h. (omega (arith, h .0), h .1)) (m .objects) k) ((omega arith, eq-eqb _ _ (total-zeros (blockSize size))), tt)
+kept-after m (Refresh task kind extension handle) new k = k
+kept-after m (Read task handle) new k = k
+kept-after m (Write task handle offset) new k =
+    all-map _ (written handle offset new) (m .objects)
+    (all-imp (λ o h. (h .0, intact-written handle offset new o (h .1))) (m .objects) k)
+kept-after m (Batch task kind extension) new k = k
+kept-after m (Release task handle) new k = k
 
-numbered : (m : Memory) (call : Call) (new : List ℕ) → Numbered m → Numbered (heapNext m call new)
+heap-kept : (m : Memory) (call : Call) (new : List ℕ) → HeapKept m → HeapKept (heapNext m call new)
 unfolding heapNext
-numbered m call new k = by (heapVerdictOn m call new)
+heap-kept m call new k = by (heapVerdictOn m call new)
   where
-    by : (v : Option Refusal) → Numbered (afterBy v (memoryAfter call new m) m)
-    by none = numbered-after m call new k
+    by : (v : Option Refusal) → HeapKept (afterBy v (memoryAfter call new m) m)
+    by none = kept-after m call new k
     by (some r) = k
-
--- a reply that only the pool gives is one with a refusal of its own
-isOwnAnswer : Answer → Bool
-isOwnAnswer (Refused r) = isOwn r
-isOwnAnswer Done = false
-isOwnAnswer (Advanced b) = false
-isOwnAnswer (Handle h) = false
-isOwnAnswer Bytes = false
-isOwnAnswer (Counted u) = false
-isOwnAnswer (Lasts life) = false
-
-own-reply : (v : Option Refusal) (call : Call) (m : Memory) → isOwnAnswer (replyBy v (replyTo call m) .answer) ≡ isOwnVerdict v
-unfolding isOwnAnswer replyTo
-own-reply (some r) call m = refl
-own-reply none (Schedule event task) m = by-test (isTested event) (λ e. rw e) (λ e. rw e)
-own-reply none (Make task kind extension size) m = refl
-own-reply none (Refresh task kind extension handle) m = refl
-own-reply none (Read task handle) m = refl
-own-reply none (Write task handle offset) m = refl
-own-reply none (Batch task kind extension) m = refl
-own-reply none (Release task handle) m = refl
 
 -- A refusal of the pool's own is no answer of the heap's, and is not told alike where what is told shows it.
 module _ {X : Type 0} (tell : Reply → X) (isOwnTold : X → Bool)
     (shows : (v : Option Refusal) (call : Call) (m : Memory) → isOwnTold (tell (replyBy v (replyTo call m))) ≡ isOwnVerdict v) where
-  told-apart : (m : Memory) (xs : List Expiration) (call : Call) (new : List ℕ) → isOwnVerdict (verdictOn (settled m xs) call new) ≡ true
+  told-apart : (m : Memory) (xs : List Expiration) (call : Call) (new : List ℕ) → HeapKept m → isOwnVerdict (verdictOn (settled m xs) call new) ≡ true
       → tell (reply (settled m xs) call new) ≡ tell (heapReply m call new) → ⊥
   unfolding reply heapReply
-  told-apart m xs call new o q =
+  told-apart m xs call new k o q =
       true≢false
       (sym o ∙ sym (shows (verdictOn (settled m xs) call new) call (swept xs m)) ∙ ap isOwnTold q ∙ shows (heapVerdictOn m call new) call m
-      ∙ heap-not-own m (testsOf call new) (ordered call new))
+      ∙ heap-not-own m (testsOf call new) (ordered m k call new))
 
 -- One call: ledger and heap answer alike and stay together, or the use was out of time or bounds and the ledger gives a refusal of its own.
 module _ (m : Memory) (xs : List Expiration) (call : Call) (new : List ℕ) where
@@ -234,9 +185,9 @@ module _ (m : Memory) (xs : List Expiration) (call : Call) (new : List ℕ) wher
         → next (settled m xs) call new ≡ settled (heapNext m call new) (bookNext m xs call new) → Step
     parted : isFine ≡ false → isOwnVerdict (verdictOn (settled m xs) call new) ≡ true → Step
 
-  step : Numbered m → Step
+  step : HeapKept m → Step
   unfolding isFine reply next heapReply heapNext bookNext
-  step k = by (compared (swept xs m) xs m (testsOf call new) (ordered call new) (agreed m xs call new))
+  step k = by (compared (swept xs m) xs m (testsOf call new) (ordered m k call new) (agreed m xs call new))
     where
       by-reply : (v : Option Refusal) → (isLeftAside v || isInTimeAndBounds m xs call new) ≡ true
           → replyBy v (replyTo call (swept xs m)) ≡ replyBy v (replyTo call m)
@@ -257,13 +208,13 @@ module _ (m : Memory) (xs : List Expiration) (call : Call) (new : List ℕ) wher
       by (apart f o) = parted (rw (clear m xs call new) at f) o
 
 -- the whole list, by what its first call comes to: in time and in bounds, ledger and heap answer alike
-alike-from : (us : List Used) (m : Memory) (xs : List Expiration) → Numbered m → allInTimeAndBounds m xs us ≡ true
+alike-from : (us : List Used) (m : Memory) (xs : List Expiration) → HeapKept m → allInTimeAndBounds m xs us ≡ true
     → replies (settled m xs) (map sent us) ≡ heapReplies m us
 unfolding replies heapReplies allInTimeAndBounds isFine
 alike-from [] m xs k a = refl
 alike-from (u ∷ us) m xs k a =
     by (step m xs (u .call) (u .bytes) k)
-    (alike-from us (heapNext m (u .call) (u .bytes)) (bookNext m xs (u .call) (u .bytes)) (numbered m (u .call) (u .bytes) k))
+    (alike-from us (heapNext m (u .call) (u .bytes)) (bookNext m xs (u .call) (u .bytes)) (heap-kept m (u .call) (u .bytes) k))
   where
     by : Step m xs (u .call) (u .bytes)
         → (allInTimeAndBounds (heapNext m (u .call) (u .bytes)) (bookNext m xs (u .call) (u .bytes)) us ≡ true
@@ -276,7 +227,7 @@ alike-from (u ∷ us) m xs k a =
 -- and if what is told of ledger and heap is alike, where it shows the refusals of the pool's own, all use was in time and in bounds
 module _ {A X : Type 0} (used : A → Used) (tell : A → Reply → X) (isOwnTold : X → Bool)
     (shows : (a : A) (v : Option Refusal) (call : Call) (m : Memory) → isOwnTold (tell a (replyBy v (replyTo call m))) ≡ isOwnVerdict v) where
-  told-from : (bs : List A) (m : Memory) (xs : List Expiration) → Numbered m
+  told-from : (bs : List A) (m : Memory) (xs : List Expiration) → HeapKept m
       → (map tell bs ⊛ replies (settled m xs) (map sent (map used bs))) ≡ (map tell bs ⊛ heapReplies m (map used bs))
       → allInTimeAndBounds m xs (map used bs) ≡ true
   unfolding replies heapReplies allInTimeAndBounds isFine
@@ -284,7 +235,7 @@ module _ {A X : Type 0} (used : A → Used) (tell : A → Reply → X) (isOwnTol
   told-from (a ∷ bs) m xs k e =
       let call = used a .call in
       let new = used a .bytes in
-      by (step m xs call new k) (told-from bs (heapNext m call new) (bookNext m xs call new) (numbered m call new k))
+      by (step m xs call new k) (told-from bs (heapNext m call new) (bookNext m xs call new) (heap-kept m call new k))
     where
       by : Step m xs (used a .call) (used a .bytes)
           → ((map tell bs ⊛ replies (settled (heapNext m (used a .call) (used a .bytes)) (bookNext m xs (used a .call) (used a .bytes))) (map sent (map used bs)))
@@ -292,18 +243,18 @@ module _ {A X : Type 0} (used : A → Used) (tell : A → Reply → X) (isOwnTol
           → allInTimeAndBounds (heapNext m (used a .call) (used a .bytes)) (bookNext m xs (used a .call) (used a .bytes)) (map used bs) ≡ true)
           → allInTimeAndBounds m xs (map used (a ∷ bs)) ≡ true
       by (together f r n) rest = rw f (rest (rw n at (ap tail e)))
-      by (parted f o) rest = absurd (told-apart (tell a) isOwnTold (shows a) m xs (used a .call) (used a .bytes) o (cc))
+      by (parted f o) rest = absurd (told-apart (tell a) isOwnTold (shows a) m xs (used a .call) (used a .bytes) k o (cc))
 
   pub demand3-told : (bs : List A)
       → ((map tell bs ⊛ replies fresh (map sent (map used bs))) ≡ (map tell bs ⊛ heapReplies freshMemory (map used bs)))
       ↔ (allInTimeAndBounds freshMemory [] (map used bs) ≡ true)
-  unfolding fresh freshMemory Numbered
+  unfolding fresh freshMemory HeapKept
   demand3-told bs = (told-from bs freshMemory [] tt, λ a. ap (λ ys. map tell bs ⊛ ys) (alike-from (map used bs) freshMemory [] tt a))
 
 -- of the replies themselves
 pub demand3 : Demand3
-unfolding fresh freshMemory Numbered
+unfolding fresh freshMemory HeapKept
 demand3 us =
     let tell : Used → Reply → Reply = λ u y. y in
-    let told = rw map-id at (demand3-told (λ (u : Used). u) tell (λ (y : Reply). isOwnAnswer (y .answer)) (λ u. own-reply) us) in
+    let told = rw map-id at (demand3-told (λ (u : Used). u) tell (λ (y : Reply). isOwnVerdict (refusalIn (y .answer))) (λ u v call m. ap isOwnVerdict (refusal-told v call m)) us) in
     (λ e. told .0 (ap (λ ys. map tell us ⊛ ys) e), alike-from us freshMemory [] tt)

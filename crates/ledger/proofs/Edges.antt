@@ -1,7 +1,8 @@
 -- The thirteen edges hold, and the rows beside them: the checker computes one test over each table, and what passes it holds.
 use mathlib.Core.Bool.{Bool, _&&_}
-use mathlib.Core.Path.{_≡_, refl}
+use mathlib.Core.Path.{refl}
 use lib.Dec.{T, eqb, eqb→eq}
+use Rattle.lists.specs.Sums.{total}
 use Rattle.lists.specs.Blocks.{overwritten}
 use Rattle.lists.specs.Tests.{all, All}
 use Rattle.lists.proofs.Tests.{both, sameBy, sameBy→eq, all→All}
@@ -19,10 +20,10 @@ use Rattle.ledger.specs.PutOff.{waitingEdges}
 use Rattle.ledger.specs.Pinned.{pinnedEdges}
 
 -- a row's two equations as a test
-passes : Row → Bool
+unfoldable pub passes : Row → Bool
 passes row = sameBy (sameBy eqb) (answered row) (expected row) && eqb (clockAfter row) (row .clock)
 
-passing-holds : (row : Row) → T (passes row) → RowHolds row
+pub passing-holds : (row : Row) → T (passes row) → RowHolds row
 unfolding passes
 passing-holds row t =
     let (answers, clock) = both (sameBy (sameBy eqb) (answered row) (expected row)) (eqb (clockAfter row) (row .clock)) t in
@@ -34,7 +35,7 @@ passing-holds row t =
 -- the checker runs all calls of the tables
 all-pass : T (all passes edges) × T (all passes moreEdges) × T (all passes waitingEdges) × T (all passes pinnedEdges)
 unfolding passes edges moreEdges waitingEdges pinnedEdges fresh reply next replies afterAll testsOf verdict
-    freshMemory objectAt written overwritten replyTo memoryAfter expirationsAfter handlesOf setOnEach usage dueAfter remaining remainingLife putOff deserted lasting released
+    freshMemory objectAt written overwritten total replyTo memoryAfter expirationsAfter handlesOf setOnEach usage dueAfter remaining remainingLife putOff deserted lasting released
     freshClocks moved allTicked tasksAfter advances clocksAfter
     limits lastHandle counterRange
 all-pass = (tt, tt, tt, tt)

@@ -95,7 +95,7 @@ kept-carried m xs (Refresh task kind extension handle) new c k =
     (pins-after m xs (Refresh task kind extension handle) new lasts k)
 kept-carried m xs (Read task handle) new c k = kept-settled (k .clocks) (k .objects) (k .expirations) (k .pins, k .once)
 kept-carried m xs (Write task handle offset) new c k =
-    let (exists, (present, (active, (given, (gone, (outside, end)))))) = c in
+    let (exists, (present, (active, (given, (gone, (intact, (outside, end))))))) = c in
     kept-settled (k .clocks) (objects-written handle offset new outside (k .objects))
     (reowned (λ x e o. rw any-map o) (k .expirations)) (k .pins, k .once)
 kept-carried m xs (Batch task kind extension) new c k =

@@ -4,18 +4,21 @@ use native.Mathlib.Nat.{le-trans}
 use native.Mathlib.Omega.{arith}
 use mathlib.Core.Bool.{Bool, true, false, true≢false, cond, not, _||_}
 use mathlib.Core.List.{List, [], _∷_, _++_, map}
-use mathlib.Core.Path.{_≡_, sym, _∙_}
-use borrow.Author.Tests.{leb-false, ltb-false, eqb-true, eqb-false}
+use mathlib.Core.Path.{_≡_, refl, sym, _∙_}
+use borrow.Author.Tests.{leb-true, leb-false, ltb-false, eqb-true, eqb-false, eq-eqb}
 use lib.Dec.{eqb, leb, ltb}
-use lib.ListN.{length, length-append, length-take, length-drop, length-replicate}
+use lib.ListN.{length, length-replicate}
 use Rattle.lists.specs.Blocks.{overwritten}
+use Rattle.lists.specs.Sums.{total}
 use Rattle.lists.specs.Tests.{filter, All}
 use Rattle.lists.proofs.Cases.{by-test}
+use Rattle.lists.proofs.Blocks.{length-overwritten}
+use Rattle.lists.proofs.Sums.{total-zeros}
 use Rattle.lists.proofs.All.{all-imp, all-both, all-filter, all-append, all-map}
 use Rattle.lists.proofs.Counts.{count-append, count-map, count-filter}
-use Rattle.ledger.specs.Limits.{largeSize, lastHandle, isSmall, blocksFor}
+use Rattle.ledger.specs.Limits.{smallSize, largeSize, lastHandle, isSmall, blockSize, blocksFor}
 use Rattle.ledger.specs.Expirations.{Expiration}
-use Rattle.ledger.specs.Objects.{Object, zeroed, objectAt, written, stands, standing, inStoreOf}
+use Rattle.ledger.specs.Objects.{Object, zeroed, isIntact, objectAt, written, stands, standing, inStoreOf}
 use Rattle.ledger.specs.Kept.{ObjectKept, Ascending, ObjectsKept}
 
 -- the order of handles stays when some go
@@ -62,6 +65,10 @@ ranged size e =
     (λ d. absurd (true≢false (rw d at e)))
     (λ d. (omega (arith, eqb-false size 0 d), ltb-false largeSize size (rw d at e)))
 
+-- an object lies within its block
+pub in-block : (size : ℕ) → size ≤ largeSize → size ≤ blockSize size
+in-block size h = by-test (isSmall size) (λ e. rw e (leb-true size smallSize e)) (λ e. rw e h)
+
 -- where the object's store has a free block, either store has room for its own
 stored : (b : Bool) (s l small large : ℕ) → s ≤ small → l ≤ large → leb (cond b small large) (cond b s l) ≡ false
     → (s + cond b 1 0 ≤ small) × (l + cond (not b) 1 0 ≤ large)
@@ -77,8 +84,15 @@ objects-made {given} {os} size range spent full k =
     record {
       each =
           all-append (ObjectKept (given + 1)) os _
-          (all-imp (λ o h. record { numbered = omega (arith, h .numbered); sized = h .sized; filled = h .filled }) os (k .each))
-          (record { numbered = omega arith; sized = ranged size range; filled = length-replicate size 0 }, tt);
+          (all-imp (λ o h. record { numbered = omega (arith, h .numbered); sized = h .sized; filled = h .filled; intact = h .intact }) os (k .each)) (
+            record {
+              numbered = omega arith;
+              sized = ranged size range;
+              filled = length-replicate (blockSize size) 0;
+              intact = eq-eqb _ _ (total-zeros (blockSize size));
+            },
+            tt,
+          );
       ascending = ascending-append _ os (all-imp (λ o h. omega (arith, h .numbered)) os (k .each)) (k .ascending);
       numbers = omega (arith, leb-false lastHandle given spent);
       small = rw count-append (room .0);
@@ -86,18 +100,26 @@ objects-made {given} {os} size range spent full k =
     }
 
 module _ (handle offset : ℕ) (new : List ℕ) where
-  -- a write within an object leaves as many bytes
+  -- a write leaves the sum of the bytes that are there then
+  pub intact-written : (o : Object) → isIntact o ≡ true → isIntact (written handle offset new o) ≡ true
+  unfolding written
+  intact-written o h =
+      let sum = total (overwritten offset new (o .bytes)) in
+      by-test (eqb (o .handle) handle) (λ e. rw e (eq-eqb sum sum refl)) (λ e. rw e h)
+
+  -- and, within an object, as many
   written-kept : (given : ℕ) (o : Object) → ObjectKept given o → (eqb (o .handle) handle ≡ true → offset + length new ≤ o .size)
       → ObjectKept given (written handle offset new o)
-  unfolding written overwritten
+  unfolding written
   written-kept given o k f =
       record {
         numbered = k .numbered;
         sized = k .sized;
         filled =
             by-test (eqb (o .handle) handle)
-            (λ e. rw e (simp (length-append, length-take, length-drop) (omega (arith, f e, k .filled))))
+            (λ e. rw e (length-overwritten offset new (o .bytes) (omega (arith, f e, in-block (o .size) (k .sized .1), k .filled)) ∙ k .filled))
             (λ e. rw e (k .filled));
+        intact = intact-written o (k .intact);
       }
 
   -- and the order of handles

@@ -1,9 +1,10 @@
 pub mod Figures
+pub mod Passed
+pub mod Standing
 pub mod Verdicts
 pub mod Demand3
 pub mod Edges
 pub mod PutOff
-pub mod Passed
 pub mod KeptTasks
 pub mod KeptObjects
 pub mod KeptExpirations
@@ -21,3 +22,7 @@ pub mod OutlivesRows
 pub mod Pinned
 pub mod Batches
 pub mod LongBatches
+pub mod Hidden
+pub mod Broken
+pub mod Noticed
+pub mod NoticedRows

@@ -4,6 +4,7 @@ use mathlib.Core.List.{[], _∷_, map}
 use mathlib.Core.Path.{refl}
 use lib.Dec.{T, eqb, eqb→eq}
 use lib.ListN.{length}
+use Rattle.lists.specs.Sums.{total}
 use Rattle.lists.specs.Blocks.{overwritten}
 use Rattle.lists.specs.Tests.{all}
 use Rattle.lists.proofs.Tests.{both, sameBy, sameBy→eq, all→All}
@@ -35,7 +36,7 @@ passing-holds t p =
 
 all-pass : T (all passes trials)
 unfolding passes trials fresh next afterAll testsOf verdict moveOf moveIn setIn followed countOf isRound isFree
-    freshMemory objectAt written overwritten memoryAfter expirationsAfter handlesOf setOnEach dueAfter remaining putOff deserted lasting released
+    freshMemory objectAt written overwritten total memoryAfter expirationsAfter handlesOf setOnEach dueAfter remaining putOff deserted lasting released
     freshClocks moved allTicked tasksAfter advances clocksAfter
     limits lastHandle
 all-pass = tt

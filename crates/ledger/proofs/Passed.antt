@@ -1,13 +1,19 @@
--- A call that is carried out has passed all its tests.
+-- A call that is carried out has passed all its tests, and its answer is no refusal.
 use Prim.Native.Nat.{ℕ}
 use mathlib.Core.Bool.{Bool, true, false, cond}
 use mathlib.Core.List.{List, [], _∷_}
 use mathlib.Core.Option.{Option, none, some, IsSome}
 use mathlib.Core.Path.{_≡_, refl, subst}
+use Rattle.lists.proofs.Cases.{by-test}
+use Rattle.ledger.specs.Tasks.{isTested}
 use Rattle.ledger.specs.Expirations.{Expiration}
-use Rattle.ledger.specs.Objects.{Memory}
+use Rattle.ledger.specs.Objects.{Memory, Reply, replyTo}
 use Rattle.ledger.specs.Refusals.{Test, shared, own, testsOf, verdict}
+use Rattle.ledger.specs.Ledger.{replyBy}
+use Rattle.ledger.specs.declared.Answer.{Answer}
+use Rattle.ledger.specs.declared.Answer.the-variants.{Refused, Done, Advanced, Handle, Bytes, Counted, Lasts}
 use Rattle.ledger.specs.declared.Call.{Call}
+use Rattle.ledger.specs.declared.Call.the-variants.{Schedule, Make, Refresh, Read, Write, Batch, Release}
 use Rattle.ledger.specs.declared.Refusal.{Refusal}
 
 abbrev pub AllPassed : Memory → List Expiration → List Test → Type 0
@@ -29,3 +35,32 @@ unfolding verdict
 passed m xs [] e = tt
 passed m xs (shared r holds ∷ ts) e = first (holds m) r (passed m xs ts) e
 passed m xs (own r holds ∷ ts) e = first (holds m xs) r (passed m xs ts) e
+
+-- the refusal in an answer
+abbrev pub refusalIn : Answer → Option Refusal
+refusalIn (Refused r) = some r
+refusalIn Done = none
+refusalIn (Advanced b) = none
+refusalIn (Handle h) = none
+refusalIn Bytes = none
+refusalIn (Counted u) = none
+refusalIn (Lasts life) = none
+
+-- one that is carried out has none,
+no-refusal : (call : Call) (m : Memory) → refusalIn (replyTo call m .answer) ≡ none
+unfolding replyTo
+no-refusal (Schedule event task) m = by-test (isTested event) (λ e. rw e) (λ e. rw e)
+no-refusal (Make task kind extension size) m = refl
+no-refusal (Refresh task kind extension handle) m = refl
+no-refusal (Read task handle) m = refl
+no-refusal (Write task handle offset) m = refl
+no-refusal (Batch task kind extension) m = refl
+no-refusal (Release task handle) m = refl
+
+-- and so a reply tells its verdict
+pub verdict-told : (v : Option Refusal) (y : Reply) → refusalIn (y .answer) ≡ none → refusalIn (replyBy v y .answer) ≡ v
+verdict-told none y e = e
+verdict-told (some r) y e = refl
+
+pub refusal-told : (v : Option Refusal) (call : Call) (m : Memory) → refusalIn (replyBy v (replyTo call m) .answer) ≡ v
+refusal-told v call m = verdict-told v (replyTo call m) (no-refusal call m)

@@ -1,7 +1,7 @@
 -- An object that was made pinned stands until a release of it is accepted: what is pinned loses a handle by its release alone, and has a pinned expiration.
 use Prim.Native.Nat.{ℕ, _+_}
 use native.Mathlib.Omega.{arith}
-use mathlib.Core.Bool.{Bool, true, false, true≢false, cond, and-eq-true-iff}
+use mathlib.Core.Bool.{Bool, true, false, true≢false, cond, not, and-eq-true-iff}
 use mathlib.Core.List.{List, [], _∷_}
 use mathlib.Core.Option.{Option, none, some}
 use mathlib.Core.Path.{_≡_, refl, sym, _∙_}
@@ -14,7 +14,7 @@ use Rattle.lists.proofs.Implied.{any-none}
 use Rattle.ledger.specs.Limits.{taskCount}
 use Rattle.ledger.specs.Tasks.{taskAt, isAbsent, isWaiting}
 use Rattle.ledger.specs.Expirations.{Expiration, isPinned, isOf, isPinOf}
-use Rattle.ledger.specs.Objects.{Memory, Reply, stands, pinnedBy, replyTo, memoryAfter, expirationsAfter}
+use Rattle.ledger.specs.Objects.{Memory, Reply, objectAt, isIntact, stands, pinnedBy, replyTo, memoryAfter, expirationsAfter}
 use Rattle.ledger.specs.Refusals.{isNotGiven, testsOf, verdict}
 use Rattle.ledger.specs.Ledger.{Ledger, Sent, fresh, settled, replyBy, afterBy, verdictOn, reply, next, afterRequest, afterSent, afterAll}
 use Rattle.ledger.specs.Kept.{Kept}
@@ -26,7 +26,7 @@ use Rattle.ledger.specs.declared.Call.the-variants.{Schedule, Make, Refr
 use Rattle.ledger.specs.declared.Kind.{Kind}
 use Rattle.ledger.specs.declared.Kind.the-variants.{Local, Global, Pinned}
 use Rattle.ledger.specs.declared.Refusal.{Refusal}
-use Rattle.ledger.specs.declared.Refusal.the-variants.{NoSuchTask, TaskAbsent, TaskWaiting, HandleNotGiven, ObjectGone}
+use Rattle.ledger.specs.declared.Refusal.the-variants.{NoSuchTask, TaskAbsent, TaskWaiting, HandleNotGiven, ObjectGone, SumDiffers}
 use Rattle.ledger.specs.declared.Request.{Request}
 use Rattle.ledger.specs.declared.Request.the-variants.{Use, Report, Remaining}
 use Rattle.ledger.proofs.KeptPins.{eqb-swap}
@@ -34,13 +34,17 @@ use Rattle.ledger.proofs.Kept.{kept-request, kept-after, kept-all}
 use Rattle.ledger.proofs.Edges.{pinned-edges-hold}
 
 -- a read of an object that stands is not answered 12, whatever else it is
-not-gone : (a b c d : Bool) (y : Reply) → (y .answer ≡ Refused ObjectGone → ⊥)
-    → replyBy (cond a (some NoSuchTask) (cond b (some TaskAbsent) (cond c (some TaskWaiting) (cond d (some HandleNotGiven) none)))) y .answer ≡ Refused ObjectGone → ⊥
-not-gone true b c d y f e = let z : _≡_ {A = ℕ} 0 1 = cc in omega arith
-not-gone false true c d y f e = let z : _≡_ {A = ℕ} 0 1 = cc in omega arith
-not-gone false false true d y f e = let z : _≡_ {A = ℕ} 0 1 = cc in omega arith
-not-gone false false false true y f e = let z : _≡_ {A = ℕ} 0 1 = cc in omega arith
-not-gone false false false false y f e = f e
+not-gone : (a b c d e : Bool) (y : Reply) → (y .answer ≡ Refused ObjectGone → ⊥)
+    → replyBy
+    (cond a (some NoSuchTask)
+    (cond b (some TaskAbsent) (cond c (some TaskWaiting) (cond d (some HandleNotGiven) (cond e (some SumDiffers) none))))) y .answer
+    ≡ Refused ObjectGone → ⊥
+not-gone true b c d e y f g = let z : _≡_ {A = ℕ} 0 1 = cc in omega arith
+not-gone false true c d e y f g = let z : _≡_ {A = ℕ} 0 1 = cc in omega arith
+not-gone false false true d e y f g = let z : _≡_ {A = ℕ} 0 1 = cc in omega arith
+not-gone false false false true e y f g = let z : _≡_ {A = ℕ} 0 1 = cc in omega arith
+not-gone false false false false true y f g = let z : _≡_ {A = ℕ} 0 1 = cc in omega arith
+not-gone false false false false false y f g = f g
 
 never : Bytes ≡ Refused ObjectGone → ⊥
 never e = let z : _≡_ {A = ℕ} 0 1 = cc in omega arith
@@ -49,7 +53,8 @@ pub read-stands : (L : Ledger) (task handle : ℕ) → stands (L .expirations) h
 unfolding reply verdict testsOf replyTo
 read-stands L task handle h e =
     let state = taskAt (L .memory .clocks) task .state in
-    not-gone (leb taskCount task) (isAbsent state) (isWaiting state) (isNotGiven (L .memory) handle) (replyTo (Read task handle) (L .memory)) never (rw h at e)
+    not-gone (leb taskCount task) (isAbsent state) (isWaiting state) (isNotGiven (L .memory) handle)
+    (not (isIntact (objectAt handle (L .memory .objects)))) (replyTo (Read task handle) (L .memory)) never (rw h at e)
 
 module _ (object : ℕ) where
   abbrev isAmong : Memory → Bool

@@ -36,7 +36,7 @@ shown clocks x = record { handle = x .handle; left = leftOf clocks (x .due) }
 
 -- L7: bytes only where the store is whole; isWhole says of a size whether its store has 01's length
 abbrev pub shownObject : (ℕ → Bool) → Object → Object
-shownObject isWhole o = record { handle = o .handle; size = o .size; bytes = cond (isWhole (o .size)) (o .bytes) [] }
+shownObject isWhole o = record { handle = o .handle; size = o .size; bytes = cond (isWhole (o .size)) (o .bytes) []; sum = o .sum }
 
 pub record View : Type 0 where
   pub tasks : List Task

@@ -6,10 +6,10 @@ use mathlib.Core.Path.{_≡_}
 use lib.Dec.{eqb}
 use lib.ListN.{length}
 use Rattle.lists.specs.Tests.{any, count, All}
-use Rattle.ledger.specs.Limits.{limits, taskCount, largeSize, lastHandle}
+use Rattle.ledger.specs.Limits.{limits, taskCount, largeSize, lastHandle, blockSize}
 use Rattle.ledger.specs.Tasks.{Task, Clocks, taskAt, isAbsent, isRunning, allTicked}
 use Rattle.ledger.specs.Expirations.{DueTime, byLocal, byGlobal, pinned, departed, Expiration, remaining, isLive, isOf, isPinOf}
-use Rattle.ledger.specs.Objects.{Object, stands, smallOnes, largeOnes}
+use Rattle.ledger.specs.Objects.{Object, isIntact, stands, smallOnes, largeOnes}
 use Rattle.ledger.specs.Ledger.{Ledger}
 
 -- W9, W11: who is ticked runs, and an absent task has local time 0
@@ -27,9 +27,10 @@ pub record ClocksKept (clocks : Clocks) : Type 0 where
 pub record ObjectKept (given : ℕ) (o : Object) : Type 0 where
   -- W4: a handle that was given
   pub numbered : (1 ≤ o .handle) × (o .handle ≤ given)
-  -- W3, O1: a length that goes to a store, and as many bytes
+  -- W3, O33: a length that goes to a store, as many bytes as a block of it has, and their sum
   pub sized : (1 ≤ o .size) × (o .size ≤ largeSize)
-  pub filled : length (o .bytes) ≡ o .size
+  pub filled : length (o .bytes) ≡ blockSize (o .size)
+  pub intact : isIntact o ≡ true
 
 -- L2: in the order of their handles, and so no two alike (W5)
 abbrev pub Ascending : List Object → Type 0

@@ -4,11 +4,10 @@ use mathlib.Core.List.{List, [], _∷_}
 use mathlib.Core.Option.{Option, none, some}
 use Rattle.ledger.specs.Expirations.{Expiration}
 use Rattle.ledger.specs.Objects.{Memory, Reply, freshMemory, plain, standing, replyTo, memoryAfter, expirationsAfter, usage}
-use Rattle.ledger.specs.Refusals.{testsOf, verdict}
+use Rattle.ledger.specs.Refusals.{testsOf, standingTests, verdict}
 use Rattle.ledger.specs.Remaining.{remainingLife}
 use Rattle.ledger.specs.declared.Answer.the-variants.{Refused, Counted, Lasts}
 use Rattle.ledger.specs.declared.Call.{Call}
-use Rattle.ledger.specs.declared.Call.the-variants.{Read}
 use Rattle.ledger.specs.declared.Refusal.{Refusal}
 use Rattle.ledger.specs.declared.Request.{Request}
 use Rattle.ledger.specs.declared.Request.the-variants.{Use, Report, Remaining}
@@ -42,6 +41,9 @@ afterBy (some r) next now = now
 abbrev pub verdictOn : Ledger → Call → List ℕ → Option Refusal
 verdictOn L call new = verdict (L .memory) (L .expirations) (testsOf call new)
 
+abbrev pub standingVerdictOn : Ledger → ℕ → ℕ → Option Refusal
+standingVerdictOn L task handle = verdict (L .memory) (L .expirations) (standingTests task handle)
+
 unfoldable pub reply : Ledger → Call → List ℕ → Reply
 reply L call new = replyBy (verdictOn L call new) (replyTo call (L .memory))
 
@@ -51,12 +53,12 @@ next L call new =
     (settled (memoryAfter call new (L .memory)) (expirationsAfter call new (L .memory) (L .expirations)))
     L
 
--- all thirteen calls: report answers its figures (O24), and remaining life makes the tests of a read (R46); neither changes anything (O25)
+-- all thirteen calls: report answers its figures (O24), and remaining life asks that the object stands (R46); neither changes anything (O25)
 abbrev pub replyToRequest : Ledger → Request → List ℕ → Reply
 replyToRequest L (Use call) new = reply L call new
 replyToRequest L Report new = plain (Counted (usage (L .memory) (L .expirations)))
 replyToRequest L (Remaining task handle) new =
-    replyBy (verdictOn L (Read task handle) []) (plain (Lasts (remainingLife task handle (L .memory .clocks) (L .expirations))))
+    replyBy (standingVerdictOn L task handle) (plain (Lasts (remainingLife task handle (L .memory .clocks) (L .expirations))))
 
 abbrev pub afterRequest : Ledger → Request → List ℕ → Ledger
 afterRequest L (Use call) new = next L call new

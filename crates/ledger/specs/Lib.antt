@@ -17,3 +17,5 @@ pub mod MoreEdges
 pub mod PutOff
 pub mod OutlivesRows
 pub mod Pinned
+pub mod Noticed
+pub mod NoticedRows

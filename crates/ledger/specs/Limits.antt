@@ -45,6 +45,10 @@ counterRange = 4294967296
 abbrev pub isSmall : ℕ → Bool
 isSmall length = leb length smallSize
 
+-- O5, O6: the bytes of the block that a length gets
+abbrev pub blockSize : ℕ → ℕ
+blockSize length = cond (isSmall length) smallSize largeSize
+
 -- the blocks of the store to which a length goes
 abbrev pub blocksFor : ℕ → ℕ
 blocksFor length = cond (isSmall length) (limits .smallBlocks) (limits .largeBlocks)

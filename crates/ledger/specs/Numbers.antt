@@ -3,7 +3,7 @@ use Prim.Native.Nat.{ℕ}
 use mathlib.Core.Bool.{cond}
 use mathlib.Core.List.{List, [], _∷_}
 use Rattle.ledger.specs.declared.Refusal.{Refusal}
-use Rattle.ledger.specs.declared.Refusal.the-variants.{NoSuchTask, TaskPresent, TaskAbsent, TaskWaiting, TaskRunning, ExtensionTooLong, LengthOutOfRange, HandlesSpent, NoFreeBlock, NoFreeExpiration, HandleNotGiven, ObjectGone, OutsideObject, WrongStoreLength, NotWellFormed, NotHexadecimal, UnknownOperation, WrongFrameLength, UnknownKind, BatchOutOfRange, OnlyMakePins, NotPinned}
+use Rattle.ledger.specs.declared.Refusal.the-variants.{NoSuchTask, TaskPresent, TaskAbsent, TaskWaiting, TaskRunning, ExtensionTooLong, LengthOutOfRange, HandlesSpent, NoFreeBlock, NoFreeExpiration, HandleNotGiven, ObjectGone, OutsideObject, WrongStoreLength, NotWellFormed, NotHexadecimal, UnknownOperation, WrongFrameLength, UnknownKind, BatchOutOfRange, OnlyMakePins, NotPinned, SumDiffers}
 use Rattle.ledger.specs.declared.Answer.{Answer}
 use Rattle.ledger.specs.declared.Answer.the-variants.{Refused, Done, Advanced, Handle, Bytes, Counted, Lasts}
 
@@ -31,6 +31,7 @@ numberOf UnknownKind = 19
 numberOf BatchOutOfRange = 20
 numberOf OnlyMakePins = 21
 numberOf NotPinned = 22
+numberOf SumDiffers = 23
 
 -- the number of an answer: 0 where the call was carried out
 abbrev pub answerNumber : Answer → ℕ

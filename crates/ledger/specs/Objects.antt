@@ -3,10 +3,11 @@ use Prim.Native.Nat.{ℕ, _+_, _*_}
 use mathlib.Core.Bool.{Bool, cond, not}
 use mathlib.Core.List.{List, [], _∷_, _++_, map}
 use lib.Dec.{eqb}
-use lib.ListN.{length, replicate}
+use lib.ListN.{length, take, replicate}
 use Rattle.lists.specs.Blocks.{overwritten}
+use Rattle.lists.specs.Sums.{total}
 use Rattle.lists.specs.Tests.{any, filter, count}
-use Rattle.ledger.specs.Limits.{isSmall}
+use Rattle.ledger.specs.Limits.{isSmall, blockSize}
 use Rattle.ledger.specs.Tasks.{Clocks, freshClocks, isTested, advances, clocksAfter}
 use Rattle.ledger.specs.Expirations.{Expiration, isOf, dueAfter, lasting, released, setOnEach}
 use Rattle.ledger.specs.declared.Kind.{Kind}
@@ -17,11 +18,12 @@ use Rattle.ledger.specs.declared.Answer.the-variants.{Done, Advanced, Ha
 use Rattle.ledger.specs.declared.Call.{Call}
 use Rattle.ledger.specs.declared.Call.the-variants.{Schedule, Make, Refresh, Read, Write, Batch, Release}
 
--- O1: an object; its handle is 01's number
+-- O1: an object; its handle is 01's number. O33: `bytes` are those of its whole block, and `sum` is what they are to add up to
 pub record Object : Type 0 where
   pub handle : ℕ
   pub size : ℕ
   pub bytes : List ℕ
+  pub sum : ℕ
 
 -- what the ledger and the unbounded heap both keep; E23: `pinned` has the handles of the objects whose pinned expiration is left
 pub record Memory : Type 0 where
@@ -42,23 +44,32 @@ pub record Reply : Type 0 where
 abbrev pub plain : Answer → Reply
 plain answer = record { answer = answer; bytes = [] }
 
--- O12: a new object has zeros for its bytes
+-- O12, O33: a new object has a block of zeros
 abbrev pub zeroed : ℕ → ℕ → Object
-zeroed handle size = record { handle = handle; size = size; bytes = replicate size 0 }
+zeroed handle size = record { handle = handle; size = size; bytes = replicate (blockSize size) 0; sum = 0 }
+
+-- O19: the object's own bytes, the first of its block
+abbrev pub contents : Object → List ℕ
+contents o = take (o .size) (o .bytes)
+
+-- O34: the bytes add up to the sum
+abbrev pub isIntact : Object → Bool
+isIntact o = eqb (total (o .bytes)) (o .sum)
 
 -- the object with this handle
 unfoldable pub objectAt : ℕ → List Object → Object
 objectAt handle [] = zeroed 0 0
 objectAt handle (o ∷ os) = cond (eqb (o .handle) handle) o (objectAt handle os)
 
--- O20: new bytes from the offset on, in the object with this handle; all others stay
+-- O20, O35: new bytes from the offset on, in the object with this handle, and their sum; all others stay
 unfoldable pub written : ℕ → ℕ → List ℕ → Object → Object
 written handle offset new o =
-    let old = o .bytes in
+    let bytes = overwritten offset new (o .bytes) in
     record {
       handle = o .handle;
       size = o .size;
-      bytes = cond (eqb (o .handle) handle) (overwritten offset new old) old;
+      bytes = cond (eqb (o .handle) handle) bytes (o .bytes);
+      sum = cond (eqb (o .handle) handle) (total bytes) (o .sum);
     }
 
 -- O31: the handles of a batch stand in its bytes, four to a handle, the high one first
@@ -92,7 +103,7 @@ unfoldable pub replyTo : Call → Memory → Reply
 replyTo (Schedule event task) m = plain (cond (isTested event) (Advanced (advances event task (m .clocks))) Done)
 replyTo (Make task kind extension size) m = plain (Handle (m .given + 1))
 replyTo (Refresh task kind extension handle) m = plain Done
-replyTo (Read task handle) m = record { answer = Bytes; bytes = objectAt handle (m .objects) .bytes }
+replyTo (Read task handle) m = record { answer = Bytes; bytes = contents (objectAt handle (m .objects)) }
 replyTo (Write task handle offset) m = plain Done
 replyTo (Batch task kind extension) m = plain Done
 replyTo (Release task handle) m = plain Done

@@ -9,7 +9,7 @@ use Rattle.lists.specs.Tests.{any}
 use Rattle.ledger.specs.Limits.{limits, taskCount, largeSize, largestBatch, lastHandle, blocksFor}
 use Rattle.ledger.specs.Tasks.{taskAt, isAbsent, isRunning, isWaiting}
 use Rattle.ledger.specs.Expirations.{Expiration}
-use Rattle.ledger.specs.Objects.{Memory, objectAt, stands, inStoreOf, handlesOf}
+use Rattle.ledger.specs.Objects.{Memory, objectAt, isIntact, stands, inStoreOf, handlesOf}
 use Rattle.ledger.specs.declared.Event.the-variants.{Join, Leave, Block, Resume, Tick}
 use Rattle.ledger.specs.declared.Call.{Call}
 use Rattle.ledger.specs.declared.Call.the-variants.{Schedule, Make, Refresh, Read, Write, Batch, Release}
@@ -18,7 +18,7 @@ use Rattle.ledger.specs.declared.Kind.the-variants.{Local, Global, Pinne
 use Rattle.ledger.specs.declared.Verdict.{Verdict}
 use Rattle.ledger.specs.declared.Verdict.the-variants.{Accepted, Refused}
 use Rattle.ledger.specs.declared.Refusal.{Refusal}
-use Rattle.ledger.specs.declared.Refusal.the-variants.{NoSuchTask, TaskPresent, TaskAbsent, TaskWaiting, TaskRunning, ExtensionTooLong, LengthOutOfRange, HandlesSpent, NoFreeBlock, NoFreeExpiration, HandleNotGiven, ObjectGone, OutsideObject, BatchOutOfRange, OnlyMakePins, NotPinned}
+use Rattle.ledger.specs.declared.Refusal.the-variants.{NoSuchTask, TaskPresent, TaskAbsent, TaskWaiting, TaskRunning, ExtensionTooLong, LengthOutOfRange, HandlesSpent, NoFreeBlock, NoFreeExpiration, HandleNotGiven, ObjectGone, OutsideObject, BatchOutOfRange, OnlyMakePins, NotPinned, SumDiffers}
 
 -- A test refuses a call where it holds. The unbounded heap makes those that look at the memory alone; the others are the pool's own.
 pub data Test : Type 0 where
@@ -103,6 +103,10 @@ onlyMakePins kind = shared OnlyMakePins (λ (m : Memory). isPinning kind)
 abbrev pub notPinned : ℕ → Test
 notPinned handle = shared NotPinned (λ (m : Memory). not (any (eqb handle) (m .pinned)))
 
+-- R23: the bytes of the object's block no longer add up to its sum
+abbrev pub sumDiffers : ℕ → Test
+sumDiffers handle = shared SumDiffers (λ (m : Memory). not (isIntact (objectAt handle (m .objects))))
+
 -- R11, R12 for a batch: some handle of it was not given, some object of it does not stand
 abbrev pub someNotGiven : List ℕ → Test
 someNotGiven handles = shared HandleNotGiven (λ (m : Memory). any (isNotGiven m) handles)
@@ -113,6 +117,11 @@ someGone handles = own ObjectGone (λ (m : Memory) (xs : List Expiration). any (
 -- R10 for a batch: there is no room for so many expirations more
 abbrev pub noRoomFor : ℕ → Test
 noRoomFor count = own NoFreeExpiration (λ (m : Memory) (xs : List Expiration). ltb (limits .expirations) (length xs + count))
+
+-- R46: the task runs and the object stands, which remaining life asks
+abbrev pub standingTests : ℕ → ℕ → List Test
+standingTests task handle =
+    noSuchTask task ∷ taskAbsent task ∷ taskWaiting task ∷ handleNotGiven handle ∷ objectGone handle ∷ []
 
 -- R36 to R43, R47, R48: each call's tests in their order; the list is the bytes of a write or a batch
 unfoldable pub testsOf : Call → List ℕ → List Test
@@ -128,10 +137,10 @@ testsOf (Refresh task kind extension handle) new =
     noSuchTask task ∷ taskAbsent task ∷ taskWaiting task ∷ onlyMakePins kind ∷ extensionTooLong kind extension
     ∷ handleNotGiven handle ∷ objectGone handle ∷ noFreeExpiration ∷ []
 testsOf (Read task handle) new =
-    noSuchTask task ∷ taskAbsent task ∷ taskWaiting task ∷ handleNotGiven handle ∷ objectGone handle ∷ []
+    noSuchTask task ∷ taskAbsent task ∷ taskWaiting task ∷ handleNotGiven handle ∷ objectGone handle ∷ sumDiffers handle ∷ []
 testsOf (Write task handle offset) new =
     noSuchTask task ∷ taskAbsent task ∷ taskWaiting task ∷ handleNotGiven handle ∷ objectGone handle
-    ∷ outsideObject handle offset (length new) ∷ []
+    ∷ sumDiffers handle ∷ outsideObject handle offset (length new) ∷ []
 testsOf (Batch task kind extension) new =
     let handles = handlesOf new in
     noSuchTask task ∷ taskAbsent task ∷ taskWaiting task ∷ batchOutOfRange (length handles) ∷ onlyMakePins kind

@@ -114,7 +114,7 @@ pub struct Life {
     pub global: u8,
 }
 
-// R1 to R22, in the order of their numbers: 16 to 19 are of a frame, the others of a call.
+// R1 to R23, in the order of their numbers: 16 to 19 are of a frame, the others of a call.
 pub enum Refusal {
     NoSuchTask,
     TaskPresent,
@@ -138,6 +138,7 @@ pub enum Refusal {
     BatchOutOfRange,
     OnlyMakePins,
     NotPinned,
+    SumDiffers,
 }
 
 // Whether a call is carried out.
@@ -184,6 +185,7 @@ pub fn number_of(refusal: Refusal) -> u8
         Refusal::BatchOutOfRange => 20,
         Refusal::OnlyMakePins => 21,
         Refusal::NotPinned => 22,
+        Refusal::SumDiffers => 23,
     }
 }
 

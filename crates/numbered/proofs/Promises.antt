@@ -64,10 +64,10 @@ pub makes : {task : ℕ} {kind : Kind} {extension size : ℕ} {p p′ : Pool} {s
     → MakesOne task kind extension size p small large numbers (r .number) (r .pool) small′ large′ numbers′
 makes answer m t e = record { answer = answer; makes = rw (e .1) m; told = told answer (e .0) t }
 
-pub writes : {task handle offset : ℕ} {bytes : List ℕ} {p : Pool} {small large : List ℕ} (answer : Answer) {small′ large′ : List ℕ} {number : ℕ}
-    → Writes task handle offset bytes p small large answer small′ large′ → Tells answer [] [] → number ≡ answerNumber answer
-    → WritesTo task handle offset bytes p small large number small′ large′
-writes answer w t n = record { answer = answer; writes = w; told = told answer n t }
+pub writes : {task handle offset : ℕ} {bytes : List ℕ} {p p′ : Pool} {small large small′ large′ : List ℕ} (answer : Answer) {r : Numbered}
+    → Writes task handle offset bytes p small large answer p′ small′ large′ → Tells answer [] [] → Gave answer p′ r
+    → WritesTo task handle offset bytes p small large (r .number) (r .pool) small′ large′
+writes answer w t e = record { answer = answer; writes = rw (e .1) w; told = told answer (e .0) t }
 
 -- a refusal tells no number
 pub tells-none : {why : Refusal} (numbers : List ℕ) → Tells (Refused why) numbers numbers
@@ -149,7 +149,7 @@ module _ {p : Pool} (types : Typed (tablesOf p)) {answer : Answer} {p′ : Pool}
 
 -- the five events, on the columns of a record: leave, block and tick tell whether time advanced, join and resume nothing
 module _ {p : Pool} (types : Typed (tablesOf p)) {h : Head} (e : h ≡ headOf p) {event : Event} {task : ℕ} {answer : Answer} {p′ : Pool} {r : Numbered}
-    (f : Follows (Use (Schedule event task)) (pooled h (p .handles) (p .lengths) (p .clocks) (p .named) (p .dues)) answer p′) (gave : Gave answer p′ r) where
+    (f : Follows (Use (Schedule event task)) (pooled h (p .handles) (p .extents) (p .clocks) (p .named) (p .dues)) answer p′) (gave : Gave answer p′ r) where
   event-follows : Follows (Use (Schedule event task)) p answer p′
   event-follows = follows-by-value p e f
 

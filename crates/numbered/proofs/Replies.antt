@@ -11,12 +11,11 @@ use Rattle.lists.proofs.Cases.{by-test}
 use Rattle.ledger.specs.Numbers.{numberOf, answerNumber}
 use Rattle.ledger.specs.Objects.{Reply, plain, replyTo, usage}
 use Rattle.ledger.specs.Remaining.{remainingLife}
-use Rattle.ledger.specs.Ledger.{Ledger, verdictOn, replyBy, reply}
+use Rattle.ledger.specs.Ledger.{Ledger, verdictOn, standingVerdictOn, replyBy, reply}
 use Rattle.ledger.specs.declared.Answer.{Answer}
 use Rattle.ledger.specs.declared.Answer.the-variants.{Refused, Done, Advanced, Handle, Bytes, Counted, Lasts}
-use Rattle.ledger.specs.declared.Call.the-variants.{Read}
 use Rattle.ledger.specs.declared.Refusal.{Refusal}
-use Rattle.ledger.specs.declared.Refusal.the-variants.{NoSuchTask, TaskPresent, TaskAbsent, TaskWaiting, TaskRunning, ExtensionTooLong, LengthOutOfRange, HandlesSpent, NoFreeBlock, NoFreeExpiration, HandleNotGiven, ObjectGone, OutsideObject, WrongStoreLength, NotWellFormed, NotHexadecimal, UnknownOperation, WrongFrameLength, UnknownKind, BatchOutOfRange, OnlyMakePins, NotPinned}
+use Rattle.ledger.specs.declared.Refusal.the-variants.{NoSuchTask, TaskPresent, TaskAbsent, TaskWaiting, TaskRunning, ExtensionTooLong, LengthOutOfRange, HandlesSpent, NoFreeBlock, NoFreeExpiration, HandleNotGiven, ObjectGone, OutsideObject, WrongStoreLength, NotWellFormed, NotHexadecimal, UnknownOperation, WrongFrameLength, UnknownKind, BatchOutOfRange, OnlyMakePins, NotPinned, SumDiffers}
 use Rattle.ledger.specs.declared.Request.{Request}
 use Rattle.ledger.specs.declared.Request.the-variants.{Use, Report, Remaining}
 use Rattle.record.specs.Reading.{Typed}
@@ -38,7 +37,7 @@ carriedOut (Remaining task handle) L = plain (Lasts (remainingLife task handle (
 pub typed : (p : Pool) (vs : List Val) → Is the-row p vs → Typed (tablesOf p)
 typed p vs is =
     let sized = columns-sized p vs is in
-    lent-typed _ (p .handles) (p .lengths) (p .clocks) (p .named) (p .dues) (head-typed p vs is) (sized .blocks) (sized .entries)
+    lent-typed _ (p .handles) (p .extents) (p .clocks) (p .named) (p .dues) (head-typed p vs is) (sized .blocks) (sized .entries)
 
 -- by the ledger's verdict
 by-verdict : {C : Type 0} {y done : Reply} (v : Option Refusal) → ((why : Refusal) → y ≡ plain (Refused why) → C) → (y ≡ done → C) → y ≡ replyBy v done → C
@@ -53,7 +52,7 @@ module _ {C : Type 0} {p : Pool} (types : Typed (tablesOf p)) {new small large :
       let (L, reads) = every-fit-record-reads p types w small large in carried L (o .answers w whole L reads)
   by-ledger (Remaining task handle) refused carried w whole o =
       let (L, reads) = every-fit-record-reads p types w small large in
-      by-verdict (verdictOn L (Read task handle) []) refused (carried L) (o .answers w whole L reads)
+      by-verdict (standingVerdictOn L task handle) refused (carried L) (o .answers w whole L reads)
   by-ledger (Use call) refused carried w whole o =
       let (L, reads) = every-fit-record-reads p types w small large in by-verdict (verdictOn L call new) refused (carried L) (o .answers w whole L reads)
 
@@ -102,3 +101,4 @@ above-0 UnknownKind e = omega arith
 above-0 BatchOutOfRange e = omega arith
 above-0 OnlyMakePins e = omega arith
 above-0 NotPinned e = omega arith
+above-0 SumDiffers e = omega arith

@@ -113,7 +113,7 @@ each-gives =
       makes = make-gives;
       refreshes = refresh-gives;
       refreshesAll = batch-gives;
-      writes = λ task handle offset bytes p small large number small′ large′ w. called (w .answer) (w .writes .obeys) (w .told);
+      writes = λ task handle offset bytes p small large number p′ small′ large′ w. called (w .answer) (w .writes .obeys) (w .told);
       copies =
           λ task handle p small large loans number loans′ r.
           record {

@@ -41,10 +41,10 @@ pub record MakesOne (task : ℕ) (kind : Kind) (extension size : ℕ) (p : Pool)
   pub makes : Contract.Makes task kind extension size p small large (record { answer = answer; pool = p′ }) small′ large′
   pub told : withNumber number (lent numbers′) ≡ toldBy (plain answer) (lent numbers)
 
--- write: the record stays
-pub record WritesTo (task handle offset : ℕ) (bytes : List ℕ) (p : Pool) (small large : List ℕ) (number : ℕ) (small′ large′ : List ℕ) : Type 0 where
+-- write
+pub record WritesTo (task handle offset : ℕ) (bytes : List ℕ) (p : Pool) (small large : List ℕ) (number : ℕ) (p′ : Pool) (small′ large′ : List ℕ) : Type 0 where
   pub answer : Answer
-  pub writes : Contract.Writes task handle offset bytes p small large answer small′ large′
+  pub writes : Contract.Writes task handle offset bytes p small large answer p′ small′ large′
   pub told : withNumber number (lent []) ≡ toldBy (plain answer) (lent [])
 
 -- read: the object's bytes at the start of the host's buffer, and how many; record and stores stay

@@ -65,9 +65,9 @@ pub record EachGives : Type 0 where
   pub refreshesAll : (kind : KindByte) (task extension : ℕ) (handles : List ℕ) (p : Pool) (number : ℕ) (p′ : Pool) (small large : List ℕ)
       → RefreshesAllBy kind task extension handles p number p′
       → Gives (entry (withKind kind (λ (k : Kind). Use (Batch task k extension))) (handleBytes handles)) (lent []) p small large (withNumber number (lent [])) p′ small large
-  pub writes : (task handle offset : ℕ) (bytes : List ℕ) (p : Pool) (small large : List ℕ) (number : ℕ) (small′ large′ : List ℕ)
-      → WritesTo task handle offset bytes p small large number small′ large′
-      → Gives (entry (some (Use (Write task handle offset))) bytes) (lent []) p small large (withNumber number (lent [])) p small′ large′
+  pub writes : (task handle offset : ℕ) (bytes : List ℕ) (p : Pool) (small large : List ℕ) (number : ℕ) (p′ : Pool) (small′ large′ : List ℕ)
+      → WritesTo task handle offset bytes p small large number p′ small′ large′
+      → Gives (entry (some (Use (Write task handle offset))) bytes) (lent []) p small large (withNumber number (lent [])) p′ small′ large′
   pub copies : (task handle : ℕ) (p : Pool) (small large : List ℕ) (loans : Loans) (number : ℕ) (loans′ : Loans)
       → CopiesOut task handle p small large loans number loans′
       → Gives (entry (some (Use (Read task handle))) []) loans p small large (withNumber number loans′) p small large

@@ -44,14 +44,14 @@ pub fn make_one(
 {
     let h = head_of(p);
     let mut handles = p.handles;
-    let mut lengths = p.lengths;
+    let mut extents = p.extents;
     let mut clocks = p.clocks;
     let mut named = p.named;
     let mut dues = p.dues;
     let step = checked::make(
         h,
         &mut handles,
-        &mut lengths,
+        &mut extents,
         &mut clocks,
         &mut named,
         &mut dues,
@@ -65,7 +65,7 @@ pub fn make_one(
     let answer = step.answer;
     let head = step.head;
     *handle = handle_or(*handle, answer);
-    put_together(answer, head, handles, lengths, clocks, named, dues)
+    put_together(answer, head, handles, extents, clocks, named, dues)
 }
 
 pub fn refresh_one(p: Pool, task: u8, kind: Kind, extension: u8, handle: u32) -> Numbered
@@ -73,14 +73,14 @@ pub fn refresh_one(p: Pool, task: u8, kind: Kind, extension: u8, handle: u32) ->
 {
     let h = head_of(p);
     let handles = p.handles;
-    let lengths = p.lengths;
+    let extents = p.extents;
     let mut clocks = p.clocks;
     let mut named = p.named;
     let mut dues = p.dues;
     let step = checked::refresh(
         h,
         &handles,
-        &lengths,
+        &extents,
         &mut clocks,
         &mut named,
         &mut dues,
@@ -91,7 +91,7 @@ pub fn refresh_one(p: Pool, task: u8, kind: Kind, extension: u8, handle: u32) ->
     );
     let answer = step.answer;
     let head = step.head;
-    put_together(answer, head, handles, lengths, clocks, named, dues)
+    put_together(answer, head, handles, extents, clocks, named, dues)
 }
 
 // The host's handles go on as bytes, which is what a batch brings.
@@ -103,14 +103,14 @@ pub fn refresh_each(p: Pool, task: u8, kind: Kind, extension: u8, objects: &[u32
     let count = handed.count;
     let h = head_of(p);
     let handles = p.handles;
-    let lengths = p.lengths;
+    let extents = p.extents;
     let mut clocks = p.clocks;
     let mut named = p.named;
     let mut dues = p.dues;
     let step = checked::batch(
         h,
         &handles,
-        &lengths,
+        &extents,
         &mut clocks,
         &mut named,
         &mut dues,
@@ -121,5 +121,5 @@ pub fn refresh_each(p: Pool, task: u8, kind: Kind, extension: u8, objects: &[u32
     );
     let answer = step.answer;
     let head = step.head;
-    put_together(answer, head, handles, lengths, clocks, named, dues)
+    put_together(answer, head, handles, extents, clocks, named, dues)
 }

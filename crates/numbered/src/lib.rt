@@ -35,7 +35,6 @@ use ledger::Refusal;
 use ledger::answer_number;
 use ledger::number_of;
 use objects::usage;
-use pool::lengths::are_whole;
 use reading::read_part;
 use record::BLOCK_COUNT;
 use record::EXPIRATION_COUNT;
@@ -80,12 +79,12 @@ fn put_together(
     answer: Answer,
     head: Head,
     handles: [u32; BLOCK_COUNT],
-    lengths: [u16; BLOCK_COUNT],
+    extents: [u32; BLOCK_COUNT],
     clocks: [u8; EXPIRATION_COUNT],
     named: [u8; EXPIRATION_COUNT],
     dues: [u32; EXPIRATION_COUNT],
 ) -> Numbered
-    ensures { λ r. ⌜ (r .number ≡ answerNumber answer) × (r .pool ≡ pooled head handles lengths clocks named dues) ⌝ }
+    ensures { λ r. ⌜ (r .number ≡ answerNumber answer) × (r .pool ≡ pooled head handles extents clocks named dues) ⌝ }
 {
     let tasks = head.tasks;
     let global = head.global;
@@ -96,7 +95,7 @@ fn put_together(
             global: global,
             given: head.given,
             handles: handles,
-            lengths: lengths,
+            extents: extents,
             clocks: clocks,
             named: named,
             dues: dues,
@@ -110,14 +109,14 @@ pub fn join(p: Pool, task: u8) -> Numbered
 {
     let h = head_of(p);
     let mut handles = p.handles;
-    let lengths = p.lengths;
+    let extents = p.extents;
     let mut clocks = p.clocks;
     let named = p.named;
     let mut dues = p.dues;
     let step = schedule(
         h,
         &mut handles,
-        &lengths,
+        &extents,
         &mut clocks,
         &named,
         &mut dues,
@@ -126,7 +125,7 @@ pub fn join(p: Pool, task: u8) -> Numbered
     );
     let answer = step.answer;
     let head = step.head;
-    put_together(answer, head, handles, lengths, clocks, named, dues)
+    put_together(answer, head, handles, extents, clocks, named, dues)
 }
 
 pub fn leave(p: Pool, task: u8, advanced: &mut u8) -> Numbered
@@ -134,14 +133,14 @@ pub fn leave(p: Pool, task: u8, advanced: &mut u8) -> Numbered
 {
     let h = head_of(p);
     let mut handles = p.handles;
-    let lengths = p.lengths;
+    let extents = p.extents;
     let mut clocks = p.clocks;
     let named = p.named;
     let mut dues = p.dues;
     let step = schedule(
         h,
         &mut handles,
-        &lengths,
+        &extents,
         &mut clocks,
         &named,
         &mut dues,
@@ -151,7 +150,7 @@ pub fn leave(p: Pool, task: u8, advanced: &mut u8) -> Numbered
     let answer = step.answer;
     let head = step.head;
     *advanced = advance_or(*advanced, answer);
-    put_together(answer, head, handles, lengths, clocks, named, dues)
+    put_together(answer, head, handles, extents, clocks, named, dues)
 }
 
 pub fn block(p: Pool, task: u8, advanced: &mut u8) -> Numbered
@@ -159,14 +158,14 @@ pub fn block(p: Pool, task: u8, advanced: &mut u8) -> Numbered
 {
     let h = head_of(p);
     let mut handles = p.handles;
-    let lengths = p.lengths;
+    let extents = p.extents;
     let mut clocks = p.clocks;
     let named = p.named;
     let mut dues = p.dues;
     let step = schedule(
         h,
         &mut handles,
-        &lengths,
+        &extents,
         &mut clocks,
         &named,
         &mut dues,
@@ -176,7 +175,7 @@ pub fn block(p: Pool, task: u8, advanced: &mut u8) -> Numbered
     let answer = step.answer;
     let head = step.head;
     *advanced = advance_or(*advanced, answer);
-    put_together(answer, head, handles, lengths, clocks, named, dues)
+    put_together(answer, head, handles, extents, clocks, named, dues)
 }
 
 pub fn resume(p: Pool, task: u8) -> Numbered
@@ -184,14 +183,14 @@ pub fn resume(p: Pool, task: u8) -> Numbered
 {
     let h = head_of(p);
     let mut handles = p.handles;
-    let lengths = p.lengths;
+    let extents = p.extents;
     let mut clocks = p.clocks;
     let named = p.named;
     let mut dues = p.dues;
     let step = schedule(
         h,
         &mut handles,
-        &lengths,
+        &extents,
         &mut clocks,
         &named,
         &mut dues,
@@ -200,7 +199,7 @@ pub fn resume(p: Pool, task: u8) -> Numbered
     );
     let answer = step.answer;
     let head = step.head;
-    put_together(answer, head, handles, lengths, clocks, named, dues)
+    put_together(answer, head, handles, extents, clocks, named, dues)
 }
 
 pub fn tick(p: Pool, task: u8, advanced: &mut u8) -> Numbered
@@ -208,14 +207,14 @@ pub fn tick(p: Pool, task: u8, advanced: &mut u8) -> Numbered
 {
     let h = head_of(p);
     let mut handles = p.handles;
-    let lengths = p.lengths;
+    let extents = p.extents;
     let mut clocks = p.clocks;
     let named = p.named;
     let mut dues = p.dues;
     let step = schedule(
         h,
         &mut handles,
-        &lengths,
+        &extents,
         &mut clocks,
         &named,
         &mut dues,
@@ -225,7 +224,7 @@ pub fn tick(p: Pool, task: u8, advanced: &mut u8) -> Numbered
     let answer = step.answer;
     let head = step.head;
     *advanced = advance_or(*advanced, answer);
-    put_together(answer, head, handles, lengths, clocks, named, dues)
+    put_together(answer, head, handles, extents, clocks, named, dues)
 }
 
 pub fn make(
@@ -269,14 +268,14 @@ pub fn release(p: Pool, task: u8, handle: u32) -> Numbered
 {
     let h = head_of(p);
     let mut handles = p.handles;
-    let lengths = p.lengths;
+    let extents = p.extents;
     let mut clocks = p.clocks;
     let named = p.named;
     let dues = p.dues;
     let step = checked::release(
         h,
         &mut handles,
-        &lengths,
+        &extents,
         &mut clocks,
         &named,
         &dues,
@@ -285,7 +284,7 @@ pub fn release(p: Pool, task: u8, handle: u32) -> Numbered
     );
     let answer = step.answer;
     let head = step.head;
-    put_together(answer, head, handles, lengths, clocks, named, dues)
+    put_together(answer, head, handles, extents, clocks, named, dues)
 }
 
 // That part copied out.
@@ -321,23 +320,22 @@ pub fn write(
     handle: u32,
     offset: u8,
     bytes: &[u8],
-) -> u8
-    ensures { λ r. ⌜ WritesTo task handle offset (now (bytes .entry)) p (now (small .entry)) (now (large .entry)) r (now (small .exit)) (now (large .exit)) ⌝ }
+) -> Numbered
+    ensures { λ r. ⌜ WritesTo task handle offset (now (bytes .entry)) p (now (small .entry)) (now (large .entry)) (r .number) (r .pool) (now (small .exit)) (now (large .exit)) ⌝ }
 {
     let h = head_of(p);
-    if !is_well_formed(h, &p.handles, &p.lengths, &p.clocks, &p.named, &p.dues) {
-        return number_of(Refusal::NotWellFormed);
-    }
-    if !are_whole(small.len(), large.len()) {
-        return number_of(Refusal::WrongStoreLength);
-    }
-    let answer = calls::write(
+    let handles = p.handles;
+    let mut extents = p.extents;
+    let clocks = p.clocks;
+    let named = p.named;
+    let dues = p.dues;
+    let answer = checked::write(
         h,
-        &p.handles,
-        &p.lengths,
-        &p.clocks,
-        &p.named,
-        &p.dues,
+        &handles,
+        &mut extents,
+        &clocks,
+        &named,
+        &dues,
         small,
         large,
         task,
@@ -345,14 +343,14 @@ pub fn write(
         offset,
         bytes,
     );
-    answer_number(answer)
+    put_together(answer, h, handles, extents, clocks, named, dues)
 }
 
 pub fn report(p: Pool, small: &mut u8, large: &mut u8, expirations: &mut u16, given: &mut u32) -> u8
     ensures { λ r. ⌜ Does Report p (now (small .entry) ∷ now (large .entry) ∷ now (expirations .entry) ∷ now (given .entry) ∷ []) r p (now (small .exit) ∷ now (large .exit) ∷ now (expirations .exit) ∷ now (given .exit) ∷ []) ⌝ }
 {
     let h = head_of(p);
-    if !is_well_formed(h, &p.handles, &p.lengths, &p.clocks, &p.named, &p.dues) {
+    if !is_well_formed(h, &p.handles, &p.extents, &p.clocks, &p.named, &p.dues) {
         return number_of(Refusal::NotWellFormed);
     }
     let count = standing(&p.clocks);
@@ -368,13 +366,13 @@ pub fn remaining(p: Pool, task: u8, handle: u32, local: &mut u8, global: &mut u8
     ensures { λ r. ⌜ Does (Remaining task handle) p (now (local .entry) ∷ now (global .entry) ∷ []) r p (now (local .exit) ∷ now (global .exit) ∷ []) ⌝ }
 {
     let h = head_of(p);
-    if !is_well_formed(h, &p.handles, &p.lengths, &p.clocks, &p.named, &p.dues) {
+    if !is_well_formed(h, &p.handles, &p.extents, &p.clocks, &p.named, &p.dues) {
         return number_of(Refusal::NotWellFormed);
     }
     let answer = calls::remaining(
         h,
         &p.handles,
-        &p.lengths,
+        &p.extents,
         &p.clocks,
         &p.named,
         &p.dues,
@@ -394,7 +392,7 @@ pub fn awaited(p: Pool, tasks: &mut u16) -> u8
     ensures { λ r. ⌜ TellsAwaited p (now (tasks .entry)) r (now (tasks .exit)) ⌝ }
 {
     let h = head_of(p);
-    if !is_well_formed(h, &p.handles, &p.lengths, &p.clocks, &p.named, &p.dues) {
+    if !is_well_formed(h, &p.handles, &p.extents, &p.clocks, &p.named, &p.dues) {
         return number_of(Refusal::NotWellFormed);
     }
     let entries = p.tasks;

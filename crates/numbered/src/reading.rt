@@ -1,9 +1,9 @@
 // The part of a store that a read hands back. The record stays, and so its columns are lent where they are.
-ghost use Rattle.calls.specs.Contract.{LocatesIn, ReadsTo};
+ghost use Rattle.calls.specs.Contract.{Locates, ReadsTo};
 use fitness::is_well_formed;
 use ledger::Refusal;
 use ledger::number_of;
-use objects::Found;
+use objects::FoundBytes;
 use objects::find_for_read;
 use pool::lengths::are_whole;
 use record::Pool;
@@ -11,27 +11,28 @@ use record::head_of;
 use stores::block_part;
 use stores::no_part;
 
-// Where a read finds its object in two stores of these lengths.
-fn locate(p: Pool, small: usize, large: usize, task: u8, handle: u32) -> Found
-    ensures { λ r. ⌜ LocatesIn small large task handle p r ⌝ }
+// Where a read finds its object.
+fn locate<'a>(p: Pool, small: &'a [u8], large: &'a [u8], task: u8, handle: u32) -> FoundBytes
+    ensures { λ r. ⌜ Locates task handle p (now (small .entry)) (now (large .entry)) r ⌝ }
 {
     let h = head_of(p);
-    if !is_well_formed(h, &p.handles, &p.lengths, &p.clocks, &p.named, &p.dues) {
-        return Found::Refused(Refusal::NotWellFormed);
+    if !is_well_formed(h, &p.handles, &p.extents, &p.clocks, &p.named, &p.dues) {
+        return FoundBytes::Refused(Refusal::NotWellFormed);
     }
-    if !are_whole(small, large) {
-        return Found::Refused(Refusal::WrongStoreLength);
+    if !are_whole(small.len(), large.len()) {
+        return FoundBytes::Refused(Refusal::WrongStoreLength);
     }
     find_for_read(
         h,
         &p.handles,
-        &p.lengths,
+        &p.extents,
         &p.clocks,
         &p.named,
         &p.dues,
+        small,
+        large,
         task,
         handle,
-        false,
     )
 }
 
@@ -46,15 +47,15 @@ pub fn read_part<'a>(
 ) -> &'a [u8]
     ensures { λ r. ⌜ ReadsTo task handle p (now (small .entry)) (now (large .entry)) (now (number .exit)) (now r) ⌝ }
 {
-    match locate(p, small.len(), large.len(), task, handle) {
-        Found::Refused(why) => {
+    match locate(p, small, large, task, handle) {
+        FoundBytes::Refused(why) => {
             *number = number_of(why);
             no_part(small)
         }
-        Found::At {
+        FoundBytes::At {
             block,
             length,
-            life: _,
+            sum: _,
         } => {
             *number = 0;
             block_part(small, large, block, length as usize)

@@ -10,21 +10,23 @@ use Rattle.ledger.specs.declared.Refusal.{Refusal}
 use Rattle.ledger.specs.declared.Verdict.{Verdict}
 use Rattle.ledger.specs.declared.Verdict.the-variants.{Accepted, Refused}
 use Rattle.record.specs.Codes.{freeBlock}
-use Rattle.record.specs.Tables.{Tables, Sized, SizedEntries, entriesOf, tablesBy, lent, blockEntries}
+use Rattle.record.specs.Tables.{Tables, Sized, SizedEntries, blockEntry, entriesOf, tablesBy, lent, blockEntries}
 use Rattle.record.specs.WellFormed.{isWellFormed}
 use Rattle.record.specs.declared.Head.{Head}
 use Rattle.record.proofs.Columns.{block-at}
 use Rattle.record.proofs.Facts.{fit-parts}
-use Rattle.steps.specs.Objects.{placeOf, placeIn, andThen, taskVerdict, kindVerdict, foundVerdict, handleVerdict, roomVerdict, refreshVerdict, readVerdict}
+use Rattle.steps.specs.Objects.{placeOf, placeIn, andThen, taskVerdict, kindVerdict, foundVerdict, handleVerdict, roomVerdict, refreshVerdict, standingVerdict}
 use Rattle.steps.specs.Remaining.{lifeIn, LifeWithin}
 use Rattle.steps.proofs.Chosen.{both-accept, place-listed}
 use Rattle.steps.proofs.Remaining.{life-within}
 use Rattle.steps.proofs.Verdicts.{then-assoc}
 use Rattle.expirations.specs.Standing.{standingOf}
 use Rattle.expirations.proofs.Counting.{standing-of}
-use Rattle.objects.specs.Outcomes.{foundBy, foundIf, lifeIf, setVerdict}
+use Rattle.objects.specs.Outcomes.{foundBy, foundIf, lifeIf, bytesBy, setVerdict}
 use Rattle.objects.specs.declared.Found.the-variants.{At}
 use Rattle.objects.specs.declared.Found.the-variants.{Refused as RefusedFound}
+use Rattle.objects.specs.declared.FoundBytes.the-variants.{At as AtBytes}
+use Rattle.objects.specs.declared.FoundBytes.the-variants.{Refused as RefusedBytes}
 use Rattle.objects.proofs.Laws.{place-of}
 
 module _ (asks : Bool) (task handle : ℕ) (p : Tables) where
@@ -46,15 +48,28 @@ module _ (asks : Bool) (task handle : ℕ) (p : Tables) where
   found-refused Accepted e = cc
   found-refused (Refused r) e = cc
 
-  pub found-accepted : (v : Verdict) {block count : ℕ} {life : Life} → foundBy asks v task handle p ≡ At block count life
-      → (v ≡ Accepted) × (placeOf handle (p .blocks) ≡ block) × (getD (p .blocks) (placeOf handle (p .blocks)) freeBlock .length ≡ count)
-  found-accepted Accepted e = (refl, cc, cc)
-  found-accepted (Refused r) e = (cc, cc, cc)
+  pub found-accepted : (v : Verdict) {block : ℕ} {life : Life} → foundBy asks v task handle p ≡ At block life
+      → (v ≡ Accepted) × (placeOf handle (p .blocks) ≡ block)
+  found-accepted Accepted e = (refl, cc)
+  found-accepted (Refused r) e = (cc, cc)
+
+-- the same of a read or a write
+module _ (handle : ℕ) (p : Tables) where
+  pub bytes-refused : (v : Verdict) {why : Refusal} → bytesBy v handle p ≡ RefusedBytes why → v ≡ Refused why
+  bytes-refused Accepted e = cc
+  bytes-refused (Refused r) e = cc
+
+  pub bytes-accepted : (v : Verdict) {block count sum : ℕ} → bytesBy v handle p ≡ AtBytes block count sum
+      → (v ≡ Accepted) × (placeOf handle (p .blocks) ≡ block)
+      × (getD (p .blocks) (placeOf handle (p .blocks)) freeBlock .length ≡ count)
+      × (getD (p .blocks) (placeOf handle (p .blocks)) freeBlock .sum ≡ sum)
+  bytes-accepted Accepted e = (refl, cc, cc, cc)
+  bytes-accepted (Refused r) e = (cc, cc, cc, cc)
 
 -- an accepted one's block is one of the blocks'
-pub read-listed : (task handle : ℕ) (p : Tables) → readVerdict task handle p ≡ Accepted → placeOf handle (p .blocks) < blockEntries
-unfolding readVerdict
-read-listed task handle p v = place-listed handle (p .given) _ (both-accept (taskVerdict task (p .tasks)) _ v .1)
+pub standing-listed : (task handle : ℕ) (p : Tables) → standingVerdict task handle p ≡ Accepted → placeOf handle (p .blocks) < blockEntries
+unfolding standingVerdict
+standing-listed task handle p v = place-listed handle (p .given) _ (both-accept (taskVerdict task (p .tasks)) _ v .1)
 
 -- the tests of a refresh, before it and after it
 abbrev pub firstVerdict : ℕ → Kind → ℕ → Head → Verdict
@@ -78,14 +93,19 @@ module _ (h : Head) {hs ls cs ns ds : List ℕ} (sized : Sized hs ls cs ns ds) (
   -- 11 and 12 by the handles
   pub verdict-at : foundVerdict handle (h .given) (placeIn handle hs) ≡ handleVerdict handle (lent h hs ls cs ns ds)
   unfolding tablesBy
-  verdict-at = rw (place-of hs ls (sized .blocks .of-handles) (sized .blocks .of-lengths) handle)
+  verdict-at = rw (place-of hs ls (sized .blocks .of-handles) (sized .blocks .of-extents) handle)
 
   -- what stands at the handle's place
-  pub found-at : At (placeIn handle hs) (getD ls (placeIn handle hs) 0) (lifeIf asks (lifeIn task (placeIn handle hs) (h .tasks) (h .global) (entriesOf cs ns ds)))
+  pub found-at : At (placeIn handle hs) (lifeIf asks (lifeIn task (placeIn handle hs) (h .tasks) (h .global) (entriesOf cs ns ds)))
       ≡ foundBy asks Accepted task handle (lent h hs ls cs ns ds)
   unfolding tablesBy
-  found-at =
-      rw (place-of hs ls (sized .blocks .of-handles) (sized .blocks .of-lengths) handle, block-at hs ls (sized .blocks .of-handles) (sized .blocks .of-lengths))
+  found-at = rw (place-of hs ls (sized .blocks .of-handles) (sized .blocks .of-extents) handle)
+
+-- the length and the sum at a place
+pub entry-at : (h : Head) {hs ls cs ns ds : List ℕ} → Sized hs ls cs ns ds → (i : ℕ)
+    → getD (lent h hs ls cs ns ds .blocks) i freeBlock ≡ blockEntry (getD hs i 0) (getD ls i 0)
+unfolding tablesBy
+entry-at h {hs} {ls} sized i = block-at hs ls (sized .blocks .of-handles) (sized .blocks .of-extents) i
 
 -- the figures fit
 pub life-fits : (h : Head) (hs ls cs ns ds : List ℕ) → isWellFormed (lent h hs ls cs ns ds) ≡ true → (task block : ℕ)

@@ -15,17 +15,20 @@ use Rattle.objects.specs.declared.Plan.{Plan}
 use Rattle.objects.specs.declared.Found.{Found}
 use Rattle.objects.specs.declared.Found.the-variants.{At}
 use Rattle.objects.specs.declared.Found.the-variants.{Refused as RefusedFound}
+use Rattle.objects.specs.declared.FoundBytes.{FoundBytes}
+use Rattle.objects.specs.declared.FoundBytes.the-variants.{At as AtBytes}
+use Rattle.objects.specs.declared.FoundBytes.the-variants.{Refused as RefusedBytes}
 
 -- a remaining life where it is asked for, else no figures
 abbrev pub lifeIf : Bool → Life → Life
 lifeIf true life = life
 lifeIf false life = record { local = 0; global = 0 }
 
--- the one finding, by the verdict of the call that asks: the object's block, the length that it has there and, where asked for, its remaining life for the task
+-- the one finding, by the verdict of the call that asks: the object's block and, where asked for, its remaining life for the task
 abbrev pub foundBy : Bool → Verdict → ℕ → ℕ → Tables → Found
 foundBy asks Accepted task handle p =
     let place = placeOf handle (p .blocks) in
-    At place (getD (p .blocks) place freeBlock .length) (lifeIf asks (lifeIn task place (p .tasks) (p .global) (p .expirations)))
+    At place (lifeIf asks (lifeIn task place (p .tasks) (p .global) (p .expirations)))
 foundBy asks (Refused r) task handle p = RefusedFound r
 
 -- by the tests of a call
@@ -35,8 +38,18 @@ foundIn asks verdict task handle p = foundBy asks (verdict p) task handle p
 -- what was found, if one test more accepts
 abbrev pub foundIf : Found → Verdict → Found
 foundIf (RefusedFound r) v = RefusedFound r
-foundIf (At block length life) Accepted = At block length life
-foundIf (At block length life) (Refused r) = RefusedFound r
+foundIf (At block life) Accepted = At block life
+foundIf (At block life) (Refused r) = RefusedFound r
+
+-- the finding of a read or a write: the object's block, and the length and the sum that it has there
+abbrev pub bytesBy : Verdict → ℕ → Tables → FoundBytes
+bytesBy Accepted handle p =
+    let place = placeOf handle (p .blocks) in
+    AtBytes place (getD (p .blocks) place freeBlock .length) (getD (p .blocks) place freeBlock .sum)
+bytesBy (Refused r) handle p = RefusedBytes r
+
+abbrev pub bytesIn : (Tables → Verdict) → ℕ → Tables → FoundBytes
+bytesIn verdict handle p = bytesBy (verdict p) handle p
 
 -- 21, 6: of one expiration more on an object that stands
 abbrev pub setVerdict : Kind → ℕ → Verdict

@@ -1,14 +1,16 @@
-// Where an object is: one finding (O30), which read, write, refresh, release and remaining life make after the tests that go before it. The record is well-formed, or its figures would not fit.
+// Where an object is: one finding (O30), which remaining life, refresh, release, read and write make after the tests that go before it. The record is well-formed, or its figures would not fit.
 ghost use Prim.Native.Nat.{_<_};
 ghost use mathlib.Core.Bool.{true, false};
 ghost use mathlib.Core.Path.{_≡_};
 ghost use Rattle.ledger.specs.Limits.{taskCount};
+ghost use Rattle.record.specs.Reading.{isWholeSmall, isWholeLarge};
 ghost use Rattle.record.specs.Tables.{Sized, SizedEntries, entriesOf, blockEntries, lent};
 ghost use Rattle.record.specs.WellFormed.{isWellFormed};
 ghost use Rattle.steps.specs.Remaining.{lifeIn, LifeWithin};
-ghost use Rattle.steps.specs.Objects.{handleVerdict, readVerdict, writeVerdict, refreshVerdict, releaseVerdict};
-ghost use Rattle.objects.specs.Outcomes.{foundIn, foundIf, lifeIf};
+ghost use Rattle.steps.specs.Objects.{handleVerdict, standingVerdict, readVerdict, writeVerdict, refreshVerdict, releaseVerdict};
+ghost use Rattle.objects.specs.Outcomes.{foundIn, foundIf, lifeIf, bytesIn};
 use super::Found;
+use super::FoundBytes;
 use super::refusals::and_then;
 use super::refusals::found_verdict;
 use super::refusals::reaches_past;
@@ -26,6 +28,9 @@ use ledger::Verdict;
 use record::BLOCK_COUNT;
 use record::EXPIRATION_COUNT;
 use record::Head;
+use record::codes::length_in;
+use record::codes::sum_in;
+use stores::block_sum;
 
 // The remaining life, where it is asked for.
 fn life_if<'a>(
@@ -54,7 +59,7 @@ fn life_if<'a>(
 fn find<'a>(
     h: Head,
     handles: &'a [u32; BLOCK_COUNT],
-    lengths: &'a [u16; BLOCK_COUNT],
+    extents: &'a [u32; BLOCK_COUNT],
     clocks: &'a [u8; EXPIRATION_COUNT],
     named: &'a [u8; EXPIRATION_COUNT],
     dues: &'a [u32; EXPIRATION_COUNT],
@@ -62,15 +67,14 @@ fn find<'a>(
     handle: u32,
     asks: bool,
 ) -> Found
-    requires { ⌜ Sized (now handles) (now lengths) (now clocks) (now named) (now dues) × (isWellFormed (lent h (now handles) (now lengths) (now clocks) (now named) (now dues)) ≡ true) × (task < taskCount) ⌝ }
-    ensures { λ r. ⌜ r ≡ foundIn asks (handleVerdict handle) task handle (lent h (now (handles .entry)) (now (lengths .entry)) (now (clocks .entry)) (now (named .entry)) (now (dues .entry))) ⌝ }
+    requires { ⌜ Sized (now handles) (now extents) (now clocks) (now named) (now dues) × (isWellFormed (lent h (now handles) (now extents) (now clocks) (now named) (now dues)) ≡ true) × (task < taskCount) ⌝ }
+    ensures { λ r. ⌜ r ≡ foundIn asks (handleVerdict handle) task handle (lent h (now (handles .entry)) (now (extents .entry)) (now (clocks .entry)) (now (named .entry)) (now (dues .entry))) ⌝ }
 {
     let place = locate(handles, handle);
     match found_verdict(handle, h.given, place) {
         Verdict::Refused(why) => Found::Refused(why),
         Verdict::Accepted => Found::At {
             block: place,
-            length: lengths[place],
             life: life_if(h, clocks, named, dues, task, place, asks),
         },
     }
@@ -82,26 +86,18 @@ fn found_if(found: Found, verdict: Verdict) -> Found
 {
     match found {
         Found::Refused(why) => Found::Refused(why),
-        Found::At {
-            block,
-            length,
-            life,
-        } => match verdict {
+        Found::At { block, life } => match verdict {
             Verdict::Refused(why) => Found::Refused(why),
-            Verdict::Accepted => Found::At {
-                block,
-                length,
-                life,
-            },
+            Verdict::Accepted => Found::At { block, life },
         },
     }
 }
 
-// The object that is read, or whose life is asked for: only then are its figures worked out.
-pub fn find_for_read<'a>(
+// The object whose life is asked for; only then are its figures worked out. Read, write and release begin with the same tests.
+pub fn find_standing<'a>(
     h: Head,
     handles: &'a [u32; BLOCK_COUNT],
-    lengths: &'a [u16; BLOCK_COUNT],
+    extents: &'a [u32; BLOCK_COUNT],
     clocks: &'a [u8; EXPIRATION_COUNT],
     named: &'a [u8; EXPIRATION_COUNT],
     dues: &'a [u32; EXPIRATION_COUNT],
@@ -109,36 +105,36 @@ pub fn find_for_read<'a>(
     handle: u32,
     asks: bool,
 ) -> Found
-    requires { ⌜ Sized (now handles) (now lengths) (now clocks) (now named) (now dues) × (isWellFormed (lent h (now handles) (now lengths) (now clocks) (now named) (now dues)) ≡ true) ⌝ }
-    ensures { λ r. ⌜ r ≡ foundIn asks (readVerdict task handle) task handle (lent h (now (handles .entry)) (now (lengths .entry)) (now (clocks .entry)) (now (named .entry)) (now (dues .entry))) ⌝ }
+    requires { ⌜ Sized (now handles) (now extents) (now clocks) (now named) (now dues) × (isWellFormed (lent h (now handles) (now extents) (now clocks) (now named) (now dues)) ≡ true) ⌝ }
+    ensures { λ r. ⌜ r ≡ foundIn asks (standingVerdict task handle) task handle (lent h (now (handles .entry)) (now (extents .entry)) (now (clocks .entry)) (now (named .entry)) (now (dues .entry))) ⌝ }
 {
     let tasks = h.tasks;
     match task_verdict(task, tasks) {
         Verdict::Refused(why) => Found::Refused(why),
-        Verdict::Accepted => find(h, handles, lengths, clocks, named, dues, task, handle, asks),
+        Verdict::Accepted => find(h, handles, extents, clocks, named, dues, task, handle, asks),
     }
 }
 
-// The object that is written: count bytes from offset lie within its length.
-pub fn find_for_write<'a>(
+// The object that is read: the bytes of its block add up to its sum.
+pub fn find_for_read<'a>(
     h: Head,
     handles: &'a [u32; BLOCK_COUNT],
-    lengths: &'a [u16; BLOCK_COUNT],
+    extents: &'a [u32; BLOCK_COUNT],
     clocks: &'a [u8; EXPIRATION_COUNT],
     named: &'a [u8; EXPIRATION_COUNT],
     dues: &'a [u32; EXPIRATION_COUNT],
+    small: &'a [u8],
+    large: &'a [u8],
     task: u8,
     handle: u32,
-    offset: u8,
-    count: usize,
-) -> Found
-    requires { ⌜ Sized (now handles) (now lengths) (now clocks) (now named) (now dues) × (isWellFormed (lent h (now handles) (now lengths) (now clocks) (now named) (now dues)) ≡ true) ⌝ }
-    ensures { λ r. ⌜ r ≡ foundIn false (writeVerdict task handle offset count) task handle (lent h (now (handles .entry)) (now (lengths .entry)) (now (clocks .entry)) (now (named .entry)) (now (dues .entry))) ⌝ }
+) -> FoundBytes
+    requires { ⌜ Sized (now handles) (now extents) (now clocks) (now named) (now dues) × (isWellFormed (lent h (now handles) (now extents) (now clocks) (now named) (now dues)) ≡ true) × (isWholeSmall (now small) ≡ true) × (isWholeLarge (now large) ≡ true) ⌝ }
+    ensures { λ r. ⌜ r ≡ bytesIn (readVerdict task handle (now (small .entry)) (now (large .entry))) handle (lent h (now (handles .entry)) (now (extents .entry)) (now (clocks .entry)) (now (named .entry)) (now (dues .entry))) ⌝ }
 {
-    match find_for_read(
+    match find_standing(
         h,
         handles,
-        lengths,
+        extents,
         clocks,
         named,
         dues,
@@ -146,20 +142,58 @@ pub fn find_for_write<'a>(
         handle,
         false,
     ) {
-        Found::Refused(why) => Found::Refused(why),
-        Found::At {
-            block,
-            length,
-            life,
-        } => {
-            if reaches_past(length, offset, count) {
-                Found::Refused(Refusal::OutsideObject)
-            } else {
-                Found::At {
+        Found::Refused(why) => FoundBytes::Refused(why),
+        Found::At { block, life: _ } => {
+            let sum = sum_in(extents[block]);
+            if block_sum(small, large, block) == sum as u32 {
+                FoundBytes::At {
                     block,
-                    length,
-                    life,
+                    length: length_in(extents[block]),
+                    sum,
                 }
+            } else {
+                FoundBytes::Refused(Refusal::SumDiffers)
+            }
+        }
+    }
+}
+
+// The object that is written: count bytes from offset lie within its length.
+pub fn find_for_write<'a>(
+    h: Head,
+    handles: &'a [u32; BLOCK_COUNT],
+    extents: &'a [u32; BLOCK_COUNT],
+    clocks: &'a [u8; EXPIRATION_COUNT],
+    named: &'a [u8; EXPIRATION_COUNT],
+    dues: &'a [u32; EXPIRATION_COUNT],
+    small: &'a [u8],
+    large: &'a [u8],
+    task: u8,
+    handle: u32,
+    offset: u8,
+    count: usize,
+) -> FoundBytes
+    requires { ⌜ Sized (now handles) (now extents) (now clocks) (now named) (now dues) × (isWellFormed (lent h (now handles) (now extents) (now clocks) (now named) (now dues)) ≡ true) × (isWholeSmall (now small) ≡ true) × (isWholeLarge (now large) ≡ true) ⌝ }
+    ensures { λ r. ⌜ r ≡ bytesIn (writeVerdict task handle offset count (now (small .entry)) (now (large .entry))) handle (lent h (now (handles .entry)) (now (extents .entry)) (now (clocks .entry)) (now (named .entry)) (now (dues .entry))) ⌝ }
+{
+    match find_for_read(
+        h,
+        handles,
+        extents,
+        clocks,
+        named,
+        dues,
+        small,
+        large,
+        task,
+        handle,
+    ) {
+        FoundBytes::Refused(why) => FoundBytes::Refused(why),
+        FoundBytes::At { block, length, sum } => {
+            if reaches_past(length, offset, count) {
+                FoundBytes::Refused(Refusal::OutsideObject)
+            } else {
+                FoundBytes::At { block, length, sum }
             }
         }
     }
@@ -169,7 +203,7 @@ pub fn find_for_write<'a>(
 pub fn find_for_refresh<'a>(
     h: Head,
     handles: &'a [u32; BLOCK_COUNT],
-    lengths: &'a [u16; BLOCK_COUNT],
+    extents: &'a [u32; BLOCK_COUNT],
     clocks: &'a [u8; EXPIRATION_COUNT],
     named: &'a [u8; EXPIRATION_COUNT],
     dues: &'a [u32; EXPIRATION_COUNT],
@@ -178,8 +212,8 @@ pub fn find_for_refresh<'a>(
     extension: u8,
     handle: u32,
 ) -> Found
-    requires { ⌜ Sized (now handles) (now lengths) (now clocks) (now named) (now dues) × (isWellFormed (lent h (now handles) (now lengths) (now clocks) (now named) (now dues)) ≡ true) ⌝ }
-    ensures { λ r. ⌜ r ≡ foundIn false (refreshVerdict task kind extension handle) task handle (lent h (now (handles .entry)) (now (lengths .entry)) (now (clocks .entry)) (now (named .entry)) (now (dues .entry))) ⌝ }
+    requires { ⌜ Sized (now handles) (now extents) (now clocks) (now named) (now dues) × (isWellFormed (lent h (now handles) (now extents) (now clocks) (now named) (now dues)) ≡ true) ⌝ }
+    ensures { λ r. ⌜ r ≡ foundIn false (refreshVerdict task kind extension handle) task handle (lent h (now (handles .entry)) (now (extents .entry)) (now (clocks .entry)) (now (named .entry)) (now (dues .entry))) ⌝ }
 {
     let tasks = h.tasks;
     match and_then(task_verdict(task, tasks), set_verdict(kind, extension)) {
@@ -188,7 +222,7 @@ pub fn find_for_refresh<'a>(
             find(
                 h,
                 handles,
-                lengths,
+                extents,
                 clocks,
                 named,
                 dues,
@@ -205,20 +239,20 @@ pub fn find_for_refresh<'a>(
 pub fn find_for_release<'a>(
     h: Head,
     handles: &'a [u32; BLOCK_COUNT],
-    lengths: &'a [u16; BLOCK_COUNT],
+    extents: &'a [u32; BLOCK_COUNT],
     clocks: &'a [u8; EXPIRATION_COUNT],
     named: &'a [u8; EXPIRATION_COUNT],
     dues: &'a [u32; EXPIRATION_COUNT],
     task: u8,
     handle: u32,
 ) -> Found
-    requires { ⌜ Sized (now handles) (now lengths) (now clocks) (now named) (now dues) × (isWellFormed (lent h (now handles) (now lengths) (now clocks) (now named) (now dues)) ≡ true) ⌝ }
-    ensures { λ r. ⌜ r ≡ foundIn false (releaseVerdict task handle) task handle (lent h (now (handles .entry)) (now (lengths .entry)) (now (clocks .entry)) (now (named .entry)) (now (dues .entry))) ⌝ }
+    requires { ⌜ Sized (now handles) (now extents) (now clocks) (now named) (now dues) × (isWellFormed (lent h (now handles) (now extents) (now clocks) (now named) (now dues)) ≡ true) ⌝ }
+    ensures { λ r. ⌜ r ≡ foundIn false (releaseVerdict task handle) task handle (lent h (now (handles .entry)) (now (extents .entry)) (now (clocks .entry)) (now (named .entry)) (now (dues .entry))) ⌝ }
 {
-    match find_for_read(
+    match find_standing(
         h,
         handles,
-        lengths,
+        extents,
         clocks,
         named,
         dues,
@@ -227,17 +261,9 @@ pub fn find_for_release<'a>(
         false,
     ) {
         Found::Refused(why) => Found::Refused(why),
-        Found::At {
-            block,
-            length,
-            life,
-        } => {
+        Found::At { block, life } => {
             if is_pinned(clocks, named, block) {
-                Found::At {
-                    block,
-                    length,
-                    life,
-                }
+                Found::At { block, life }
             } else {
                 Found::Refused(Refusal::NotPinned)
             }

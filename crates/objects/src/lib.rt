@@ -12,6 +12,7 @@ pub use finding::find_for_read;
 pub use finding::find_for_refresh;
 pub use finding::find_for_release;
 pub use finding::find_for_write;
+pub use finding::find_standing;
 use ledger::LARGEST_BATCH;
 use ledger::Life;
 use ledger::Refusal;
@@ -31,12 +32,14 @@ pub struct BatchPlan {
     pub count: usize,
 }
 
-// Where the object of a read, a write, a refresh or a release is, and its remaining life for the task that calls.
+// Where the object of a refresh or a release is, or that whose remaining life for the task that calls is asked for.
 pub enum Found {
     Refused(Refusal),
-    At {
-        block: usize,
-        length: u16,
-        life: Life,
-    },
+    At { block: usize, life: Life },
+}
+
+// Where the bytes of a read or a write are: the object's block, its length, and the sum of the block's bytes.
+pub enum FoundBytes {
+    Refused(Refusal),
+    At { block: usize, length: u16, sum: u16 },
 }

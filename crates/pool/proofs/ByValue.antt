@@ -12,10 +12,10 @@ use Rattle.record.specs.declared.Pool.{Pool}
 use Rattle.calls.specs.Contract.{Ready}
 
 module _ (p : Pool) {h : Head} (e : h ≡ headOf p) where
-  pub fits-by-value : {r : Bool} → r ≡ WellFormed.isWellFormed (lent h (p .handles) (p .lengths) (p .clocks) (p .named) (p .dues)) → r ≡ isWellFormed p
+  pub fits-by-value : {r : Bool} → r ≡ WellFormed.isWellFormed (lent h (p .handles) (p .extents) (p .clocks) (p .named) (p .dues)) → r ≡ isWellFormed p
   unfolding tablesOf
   fits-by-value f = rw e at f
 
   pub ready-by-value : {request : Request} {small large : List ℕ} → Ready request p small large
-      → Ready request (pooled h (p .handles) (p .lengths) (p .clocks) (p .named) (p .dues)) small large
+      → Ready request (pooled h (p .handles) (p .extents) (p .clocks) (p .named) (p .dues)) small large
   ready-by-value r = rw e r

@@ -16,7 +16,7 @@ use Rattle.calls.specs.Contract.{areWhole}
 use Rattle.pool.specs.Demands.{Runs, done, call, Demand2, PoolDemand3, ObjectsStay}
 
 -- from any well-formed record that reads as a ledger, with whole stores
-runs-follow : {p p′ : Pool} {small small′ large large′ : List ℕ} {ss : List Sent} {ys : List Reply} → Runs p small large ss ys p′ small′ large′
+pub runs-follow : {p p′ : Pool} {small small′ large large′ : List ℕ} {ss : List Sent} {ys : List Reply} → Runs p small large ss ys p′ small′ large′
     → isWellFormed p ≡ true → areWhole small large ≡ true → (L : Ledger) → Reads p small large L
     → (ys ≡ replies L ss) × Reads p′ small′ large′ (afterAll L ss) × (isWellFormed p′ ≡ true)
 unfolding replies afterAll

@@ -4,3 +4,4 @@ pub mod Demands
 pub mod Outlives
 pub mod Pinned
 pub mod PutOff
+pub mod Noticed

@@ -2,3 +2,4 @@ pub mod Demands
 pub mod Outlives
 pub mod Pinned
 pub mod PutOff
+pub mod Noticed

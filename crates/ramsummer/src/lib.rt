@@ -140,7 +140,6 @@ pub extern "C" fn ramsummer_read<'a>(
     numbered::read(*p, small, large, task, handle, out, count)
 }
 
-// The record stays.
 #[no_mangle]
 pub extern "C" fn ramsummer_write(
     p: &mut Pool,
@@ -151,9 +150,11 @@ pub extern "C" fn ramsummer_write(
     offset: u8,
     bytes: &[u8],
 ) -> u8
-    ensures { λ r. ⌜ WritesTo task handle offset (now (bytes .entry)) (now (p .entry)) (now (small .entry)) (now (large .entry)) r (now (small .exit)) (now (large .exit)) × (now (p .exit) ≡ now (p .entry)) ⌝ }
+    ensures { λ r. ⌜ WritesTo task handle offset (now (bytes .entry)) (now (p .entry)) (now (small .entry)) (now (large .entry)) r (now (p .exit)) (now (small .exit)) (now (large .exit)) ⌝ }
 {
-    numbered::write(*p, small, large, task, handle, offset, bytes)
+    let r = numbered::write(*p, small, large, task, handle, offset, bytes);
+    *p = r.pool;
+    r.number
 }
 
 // The record stays.

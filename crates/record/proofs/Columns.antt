@@ -12,7 +12,7 @@ use Rattle.lists.proofs.Cases.{by-test}
 use Rattle.lists.proofs.Columns.{length-⊛, at-⊛, set-⊛, map-⊛, unseen-⊛}
 use Rattle.lists.proofs.Tables.{map-set}
 use Rattle.record.specs.Codes.{freeBlock, freeEntry}
-use Rattle.record.specs.Tables.{BlockEntry, ExpirationEntry, blockEntry, expirationEntry, blocksOf, entriesOf}
+use Rattle.record.specs.Tables.{BlockEntry, ExpirationEntry, halfRange, lengthIn, sumIn, extentOf, blockEntry, expirationEntry, blocksOf, entriesOf}
 
 -- two columns of as many
 module _ {n : ℕ} (hs ls : List ℕ) (a : length hs ≡ n) (b : length ls ≡ n) where
@@ -45,6 +45,21 @@ blocks-set hs ls i h l = rw map-set (set-⊛ (map blockEntry hs) ls i (blockEntr
 -- one column stored
 pub handles-set : (hs ls : List ℕ) (i h : ℕ) → blocksOf (set hs i h) ls ≡ set (blocksOf hs ls) i (blockEntry h (getD ls i 0))
 handles-set hs ls i h = rw (set-getD ls i 0) at (blocks-set hs ls i h (getD ls i 0))
+
+pub extents-set : (hs ls : List ℕ) (i l : ℕ) → blocksOf hs (set ls i l) ≡ set (blocksOf hs ls) i (blockEntry (getD hs i 0) l)
+extents-set hs ls i l = rw (set-getD hs i 0) at (blocks-set hs ls i (getD hs i 0) l)
+
+-- what an extent is made of can be read out of it
+pub entry-of : (handle size sum : ℕ) → size < halfRange
+    → blockEntry handle (extentOf size sum) ≡ record { handle = handle; length = size; sum = sum }
+entry-of handle size sum h =
+    rw (low, high)
+  where
+    low : lengthIn (extentOf size sum) ≡ size
+    low = omega arith
+
+    high : sumIn (extentOf size sum) ≡ sum
+    high = omega arith
 
 -- three columns of as many
 module _ {n : ℕ} (cs bs ds : List ℕ) (a : length cs ≡ n) (b : length bs ≡ n) (d : length ds ≡ n) where

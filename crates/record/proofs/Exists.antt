@@ -24,7 +24,7 @@ use Rattle.ledger.specs.Compared.{wrapped, wrappedTask, Left, localLeft, global
 use Rattle.ledger.specs.Kept.{PinsKept}
 use Rattle.ledger.specs.Ledger.{Ledger}
 use Rattle.record.specs.Codes.{taskOf}
-use Rattle.record.specs.Reading.{isSmallBlock, isWholeSmall, isWholeLarge, isWhole, blockBytes, objectIn, recordView, Typed, Reads}
+use Rattle.record.specs.Reading.{isSmallBlock, isWholeSmall, isWholeLarge, isWhole, blockBytes, sizeOf, objectIn, recordView, Typed, Reads}
 use Rattle.record.specs.WellFormed.{isNaming, isSizedFor, isFitBlock, isWellFormed}
 use Rattle.record.specs.declared.TaskEntry.{TaskEntry}
 use Rattle.record.specs.Tables.{BlockEntry, ExpirationEntry, Tables, tablesOf}
@@ -112,10 +112,10 @@ sized-small block size e =
 
 module _ (small large : List ℕ) where
   -- a store that is not whole has no bytes to leave out
-  bytes-shown : (block size : ℕ) → isSmall size ≡ isSmallBlock block
-      → cond (isWhole small large size) (blockBytes small large block size) [] ≡ blockBytes small large block size
+  bytes-shown : (block size count : ℕ) → isSmall size ≡ isSmallBlock block
+      → cond (isWhole small large size) (blockBytes small large block count) [] ≡ blockBytes small large block count
   unfolding blockBytes
-  bytes-shown block size e =
+  bytes-shown block size count e =
       rw e
       (by-test (isSmallBlock block)
       (λ s. rw s (cond-twice (isWholeSmall small) _ []))
@@ -130,7 +130,7 @@ module _ (small large : List ℕ) where
       (λ z. rw z tt)
       (λ z.
       let (_, sized, _) = and₃ (any (isNaming block) xs) (isSizedFor block (b .length)) (leb (b .handle) given) (rw z at e) in
-      rw z (rw (bytes-shown block (b .length) (sized-small block (b .length) sized)), tt))
+      rw z (rw (bytes-shown block (b .length) (sizeOf block) (sized-small block (b .length) sized)), tt))
 
   -- what holds of the blocks' handles holds of the objects'
   pub handles-read : (P : ℕ → Type 0) (i : ℕ) (bs : List BlockEntry) → All (λ (b : BlockEntry). P (b .handle)) bs

@@ -60,11 +60,15 @@ blockBytes small large block size =
     cond (isSmallBlock block) (cond (isWholeSmall small) (take size (drop (block * smallSize) small)) [])
     (cond (isWholeLarge large) (take size (drop ((block - limits .smallBlocks) * largeSize) large)) [])
 
--- the object in a block
+-- the bytes of a block
+unfoldable pub sizeOf : ℕ → ℕ
+sizeOf block = cond (isSmallBlock block) smallSize largeSize
+
+-- the object in a block, with all the block's bytes
 unfoldable pub objectIn : List ℕ → List ℕ → ℕ → BlockEntry → List Object
 objectIn small large block b =
     cond (eqb (b .handle) 0) []
-    (record { handle = b .handle; size = b .length; bytes = blockBytes small large block (b .length) } ∷ [])
+    (record { handle = b .handle; size = b .length; bytes = blockBytes small large block (sizeOf block); sum = b .sum } ∷ [])
 
 unfoldable pub recordView : Tables → List ℕ → List ℕ → View
 recordView p small large =
@@ -108,7 +112,7 @@ freshPool =
       global = record { 0 = 0 };
       given = 0;
       handles = replicate blockEntries 0;
-      lengths = replicate blockEntries 0;
+      extents = replicate blockEntries 0;
       clocks = replicate expirationEntries 0;
       named = replicate expirationEntries 0;
       dues = replicate expirationEntries 0;

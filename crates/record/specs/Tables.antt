@@ -1,5 +1,5 @@
 -- The record's tables as lists of entries: what stands at one place of all arrays of a table.
-use Prim.Native.Nat.{ℕ, _+_}
+use Prim.Native.Nat.{ℕ, _+_, _*_, _/_, _%_}
 use mathlib.Core.List.{List, map}
 use mathlib.Core.Path.{_≡_}
 use lib.ListN.{length}
@@ -22,10 +22,25 @@ expirationEntries = capacity .expirations
 abbrev pub byteValues : ℕ
 byteValues = 256
 
+-- the values that a half of an extent has
+abbrev pub halfRange : ℕ
+halfRange = 65536
+
+-- O33: an extent is the length of an object in its low half and, in its high one, the sum of the block's bytes
+abbrev pub lengthIn : ℕ → ℕ
+lengthIn extent = extent % halfRange
+
+abbrev pub sumIn : ℕ → ℕ
+sumIn extent = extent / halfRange
+
+abbrev pub extentOf : ℕ → ℕ → ℕ
+extentOf size sum = sum * halfRange + size
+
 -- a block of a store and the object in it; handle (01: number) 0 is a free block
 pub record BlockEntry : Type 0 where
   pub handle : ℕ
   pub length : ℕ
+  pub sum : ℕ
 
 -- an expiration (01: date)
 pub record ExpirationEntry : Type 0 where
@@ -34,13 +49,13 @@ pub record ExpirationEntry : Type 0 where
   pub due : ℕ
 
 abbrev pub blockEntry : ℕ → ℕ → BlockEntry
-blockEntry handle size = record { handle = handle; length = size }
+blockEntry handle extent = record { handle = handle; length = lengthIn extent; sum = sumIn extent }
 
 abbrev pub expirationEntry : ℕ → ℕ → ℕ → ExpirationEntry
 expirationEntry clock block due = record { clock = clock; block = block; due = due }
 
 unfoldable pub blocksOf : List ℕ → List ℕ → List BlockEntry
-blocksOf handles lengths = map blockEntry handles ⊛ lengths
+blocksOf handles extents = map blockEntry handles ⊛ extents
 
 unfoldable pub entriesOf : List ℕ → List ℕ → List ℕ → List ExpirationEntry
 entriesOf clocks named dues = map expirationEntry clocks ⊛ named ⊛ dues
@@ -60,24 +75,24 @@ abbrev pub headOf : Pool → Head
 headOf p = record { tasks = p .tasks; global = p .global; given = p .given }
 
 unfoldable pub tablesOf : Pool → Tables
-tablesOf p = tablesBy (headOf p) (blocksOf (p .handles) (p .lengths)) (entriesOf (p .clocks) (p .named) (p .dues))
+tablesOf p = tablesBy (headOf p) (blocksOf (p .handles) (p .extents)) (entriesOf (p .clocks) (p .named) (p .dues))
 
 -- the same of what is lent
 abbrev pub lent : Head → List ℕ → List ℕ → List ℕ → List ℕ → List ℕ → Tables
-lent h handles lengths clocks named dues = tablesBy h (blocksOf handles lengths) (entriesOf clocks named dues)
+lent h handles extents clocks named dues = tablesBy h (blocksOf handles extents) (entriesOf clocks named dues)
 
 -- Columns of as many entries as the record's: of a lent array the length is not known by itself.
-pub record SizedBlocks (handles lengths : List ℕ) : Type 0 where
+pub record SizedBlocks (handles extents : List ℕ) : Type 0 where
   pub of-handles : length handles ≡ blockEntries
-  pub of-lengths : length lengths ≡ blockEntries
+  pub of-extents : length extents ≡ blockEntries
 
 pub record SizedEntries (clocks named dues : List ℕ) : Type 0 where
   pub of-clocks : length clocks ≡ expirationEntries
   pub of-named : length named ≡ expirationEntries
   pub of-dues : length dues ≡ expirationEntries
 
-pub record Sized (handles lengths clocks named dues : List ℕ) : Type 0 where
-  pub blocks : SizedBlocks handles lengths
+pub record Sized (handles extents clocks named dues : List ℕ) : Type 0 where
+  pub blocks : SizedBlocks handles extents
   pub entries : SizedEntries clocks named dues
 
 -- what a call comes to: its answer, and the record that it leaves
@@ -87,13 +102,13 @@ pub record Outcome : Type 0 where
 
 -- the record that has this head and these columns
 abbrev pub pooled : Head → List ℕ → List ℕ → List ℕ → List ℕ → List ℕ → Pool
-pooled h handles lengths clocks named dues =
+pooled h handles extents clocks named dues =
     record {
       tasks = h .tasks;
       global = h .global;
       given = h .given;
       handles = handles;
-      lengths = lengths;
+      extents = extents;
       clocks = clocks;
       named = named;
       dues = dues;

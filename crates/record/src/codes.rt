@@ -2,6 +2,7 @@
 ghost use Prim.Native.Nat.{_<_};
 ghost use mathlib.Core.Path.{_≡_};
 ghost use Rattle.ledger.specs.Limits.{taskCount};
+ghost use Rattle.record.specs.Tables.{lengthIn, sumIn, extentOf};
 ghost use Rattle.record.specs.Codes.{stateOf, isGlobalClock, dueBy, leftAt, isDueLocal, isDueGlobal};
 use super::Due;
 use super::GlobalTime;
@@ -27,6 +28,30 @@ pub const GLOBAL: u8 = LOCAL + (TASK_COUNT as u8);
 pub const DEPARTED: u8 = GLOBAL + (TASK_COUNT as u8);
 
 pub const PINNED: u8 = DEPARTED + 1;
+
+// The values that a half of an extent has.
+const HALF_RANGE: u32 = 65536;
+
+// O33: the length in an extent,
+pub fn length_in(extent: u32) -> u16
+    ensures { λ r. ⌜ r ≡ lengthIn extent ⌝ }
+{
+    (extent % HALF_RANGE) as u16
+}
+
+// the sum in it,
+pub fn sum_in(extent: u32) -> u16
+    ensures { λ r. ⌜ r ≡ sumIn extent ⌝ }
+{
+    (extent / HALF_RANGE) as u16
+}
+
+// and the extent of both.
+pub fn extent_of(length: u16, sum: u16) -> u32
+    ensures { λ r. ⌜ r ≡ extentOf length sum ⌝ }
+{
+    (sum as u32) * HALF_RANGE + length as u32
+}
 
 pub fn state_of(code: u16) -> State
     ensures { λ r. ⌜ r ≡ stateOf code ⌝ }

@@ -37,7 +37,8 @@ pub struct TaskEntry {
     pub clock: LocalTime,
 }
 
-// Block i has the object `handles[i]` (01: number; 0 is a free block) of `lengths[i]` bytes; the small store's blocks come first, then the large one's.
+// Block i has the object `handles[i]` (01: number; 0 is a free block); its `extents[i]` is the object's length in the low half and the sum of the block's bytes in
+// the high one. The small store's blocks come first, then the large one's.
 // Expiration i (01: date) goes by the clock `clocks[i]`, a code of codes.rt in which 0 is a free entry, belongs to the object in the block `named[i]`, and is due
 // when that clock reads `dues[i]`.
 #[repr(C)]
@@ -46,7 +47,7 @@ pub struct Pool {
     pub global: GlobalTime,
     pub given: u32,
     pub handles: [u32; BLOCK_COUNT],
-    pub lengths: [u16; BLOCK_COUNT],
+    pub extents: [u32; BLOCK_COUNT],
     pub clocks: [u8; EXPIRATION_COUNT],
     pub named: [u8; EXPIRATION_COUNT],
     pub dues: [u32; EXPIRATION_COUNT],
@@ -96,7 +97,7 @@ pub fn fresh() -> Pool
         global: GlobalTime(0),
         given: 0,
         handles: [0; BLOCK_COUNT],
-        lengths: [0; BLOCK_COUNT],
+        extents: [0; BLOCK_COUNT],
         clocks: [FREE; EXPIRATION_COUNT],
         named: [0; EXPIRATION_COUNT],
         dues: [0; EXPIRATION_COUNT],

@@ -39,7 +39,7 @@ module _ {h : Head} {hs ls cs ns ds : List ℕ} (sized : Sized hs ls cs ns ds) {
 
 module _ (p : Pool) {h : Head} (e : h ≡ headOf p) where
   pub called-by-value : {request : Request} {new small large small′ large′ : List ℕ} {d : Done} {hs′ ls′ cs′ ns′ ds′ : List ℕ}
-      → Serves request new (pooled h (p .handles) (p .lengths) (p .clocks) (p .named) (p .dues)) small large (givenBack d hs′ ls′ cs′ ns′ ds′) small′ large′
+      → Serves request new (pooled h (p .handles) (p .extents) (p .clocks) (p .named) (p .dues)) small large (givenBack d hs′ ls′ cs′ ns′ ds′) small′ large′
       → {p′ : Pool} → p′ ≡ pooled (d .head) hs′ ls′ cs′ ns′ ds′
       → Serves request new p small large (record { answer = d .answer; pool = p′; block = d .block; length = d .length }) small′ large′
   called-by-value s left = rw left (rw e at s)

@@ -73,7 +73,7 @@ fn refused(why: Refusal, h: Head) -> Done
 fn call_lent(
     h: Head,
     handles: &mut [u32; BLOCK_COUNT],
-    lengths: &mut [u16; BLOCK_COUNT],
+    extents: &mut [u32; BLOCK_COUNT],
     clocks: &mut [u8; EXPIRATION_COUNT],
     named: &mut [u8; EXPIRATION_COUNT],
     dues: &mut [u32; EXPIRATION_COUNT],
@@ -82,10 +82,10 @@ fn call_lent(
     request: Request,
     bytes: &[u8],
 ) -> Done
-    requires { ⌜ Sized (now handles) (now lengths) (now clocks) (now named) (now dues) ⌝ }
-    ensures { λ r. ⌜ Sized (now (handles .exit)) (now (lengths .exit)) (now (clocks .exit)) (now (named .exit)) (now (dues .exit)) × Serves request (now (bytes .entry)) (pooled h (now (handles .entry)) (now (lengths .entry)) (now (clocks .entry)) (now (named .entry)) (now (dues .entry))) (now (small .entry)) (now (large .entry)) (givenBack r (now (handles .exit)) (now (lengths .exit)) (now (clocks .exit)) (now (named .exit)) (now (dues .exit))) (now (small .exit)) (now (large .exit)) ⌝ }
+    requires { ⌜ Sized (now handles) (now extents) (now clocks) (now named) (now dues) ⌝ }
+    ensures { λ r. ⌜ Sized (now (handles .exit)) (now (extents .exit)) (now (clocks .exit)) (now (named .exit)) (now (dues .exit)) × Serves request (now (bytes .entry)) (pooled h (now (handles .entry)) (now (extents .entry)) (now (clocks .entry)) (now (named .entry)) (now (dues .entry))) (now (small .entry)) (now (large .entry)) (givenBack r (now (handles .exit)) (now (extents .exit)) (now (clocks .exit)) (now (named .exit)) (now (dues .exit))) (now (small .exit)) (now (large .exit)) ⌝ }
 {
-    if !is_well_formed(h, handles, lengths, clocks, named, dues) {
+    if !is_well_formed(h, handles, extents, clocks, named, dues) {
         return refused(Refusal::NotWellFormed, h);
     }
     if is_stored(request) & !are_whole(small.len(), large.len()) {
@@ -94,7 +94,7 @@ fn call_lent(
     dispatch::call(
         h,
         handles,
-        lengths,
+        extents,
         clocks,
         named,
         dues,
@@ -111,14 +111,14 @@ pub fn call(p: Pool, small: &mut [u8], large: &mut [u8], request: Request, bytes
 {
     let h = head_of(p);
     let mut handles = p.handles;
-    let mut lengths = p.lengths;
+    let mut extents = p.extents;
     let mut clocks = p.clocks;
     let mut named = p.named;
     let mut dues = p.dues;
     let done = call_lent(
         h,
         &mut handles,
-        &mut lengths,
+        &mut extents,
         &mut clocks,
         &mut named,
         &mut dues,
@@ -138,7 +138,7 @@ pub fn call(p: Pool, small: &mut [u8], large: &mut [u8], request: Request, bytes
             global: global,
             given: head.given,
             handles: handles,
-            lengths: lengths,
+            extents: extents,
             clocks: clocks,
             named: named,
             dues: dues,

@@ -109,7 +109,7 @@ run-starts out bytes r b =
 -- with the record's head and its columns taken out
 pub run-starts-lent : {p : Pool} {small large script : List ℕ} {start : ℕ} (out bytes : List ℕ) → Runnable p small large script start → length bytes ≡ largeSize
     → {h : Head} → h ≡ headOf p
-    → Running p small large script start out (pooled h (p .handles) (p .lengths) (p .clocks) (p .named) (p .dues)) small large out bytes start 0
+    → Running p small large script start out (pooled h (p .handles) (p .extents) (p .clocks) (p .named) (p .dues)) small large out bytes start 0
 run-starts-lent out bytes r b e = rw e (run-starts out bytes r b)
 
 module _ {p₀ : Pool} {small₀ large₀ script : List ℕ} {start : ℕ} {out₀ : List ℕ} {p : Pool} {small large out bytes : List ℕ} {at written : ℕ}

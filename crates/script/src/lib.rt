@@ -59,7 +59,7 @@ pub fn run_on(
     let mut written = 0;
     let mut head = head_of(p);
     let mut handles = p.handles;
-    let mut lengths = p.lengths;
+    let mut extents = p.extents;
     let mut clocks = p.clocks;
     let mut named = p.named;
     let mut dues = p.dues;
@@ -79,7 +79,7 @@ pub fn run_on(
         let done = call(
             head,
             &mut handles,
-            &mut lengths,
+            &mut extents,
             &mut clocks,
             &mut named,
             &mut dues,
@@ -93,7 +93,7 @@ pub fn run_on(
         written = show(answer, small, large, done.block, done.length, out, written);
     }
     p.handles = handles;
-    p.lengths = lengths;
+    p.extents = extents;
     p.clocks = clocks;
     p.named = named;
     p.dues = dues;

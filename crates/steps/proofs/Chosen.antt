@@ -1,11 +1,12 @@
--- What an accepted verdict shows: the task may set an expiration, and the block and the entry that are chosen are free.
+-- What an accepted verdict shows: the task may set an expiration, and the block and the entry that are chosen are free; or the object stands, its block's bytes
+-- add up to their sum, and a write lies within it.
 use Prim.Native.Nat.{ℕ, _+_, _≤_, _<_}
 use native.Mathlib.Nat.{zero-add, le-trans}
 use native.Mathlib.Omega.{arith}
 use mathlib.Core.Bool.{Bool, true, false, _||_}
 use mathlib.Core.List.{List}
 use mathlib.Core.Path.{_≡_, refl, sym, _∙_}
-use borrow.Author.Tests.{leb-false, ltb-false, eqb-true, eqb-false, lt-ltb, le-ltb, lt-leb}
+use borrow.Author.Tests.{not-false, leb-false, ltb-false, eqb-true, eqb-false, lt-ltb, le-ltb, lt-leb}
 use lib.Dec.{eqb, leb, ltb}
 use lib.ListN.{length, getD, take, drop, length-take, length-drop}
 use lib.Seq.{getD-take, getD-drop}
@@ -21,16 +22,16 @@ use Rattle.ledger.specs.declared.Kind.the-variants.{Local, Global, Pinned}
 use Rattle.ledger.specs.declared.State.{State}
 use Rattle.ledger.specs.declared.State.the-variants.{Absent, Running, Waiting}
 use Rattle.ledger.specs.declared.Refusal.{Refusal}
-use Rattle.ledger.specs.declared.Refusal.the-variants.{NoSuchTask, LengthOutOfRange, HandlesSpent, NoFreeBlock, OnlyMakePins}
+use Rattle.ledger.specs.declared.Refusal.the-variants.{NoSuchTask, LengthOutOfRange, HandlesSpent, NoFreeBlock, OnlyMakePins, OutsideObject, SumDiffers}
 use Rattle.ledger.specs.declared.Verdict.{Verdict}
 use Rattle.ledger.specs.declared.Verdict.the-variants.{Accepted, Refused}
-use Rattle.stores.specs.Places.{blockCount}
+use Rattle.stores.specs.Places.{blockCount, sumAt}
 use Rattle.stores.proofs.Places.{blocks-listed}
 use Rattle.record.specs.Codes.{stateOf, absentEntry, freeBlock, freeEntry}
 use Rattle.record.specs.Reading.{isSmallBlock, Typed}
 use Rattle.record.specs.Tables.{Tables, blockEntries}
 use Rattle.record.specs.declared.TaskEntry.{TaskEntry}
-use Rattle.steps.specs.Objects.{isFreeBlock, endFor, freePlace, isFreeEntry, standingIn, freeSlot, andThen, refuseIf, byState, taskVerdict, kindVerdict, extensionVerdict, foundVerdict, handleVerdict, roomVerdict, makeVerdict, refreshVerdict}
+use Rattle.steps.specs.Objects.{placeOf, isFreeBlock, endFor, freePlace, isFreeEntry, standingIn, freeSlot, andThen, refuseIf, byState, taskVerdict, kindVerdict, extensionVerdict, foundVerdict, handleVerdict, roomVerdict, makeVerdict, refreshVerdict, standingVerdict, readVerdict, writeVerdict}
 use Rattle.steps.proofs.Taken.{MaySet, SlotFree, PlaceFree}
 
 -- a chain that accepts, accepts in each of its parts
@@ -169,3 +170,32 @@ place-listed handle given place v = leb-false _ _ (handle-found handle given pla
 pub task-known : (task : ℕ) (tasks : List TaskEntry) → taskVerdict task tasks ≡ Accepted → task < taskCount
 task-known task tasks v =
     leb-false taskCount task (not-refused _ NoSuchTask (both-accept (refuseIf (leb taskCount task) NoSuchTask) _ v .0))
+
+-- what the tests of remaining life, of a read and of a write share: each begins with those of the one before
+pub standing-found : (task handle : ℕ) (p : Tables) → standingVerdict task handle p ≡ Accepted → handleVerdict handle p ≡ Accepted
+unfolding standingVerdict
+standing-found task handle p v = both-accept (taskVerdict task (p .tasks)) _ v .1
+
+pub read-stands : (task handle : ℕ) (small large : List ℕ) (p : Tables) → readVerdict task handle small large p ≡ Accepted
+    → standingVerdict task handle p ≡ Accepted
+unfolding readVerdict
+read-stands task handle small large p v = both-accept (standingVerdict task handle p) _ v .0
+
+pub write-begins : (task handle offset count : ℕ) (small large : List ℕ) (p : Tables) → writeVerdict task handle offset count small large p ≡ Accepted
+    → readVerdict task handle small large p ≡ Accepted
+unfolding writeVerdict
+write-begins task handle offset count small large p v = both-accept (readVerdict task handle small large p) _ v .0
+
+-- a read that is accepted has a block whose bytes add up to the sum in its entry
+pub read-sum : (task handle : ℕ) (small large : List ℕ) (p : Tables) → readVerdict task handle small large p ≡ Accepted
+    → (let place = placeOf handle (p .blocks) in sumAt small large place ≡ getD (p .blocks) place freeBlock .sum)
+unfolding readVerdict
+read-sum task handle small large p v =
+    eqb-true _ _ (not-false _ (not-refused _ SumDiffers (both-accept (standingVerdict task handle p) _ v .1)))
+
+-- and a write one of as many bytes as it asks for
+pub write-end : (task handle offset count : ℕ) (small large : List ℕ) (p : Tables) → writeVerdict task handle offset count small large p ≡ Accepted
+    → offset + count ≤ getD (p .blocks) (placeOf handle (p .blocks)) freeBlock .length
+unfolding writeVerdict
+write-end task handle offset count small large p v =
+    ltb-false _ _ (not-refused _ OutsideObject (both-accept (readVerdict task handle small large p) _ v .1))

@@ -4,8 +4,9 @@ use native.Mathlib.Nat.{zero-add}
 use native.Mathlib.Omega.{arith}
 use mathlib.Core.Bool.{Bool, true, false, false≢true, not, and-eq-true-iff, or-false}
 use mathlib.Core.List.{List, [], _∷_}
-use mathlib.Core.Path.{_≡_, sym, ap, _∙_}
-use borrow.Author.Tests.{eqb-true, eqb-false, ne-eqb}
+use mathlib.Core.Logic.{_≢_}
+use mathlib.Core.Path.{_≡_, refl, sym, ap, _∙_}
+use borrow.Author.Tests.{eqb-true, eqb-false, eq-eqb, ne-eqb}
 use lib.Dec.{eqb, leb}
 use lib.ListN.{length, getD}
 use Rattle.lists.specs.Tests.{any, All}
@@ -20,7 +21,7 @@ use Rattle.ledger.specs.Objects.{Object, objectAt, stands, standing}
 use Rattle.ledger.specs.Compared.{shownObject, viewOf}
 use Rattle.ledger.specs.Ledger.{Ledger}
 use Rattle.record.specs.Codes.{dueOf, isDated, freeBlock}
-use Rattle.record.specs.Reading.{isWhole, blockBytes, objectIn, recordView, Typed, Reads}
+use Rattle.record.specs.Reading.{isWhole, blockBytes, sizeOf, objectIn, recordView, Typed, Reads}
 use Rattle.record.specs.WellFormed.{isUsed}
 use Rattle.record.specs.Tables.{BlockEntry, Tables, blockEntries}
 use Rattle.record.proofs.Facts.{Fit, FitUsed, fit-used}
@@ -36,7 +37,7 @@ blockOf handle blocks = getD blocks (placeOf handle blocks) freeBlock
 abbrev pub objectOf : List ℕ → List ℕ → List BlockEntry → ℕ → Object
 objectOf small large blocks i =
     let b = getD blocks i freeBlock in
-    record { handle = b .handle; size = b .length; bytes = blockBytes small large i (b .length) }
+    record { handle = b .handle; size = b .length; bytes = blockBytes small large i (sizeOf i); sum = b .sum }
 
 abbrev isObjectOf : ℕ → Object → Bool
 isObjectOf handle o = eqb (o .handle) handle
@@ -48,14 +49,15 @@ unfolding objectAt
 at-handle P handle [] e h = absurd (false≢true e)
 at-handle P handle (o ∷ os) e (h, hs) = by-test (isObjectOf handle o) (λ d. rw d (h d)) (λ d. rw d (at-handle P handle os (rw d at e) hs))
 
--- Where a handle is found: the block of the object, with its size and its bytes.
+-- Where a handle is found: the block of the object, with its size and its sum, and with its bytes.
 pub record Found (small large : List ℕ) (blocks : List BlockEntry) (handle : ℕ) (o : Object) : Type 0 where
   pub within : placeOf handle blocks < length blocks
   pub its : blockOf handle blocks .handle ≡ handle
   pub used : isUsed (blockOf handle blocks) ≡ true
   pub size : o .size ≡ blockOf handle blocks .length
+  pub sum : o .sum ≡ blockOf handle blocks .sum
   pub bytes : isWhole small large (blockOf handle blocks .length) ≡ true
-      → o .bytes ≡ blockBytes small large (placeOf handle blocks) (blockOf handle blocks .length)
+      → o .bytes ≡ blockBytes small large (placeOf handle blocks) (sizeOf (placeOf handle blocks))
 
 -- what a block in use shows of its object
 pub each-used : {p : Tables} → Fit p → (small large : List ℕ) (P : Object → Type 0) (i : ℕ)
@@ -151,5 +153,28 @@ module _ {p : Tables} {small large : List ℕ} {L : Ledger} (fit : Fit p) (reads
           its = its-handle some;
           used = rw (its-handle some, nonzero);
           size = ap (λ (o : Object). o .size) same;
+          sum = ap (λ (o : Object). o .sum) same;
           bytes = λ w. rw (ap (λ (o : Object). o .size) same, w) at (ap (λ (o : Object). o .bytes) same);
         }
+
+  -- The object of a block in use, by its handle: it is one of the ledger's,
+  module _ (i : ℕ) (used : handleAt (p .blocks) i ≢ 0) where
+    abbrev its : ℕ
+    its = handleAt (p .blocks) i
+
+    named : eqb its 0 ≡ false
+    named = ne-eqb its 0 used
+
+    some-block : any (isBlockOf its) (p .blocks) ≡ true
+    some-block = any-at (isBlockOf its) freeBlock (free-fails its named) (p .blocks) i (eq-eqb its its refl)
+
+    pub used-listed : any (λ (o : Object). eqb (o .handle) (handleAt (p .blocks) i)) (L .memory .objects) ≡ true
+    used-listed = object-held its named ∙ some-block
+
+    -- and the one in the block, as far as it is shown
+    pub used-object : shownObject (isWhole small large) (objectAt (handleAt (p .blocks) i) (L .memory .objects)) ≡ objectOf small large (p .blocks) i
+    used-object =
+        let place = placeOf its (p .blocks) in
+        let same = same-handle (p .blocks) (fit .distinct) i place used in
+        object-found its named some-block
+        ∙ ap (objectOf small large (p .blocks)) (eqb-true place i (sym same ∙ eq-eqb _ its (its-handle its named some-block)))

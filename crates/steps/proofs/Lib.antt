@@ -20,6 +20,8 @@ pub mod Verdicts
 pub mod Taken
 pub mod FitMade
 pub mod ReadMade
+pub mod Summed
+pub mod ReadChanged
 pub mod ReadWritten
 pub mod Chosen
 pub mod ObjectsFollow

@@ -1,6 +1,7 @@
--- A value of the record's type stays one under a make that is accepted, and under a refresh.
+-- A value of the record's type stays one under a make that is accepted, and under a refresh, a write and a release.
 use Prim.Native.Nat.{ℕ}
 use native.Mathlib.Omega.{arith}
+use mathlib.Core.List.{List}
 use mathlib.Core.Path.{_≡_, _∙_}
 use lib.ListN.{length-set, length-map}
 use Rattle.lists.proofs.Tables.{length-mapFrom}
@@ -9,7 +10,7 @@ use Rattle.ledger.specs.declared.Kind.{Kind}
 use Rattle.ledger.specs.declared.Verdict.the-variants.{Accepted}
 use Rattle.record.specs.Reading.{Typed}
 use Rattle.record.specs.Tables.{ExpirationEntry, Tables}
-use Rattle.steps.specs.Objects.{makeVerdict, withEntry, withObject, madePool, refreshedPool, releasedPool}
+use Rattle.steps.specs.Objects.{makeVerdict, withEntry, withObject, madePool, refreshedPool, writtenPool, releasedPool}
 use Rattle.steps.proofs.Chosen.{make-takes}
 
 typed-entry : (slot : ℕ) (e : ExpirationEntry) (p : Tables) → Typed p → Typed (withEntry slot e p)
@@ -42,6 +43,18 @@ pub typed-refreshed : (task : ℕ) (kind : Kind) (extension handle : ℕ) (p : T
     → Typed (refreshedPool task kind extension handle p)
 unfolding refreshedPool
 typed-refreshed task kind extension handle p types = typed-entry _ _ p types
+
+pub typed-written : (handle offset : ℕ) (new small large : List ℕ) (p : Tables) → Typed p → Typed (writtenPool handle offset new small large p)
+unfolding writtenPool
+typed-written handle offset new small large p types =
+    record {
+      tasks = types .tasks;
+      blocks = rw length-set (types .blocks);
+      expirations = types .expirations;
+      clocks = types .clocks;
+      global = types .global;
+      given = types .given;
+    }
 
 pub typed-released : (handle : ℕ) (p : Tables) → Typed p → Typed (releasedPool handle p)
 unfolding releasedPool

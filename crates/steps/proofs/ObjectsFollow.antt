@@ -4,11 +4,11 @@ use native.Mathlib.Omega.{arith}
 use mathlib.Core.Bool.{true, false}
 use mathlib.Core.List.{List, []}
 use mathlib.Core.Logic.{_≢_}
-use mathlib.Core.Path.{_≡_, sym, _∙_}
-use borrow.Author.Tests.{not-false, ltb-false, eqb-false}
+use mathlib.Core.Path.{_≡_, sym, subst, _∙_}
+use borrow.Author.Tests.{not-false, not-true, eqb-false}
 use lib.Dec.{eqb}
 use lib.ListN.{length, getD, replicate}
-use Rattle.ledger.specs.Objects.{replyTo, memoryAfter, expirationsAfter, objectAt, stands}
+use Rattle.ledger.specs.Objects.{contents, replyTo, memoryAfter, expirationsAfter, objectAt, stands}
 use Rattle.ledger.specs.Refusals.{asRefusal}
 use Rattle.ledger.specs.Remaining.{remainingLife}
 use Rattle.ledger.specs.Ledger.{Ledger, settled, replyBy, afterBy, verdictOn, reply, next}
@@ -16,25 +16,25 @@ use Rattle.ledger.specs.Compared.{viewOf}
 use Rattle.ledger.specs.declared.Kind.{Kind}
 use Rattle.ledger.specs.declared.Call.{Call}
 use Rattle.ledger.specs.declared.Call.the-variants.{Make, Refresh, Write}
-use Rattle.ledger.specs.declared.Refusal.the-variants.{OutsideObject}
 use Rattle.ledger.specs.declared.Verdict.{Verdict}
 use Rattle.ledger.specs.declared.Verdict.the-variants.{Accepted}
-use Rattle.stores.specs.Places.{sizeOf, InBlock, smallAfter, largeAfter}
+use Rattle.stores.specs.Places.{InBlock, smallAfter, largeAfter}
 use Rattle.record.specs.Codes.{freeBlock}
-use Rattle.record.specs.Reading.{isWholeSmall, isWholeLarge, blockBytes, recordView, Typed, Reads}
+use Rattle.record.specs.Reading.{isWholeSmall, isWholeLarge, blockBytes, recordView, Typed, Reads, sizeOf}
 use Rattle.record.specs.WellFormed.{isWellFormed}
 use Rattle.record.specs.Tables.{Tables, blockEntries}
 use Rattle.record.proofs.Distinct.{handleAt}
 use Rattle.record.proofs.Facts.{fit-parts, fit-whole}
-use Rattle.steps.specs.Objects.{taskVerdict, placeOf, freePlace, handleVerdict, makeVerdict, refreshVerdict, readVerdict, writeVerdict, madePool, refreshedPool}
+use Rattle.steps.specs.Objects.{placeOf, freePlace, handleVerdict, makeVerdict, refreshVerdict, standingVerdict, readVerdict, writeVerdict, madePool, refreshedPool, writtenPool}
 use Rattle.steps.specs.Remaining.{lifeIn}
-use Rattle.steps.proofs.Chosen.{both-accept, not-refused, make-takes, refresh-takes, handle-found}
+use Rattle.steps.proofs.Chosen.{make-takes, refresh-takes, handle-found, standing-found, read-stands, write-begins, write-end}
 use Rattle.steps.proofs.Finding.{Found, gone-alike, found, blockOf}
 use Rattle.steps.proofs.Remaining.{life-alike}
-use Rattle.steps.proofs.StoreBytes.{used-in-block, made-bytes}
+use Rattle.steps.proofs.StoreBytes.{both-whole, whole-block, used-in-block, first-bytes, made-bytes}
 use Rattle.steps.proofs.FitMade.{fit-made, fit-refreshed}
-use Rattle.steps.proofs.ReadMade.{both-whole, made-reads, refreshed-reads}
-use Rattle.steps.proofs.ReadWritten.{in-place, written-sizes, written-reads}
+use Rattle.steps.proofs.ReadMade.{made-reads, refreshed-reads}
+use Rattle.steps.proofs.Summed.{fit-summed}
+use Rattle.steps.proofs.ReadWritten.{written-place, written-sizes, written-reads}
 
 -- the ledger after a call that it carries out
 abbrev pub carried : Call → List ℕ → Ledger → Ledger
@@ -58,11 +58,10 @@ module _ {p : Tables} {small large : List ℕ} {L : Ledger} (w : isWellFormed p 
   place-found handle v = let (nonzero, standing) = handle-stands handle v in found (fit-parts p w) reads handle nonzero standing
 
   -- and with the life that the ledger gives it
-  pub read-life : (task handle : ℕ) → readVerdict task handle p ≡ Accepted
+  pub read-life : (task handle : ℕ) → standingVerdict task handle p ≡ Accepted
       → lifeIn task (placeOf handle (p .blocks)) (p .tasks) (p .global) (p .expirations) ≡ remainingLife task handle (L .memory .clocks) (L .expirations)
-  unfolding readVerdict
   read-life task handle v =
-      let (nonzero, standing) = handle-stands handle (both-accept (taskVerdict task (p .tasks)) _ v .1) in
+      let (nonzero, standing) = handle-stands handle (standing-found task handle p v) in
       life-alike (fit-parts p w) reads task handle nonzero standing
 
   pub same-given : p .given ≡ L .memory .given
@@ -83,6 +82,10 @@ module _ {p : Tables} {small large : List ℕ} {L : Ledger} (w : isWellFormed p 
       let renewed = refresh-takes task kind extension handle p types v in
       fit-whole _
       (fit-refreshed p (fit-parts p w) types kind task extension _ _ (renewed .may) (renewed .entry) (place-found handle (renewed .found) .used) (renewed .plain))
+
+  pub write-fits : (handle offset : ℕ) (new : List ℕ) → isWellFormed (writtenPool handle offset new small large p) ≡ true
+  unfolding writtenPool
+  write-fits handle offset new = fit-whole _ (fit-summed _ _ p (fit-parts p w))
 
   pub refresh-reads : (task : ℕ) (kind : Kind) (extension handle : ℕ) → refreshVerdict task kind extension handle p ≡ Accepted
       → Reads (refreshedPool task kind extension handle p) small large (carried (Refresh task kind extension handle) [] L)
@@ -106,44 +109,54 @@ module _ {p : Tables} {small large : List ℕ} {L : Ledger} (w : isWellFormed p 
         made-reads p small large _ _ L (fit-parts p w) types reads kind task extension size _ _ (taken .may) (taken .block) (taken .entry)
         small-whole large-whole (made-bytes small large small-whole large-whole _ listed)
 
-    pub read-bytes : (task handle : ℕ) → readVerdict task handle p ≡ Accepted
-        → objectAt handle (L .memory .objects) .bytes
-        ≡ blockBytes small large (placeOf handle (p .blocks)) (blockOf handle (p .blocks) .length)
-    unfolding readVerdict
-    read-bytes task handle v =
-        place-found handle (both-accept (taskVerdict task (p .tasks)) _ v .1) .bytes
-        (both-whole small large small-whole large-whole (blockOf handle (p .blocks) .length))
+    -- a read that is accepted finds the object in a block,
+    module _ (task handle : ℕ) (v : readVerdict task handle small large p ≡ Accepted) where
+      read-found : Found small large (p .blocks) handle (objectAt handle (L .memory .objects))
+      read-found = place-found handle (standing-found task handle p (read-stands task handle small large p v))
 
-    pub read-place : (task handle : ℕ) → readVerdict task handle p ≡ Accepted
-        → InBlock small large (placeOf handle (p .blocks)) (blockOf handle (p .blocks) .length)
-    unfolding readVerdict
-    read-place task handle v =
-        let here = place-found handle (both-accept (taskVerdict task (p .tasks)) _ v .1) in
-        let known : placeOf handle (p .blocks) < blockEntries = omega (arith, here .within, types .blocks) in
-        used-in-block small large small-whole large-whole p (fit-parts p w) _ known (here .used)
+      listed : placeOf handle (p .blocks) < blockEntries
+      listed = omega (arith, read-found .within, types .blocks)
+
+      -- which lies in its store, and the object's bytes with it
+      pub read-block : InBlock small large (placeOf handle (p .blocks)) (sizeOf (placeOf handle (p .blocks)))
+      read-block = whole-block small large small-whole large-whole _ listed
+
+      pub read-place : InBlock small large (placeOf handle (p .blocks)) (blockOf handle (p .blocks) .length)
+      read-place = used-in-block small large small-whole large-whole p (fit-parts p w) _ listed (read-found .used)
+
+      -- those are what the ledger answers
+      pub read-bytes : contents (objectAt handle (L .memory .objects))
+          ≡ blockBytes small large (placeOf handle (p .blocks)) (blockOf handle (p .blocks) .length)
+      read-bytes =
+          let bytes = read-found .bytes (both-whole small large small-whole large-whole (blockOf handle (p .blocks) .length)) in
+          rw (bytes, read-found .size) (first-bytes small large small-whole large-whole _ _ read-place)
 
     -- a write that is accepted lies in a block in use
-    module _ (task handle offset : ℕ) (new : List ℕ) (v : writeVerdict task handle offset (length new) p ≡ Accepted) where
-      handle-ok : handleVerdict handle p ≡ Accepted
-      unfolding writeVerdict readVerdict
-      handle-ok = both-accept (taskVerdict task (p .tasks)) _ (both-accept (readVerdict task handle p) _ v .0) .1
+    module _ (task handle offset : ℕ) (new : List ℕ) (v : writeVerdict task handle offset (length new) small large p ≡ Accepted) where
+      here : Found small large (p .blocks) handle (objectAt handle (L .memory .objects))
+      here = read-found task handle (write-begins task handle offset (length new) small large p v)
 
       used : handleAt (p .blocks) (placeOf handle (p .blocks)) ≢ 0
-      used z = eqb-false handle 0 (handle-found handle (p .given) (placeOf handle (p .blocks)) handle-ok .0) (sym (place-found handle handle-ok .its) ∙ z)
+      used = eqb-false _ 0 (not-true _ (here .used))
 
       within : offset + length new ≤ getD (p .blocks) (placeOf handle (p .blocks)) freeBlock .length
-      unfolding writeVerdict
-      within = ltb-false _ _ (not-refused _ OutsideObject (both-accept (readVerdict task handle p) _ v .1))
+      within = write-end task handle offset (length new) small large p v
 
       pub write-place : InBlock small large (placeOf handle (p .blocks)) (offset + length new)
-      write-place = in-place p small large L (fit-parts p w) types reads small-whole large-whole _ offset new used within
+      write-place = written-place p small large L (fit-parts p w) types reads small-whole large-whole _ offset new used within
 
       pub write-sizes : (let place = placeOf handle (p .blocks) in
           (length (smallAfter place offset new small) ≡ length small) × (length (largeAfter place offset new large) ≡ length large))
       write-sizes = written-sizes p small large L (fit-parts p w) types reads small-whole large-whole _ offset new used within
 
       pub write-reads : (let place = placeOf handle (p .blocks) in
-          Reads p (smallAfter place offset new small) (largeAfter place offset new large) (carried (Write task handle offset) new L))
+          Reads (writtenPool handle offset new small large p) (smallAfter place offset new small) (largeAfter place offset new large)
+          (carried (Write task handle offset) new L))
+      unfolding writtenPool
       write-reads =
-          rw (place-found handle handle-ok .its) at
-          (written-reads p small large L (fit-parts p w) types reads small-whole large-whole (placeOf handle (p .blocks)) offset new used within task)
+          let place = placeOf handle (p .blocks) in
+          subst
+          (λ (h : ℕ).
+          Reads (writtenPool handle offset new small large p) (smallAfter place offset new small) (largeAfter place offset new large)
+          (carried (Write task h offset) new L))
+          (here .its) (written-reads p small large L (fit-parts p w) types reads small-whole large-whole place offset new used within task)

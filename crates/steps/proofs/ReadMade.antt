@@ -1,22 +1,22 @@
 -- Make and refresh do the same to the ledger that a well-formed record reads as, whichever free block and free entry they take.
-use Prim.Native.Nat.{ℕ, _+_, _-_, _≤_, _<_}
+use Prim.Native.Nat.{ℕ, _+_, _-_, _<_}
 use native.Mathlib.Omega.{arith}
 use mathlib.Core.Bool.{true, false}
 use mathlib.Core.List.{List, [], _∷_, _++_, map, map-append, List·Permᴰ, List·Permᴰ·cons, List·Permᴰ·trans}
 use mathlib.Core.Path.{_≡_, refl, ap, fun-ext, _∙_}
-use borrow.Author.Tests.{eqb-false, leb-true, eq-eqb, ne-eqb}
+use borrow.Author.Tests.{eqb-false, eq-eqb, ne-eqb}
 use lib.Dec.{eqb}
-use lib.ListN.{length, getD, set}
+use lib.ListN.{getD, set}
 use lib.Seq.{getD-set-same}
 use Rattle.lists.specs.Tests.{All}
 use Rattle.lists.specs.Tables.{readBy, readFrom}
-use Rattle.lists.proofs.Cases.{by-test, or-right, cond-same}
+use Rattle.lists.proofs.Cases.{by-test, or-right}
 use Rattle.lists.proofs.All.{all-imp, all-left, all-true}
 use Rattle.lists.proofs.Filters.{filter-append, filter-all}
 use Rattle.lists.proofs.Pairwise.{pairwise-append}
 use Rattle.lists.proofs.Permutations.{last-perm, readBy-set, readFrom-set}
 use Rattle.lists.proofs.Tables.{readBy-same, readFrom-same, entry-within}
-use Rattle.ledger.specs.Limits.{smallSize, largeSize, isSmall}
+use Rattle.ledger.specs.Limits.{isSmall, blockSize}
 use Rattle.ledger.specs.Tasks.{Clocks, taskAt}
 use Rattle.ledger.specs.Expirations.{Expiration, isOf, dueAfter, remaining}
 use Rattle.ledger.specs.Objects.{Object, zeroed, stands, standing, memoryAfter, expirationsAfter}
@@ -27,9 +27,8 @@ use Rattle.ledger.specs.declared.Kind.{Kind}
 use Rattle.ledger.proofs.KeptPins.{pins-carried}
 use Rattle.ledger.specs.declared.Kind.the-variants.{Local, Global, Pinned}
 use Rattle.ledger.specs.declared.Call.the-variants.{Make, Refresh}
-use Rattle.stores.specs.Places.{sizeOf}
 use Rattle.record.specs.Codes.{dueBy, dueOf, freeBlock, freeEntry}
-use Rattle.record.specs.Reading.{isSmallBlock, shownDue, shownEntry, isWholeSmall, isWholeLarge, isWhole, objectIn, recordView, Typed, Reads}
+use Rattle.record.specs.Reading.{isSmallBlock, shownDue, shownEntry, isWholeSmall, isWholeLarge, isWhole, objectIn, recordView, Typed, Reads, sizeOf}
 use Rattle.record.specs.WellFormed.{handleOf}
 use Rattle.record.specs.Tables.{BlockEntry, Tables, blockEntries}
 use Rattle.record.proofs.Facts.{Fit}
@@ -37,7 +36,7 @@ use Rattle.record.proofs.Distinct.{handleAt}
 use Rattle.steps.proofs.ReadObjects.{same-shown}
 use Rattle.steps.specs.Objects.{entryFor, withEntry, withObject}
 use Rattle.steps.proofs.Finding.{every-object-stands, handles-given}
-use Rattle.steps.proofs.StoreBytes.{BytesCleared, used-in-block}
+use Rattle.steps.proofs.StoreBytes.{BytesCleared, both-whole, whole-block}
 use Rattle.steps.proofs.Taken.{MaySet, SlotFree, PlaceFree, newBlock, slot-due, local-due, global-due, units-set, clock-range, block-stays}
 
 -- the object stands by these expirations
@@ -109,13 +108,10 @@ module _ (p : Tables) (small large : List ℕ) (L : Ledger) (fit : Fit p) (types
         pins = pins-carried (L .memory) (L .expirations) (Refresh task kind extension handle) [] plain (reads .pins);
       }
 
--- a size is no more than the blocks of its store have
-size-within : (place size : ℕ) → isSmallBlock place ≡ isSmall size → size ≤ largeSize → size ≤ sizeOf place
+-- a block of the store to which a size goes has the bytes that the ledger gives its object
+block-size : (place size : ℕ) → isSmallBlock place ≡ isSmall size → sizeOf place ≡ blockSize size
 unfolding sizeOf
-size-within place size store most = rw store (by-test (isSmall size) (λ s. rw s (leb-true size smallSize s)) (λ s. rw s most))
-
-pub both-whole : (small large : List ℕ) → isWholeSmall small ≡ true → isWholeLarge large ≡ true → (size : ℕ) → isWhole small large size ≡ true
-both-whole small large s l size = rw (s, l, cond-same)
+block-size place size store = rw store
 
 -- A make
 module _ (p : Tables) (small large small′ large′ : List ℕ) (L : Ledger) (fit : Fit p) (types : Typed p) (reads : Reads p small large L)
@@ -142,13 +138,13 @@ module _ (p : Tables) (small large small′ large′ : List ℕ) (L : Ledger) (f
       (λ z. rw z)
       (λ z.
       let known : i < blockEntries = omega (arith, entry-within freeBlock (p .blocks) i (λ e. eqb-false (b .handle) 0 z (ap handleOf e)), types .blocks) in
-      let part = used-in-block small large small-whole large-whole p fit i known (rw z) in
-      rw (z, cleared .others i (λ at. eqb-false (b .handle) 0 z (rw at (block .free))) (b .length) part))
+      let part = whole-block small large small-whole large-whole i known in
+      rw (z, cleared .others i (λ at. eqb-false (b .handle) 0 z (rw at (block .free))) (sizeOf i) part))
 
   -- the new one has zeros
   object-shown : objectIn small′ large′ place (newBlock (p .given) size) ≡ shownObject (isWhole small large) (zeroed (L .memory .given + 1) size) ∷ []
   unfolding objectIn recordView viewOf
-  object-shown = rw (ne-eqb (p .given + 1) 0 (λ z. omega arith), cleared .zeros size (size-within place size (block .store) (block .most)), both-whole small large small-whole large-whole size, reads .alike .given)
+  object-shown = rw (ne-eqb (p .given + 1) 0 (λ z. omega arith), cleared .zeros (sizeOf place) (omega arith), block-size place size (block .store), both-whole small large small-whole large-whole size, reads .alike .given)
 
   -- the record's blocks have it in some place, the ledger at the end
   objects-set : List·Permᴰ (readFrom 0 (objectIn small′ large′) (withObject place size p .blocks))

@@ -1,17 +1,14 @@
 -- A release on a well-formed record follows the ledger that it reads as.
 use Prim.Native.Nat.{ℕ}
-use mathlib.Core.Bool.{Bool, true, false, false≢true, cond}
+use mathlib.Core.Bool.{true, false≢true}
 use mathlib.Core.List.{List, [], map}
-use mathlib.Core.Path.{_≡_, refl, sym, _∙_}
-use borrow.Author.Tests.{not-false}
-use lib.ListN.{getD}
-use Rattle.lists.specs.Tests.{all}
+use mathlib.Core.Path.{_≡_, refl}
 use Rattle.lists.specs.Tables.{mapFrom}
 use Rattle.lists.proofs.Cases.{by-test}
 use Rattle.lists.proofs.Tests.{passes-map}
 use Rattle.lists.proofs.Tables.{allFrom-mapFrom}
 use Rattle.lists.proofs.Permutations.{readBy-perm}
-use Rattle.ledger.specs.Objects.{memoryAfter, expirationsAfter, stands}
+use Rattle.ledger.specs.Objects.{memoryAfter, expirationsAfter}
 use Rattle.ledger.specs.Ledger.{Ledger}
 use Rattle.ledger.specs.Compared.{viewOf}
 use Rattle.ledger.specs.declared.Call.the-variants.{Release}
@@ -23,9 +20,9 @@ use Rattle.record.specs.Tables.{ExpirationEntry, Tables}
 use Rattle.record.specs.WellFormed.{isFitDue, isFitEntry, isPinning, isWellFormed}
 use Rattle.record.proofs.Facts.{Fit, fit-parts, fit-whole}
 use Rattle.steps.specs.Events.{keptBlock}
-use Rattle.steps.specs.Objects.{placeOf, taskVerdict, handleVerdict, readVerdict, releaseVerdict, unpinnedEntry, releasedPool}
+use Rattle.steps.specs.Objects.{placeOf, handleVerdict, standingVerdict, releaseVerdict, unpinnedEntry, releasedPool}
 use Rattle.steps.specs.Staying.{Stays}
-use Rattle.steps.proofs.Chosen.{both-accept}
+use Rattle.steps.proofs.Chosen.{both-accept, standing-found}
 use Rattle.steps.proofs.EventsFollow.{reads-with}
 use Rattle.steps.proofs.FitSwept.{named-fits, kept-fits, kept-distinct}
 use Rattle.steps.proofs.KeptBlocks.{kept-block}
@@ -77,8 +74,8 @@ module _ {p : Tables} {small large : List ℕ} {L : Ledger} (w : isWellFormed p 
   release-fits = fit-whole _ (fit-released handle p (fit-parts p w))
 
   handle-ok : handleVerdict handle p ≡ Accepted
-  unfolding releaseVerdict readVerdict
-  handle-ok = both-accept (taskVerdict task (p .tasks)) _ (both-accept (readVerdict task handle p) _ v .0) .1
+  unfolding releaseVerdict
+  handle-ok = standing-found task handle p (both-accept (standingVerdict task handle p) _ v .0)
 
   pub release-reads : Reads (releasedPool handle p) small large (carried (Release task handle) [] L)
   unfolding releasedPool recordView viewOf memoryAfter expirationsAfter

@@ -1,7 +1,7 @@
--- Objects that stand on stay in their blocks: an event only frees blocks, a make sets one that was free, a refresh none.
+-- Objects that stand on stay in their blocks: an event only frees blocks, a make sets one that was free, a refresh none, a write the sum of one.
 use Prim.Native.Nat.{ℕ, _<_}
 use native.Mathlib.Omega.{arith}
-use mathlib.Core.Bool.{Bool, true, false}
+use mathlib.Core.Bool.{Bool}
 use mathlib.Core.List.{List}
 use mathlib.Core.Logic.{_≢_}
 use mathlib.Core.Path.{_≡_, refl, sym, ap, _∙_}
@@ -18,20 +18,21 @@ use Rattle.ledger.specs.declared.Kind.{Kind}
 use Rattle.ledger.specs.declared.Verdict.{Verdict}
 use Rattle.ledger.specs.declared.Verdict.the-variants.{Accepted, Refused}
 use Rattle.record.specs.Codes.{freeBlock}
-use Rattle.record.specs.WellFormed.{isNaming, handleOf}
+use Rattle.record.specs.WellFormed.{isNaming}
 use Rattle.record.specs.declared.TaskEntry.{TaskEntry}
 use Rattle.record.specs.declared.GlobalTime.{GlobalTime}
 use Rattle.record.specs.Tables.{ExpirationEntry, Tables}
 use Rattle.record.proofs.Facts.{fit-parts, fit-used}
 use Rattle.record.proofs.Distinct.{handleAt, same-handle}
 use Rattle.steps.specs.Events.{verdictAt, keptBlock, swept, poolAfter, outcomeBy, scheduled}
-use Rattle.steps.specs.Objects.{freePlace, madePool, refreshedPool}
+use Rattle.steps.specs.Objects.{freePlace, madePool, refreshedPool, writtenPool}
 use Rattle.steps.specs.Staying.{Stays, OneBlock}
 use Rattle.steps.proofs.KeptBlocks.{block-left}
+use Rattle.steps.proofs.Summed.{summed-handle, summed-length}
 
 -- blocks that are the same, and no handle more
 pub same-stays : {p p′ : Tables} → p′ .blocks ≡ p .blocks → p′ .given ≡ p .given → Stays p p′
-same-stays e g = record { given = omega (arith, g); same = λ block used given. rw e }
+same-stays e g = record { given = omega (arith, g); same = λ block used given. rw e (refl, refl) }
 
 -- one call after another
 pub stays-on : {p p′ p″ : Tables} → Stays p p′ → Stays p′ p″ → Stays p p″
@@ -40,7 +41,8 @@ stays-on {p} {p′} a b =
       given = omega (arith, a .given, b .given);
       same = λ block used given.
           let later = b .same block used (omega (arith, given, a .given)) in
-          later ∙ a .same block (rw later at used) (rw later at given);
+          let earlier = a .same block (rw (later .0) at used) (rw (later .0) at given) in
+          (later .0 ∙ earlier .0, later .1 ∙ earlier .1);
     }
 
 -- a block that nothing names is freed
@@ -51,7 +53,7 @@ kept-stays p xs =
       given = omega arith;
       same = λ block.
           rw (block-left xs (p .blocks) block)
-          (by-test (any (isNaming block) xs) (λ named. rw named (λ used given. refl)) (λ none. rw none (λ used given. absurd (omega arith))));
+          (by-test (any (isNaming block) xs) (λ named. rw named (λ used given. (refl, refl))) (λ none. rw none (λ used given. absurd (omega arith))));
     }
 
 -- by an event
@@ -79,12 +81,18 @@ make-stays task kind extension size p listed =
       same = λ block.
           by-test (eqb block place)
           (λ here. rw (eqb-true block place here, getD-set-same (p .blocks) place _ freeBlock listed) (λ used given. absurd (omega arith)))
-          (λ other. rw (getD-set-other (p .blocks) place block _ freeBlock (eqb-false block place other)) (λ used given. refl));
+          (λ other. rw (getD-set-other (p .blocks) place block _ freeBlock (eqb-false block place other)) (λ used given. (refl, refl)));
     }
 
 pub refresh-stays : (task : ℕ) (kind : Kind) (extension handle : ℕ) (p : Tables) → Stays p (refreshedPool task kind extension handle p)
 unfolding refreshedPool
 refresh-stays task kind extension handle p = same-stays refl refl
+
+-- a write: the block that it sets has another sum only
+pub write-stays : (handle offset : ℕ) (new small large : List ℕ) (p : Tables) → Stays p (writtenPool handle offset new small large p)
+unfolding writtenPool
+write-stays handle offset new small large p =
+    record { given = omega arith; same = λ block used given. (summed-handle _ _ p block, summed-length _ _ p block) }
 
 -- an object that stands on has one block
 pub one-block : OneBlock
@@ -93,6 +101,6 @@ one-block p p′ w stays before after used its =
     let held : handleAt (p .blocks) before ≢ 0 = λ z. omega (arith, used, z) in
     let numbered = fit-used fit before (ne-eqb (handleAt (p .blocks) before) 0 held) .numbered in
     let same = stays .same after (omega (arith, its, used)) (omega (arith, its, numbered)) in
-    let there : handleAt (p .blocks) after ≡ handleAt (p .blocks) before = sym (ap handleOf same) ∙ its in
+    let there : handleAt (p .blocks) after ≡ handleAt (p .blocks) before = sym (same .0) ∙ its in
     let here = eqb-true after before (sym (same-handle (p .blocks) (fit .distinct) before after held) ∙ eq-eqb _ _ there) in
-    (here, same ∙ ap (λ (i : ℕ). getD (p .blocks) i freeBlock) here)
+    (here, same .1 ∙ ap (λ (i : ℕ). getD (p .blocks) i freeBlock .length) here)

@@ -7,18 +7,19 @@ use mathlib.Core.Logic.{_≢_}
 use mathlib.Core.Path.{_≡_, refl}
 use borrow.Author.Tests.{leb-true}
 use lib.Dec.{leb}
-use lib.ListN.{length, getD, replicate, length-replicate}
+use lib.ListN.{length, getD, take, replicate, length-replicate}
+use lib.Seq.{take-take}
 use Rattle.lists.specs.Tests.{any}
-use Rattle.lists.proofs.Cases.{by-test, and₃}
+use Rattle.lists.proofs.Cases.{by-test, and₃, cond-same}
 use Rattle.lists.proofs.Tables.{allFrom-at}
 use Rattle.ledger.specs.Limits.{smallSize}
 use Rattle.record.specs.Codes.{freeBlock}
-use Rattle.record.specs.Reading.{isSmallBlock, isWholeSmall, isWholeLarge, blockBytes}
+use Rattle.record.specs.Reading.{isSmallBlock, isWholeSmall, isWholeLarge, isWhole, blockBytes, sizeOf}
 use Rattle.record.specs.WellFormed.{isUsed, isNaming, isSizedFor, isFitBlock}
 use Rattle.record.specs.Tables.{Tables, blockEntries}
 use Rattle.record.proofs.Facts.{Fit}
-use Rattle.stores.specs.Places.{sizeOf, InBlock, smallAfter, largeAfter}
-use Rattle.stores.proofs.Places.{all-blocks}
+use Rattle.stores.specs.Places.{InBlock, smallAfter, largeAfter}
+use Rattle.stores.proofs.Places.{all-blocks, part-bytes}
 use Rattle.stores.proofs.Changes.{bytes-changed, bytes-cleared}
 
 -- a block that was cleared whole: zeros in it, and every other block's bytes as they were
@@ -37,11 +38,19 @@ sized-within block size e =
     (λ s. rw s (leb-true _ _ (and-eq-true-iff (leb (smallSize + 1) size) _ .0 (rw s at e) .1)))
 
 module _ (small large : List ℕ) (small-whole : isWholeSmall small ≡ true) (large-whole : isWholeLarge large ≡ true) where
+  -- the store of any size is whole
+  pub both-whole : (size : ℕ) → isWhole small large size ≡ true
+  both-whole size = rw (small-whole, large-whole, cond-same)
+
   -- a block's first bytes lie in its store
   in-block : (block : ℕ) → block < blockEntries → (n : ℕ) → n ≤ sizeOf block → InBlock small large block n
   in-block block known n within = record { known = omega (arith, all-blocks); small-whole = small-whole; large-whole = large-whole; within = within }
 
-  -- and so do those of its object, where a block is in use
+  -- all of them do,
+  pub whole-block : (block : ℕ) → block < blockEntries → InBlock small large block (sizeOf block)
+  whole-block block known = in-block block known (sizeOf block) (omega arith)
+
+  -- and those of its object, where a block is in use
   pub used-in-block : (p : Tables) → Fit p → (j : ℕ) → j < blockEntries → isUsed (getD (p .blocks) j freeBlock) ≡ true
       → InBlock small large j (getD (p .blocks) j freeBlock .length)
   unfolding isFitBlock
@@ -50,6 +59,14 @@ module _ (small large : List ℕ) (small-whole : isWholeSmall small ≡ true) (l
       let fits = allFrom-at (isFitBlock (p .given) (p .expirations)) freeBlock (λ i. refl) (p .blocks) (fit .blocks) j in
       let (_, sized, _) = and₃ (any (isNaming j) (p .expirations)) (isSizedFor j (b .length)) (leb (b .handle) (p .given)) (rw used at fits) in
       in-block j known (b .length) (sized-within j (b .length) sized)
+
+  -- which are the first ones of all
+  pub first-bytes : (block count : ℕ) → InBlock small large block count
+      → take count (blockBytes small large block (sizeOf block)) ≡ blockBytes small large block count
+  first-bytes block count q =
+      let all : InBlock small large block (sizeOf block) =
+      record { known = q .known; small-whole = small-whole; large-whole = large-whole; within = omega arith } in
+      rw (← part-bytes all, ← part-bytes q) (take-take count (sizeOf block) _ (q .within))
 
   -- a make clears its block whole
   pub made-bytes : (place : ℕ) → place < blockEntries

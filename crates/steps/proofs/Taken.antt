@@ -46,7 +46,7 @@ pub record PlaceFree (place size : ℕ) (blocks : List BlockEntry) : Type 0 wher
 
 -- the block that a make leaves there
 abbrev pub newBlock : ℕ → ℕ → BlockEntry
-newBlock given size = record { handle = given + 1; length = size }
+newBlock given size = record { handle = given + 1; length = size; sum = 0 }
 
 -- a free entry has no expiration
 pub slot-due : (slot : ℕ) (xs : List ExpirationEntry) → SlotFree slot xs → dueOf (getD xs slot freeEntry) ≡ Free

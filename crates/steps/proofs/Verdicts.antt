@@ -1,6 +1,6 @@
 -- Make, refresh, read, write, batch and release are refused by the record just where the ledger refuses them, with the same refusal.
 use Prim.Native.Nat.{ℕ, _+_}
-use mathlib.Core.Bool.{Bool, false, cond, not, _||_}
+use mathlib.Core.Bool.{Bool, true, false, cond, not, _||_}
 use mathlib.Core.List.{List, [], _∷_}
 use mathlib.Core.Option.{some}
 use mathlib.Core.Path.{_≡_, refl, sym, ap, _∙_}
@@ -14,10 +14,10 @@ use Rattle.lists.proofs.Counts.{any-same}
 use Rattle.ledger.specs.Limits.{limits, lastHandle}
 use Rattle.ledger.specs.Tasks.{isAbsent, isWaiting}
 use Rattle.ledger.specs.Expirations.{Expiration}
-use Rattle.ledger.specs.Objects.{Memory, objectAt, stands, handlesOf}
+use Rattle.ledger.specs.Objects.{Memory, objectAt, isIntact, stands, handlesOf}
 use Rattle.ledger.specs.Refusals.{Test, shared, own, noSuchTask, taskAbsent, taskWaiting, handleNotGiven, objectGone, testsOf, verdict, asRefusal}
 use Rattle.ledger.specs.Compared.{viewOf}
-use Rattle.ledger.specs.Ledger.{Ledger, verdictOn}
+use Rattle.ledger.specs.Ledger.{Ledger, verdictOn, standingVerdictOn}
 use Rattle.ledger.specs.declared.Call.the-variants.{Make, Refresh, Read, Write, Batch, Release}
 use Rattle.ledger.specs.declared.Kind.{Kind}
 use Rattle.ledger.specs.declared.State.{State}
@@ -26,14 +26,16 @@ use Rattle.ledger.specs.declared.Refusal.{Refusal}
 use Rattle.ledger.specs.declared.Refusal.the-variants.{TaskAbsent, TaskWaiting}
 use Rattle.ledger.specs.declared.Verdict.{Verdict}
 use Rattle.ledger.specs.declared.Verdict.the-variants.{Accepted, Refused}
-use Rattle.record.specs.Reading.{recordView, Typed, Reads}
+use Rattle.stores.specs.Places.{sumAt}
+use Rattle.record.specs.Reading.{isWholeSmall, isWholeLarge, recordView, Typed, Reads}
 use Rattle.record.specs.Tables.{Tables}
 use Rattle.record.proofs.Facts.{Fit}
 use Rattle.steps.proofs.ReadTasks.{state-alike}
-use Rattle.steps.specs.Objects.{andThen, refuseIf, byState, isUngiven, isMissing, taskVerdict, handleVerdict, makeVerdict, refreshVerdict, readVerdict, writeVerdict, batchVerdict, releaseVerdict}
-use Rattle.steps.proofs.Finding.{blockOf, gone-alike, found}
+use Rattle.steps.specs.Objects.{andThen, refuseIf, byState, placeOf, isUngiven, isMissing, taskVerdict, handleVerdict, makeVerdict, refreshVerdict, standingVerdict, readVerdict, writeVerdict, batchVerdict, releaseVerdict}
+use Rattle.steps.proofs.Finding.{Found, blockOf, gone-alike, found}
 use Rattle.steps.proofs.Pinning.{pinned-alike}
 use Rattle.steps.proofs.Rooms.{block-room, entries-alike}
+use Rattle.steps.proofs.StoreBytes.{both-whole}
 
 -- verdicts one after another, in whatever grouping
 pub then-assoc : (u v w : Verdict) → andThen (andThen u v) w ≡ andThen u (andThen v w)
@@ -98,17 +100,30 @@ module _ {p : Tables} {small large : List ℕ} {L : Ledger} (typed : Typed p) (f
     gone-test : isUngiven (p .given) handle ≡ false → not (stands (L .expirations) handle) ≡ isMissing (p .blocks) handle
     gone-test given = sym (gone-alike fit reads handle (or-false-parts _ _ given .0) typed)
 
-    -- 13, of a handle whose object is not gone
+    -- a handle that was given and whose object is not gone finds that
+    object-here : isUngiven (p .given) handle ≡ false → isMissing (p .blocks) handle ≡ false
+        → Found small large (p .blocks) handle (objectAt handle (L .memory .objects))
+    object-here given stays = found fit reads handle (or-false-parts _ _ given .0) (not-false _ (gone-test given ∙ stays))
+
+    -- 13
     size-test : isUngiven (p .given) handle ≡ false → isMissing (p .blocks) handle ≡ false → (end : ℕ)
         → ltb (objectAt handle (L .memory .objects) .size) end ≡ ltb (blockOf handle (p .blocks) .length) end
-    size-test given stays end =
-        rw (found fit reads handle (or-false-parts _ _ given .0) (not-false _ (gone-test given ∙ stays)) .size)
+    size-test given stays end = rw (object-here given stays .size)
 
     -- 11, 12, and what follows
     handle-tests : {ts : List Test} {v : Verdict}
         → (isUngiven (p .given) handle ≡ false → isMissing (p .blocks) handle ≡ false → Agree (L .memory) (L .expirations) ts v)
         → Agree (L .memory) (L .expirations) (handleNotGiven handle ∷ objectGone handle ∷ ts) (andThen (handleVerdict handle p) v)
     handle-tests h = rw then-assoc (test-alike given-test (λ given. test-alike (gone-test given) (h given)))
+
+    -- all that remaining life tests, and what follows
+    standing-tests : (task : ℕ) {ts : List Test} {v : Verdict}
+        → (isUngiven (p .given) handle ≡ false → isMissing (p .blocks) handle ≡ false → Agree (L .memory) (L .expirations) ts v)
+        → Agree (L .memory) (L .expirations)
+        (noSuchTask task ∷ taskAbsent task ∷ taskWaiting task ∷ handleNotGiven handle ∷ objectGone handle ∷ ts)
+        (andThen (standingVerdict task handle p) v)
+    unfolding standingVerdict
+    standing-tests task h = rw (then-assoc (taskVerdict task (p .tasks)) (handleVerdict handle p)) (task-tests task (handle-tests h))
 
   pub make-verdict : (task : ℕ) (kind : Kind) (extension size : ℕ) (new : List ℕ)
       → verdictOn L (Make task kind extension size) new ≡ asRefusal (makeVerdict task kind extension size p)
@@ -128,25 +143,42 @@ module _ {p : Tables} {small large : List ℕ} {L : Ledger} (typed : Typed p) (f
       (test-alike refl
       (λ e. test-alike refl (λ e. handle-tests handle (λ given stays. last-alike (ap (leb (limits .expirations)) (entries-alike fit reads)))))) .so
 
-  pub read-verdict : (task handle : ℕ) (new : List ℕ) → verdictOn L (Read task handle) new ≡ asRefusal (readVerdict task handle p)
-  unfolding testsOf readVerdict
-  read-verdict task handle new = task-tests task (test-alike (given-test handle) (λ given. last-alike (gone-test handle given))) .so
+  -- of remaining life
+  pub standing-verdict : (task handle : ℕ) → standingVerdictOn L task handle ≡ asRefusal (standingVerdict task handle p)
+  unfolding standingVerdict
+  standing-verdict task handle = task-tests task (test-alike (given-test handle) (λ given. last-alike (gone-test handle given))) .so
 
-  pub write-verdict : (task handle offset : ℕ) (new : List ℕ)
-      → verdictOn L (Write task handle offset) new ≡ asRefusal (writeVerdict task handle offset (length new) p)
-  unfolding testsOf writeVerdict readVerdict
-  write-verdict task handle offset new =
-      rw (then-assoc (taskVerdict task (p .tasks)) (handleVerdict handle p))
-      (task-tests task (handle-tests handle (λ given stays. last-alike (size-test handle given stays (offset + length new)))) .so)
+  -- with both stores of 01's lengths
+  module _ (small-whole : isWholeSmall small ≡ true) (large-whole : isWholeLarge large ≡ true) where
+    -- 23, of a handle whose object is not gone
+    sum-test : (handle : ℕ) → isUngiven (p .given) handle ≡ false → isMissing (p .blocks) handle ≡ false
+        → not (isIntact (objectAt handle (L .memory .objects)))
+        ≡ not (eqb (sumAt small large (placeOf handle (p .blocks))) (blockOf handle (p .blocks) .sum))
+    sum-test handle given stays =
+        let here = object-here handle given stays in
+        let bytes = here .bytes (both-whole small large small-whole large-whole (blockOf handle (p .blocks) .length)) in
+        rw (bytes, here .sum)
+
+    pub read-verdict : (task handle : ℕ) (new : List ℕ)
+        → verdictOn L (Read task handle) new ≡ asRefusal (readVerdict task handle small large p)
+    unfolding testsOf readVerdict
+    read-verdict task handle new = standing-tests handle task (λ given stays. last-alike (sum-test handle given stays)) .so
+
+    pub write-verdict : (task handle offset : ℕ) (new : List ℕ)
+        → verdictOn L (Write task handle offset) new ≡ asRefusal (writeVerdict task handle offset (length new) small large p)
+    unfolding testsOf writeVerdict readVerdict
+    write-verdict task handle offset new =
+        rw (then-assoc (standingVerdict task handle p))
+        (standing-tests handle task
+        (λ given stays. test-alike (sum-test handle given stays)
+        (λ intact. last-alike (size-test handle given stays (offset + length new)))) .so)
 
   -- 22, of an object that stands: the block that its handle finds has a pinned expiration just where the ledger says so
   pub release-verdict : (task handle : ℕ) (new : List ℕ) → verdictOn L (Release task handle) new ≡ asRefusal (releaseVerdict task handle p)
-  unfolding testsOf releaseVerdict readVerdict
+  unfolding testsOf releaseVerdict
   release-verdict task handle new =
-      rw (then-assoc (taskVerdict task (p .tasks)) (handleVerdict handle p))
-      (task-tests task
-      (handle-tests handle
-      (λ given stays. last-alike (ap not (pinned-alike fit reads handle (or-false-parts _ _ given .0) (not-false _ (gone-test handle given ∙ stays)))))) .so)
+      standing-tests handle task
+      (λ given stays. last-alike (ap not (pinned-alike fit reads handle (or-false-parts _ _ given .0) (not-false _ (gone-test handle given ∙ stays))))) .so
 
   -- 12, of handles that were all given
   some-gone : (handles : List ℕ) → any (isUngiven (p .given)) handles ≡ false

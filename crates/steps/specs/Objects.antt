@@ -13,10 +13,10 @@ use Rattle.ledger.specs.declared.Kind.the-variants.{Local, Global, Pinned}
 use Rattle.ledger.specs.declared.State.{State}
 use Rattle.ledger.specs.declared.State.the-variants.{Absent, Running, Waiting}
 use Rattle.ledger.specs.declared.Refusal.{Refusal}
-use Rattle.ledger.specs.declared.Refusal.the-variants.{NoSuchTask, TaskAbsent, TaskWaiting, ExtensionTooLong, LengthOutOfRange, HandlesSpent, NoFreeBlock, NoFreeExpiration, HandleNotGiven, ObjectGone, OutsideObject, BatchOutOfRange, OnlyMakePins, NotPinned}
+use Rattle.ledger.specs.declared.Refusal.the-variants.{NoSuchTask, TaskAbsent, TaskWaiting, ExtensionTooLong, LengthOutOfRange, HandlesSpent, NoFreeBlock, NoFreeExpiration, HandleNotGiven, ObjectGone, OutsideObject, BatchOutOfRange, OnlyMakePins, NotPinned, SumDiffers}
 use Rattle.ledger.specs.declared.Verdict.{Verdict}
 use Rattle.ledger.specs.declared.Verdict.the-variants.{Accepted, Refused}
-use Rattle.stores.specs.Places.{blockCount}
+use Rattle.stores.specs.Places.{blockCount, sumAt, sumAfter}
 use Rattle.record.specs.Codes.{stateOf, absentEntry, freeBlock, localCode, globalCode, pinnedCode, freedEntry}
 use Rattle.record.specs.WellFormed.{isPinning}
 use Rattle.record.specs.declared.TaskEntry.{TaskEntry}
@@ -126,22 +126,33 @@ refreshVerdict task kind extension handle p =
     (andThen (kindVerdict kind)
     (andThen (extensionVerdict kind extension) (andThen (handleVerdict handle p) (roomVerdict (standingIn (p .expirations))))))
 
-unfoldable pub readVerdict : ℕ → ℕ → Tables → Verdict
-readVerdict task handle p = andThen (taskVerdict task (p .tasks)) (handleVerdict handle p)
+-- R46: the tests of remaining life, with which those of a read, a write and a release begin
+unfoldable pub standingVerdict : ℕ → ℕ → Tables → Verdict
+standingVerdict task handle p = andThen (taskVerdict task (p .tasks)) (handleVerdict handle p)
+
+-- 23, by the bytes that a block has and the sum in its entry
+abbrev pub sumVerdict : List ℕ → List ℕ → ℕ → BlockEntry → Verdict
+sumVerdict small large block b = refuseIf (not (eqb (sumAt small large block) (b .sum))) SumDiffers
+
+unfoldable pub readVerdict : ℕ → ℕ → List ℕ → List ℕ → Tables → Verdict
+readVerdict task handle small large p =
+    let place = placeOf handle (p .blocks) in
+    andThen (standingVerdict task handle p) (sumVerdict small large place (getD (p .blocks) place freeBlock))
 
 -- 13
 abbrev pub endVerdict : ℕ → ℕ → List BlockEntry → Verdict
 endVerdict handle end blocks = refuseIf (ltb (getD blocks (placeOf handle blocks) freeBlock .length) end) OutsideObject
 
-unfoldable pub writeVerdict : ℕ → ℕ → ℕ → ℕ → Tables → Verdict
-writeVerdict task handle offset count p = andThen (readVerdict task handle p) (endVerdict handle (offset + count) (p .blocks))
+unfoldable pub writeVerdict : ℕ → ℕ → ℕ → ℕ → List ℕ → List ℕ → Tables → Verdict
+writeVerdict task handle offset count small large p =
+    andThen (readVerdict task handle small large p) (endVerdict handle (offset + count) (p .blocks))
 
 -- 22, by the block that was found; R48: the tests of a release
 abbrev pub pinVerdict : ℕ → List ExpirationEntry → Verdict
 pinVerdict block xs = refuseIf (not (any (isPinning block) xs)) NotPinned
 
 unfoldable pub releaseVerdict : ℕ → ℕ → Tables → Verdict
-releaseVerdict task handle p = andThen (readVerdict task handle p) (pinVerdict (placeOf handle (p .blocks)) (p .expirations))
+releaseVerdict task handle p = andThen (standingVerdict task handle p) (pinVerdict (placeOf handle (p .blocks)) (p .expirations))
 
 -- R47: the tests of a batch, by the handles given, which objects are gone and how many expirations stand
 abbrev pub batchVerdictBy : ℕ → Kind → ℕ → List ℕ → List TaskEntry → ℕ → (ℕ → Bool) → ℕ → Verdict
@@ -189,7 +200,7 @@ withObject place size p =
       tasks = p .tasks;
       global = p .global;
       given = p .given + 1;
-      blocks = set (p .blocks) place (record { handle = p .given + 1; length = size });
+      blocks = set (p .blocks) place (record { handle = p .given + 1; length = size; sum = 0 });
       expirations = p .expirations;
     }
 
@@ -209,6 +220,25 @@ unfoldable pub batchedPool : ℕ → Kind → ℕ → List ℕ → Tables → Ta
 batchedPool task kind extension [] p = p
 batchedPool task kind extension (handle ∷ handles) p =
     batchedPool task kind extension handles (refreshedPool task kind extension handle p)
+
+-- O35: and after a write: the sum in its block's entry is that of the bytes which are there then
+abbrev pub summedBlock : ℕ → BlockEntry → BlockEntry
+summedBlock sum b = record { handle = b .handle; length = b .length; sum = sum }
+
+abbrev pub withSum : ℕ → ℕ → Tables → Tables
+withSum place sum p =
+    record {
+      tasks = p .tasks;
+      global = p .global;
+      given = p .given;
+      blocks = set (p .blocks) place (summedBlock sum (getD (p .blocks) place freeBlock));
+      expirations = p .expirations;
+    }
+
+unfoldable pub writtenPool : ℕ → ℕ → List ℕ → List ℕ → List ℕ → Tables → Tables
+writtenPool handle offset new small large p =
+    let place = placeOf handle (p .blocks) in
+    withSum place (sumAfter small large place offset new) p
 
 -- E24: an entry after the release of the object in a block
 abbrev pub unpinnedEntry : ℕ → ExpirationEntry → ExpirationEntry

@@ -11,8 +11,8 @@ use Rattle.lists.specs.Blocks.{blockOf, overwritten, BlockChanged}
 use Rattle.lists.proofs.Blocks.{block-change, take-new, take-replicate}
 use Rattle.lists.proofs.Cases.{by-test}
 use Rattle.ledger.specs.Limits.{limits}
-use Rattle.record.specs.Reading.{isSmallBlock, blockBytes}
-use Rattle.stores.specs.Places.{storeOf, indexOf, sizeOf, startOf, InBlock, smallAfter, largeAfter}
+use Rattle.record.specs.Reading.{isSmallBlock, blockBytes, sizeOf}
+use Rattle.stores.specs.Places.{storeOf, indexOf, startOf, InBlock, smallAfter, largeAfter}
 use Rattle.stores.proofs.Places.{countOf, index-within, store-size, part-bytes}
 
 -- new bytes at an offset in a block: that block's first bytes have them, and those of every other block are as they were

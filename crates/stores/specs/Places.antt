@@ -4,22 +4,20 @@ use mathlib.Core.Bool.{true, cond}
 use mathlib.Core.List.{List}
 use mathlib.Core.Path.{_≡_}
 use Rattle.lists.specs.Blocks.{overwritten}
-use Rattle.ledger.specs.Limits.{limits, smallSize, largeSize}
-use Rattle.record.specs.Reading.{isSmallBlock, isWholeSmall, isWholeLarge}
+use Rattle.lists.specs.Sums.{total}
+use Rattle.ledger.specs.Limits.{limits}
+use Rattle.record.specs.Reading.{isSmallBlock, isWholeSmall, isWholeLarge, sizeOf, blockBytes}
 
 -- the blocks of both stores
 unfoldable pub blockCount : ℕ
 blockCount = limits .smallBlocks + limits .largeBlocks
 
--- the store that has the block, the block's place among the blocks of that store, and its bytes
+-- the store that has the block, and the block's place among the blocks of that store
 abbrev pub storeOf : List ℕ → List ℕ → ℕ → List ℕ
 storeOf small large block = cond (isSmallBlock block) small large
 
 unfoldable pub indexOf : ℕ → ℕ
 indexOf block = cond (isSmallBlock block) block (block - limits .smallBlocks)
-
-unfoldable pub sizeOf : ℕ → ℕ
-sizeOf block = cond (isSmallBlock block) smallSize largeSize
 
 -- where the block starts in its store
 unfoldable pub startOf : ℕ → ℕ
@@ -38,3 +36,11 @@ smallAfter block offset new small = cond (isSmallBlock block) (overwritten (star
 
 unfoldable pub largeAfter : ℕ → ℕ → List ℕ → List ℕ → List ℕ
 largeAfter block offset new large = cond (isSmallBlock block) large (overwritten (startOf block + offset) new large)
+
+-- O34: the sum of the bytes that a block has
+abbrev pub sumAt : List ℕ → List ℕ → ℕ → ℕ
+sumAt small large block = total (blockBytes small large block (sizeOf block))
+
+-- O35: and the sum of those that it has after new ones from an offset on
+abbrev pub sumAfter : List ℕ → List ℕ → ℕ → ℕ → List ℕ → ℕ
+sumAfter small large block offset new = total (overwritten offset new (blockBytes small large block (sizeOf block)))

@@ -1,12 +1,16 @@
-// A block's part of a lent store: cleared, written, or handed back.
+// A block's part of a lent store: cleared, written, summed, or handed back.
 ghost use mathlib.Core.Path.{_≡_};
 ghost use mathlib.Core.List.{[]};
 ghost use Prim.Native.Nat.{_+_, _≤_, _<_};
 ghost use lib.ListN.{length, take, drop, replicate};
 ghost use Rattle.lists.specs.Blocks.{overwritten};
-ghost use Rattle.record.specs.Reading.{blockBytes};
-ghost use Rattle.stores.specs.Places.{blockCount, sizeOf, startOf, InBlock, smallAfter, largeAfter};
+ghost use Rattle.record.specs.Reading.{blockBytes, sizeOf};
+ghost use Rattle.stores.specs.Places.{blockCount, startOf, InBlock, smallAfter, largeAfter};
 use ledger::LIMITS;
+pub use sums::block_sum;
+pub use sums::sum_after;
+
+mod sums;
 
 // The blocks of the small store, the bytes of a small and of a large block.
 const SMALL_BLOCKS: usize = LIMITS.small_blocks;
@@ -109,6 +113,17 @@ pub fn block_start(block: usize) -> usize
         block * SMALL_SIZE
     } else {
         (block - SMALL_BLOCKS) * LARGE_SIZE
+    }
+}
+
+// The bytes of a block.
+pub fn block_size(block: usize) -> usize
+    ensures { λ r. ⌜ r ≡ sizeOf block ⌝ }
+{
+    if block < SMALL_BLOCKS {
+        SMALL_SIZE
+    } else {
+        LARGE_SIZE
     }
 }
 

@@ -74,7 +74,7 @@ fn the_header_has_the_constants_of_the_proved_source() {
         assert_eq!(constants(), proved());
         assert_eq!(
             constants().len(),
-            10 + 3 + 4 + 1 + 22 + 1,
+            10 + 3 + 4 + 1 + 23 + 1,
             "sizes and counts, kinds, clocks, done, refusals, buffer too short"
         );
     }

@@ -41,7 +41,7 @@ pub fn run_all(cases: &[Case]) {
 fn run(case: &Case, action: Action) {
     let mut desk = Desk::with(case.memory.clone());
     for _ in 0..REPEATS {
-        desk.memory.pool.clone_from(&case.memory.pool);
+        desk.memory.clone_from(&case.memory);
         let answer = measured(action, &mut desk, &case.arguments);
         assert_eq!(answer, case.answer, "{}, {} expirations", case.name, case.expirations);
     }

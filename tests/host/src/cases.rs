@@ -188,7 +188,7 @@ fn frames(expirations: usize) -> Vec<Case> {
     cases
 }
 
-/// Refused with 1 after the test of well-formedness, and with 15 where it finds the fault last or first.
+/// Refused with 1 after the test of well-formedness, with 15 where it finds the fault last or first, and with 23.
 fn refusals(expirations: usize) -> Vec<Case> {
     let by = |task| Arguments { task, size: 32, handle: 1, ..Arguments::default() };
     let refused = |name, entry, task, answer| Case { answer, ..case(name, entry, expirations, by(task)) };
@@ -203,10 +203,22 @@ fn refusals(expirations: usize) -> Vec<Case> {
     if expirations > 0 {
         let mut last = refused("tick, refused 15 at the last object", Entry::Tick, 1, 15);
         let block = last.memory.pool.handles.iter().rposition(|&handle| handle != 0);
-        last.memory.pool.lengths[block.expect("objects stand")] = 0;
+        last.memory.pool.extents[block.expect("objects stand")] = 0;
         cases.push(last);
+        let (_, handle) = last_handles(expirations);
+        let with = Arguments { handle, bytes: vec![7; 256], ..Arguments::default() };
+        for (name, entry) in [("read 256, refused 23", Entry::Read), ("write 256, refused 23", Entry::Write)] {
+            cases.push(changed_outside(Case { answer: 23, ..case(name, entry, expirations, with.clone()) }));
+        }
     }
     cases
+}
+
+/// The last byte of the object's block is another.
+fn changed_outside(mut case: Case) -> Case {
+    let place = case.memory.place(case.arguments.handle).expect("the object stands");
+    case.memory.block_mut(place)[255] ^= 1;
+    case
 }
 
 pub(crate) fn case(name: &'static str, entry: Entry, expirations: usize, arguments: Arguments) -> Case {

@@ -5,6 +5,7 @@ use std::marker::PhantomData;
 
 use plain::calls::ANSWER_ROOM;
 use plain::limits::LARGE_SIZE;
+use plain::record::extent_of;
 use reference::call::{Accepted, Call, Figures, Kind, Lifetime};
 
 use crate::entries::Entries;
@@ -113,18 +114,21 @@ impl<E: Entries> Host<E> {
     }
 
     /// An accepted call touches its own bytes alone: a make clears one block, a write replaces its bytes, and no
-    /// other call touches a store. Read, write, report and remaining leave the record.
+    /// other call touches a store. Of the record a write changes the sum of its block, and read, report and remaining
+    /// nothing. A new object has the sum of zeros.
     fn check_memory(&mut self, call: &Call) {
         let Host { memory, before, .. } = self;
         match *call {
-            Call::Make { .. } => {
+            Call::Make { length, .. } => {
                 let place = memory.place(memory.pool.given).expect("the new object has a block");
                 assert_eq!(before.pool.handles[place], 0, "{call:?} takes a free block");
+                assert_eq!(memory.pool.extents[place], extent_of(length, 0), "{call:?}");
                 before.block_mut(place).fill(0);
             }
             Call::Write { handle, offset, bytes, .. } => {
                 let place = memory.place(handle).expect("the object has a block");
                 before.block_mut(place)[usize::from(offset)..][..bytes.len()].copy_from_slice(bytes);
+                before.sum_up(place);
             }
             _ => {}
         }

@@ -1,7 +1,7 @@
 //! What a host owns: the record and both stores.
 
 use plain::limits::{LARGE_SIZE, LARGE_STORE, SMALL_BLOCKS, SMALL_SIZE, SMALL_STORE};
-use plain::record::{Pool, FRESH, RECORD};
+use plain::record::{extent_of, length_in, Pool, FRESH, RECORD};
 use reference::random::Random;
 
 #[derive(Clone, Debug)]
@@ -33,6 +33,12 @@ impl Memory {
             None => &mut self.small[place * SMALL_SIZE..][..SMALL_SIZE],
             Some(place) => &mut self.large[place * LARGE_SIZE..][..LARGE_SIZE],
         }
+    }
+
+    /// The record gets the sum of the bytes that stand in this block.
+    pub fn sum_up(&mut self, place: usize) {
+        let sum = self.block(place).iter().map(|&byte| u16::from(byte)).sum();
+        self.pool.extents[place] = extent_of(length_in(self.pool.extents[place]), sum);
     }
 
     /// The place of the block that holds this object.

@@ -2,7 +2,8 @@
 //! 32 bits, an object's expirations by kind, setter and units left, in no order. Places are not compared.
 
 use plain::limits::TASKS;
-use plain::record::{Pool, ABSENT, DEPARTED, FREE, GLOBAL, LOCAL, PINNED, RUNNING};
+use plain::record::{length_in, sum_in, Pool, ABSENT, DEPARTED, FREE, GLOBAL, LOCAL, PINNED, RUNNING};
+use reference::block::Block;
 use reference::call::Figures;
 use reference::expiration::{Remaining, Setter};
 use reference::ledger::{Ledger, Standing};
@@ -64,8 +65,9 @@ fn standing(memory: &Memory) -> Vec<Standing> {
         let handle = pool.handles[place];
         if handle != 0 {
             expirations.sort();
-            let bytes = memory.block(place)[..usize::from(pool.lengths[place])].to_vec();
-            standing.push(Standing { handle, bytes, expirations });
+            let extent = pool.extents[place];
+            let block = Block { length: length_in(extent), bytes: memory.block(place).to_vec(), sum: sum_in(extent) };
+            standing.push(Standing { handle, block, expirations });
         }
     }
     standing.sort_by_key(|object| object.handle);

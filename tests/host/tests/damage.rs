@@ -9,7 +9,8 @@ use host_tests::reading::{figures, of_record};
 use host_tests::samples::{after, full, standing_by, Setting};
 use plain::fit::is_well_formed;
 use plain::limits::{BLOCKS, EXPIRATIONS, TASKS};
-use plain::record::{is_global, Pool, ABSENT, DEPARTED, FREE, GLOBAL, LOCAL, PINNED, RECORD, RUNNING};
+use plain::record::{extent_of, is_global, length_in, sum_in, Pool};
+use plain::record::{ABSENT, DEPARTED, FREE, GLOBAL, LOCAL, PINNED, RECORD, RUNNING};
 use reference::call::{packed, Accepted, Call, Figures, Handles, Kind, Lifetime};
 use reference::generate::Profile;
 use reference::random::Random;
@@ -27,7 +28,7 @@ fn is_fit(pool: &Pool) -> bool {
     let named = dates().all(|date| used(block_of(date)));
     // W16 among them: no two pinned ones of one object.
     let blocks = (0..96).filter(|&place| used(place)).all(|place| {
-        let (handle, length) = (pool.handles[place], pool.lengths[place]);
+        let (handle, length) = (pool.handles[place], length_in(pool.extents[place]));
         let range = if place < 64 { 1..=32 } else { 33..=256 };
         dates().any(|date| block_of(date) == place)
             && range.contains(&length)
@@ -66,7 +67,7 @@ struct Pair {
     library: Host<Library>,
     plain: Host<Plain>,
     whole: Memory,
-    calls: [Call<'static>; 7],
+    calls: [Call<'static>; 8],
     fit: usize,
     unfit: usize,
 }
@@ -90,6 +91,7 @@ impl Pair {
                 Call::Make { task, kind: Kind::Local, extension: 30, length: 40 },
                 Call::Batch { task, kind: Kind::Global, extension: 30, handles },
                 Call::Release { task, handle: pinned(&whole.pool) },
+                Call::Write { task, handle, offset: 0, bytes: &[7] },
             ],
             whole,
             fit: 0,
@@ -159,7 +161,7 @@ fn overwrite_each_byte(whole: Memory) {
     for offset in 0..RECORD {
         let held = bytes_mut(&mut pair.whole.pool)[offset];
         for value in 0..=255 {
-            let turn = 1 + (offset + usize::from(value)) % 6;
+            let turn = 1 + (offset + usize::from(value)) % 7;
             pair.examine(&[calls[0], calls[turn]], |pool| bytes_mut(pool)[offset] = value);
         }
         bytes_mut(&mut pair.library.memory.pool)[offset] = held;
@@ -227,10 +229,10 @@ fn late() -> Memory {
 /// What stands in them, what remains to the object that is asked for, and what the calls are told.
 #[test]
 fn undamaged_records() {
-    let mixed = (mixed(), (40, 18, 123), (8, 23), [0; 7]);
-    let late = (late(), (25, 16, 73), (28, 13), [0; 7]);
-    let full = (full(256), (64, 32, 256), (0, 28), [0, 0, 0, 0, 9, 10, 22]);
-    let pinned = (with_pinned(), (64, 32, 256), (0, 30), [0, 0, 0, 0, 9, 10, 0]);
+    let mixed = (mixed(), (40, 18, 123), (8, 23), [0; 8]);
+    let late = (late(), (25, 16, 73), (28, 13), [0; 8]);
+    let full = (full(256), (64, 32, 256), (0, 28), [0, 0, 0, 0, 9, 10, 22, 0]);
+    let pinned = (with_pinned(), (64, 32, 256), (0, 30), [0, 0, 0, 0, 9, 10, 0, 0]);
     for (whole, standing, (local, global), expected) in [mixed, late, full, pinned] {
         let Figures { small, large, expirations, .. } = figures(&whole.pool);
         assert_eq!((small, large, expirations), standing);
@@ -264,7 +266,7 @@ fn likely_damages() {
 fn damage(pool: &mut Pool, random: &mut Random) {
     let (from, to) = (random.below(256), random.below(256));
     let small = random.below(4) as u32;
-    match random.below(18) {
+    match random.below(19) {
         0 => pool.tasks[to % TASKS] = pool.tasks[from % TASKS],
         1 => pool.tasks[to % TASKS].state = small as u16,
         2 => pool.tasks[to % TASKS].ticked = small as u16,
@@ -273,8 +275,11 @@ fn damage(pool: &mut Pool, random: &mut Random) {
         5 => pool.given = pool.given.wrapping_sub(small),
         6 => pool.handles[to % 96] = pool.handles[from % 96],
         7 => pool.handles[to % 96] = small,
-        8 => pool.lengths[to % 96] = pool.lengths[from % 96],
-        9 => pool.lengths[to % 96] = random.pick(&[0, 1, 32, 33, 256, 257, 289]),
+        8 => pool.extents[to % 96] = pool.extents[from % 96],
+        9 => {
+            let sum = sum_in(pool.extents[to % 96]);
+            pool.extents[to % 96] = extent_of(random.pick(&[0, 1, 32, 33, 256, 257, 289]), sum);
+        }
         10 => {
             pool.clocks[to] = pool.clocks[from];
             pool.named[to] = pool.named[from];
@@ -290,6 +295,7 @@ fn damage(pool: &mut Pool, random: &mut Random) {
         14 => pool.dues[to] = pool.dues[from],
         15 => pool.dues[to] = 0,
         16 => (pool.clocks[to], pool.dues[to]) = (PINNED, 0),
+        17 => pool.extents[to % 96] = pool.extents[to % 96].wrapping_add(small << 16),
         _ => pool.dues[to] = pool.dues[to].wrapping_add(small),
     }
 }

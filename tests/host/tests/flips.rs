@@ -10,7 +10,7 @@ use host_tests::host::Host;
 use host_tests::library::Library;
 use host_tests::memory::{bytes_mut, Memory};
 use host_tests::reading::{figures, of_record};
-use plain::limits::TASKS;
+use plain::limits::{LARGE_SIZE, TASKS};
 use plain::record::{Pool, RECORD};
 use reference::call::{Call, Kind};
 use reference::random::Random;
@@ -22,6 +22,7 @@ const RECORDS: u64 = 200;
 const NO_FREE_BLOCK: u8 = 9;
 const NO_FREE_EXPIRATION: u8 = 10;
 const NOT_WELL_FORMED: u8 = 15;
+const SUM_DIFFERS: u8 = 23;
 
 // Full records that calls lead to.
 
@@ -102,20 +103,33 @@ fn fill(random: &mut Random, host: &mut Host<Library>, lengths: RangeInclusive<u
 
 // The flips.
 
-/// The fields of a record, and where each starts.
-const FIELDS: [(&str, usize); 8] = [
-    ("tasks", offset_of!(Pool, tasks)),
-    ("global", offset_of!(Pool, global)),
-    ("given", offset_of!(Pool, given)),
-    ("handles", offset_of!(Pool, handles)),
-    ("lengths", offset_of!(Pool, lengths)),
-    ("clocks", offset_of!(Pool, clocks)),
-    ("named", offset_of!(Pool, named)),
-    ("dues", offset_of!(Pool, dues)),
+/// The fields of a record, and where each starts. An extent has a length, and after it a sum.
+const FIELDS: [(&str, usize); 9] = [
+    ("`tasks`", offset_of!(Pool, tasks)),
+    ("`global`", offset_of!(Pool, global)),
+    ("`given`", offset_of!(Pool, given)),
+    ("`handles`", offset_of!(Pool, handles)),
+    ("`extents`, lengths", offset_of!(Pool, extents)),
+    ("`extents`, sums", offset_of!(Pool, extents) + 2),
+    ("`clocks`", offset_of!(Pool, clocks)),
+    ("`named`", offset_of!(Pool, named)),
+    ("`dues`", offset_of!(Pool, dues)),
 ];
+const LENGTHS: usize = 4;
+const SUMS: usize = 5;
 
 fn field_of(place: usize) -> usize {
-    FIELDS.iter().rposition(|&(_, start)| start <= place).unwrap()
+    match FIELDS.iter().rposition(|&(_, start)| start <= place).unwrap() {
+        LENGTHS | SUMS => LENGTHS + place % 4 / 2,
+        field => field,
+    }
+}
+
+/// The number that a read of the object in this block answers.
+fn read(memory: &mut Memory, block: usize) -> u8 {
+    let Memory { pool, small, large } = memory;
+    let handle = pool.handles[block];
+    Library::read(pool, small, large, 0, handle, &mut [0; LARGE_SIZE], &mut 0)
 }
 
 /// Flips there were, and flips that leave a record that is answered.
@@ -138,13 +152,15 @@ fn sum(counts: &[Count]) -> Count {
     })
 }
 
-/// All flips of a record, by field. One that is answered has another meaning than before: the flip was not in vain.
-fn flip_all(mut memory: Memory) -> [Count; 8] {
-    let mut counts = [Count::default(); 8];
+/// All flips of a record, by field. One that is answered has another meaning than before: the flip was not in vain. One of a
+/// sum is always answered, and makes a read of its object refuse.
+fn flip_all(mut memory: Memory) -> [Count; 9] {
+    let mut counts = [Count::default(); 9];
     let before = of_record(&memory);
     for bit in 0..8 * RECORD {
         let (place, mask) = (bit / 8, 1 << (bit % 8));
-        let count = &mut counts[field_of(place)];
+        let field = field_of(place);
+        let count = &mut counts[field];
         count.flips += 1;
         bytes_mut(&mut memory.pool)[place] ^= mask;
         let (mut small, mut large, mut expirations, mut given) = (0, 0, 0, 0);
@@ -155,24 +171,28 @@ fn flip_all(mut memory: Memory) -> [Count; 8] {
             }
             number => assert_eq!(number, NOT_WELL_FORMED),
         }
+        if field == SUMS {
+            let block = (place - offset_of!(Pool, extents)) / 4;
+            assert_eq!(read(&mut memory, block), SUM_DIFFERS, "bit {bit}");
+        }
         bytes_mut(&mut memory.pool)[place] ^= mask;
     }
     counts
 }
 
 /// Lines of a table in Markdown: a field, its bits, and how many of the flips were answered.
-fn table(records: &[[Count; 8]]) -> String {
+fn table(records: &[[Count; 9]]) -> String {
     let line =
         |name: &str, count: Count| format!("| {name} | {} | {:.1} % |\n", count.flips / records.len(), count.share());
     let fields = FIELDS.iter().enumerate().map(|(field, (name, _))| {
         let counts: Vec<Count> = records.iter().map(|counts| counts[field]).collect();
-        line(&format!("`{name}`"), sum(&counts))
+        line(name, sum(&counts))
     });
     fields.chain([line("all", sum(records.as_flattened()))]).collect()
 }
 
 /// The lowest and the highest share of one record.
-fn range(records: &[[Count; 8]]) -> String {
+fn range(records: &[[Count; 9]]) -> String {
     let mut shares: Vec<f64> = records.iter().map(|counts| sum(counts).share()).collect();
     shares.sort_by(f64::total_cmp);
     format!("{:.1} to {:.1} %", shares[0], shares[shares.len() - 1])

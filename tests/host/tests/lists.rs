@@ -15,6 +15,7 @@ use reference::frame::{decode, encode_answer};
 use reference::generate::{script_of, Profile, PROFILES};
 use reference::indexed;
 use reference::ledger::Ledger;
+use reference::outside::{Change, Changes, Exposed};
 use reference::random::Random;
 use reference::script::lines;
 
@@ -33,6 +34,8 @@ struct Company {
     random: Random,
     /// Joining tasks and global time begin near the end of 32 bits.
     late: bool,
+    /// Something outside changes bytes of the stores between the calls.
+    changes: Option<Changes>,
     ahead: Ahead,
     global_before: u32,
     census: Census,
@@ -54,6 +57,7 @@ impl Company {
             plain: Host::new(memory),
             random,
             late,
+            changes: None,
             global_before: ahead.global,
             ahead,
             census: Census::default(),
@@ -63,7 +67,11 @@ impl Company {
     fn run(mut self, script: &[u8]) -> Census {
         let mut room = vec![0; script.len()];
         for (count, line) in lines(script).enumerate() {
-            match decode(line, &mut room) {
+            let call = decode(line, &mut room);
+            if let Ok(call) = &call {
+                self.disturb(call);
+            }
+            match call {
                 Ok(call) if self.random.one_in(5) => self.ask(line, Some(&call)),
                 Ok(call) => self.call(&call),
                 Err(_) => self.ask(line, None),
@@ -74,6 +82,20 @@ impl Company {
         }
         self.compare_states();
         self.census
+    }
+
+    /// What something outside does before this call, the same to all.
+    fn disturb(&mut self, call: &Call) {
+        let Some(changes) = &mut self.changes else { return };
+        for change in changes.before(call, &self.ledger) {
+            let Change { handle, place, byte } = change;
+            self.ledger.disturb(change);
+            self.indexed.disturb(change);
+            for memory in [&mut self.library.memory, &mut self.plain.memory] {
+                let block = memory.place(handle).expect("the object has a block");
+                memory.block_mut(block)[place] = byte;
+            }
+        }
     }
 
     /// One call by its own entry.
@@ -158,12 +180,12 @@ impl Company {
 }
 
 /// Lists of one profile each and of all together. Those of every seed differ.
-fn run_lists(seeds: std::ops::Range<u64>, late: bool) -> Census {
+fn run_lists(seeds: std::ops::Range<u64>, company: impl Fn(u64) -> Company) -> Census {
     let mut census = Census::default();
     for seed in seeds {
         let only = PROFILES.get(seed as usize % (PROFILES.len() + 4)).copied();
         let script = script_of(only, seed, SIZE);
-        census.add(&Company::new(seed, late).run(&script));
+        census.add(&company(seed).run(&script));
     }
     census.print();
     census
@@ -190,18 +212,36 @@ fn check_all_met(census: &Census) {
 
 #[test]
 fn of_fresh_records() {
-    let census = run_lists(0..105, false);
+    let census = run_lists(0..105, |seed| Company::new(seed, false));
     check_all_met(&census);
+    assert_eq!(census.refused[23], 0, "no call leads to 23");
     assert!(census.calls + census.frames > 1_000_000);
 }
 
 #[test]
 fn of_records_whose_counters_go_round() {
-    let census = run_lists(1_000..1_105, true);
+    let census = run_lists(1_000..1_105, |seed| Company::new(seed, true));
     check_all_met(&census);
+    assert_eq!(census.refused[23], 0, "no call leads to 23");
     assert!(census.clock_wraps > 100 && census.global_wraps > 20 && census.pinned_wraps > 5);
     assert!(census.remaining_across > 1_000 && census.batches_across > 1_000 && census.put_off_across > 100);
     assert!(census.calls + census.frames > 1_000_000);
+}
+
+/// One byte, two that cancel out or two of chance, put back now and then: reads and writes are refused by all or by none, and
+/// all else is answered as ever.
+#[test]
+fn of_stores_that_something_outside_changes() {
+    let census =
+        run_lists(2_000..2_042, |seed| Company { changes: Some(Changes::new(seed)), ..Company::new(seed, false) });
+    assert!(census.accepted.iter().all(|&count| count > 1_000));
+    for (operation, name) in [(7, "read"), (8, "write")] {
+        for number in [1, 3, 4, 11, 12, 23] {
+            assert!(census.refused_by[operation][number] > 100, "{name}, {number}");
+        }
+    }
+    assert_eq!(census.refused_by.iter().map(|numbers| numbers[23]).sum::<usize>(), census.refused[23]);
+    assert_eq!(census.refused_by[7][23] + census.refused_by[8][23], census.refused[23], "no other call looks");
 }
 
 /// Near the last handle the ledgers, which start at 0, cannot follow; library and plain pool give the same answers.

@@ -113,7 +113,15 @@ pub fn read(pool: &Pool, small: &[u8], large: &[u8], task: u8, handle: u32, out:
     ACCEPTED
 }
 
-pub fn write(pool: &Pool, small: &mut [u8], large: &mut [u8], task: u8, handle: u32, offset: u8, bytes: &[u8]) -> u8 {
+pub fn write(
+    pool: &mut Pool,
+    small: &mut [u8],
+    large: &mut [u8],
+    task: u8,
+    handle: u32,
+    offset: u8,
+    bytes: &[u8],
+) -> u8 {
     if !is_well_formed(pool) {
         return NOT_WELL_FORMED;
     }

@@ -1,5 +1,5 @@
 //! The record, as the library has it: sixteen task entries, two counters, and the tables of blocks and of expirations, an
-//! array for each field. It is 2248 bytes of numbers without a gap.
+//! array for each field. It is 2440 bytes of numbers without a gap.
 
 use crate::limits::{BLOCKS, EXPIRATIONS, TASKS};
 
@@ -22,6 +22,20 @@ pub fn is_global(clock: u8) -> bool {
     (GLOBAL..=DEPARTED).contains(&clock)
 }
 
+/// The length of an object, in the low half of an extent.
+pub fn length_in(extent: u32) -> u16 {
+    extent as u16
+}
+
+/// The sum of all bytes of its block, in the high half.
+pub fn sum_in(extent: u32) -> u16 {
+    (extent >> 16) as u16
+}
+
+pub fn extent_of(length: u16, sum: u16) -> u32 {
+    u32::from(sum) << 16 | u32::from(length)
+}
+
 #[derive(Clone, Copy, Debug, PartialEq, Eq)]
 #[repr(C)]
 pub struct TaskEntry {
@@ -30,9 +44,10 @@ pub struct TaskEntry {
     pub clock: u32,
 }
 
-/// Block i has the object `handles[i]`, 0 where it is free, of `lengths[i]` bytes. Blocks 0 to 63 are the small store's,
-/// 64 to 95 the large one's. Expiration i belongs to the object in the block `named[i]`, and is due when the clock
-/// `clocks[i]` reads `dues[i]`, which is 0 where it is pinned. The other fields of a free block or expiration have no meaning.
+/// Block i has the object `handles[i]`, 0 where it is free, with the length and the sum in `extents[i]`. Blocks 0 to 63
+/// are the small store's, 64 to 95 the large one's. Expiration i belongs to the object in the block `named[i]`, and is due
+/// when the clock `clocks[i]` reads `dues[i]`, which is 0 where it is pinned. The other fields of a free block or expiration
+/// have no meaning.
 #[derive(Clone, Debug, PartialEq, Eq)]
 #[repr(C)]
 pub struct Pool {
@@ -40,7 +55,7 @@ pub struct Pool {
     pub global: u32,
     pub given: u32,
     pub handles: [u32; BLOCKS],
-    pub lengths: [u16; BLOCKS],
+    pub extents: [u32; BLOCKS],
     pub clocks: [u8; EXPIRATIONS],
     pub named: [u8; EXPIRATIONS],
     pub dues: [u32; EXPIRATIONS],
@@ -50,7 +65,7 @@ pub struct Pool {
 pub const GROUP: usize = 32;
 
 /// The bytes of a record.
-pub const RECORD: usize = 2248;
+pub const RECORD: usize = 2440;
 
 const _: () = assert!(size_of::<Pool>() == RECORD && align_of::<Pool>() == 4);
 
@@ -62,7 +77,7 @@ pub const FRESH: Pool = Pool {
     global: 0,
     given: 0,
     handles: [0; BLOCKS],
-    lengths: [0; BLOCKS],
+    extents: [0; BLOCKS],
     clocks: [FREE; EXPIRATIONS],
     named: [0; EXPIRATIONS],
     dues: [0; EXPIRATIONS],

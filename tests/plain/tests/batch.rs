@@ -43,7 +43,7 @@ fn full(handles: impl Iterator<Item = u32>) -> Pool {
     pool.tasks[0].state = RUNNING;
     for (block, handle) in (0..BLOCKS).zip(handles) {
         pool.handles[block] = handle;
-        pool.lengths[block] = 32 + u16::from(block >= 64);
+        pool.extents[block] = 32 + u32::from(block >= 64);
         (pool.clocks[block], pool.named[block], pool.dues[block]) = (GLOBAL, block as u8, 1);
     }
     assert!(is_well_formed(&pool));

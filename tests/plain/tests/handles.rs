@@ -13,7 +13,7 @@ fn full() -> Pool {
     let mut pool = Pool { given: u32::MAX, ..FRESH };
     for block in 0..BLOCKS {
         pool.handles[block] = 1 + block as u32;
-        pool.lengths[block] = 32 + u16::from(block >= 64);
+        pool.extents[block] = 32 + u32::from(block >= 64);
         (pool.clocks[block], pool.named[block], pool.dues[block]) = (DEPARTED, block as u8, 1);
     }
     pool

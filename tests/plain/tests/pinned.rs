@@ -42,7 +42,7 @@ fn pinned_from(first: usize) -> Pool {
     pool.tasks[0].state = RUNNING;
     for block in 0..BLOCKS {
         pool.handles[block] = 1 + block as u32;
-        pool.lengths[block] = 32 + u16::from(block >= 64);
+        pool.extents[block] = 32 + u32::from(block >= 64);
         let entry = (first + block) % EXPIRATIONS;
         (pool.clocks[entry], pool.named[entry]) = (PINNED, block as u8);
     }
@@ -80,7 +80,7 @@ fn released_from_all_places() {
 fn what_is_not_fit() {
     for (one, other) in [(0, 1), (0, 255), (31, 32), (100, 228)] {
         let mut pool = Pool { given: 1, ..FRESH };
-        (pool.handles[0], pool.lengths[0]) = (1, 4);
+        (pool.handles[0], pool.extents[0]) = (1, 4);
         (pool.clocks[one], pool.named[one]) = (PINNED, 0);
         assert!(is_well_formed(&pool));
         for due in [1, 32, u32::MAX] {

@@ -20,7 +20,7 @@ fn with(code: u8, units: u32) -> Pool {
     for (task, entry) in pool.tasks.iter_mut().enumerate() {
         *entry = TaskEntry { state: state_of(task), ..ABSENT_TASK };
     }
-    (pool.handles[0], pool.lengths[0]) = (1, 4);
+    (pool.handles[0], pool.extents[0]) = (1, 4);
     (pool.clocks[0], pool.named[0], pool.dues[0]) = (code, 0, units);
     pool
 }

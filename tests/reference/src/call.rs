@@ -76,6 +76,16 @@ impl Call<'_> {
         }
     }
 
+    /// The objects that it names.
+    pub fn objects(&self) -> Vec<u32> {
+        match *self {
+            Call::Refresh { handle, .. } | Call::Read { handle, .. } | Call::Write { handle, .. } => vec![handle],
+            Call::Remaining { handle, .. } | Call::Release { handle, .. } => vec![handle],
+            Call::Batch { handles, .. } => handles.iter().collect(),
+            _ => Vec::new(),
+        }
+    }
+
     /// Whether its answer is compared with the heap's.
     pub fn is_compared(&self) -> bool {
         !matches!(self, Call::Report | Call::Remaining { .. })
@@ -106,6 +116,7 @@ pub enum Refusal {
     BatchOutOfRange = 20,
     OnlyMakePins = 21,
     NotPinned = 22,
+    SumDiffers = 23,
 }
 
 /// What an accepted call gives back.

@@ -1,4 +1,5 @@
-//! Scripts from seeds: what their phases are about and how they end.
+//! Scripts from seeds: what their phases are about and how they end. No line changes a byte from outside, so that none of
+//! them meets 23: for that there is `outside`.
 
 use crate::call::Call;
 use crate::draft::Draft;

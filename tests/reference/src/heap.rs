@@ -3,25 +3,26 @@
 
 use std::collections::{BTreeMap, BTreeSet};
 
+use crate::block::Block;
 use crate::call::{Accepted, Answer, Call, Handles, Kind, Model, Refusal};
-use crate::expiration::{remaining, Expiration, Remaining};
-use crate::ledger::Ledger;
+use crate::expiration::{remaining, Expiration};
+use crate::ledger::{Ledger, Standing};
 use crate::limits::{check_batch, check_extension, check_refreshing, Store, MOST_EXPIRATIONS};
+use crate::outside::{Change, Exposed};
 use crate::tasks::Tasks;
 
-/// Objects for ever, and no refusal 9, 10 or 12 (H3, H5). `ends[h - 1]..ends[h]` is the part of `bytes` that handle h names.
+/// Objects for ever, and no refusal 9, 10 or 12 (H3, H5). `blocks[h - 1]` is the block of handle h.
 #[derive(Clone, Debug)]
 pub struct Heap {
     tasks: Tasks,
-    ends: Vec<usize>,
-    bytes: Vec<u8>,
+    blocks: Vec<Block>,
     /// The handles whose pinned expiration is left.
     pinned: BTreeSet<u32>,
 }
 
 impl Model for Heap {
     fn fresh() -> Heap {
-        Heap { tasks: Tasks::default(), ends: vec![0], bytes: Vec::new(), pinned: BTreeSet::new() }
+        Heap { tasks: Tasks::default(), blocks: Vec::new(), pinned: BTreeSet::new() }
     }
 
     fn join(&mut self, task: u8) -> Answer<'static> {
@@ -47,13 +48,12 @@ impl Model for Heap {
     fn make(&mut self, task: u8, kind: Kind, extension: u8, length: u16) -> Answer<'static> {
         self.tasks.check_running(task)?;
         check_extension(kind, extension)?;
-        Store::holding(length)?;
-        if self.given() == u32::MAX as usize {
+        let store = Store::holding(length)?;
+        if self.blocks.len() == u32::MAX as usize {
             return Err(Refusal::AllHandlesGiven);
         }
-        self.bytes.resize(self.bytes.len() + usize::from(length), 0);
-        self.ends.push(self.bytes.len());
-        let handle = self.given() as u32;
+        self.blocks.push(Block::zeroed(length, store));
+        let handle = self.blocks.len() as u32;
         if kind == Kind::Pinned {
             self.pinned.insert(handle);
         }
@@ -70,19 +70,14 @@ impl Model for Heap {
 
     fn read(&self, task: u8, handle: u32) -> Answer<'_> {
         self.tasks.check_running(task)?;
-        let object = self.check_given(handle)?;
-        Ok(Accepted::Bytes(&self.bytes[object]))
+        let place = self.check_given(handle)?;
+        self.blocks[place].read().map(Accepted::Bytes)
     }
 
     fn write(&mut self, task: u8, handle: u32, offset: u8, bytes: &[u8]) -> Answer<'static> {
         self.tasks.check_running(task)?;
-        let object = self.check_given(handle)?;
-        let start = object.start + usize::from(offset);
-        let end = start + bytes.len();
-        if end > object.end {
-            return Err(Refusal::RangeAboveLength);
-        }
-        self.bytes[start..end].copy_from_slice(bytes);
+        let place = self.check_given(handle)?;
+        self.blocks[place].write(offset, bytes)?;
         Ok(Accepted::Done)
     }
 
@@ -120,17 +115,22 @@ impl Model for Heap {
 }
 
 impl Heap {
-    fn given(&self) -> usize {
-        self.ends.len() - 1
-    }
-
-    /// Refusal 11, else where the object's bytes are.
-    fn check_given(&self, handle: u32) -> Result<std::ops::Range<usize>, Refusal> {
+    /// Refusal 11, else the place of the object's block.
+    fn check_given(&self, handle: u32) -> Result<usize, Refusal> {
         let handle = handle as usize;
-        if handle == 0 || handle > self.given() {
+        if handle == 0 || handle > self.blocks.len() {
             return Err(Refusal::HandleNotGiven);
         }
-        Ok(self.ends[handle - 1]..self.ends[handle])
+        Ok(handle - 1)
+    }
+}
+
+/// Order 6: no list of calls meets 23 on the heap, as on the ledger, since every call keeps the sums.
+impl Exposed for Heap {
+    fn disturb(&mut self, change: Change) {
+        if let Ok(place) = self.check_given(change.handle) {
+            self.blocks[place].bytes[change.place] = change.byte;
+        }
     }
 }
 
@@ -280,11 +280,14 @@ impl Judge {
         &self.heap.tasks
     }
 
-    /// The objects that have an expiration in the book: handle, length and what remains, sorted.
-    pub fn standing(&self) -> impl Iterator<Item = (u32, usize, Vec<Remaining>)> + '_ {
-        self.book.objects.iter().map(|(&handle, entry)| {
-            (handle, usize::from(entry.length), remaining(&entry.expirations, &self.heap.tasks))
-        })
+    /// The objects that have an expiration in the book, with their blocks on the heap, in order of handle.
+    pub fn standing(&self) -> Vec<Standing> {
+        let show = |(&handle, entry): (&u32, &Entry)| Standing {
+            handle,
+            block: self.heap.blocks[handle as usize - 1].clone(),
+            expirations: remaining(&entry.expirations, &self.heap.tasks),
+        };
+        self.book.objects.iter().map(show).collect()
     }
 }
 

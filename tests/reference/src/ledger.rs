@@ -1,9 +1,11 @@
 //! The ledger, as the scope paper says it. A number such as O3 is a rule's in docs/RULES.md. Nothing here is
 //! arranged for speed: what a rule asks of the objects is looked up among all of them.
 
+use crate::block::Block;
 use crate::call::{Accepted, Answer, Figures, Handles, Kind, Lifetime, Model, Refusal};
 use crate::expiration::{remaining, Expiration, Remaining};
 use crate::limits::{check_batch, check_extension, check_refreshing, Store, MOST_EXPIRATIONS};
+use crate::outside::{Change, Exposed};
 use crate::tasks::Tasks;
 
 #[derive(Clone, Debug)]
@@ -15,11 +17,11 @@ pub struct Ledger {
     objects: Vec<Object>,
 }
 
-/// O1. Its length is the count of its bytes.
+/// O1.
 #[derive(Clone, Debug)]
 struct Object {
     handle: u32,
-    bytes: Vec<u8>,
+    block: Block,
     expirations: Vec<Expiration>,
 }
 
@@ -27,7 +29,7 @@ struct Object {
 #[derive(Clone, Debug, PartialEq, Eq)]
 pub struct Standing {
     pub handle: u32,
-    pub bytes: Vec<u8>,
+    pub block: Block,
     pub expirations: Vec<Remaining>,
 }
 
@@ -81,7 +83,7 @@ impl Model for Ledger {
         self.given += 1;
         self.objects.push(Object {
             handle: self.given,
-            bytes: vec![0; usize::from(length)],
+            block: Block::zeroed(length, store),
             expirations: vec![Expiration::set(&self.tasks, task, kind, extension)],
         });
         Ok(Accepted::Handle(self.given))
@@ -99,24 +101,18 @@ impl Model for Ledger {
         Ok(Accepted::Done)
     }
 
-    /// R42, then O18: all bytes of the object.
+    /// R42, and O18: all bytes of the object.
     fn read(&self, task: u8, handle: u32) -> Answer<'_> {
         self.tasks.check_running(task)?;
         let place = self.check_standing(handle)?;
-        Ok(Accepted::Bytes(&self.objects[place].bytes))
+        self.objects[place].block.read().map(Accepted::Bytes)
     }
 
-    /// R43, then O20 and O21: these bytes, and no others.
+    /// R43, and what the block does.
     fn write(&mut self, task: u8, handle: u32, offset: u8, bytes: &[u8]) -> Answer<'static> {
         self.tasks.check_running(task)?;
         let place = self.check_standing(handle)?;
-        let object = &mut self.objects[place];
-        let start = usize::from(offset);
-        let end = start + bytes.len();
-        if end > object.bytes.len() {
-            return Err(Refusal::RangeAboveLength);
-        }
-        object.bytes[start..end].copy_from_slice(bytes);
+        self.objects[place].block.write(offset, bytes)?;
         Ok(Accepted::Done)
     }
 
@@ -192,9 +188,14 @@ impl Ledger {
         self.objects.iter().map(|object| object.handle)
     }
 
+    /// The block of a standing object.
+    pub fn block_of(&self, handle: u32) -> Option<&Block> {
+        self.find(handle).map(|place| &self.objects[place].block)
+    }
+
     /// The length of a standing object.
     pub fn length(&self, handle: u32) -> Option<usize> {
-        self.find(handle).map(|place| self.objects[place].bytes.len())
+        self.block_of(handle).map(|block| usize::from(block.length))
     }
 
     /// The expirations of a standing object; none of another.
@@ -212,7 +213,7 @@ impl Ledger {
     pub fn standing(&self) -> Vec<Standing> {
         let show = |object: &Object| Standing {
             handle: object.handle,
-            bytes: object.bytes.clone(),
+            block: object.block.clone(),
             expirations: remaining(&object.expirations, &self.tasks),
         };
         self.objects.iter().map(show).collect()
@@ -288,12 +289,20 @@ impl Ledger {
 
     /// How many objects of this store stand.
     fn standing_in(&self, store: Store) -> usize {
-        self.objects.iter().filter(|object| Store::holding(object.bytes.len() as u16) == Ok(store)).count()
+        self.objects.iter().filter(|object| Store::holding(object.block.length) == Ok(store)).count()
     }
 
     /// How many expirations stand in all, equal ones each for itself (E13).
     fn expirations(&self) -> usize {
         self.objects.iter().map(|object| object.expirations.len()).sum()
+    }
+}
+
+impl Exposed for Ledger {
+    fn disturb(&mut self, change: Change) {
+        if let Some(place) = self.find(change.handle) {
+            self.objects[place].block.bytes[change.place] = change.byte;
+        }
     }
 }
 

@@ -1,6 +1,6 @@
 //! A reference for the short-term memory pool: its rules as a plain ledger, the same rules written for
 //! speed, the unbounded heap that the ledger is held against, the call frames, scripts to compare a
-//! pool with, and a script explained, in words and as a picture.
+//! pool with, bytes changed from outside, and a script explained, in words and as a picture.
 //!
 //! Names and the scope paper's words for them: local time, a task's own clock; global time, the common
 //! time; ticked, marked; expiration, a date; handle, an object's number; unbounded heap, the endless heap;
@@ -8,6 +8,7 @@
 
 #![forbid(unsafe_code)]
 
+pub mod block;
 pub mod call;
 pub mod damage;
 pub mod draft;
@@ -19,6 +20,7 @@ pub mod heap;
 pub mod indexed;
 pub mod ledger;
 pub mod limits;
+pub mod outside;
 pub mod program;
 pub mod random;
 pub mod script;

@@ -32,6 +32,13 @@ impl Store {
             Store::Large => 32,
         }
     }
+
+    pub const fn block_size(self) -> usize {
+        match self {
+            Store::Small => LONGEST_SMALL as usize,
+            Store::Large => LONGEST as usize,
+        }
+    }
 }
 
 /// The most for an expiration of this kind: a pinned one has none.

@@ -35,18 +35,18 @@ module _ (t : tie.After-enum-told) where
 
   may-set : (standingOf (start .args .clocks .now) < expirationEntries) × (start .args .task < taskCount) × (t .before .before .plan-make .result .place < blockEntries)
   may-set =
-      make-may-set (start .args .handles .now) (start .args .lengths .now) (start .args .clocks .now) (head-typed _ _ (start .good .0)) (start .pre .0) (start .pre .1)
+      make-may-set (start .args .handles .now) (start .args .extents .now) (start .args .clocks .now) (head-typed _ _ (start .good .0)) (start .pre .0) (start .pre .1)
       (planned (t .before .before)) (t .enum-told .given .1)
 
   unspent : start .args .h .given + 1 < 4294967296
   unspent =
-      make-unspent (start .args .handles .now) (start .args .lengths .now) (start .args .clocks .now) (head-typed _ _ (start .good .0)) (start .pre .0) (start .pre .1)
+      make-unspent (start .args .handles .now) (start .args .extents .now) (start .args .clocks .now) (head-typed _ _ (start .good .0)) (start .pre .0) (start .pre .1)
       (planned (t .before .before)) (t .enum-told .given .1)
 
 clear-place-requires : tie.Need-clear-place-requires
 clear-place-requires c κs =
     let t = c .before .before .before .before .before .before in
-    make-clears (start t .args .handles .now) (start t .args .lengths .now) (start t .args .clocks .now) (head-typed _ _ (start t .good .0)) (start t .pre .0) (start t .pre .1)
+    make-clears (start t .args .handles .now) (start t .args .extents .now) (start t .args .clocks .now) (head-typed _ _ (start t .good .0)) (start t .pre .0) (start t .pre .1)
     (planned (t .before .before)) (t .enum-told .given .1)
 
 set-requires : tie.Need-set-requires
@@ -59,11 +59,11 @@ told c = c .before .before .before .before .before .before .before .before .befo
 
 returns-2 : tie.Need-returns-2
 returns-2 c =
-    let t = told (c .before) in
-    let cleared = c .before .before .before .before .before .before .clear-place .ensures in
-    rw (c .with-given .ensures)
+    let t = told (c .before .before) in
+    let cleared = c .before .before .before .before .before .before .before .clear-place .ensures in
+    rw (c .with-given .ensures, c .before .extent-of .ensures)
     (make-set-lent _ _ _ (head-typed _ _ (start t .good .0)) (start t .pre .0) (start t .pre .1) (planned (t .before .before)) (t .enum-told .given .1)
-    (c .before .before .before .before .before .before .before .before .before .set .ensures) (cleared .0) (cleared .1))
+    (c .before .before .before .before .before .before .before .before .before .before .set .ensures) (cleared .0) (cleared .1))
 
 pub make-spec : {M : Type 1} → statement M
 make-spec =
@@ -80,8 +80,9 @@ make-spec =
     (λ c. omega (arith, unspent (told c)))
     (λ c. omega (arith, may-set (told c) .2))
     (λ c. omega (arith, may-set (told c) .2))
-    (λ c. omega (arith, may-set (told c) .2))
-    (λ c. omega (arith, may-set (told c) .2))
+    (λ c κs. search needs)
+    (λ c. omega (arith, may-set (told (c .before)) .2))
+    (λ c. omega (arith, may-set (told (c .before)) .2))
     (λ c κs. search needs)
     (λ c. search needs)
     (λ c. search needs)

@@ -11,13 +11,13 @@ use Rattle.calls.proofs.remaining.Statement.{statement}
 use Rattle.calls.proofs.remaining.Tie as tie
 
 -- what was found tells the ledger's answer
-told : (c : tie.After-find-for-read)
+told : (c : tie.After-find-standing)
     → let a = c .before .args in
-    let p = pooled (a .h) (a .handles .now) (a .lengths .now) (a .clocks .now) (a .named .now) (a .dues .now) in
-    Follows (Remaining (a .task) (a .handle)) p (lifeFound (c .find-for-read .result)) p
+    let p = pooled (a .h) (a .handles .now) (a .extents .now) (a .clocks .now) (a .named .now) (a .dues .now) in
+    Follows (Remaining (a .task) (a .handle)) p (lifeFound (c .find-standing .result)) p
 told c =
     let start = c .before in
-    life-obeys (head-typed _ _ (start .good .0)) (start .pre .0) (start .pre .1) (start .args .task) (start .args .handle) (c .find-for-read .ensures)
+    life-obeys (head-typed _ _ (start .good .0)) (start .pre .0) (start .pre .1) (start .args .task) (start .args .handle) (c .find-standing .ensures)
 
 pub remaining-spec : {M : Type 1} → statement M
 remaining-spec =

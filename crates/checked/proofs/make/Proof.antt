@@ -1,6 +1,9 @@
 -- 15, 14, or the make itself.
+use mathlib.Core.Path.{refl}
 use borrow.Author.Needs.{needs}
-use Rattle.checked.proofs.Tested.{unfit-made, wrong-made, make-ready}
+use Rattle.ledger.specs.declared.Call.the-variants.{Make}
+use Rattle.ledger.specs.declared.Request.the-variants.{Use}
+use Rattle.checked.proofs.Tested.{unfit-made, wrong-made, ready-lent}
 use Rattle.checked.proofs.make.Statement.{statement}
 use Rattle.checked.proofs.make.Tie as tie
 
@@ -14,7 +17,7 @@ make-requires : tie.Need-make-requires
 make-requires c κs =
     let whole = c .before .before .before .before .before .before .before in
     let start = whole .before .before .before .before .before .before .before .before .before .before .before in
-    (start .pre, make-ready (start .pre) (whole .before .before .before .is-well-formed .ensures) (whole .before .before .if1 .left) (whole .before .are-whole .ensures) (whole .if2 .left))
+    (start .pre, ready-lent (start .pre) (whole .before .before .before .is-well-formed .ensures) (whole .before .before .if1 .left) (whole .before .are-whole .ensures) (Use (Make _ _ _ _)) refl (whole .if2 .left))
 
 pub make-spec : {M : Type 1} → statement M
 make-spec =

@@ -1,9 +1,10 @@
 -- Each arm by what its call promises.
-use mathlib.Core.Path.{ap}
+use mathlib.Core.Path.{refl, ap}
 use borrow.Author.Needs.{needs}
 use Rattle.ledger.specs.declared.Request.the-variants.{Use}
 use Rattle.record.proofs.Types.{head-typed}
 use Rattle.calls.proofs.Lent.{lent-fits}
+use Rattle.calls.proofs.Meets.{halves}
 use Rattle.dispatch.proofs.Arms.{ready-for, schedule-arm, refresh-arm, make-arm, read-arm, write-arm, batch-arm, release-arm}
 use Rattle.dispatch.proofs.serve.Statement.{statement}
 use Rattle.dispatch.proofs.serve.Tie as tie
@@ -20,8 +21,10 @@ make-requires c κs =
 
 find-for-read-requires : tie.Need-find-for-read-requires
 find-for-read-requires c κs =
-    let s = start (c .before .before .before .before .before .before .before .before) in
-    (s .pre .0, lent-fits _ _ _ _ _ _ (s .pre .1 .fit))
+    let told = c .before .before .before .before .before .before .before .before in
+    let s = start (told .before .before) in
+    let (small-whole, large-whole) = halves (s .args .small .now) (s .args .large .now) (ready-for (s .pre .1) (ap Use (told .call4 .given .1)) .whole refl) in
+    (s .pre .0, lent-fits _ _ _ _ _ _ (s .pre .1 .fit), small-whole, large-whole)
 
 write-requires : tie.Need-write-requires
 write-requires c κs =
@@ -50,7 +53,7 @@ returns-3 c =
 
 returns-4 : tie.Need-returns-4
 returns-4 c =
-    let told = c .before .before .before .before .before .before .before .before in
+    let told = c .before .before .before .before .before .before .before .before .before .before in
     let s = start (told .before .before) in
     read-arm _ (s .pre .0) (s .pre .1) (head-typed _ _ (s .good .0)) (told .call4 .given .1) (c .before .find-for-read .ensures) (c .where-found .ensures)
 
@@ -113,6 +116,8 @@ serve-spec =
     (λ c. search needs)
     returns-2
     returns-3
+    (λ c. search needs)
+    (λ c. search needs)
     returns-4
     (λ c. search needs)
     (λ c. search needs)

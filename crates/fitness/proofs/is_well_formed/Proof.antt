@@ -65,8 +65,8 @@ returns-4 c =
 -- past all tests of expirations, by the flags of the blocks that they name
 by-flags : (c : tie.After-flags-of)
     → let s = c .before .before .before .before .before .before .before .before .before .before in
-    isWellFormed (lent (s .args .h) (s .args .handles .now) (s .args .lengths .now) (s .args .clocks .now) (s .args .named .now) (s .args .dues .now))
-    ≡ (allFrom 0 (isFitBlockIn (s .args .h .given) (c .flags-of .result)) (blocksOf (s .args .handles .now) (s .args .lengths .now)) && isDistinct (s .args .handles .now)
+    isWellFormed (lent (s .args .h) (s .args .handles .now) (s .args .extents .now) (s .args .clocks .now) (s .args .named .now) (s .args .dues .now))
+    ≡ (allFrom 0 (isFitBlockIn (s .args .h .given) (c .flags-of .result)) (blocksOf (s .args .handles .now) (s .args .extents .now)) && isDistinct (s .args .handles .now)
     && isPinnedOnce (entriesOf (s .args .clocks .now) (s .args .named .now) (s .args .dues .now)))
 by-flags c =
     let four = c .before in

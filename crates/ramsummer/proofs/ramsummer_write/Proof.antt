@@ -1,4 +1,5 @@
--- `ramsummer_write` meets its contract: a walk of its MIR. The record is copied out of the borrow and passed to `numbered::write`, whose number is returned.
+-- `ramsummer_write` meets its contract: a walk of its MIR. The record is copied out of the borrow and passed to `numbered::write`; the record that comes back is stored
+-- behind the borrow, which is closed at it, and the number is returned.
 -- All that the walk knows of the call is that it meets its contract. Written by tools/entry-walk.
 use mathlib.Core.Path.{_≡_, refl, ap, subst}
 use Prim.Native.Nat.{ℕ, _<_, _^_}
@@ -43,6 +44,7 @@ use denote.Exit.{yes}
 use Rattle.record.specs.declared.Pool.{Pool}
 use Rattle.record.proofs.Pool as P
 use Rattle.record.proofs.Pool.Laws as P′
+use Rattle.numbered.specs.declared.Numbered.{Numbered}
 use mathlib.Core.List.{[], _∷_}
 use Rattle.ledger.specs.declared.Call.the-variants.{Schedule, Release}
 use Rattle.ledger.specs.declared.Event.the-variants.{Join, Leave, Block, Resume, Tick}
@@ -51,6 +53,8 @@ use Rattle.record.specs.Reading.{freshPool}
 use Rattle.frames.specs.Frames.{kindOf}
 use Rattle.numbered.specs.Told.{buffered}
 use Rattle.numbered.specs.Entries.{Does, MakesBy, RefreshesBy, RefreshesAllBy, WritesTo, CopiesOut, TellsAwaited, Carries}
+use Rattle.numbered.proofs.Numbered as J
+use Rattle.numbered.proofs.Numbered.Laws as J′
 use Rattle.numbered.proofs.write as call
 use Rattle.numbered.proofs.write.Symbol as call-def
 use Rattle.numbered.proofs.write.Symbol.{name as #call}
@@ -69,9 +73,12 @@ Vs = (List Val × (List Val × (List Val × (List Val × (List Val × (List Val 
 abbrev stayed : Stays (f.ended .signature .params) (f.ended .kept)
 stayed = (stay-ref (0 ∷ []) tt (plain (λ _. P.the-row)), (gave-slice (1 ∷ []) tt (plain (λ _. u8)), (gave-slice (2 ∷ []) tt (plain (λ _. u8)), (stay-none (λ _. u8) yes, (stay-none (λ _. u32) yes, (stay-none (λ _. u8) yes, (stay-none-slice (3 ∷ []) tt (plain (λ _. u8)) yes, tt)))))))
 
--- the machine values of a record
+-- the machine values of a record, and of what the call gives back
 abbrev pv : Pool → List Val
 pv = LL.vals P.the-type P′.the-laws
+
+abbrev jv : Numbered → List Val
+jv = LL.vals J.the-type J′.the-laws
 
 module _ {M : Type 1} (𝓤 : URA M) (H : Heap 𝓤) (A : Atoms 𝓤) (mem′ : Memory → SProp 𝓤) (run : Routine → Fun 𝓤) where
   abbrev Called : Contract 𝓤
@@ -96,17 +103,26 @@ module _ {M : Type 1} (𝓤 : URA M) (H : Heap 𝓤) (A : Atoms 𝓤) (W : Given
   abbrev Post : Val → SProp 𝓤
   Post = walkOf 𝓤 H A f.ended stayed (f.clauses 𝓤 H A at-mem run) .post (((κ, (κ1, (κ2, (κ3, tt)))), (q, (q1, (q2, (q3, tt)))), tt, x, at), tt)
 
+  spells-as : (r : Numbered) (v : Val) → Is J.the-row r (v ∷ []) → Is J.the-row r (jv r)
+  spells-as r v is = subst (λ (vs : List Val). Is J.the-row r vs) (LL.tells J.the-type J′.the-laws r (v ∷ []) is) is
+
+  number-is : (r : Numbered) → Is J.the-row r (jv r) → Is u8 (r .number) (vint w8 (r .number) ∷ [])
+  number-is r is = LL.owed J.the-type J′.the-laws r (jv r) is .0
+
+  pool-is : (r : Numbered) → Is J.the-row r (jv r) → Is P.the-row (r .pool) (pv (r .pool))
+  pool-is r is = LL.owed J.the-type J′.the-laws r (jv r) is .1 .0
+
   -- what the call says of what it gives back and leaves
-  abbrev Did : ℕ → List ℕ → List ℕ → Type 0
-  Did r y0 y1 = WritesTo n2 n3 n4 ((s5 .now)) (h) ((s0 .now)) ((s1 .now)) r (y0) (y1)
+  abbrev Did : Numbered → List ℕ → List ℕ → Type 0
+  Did r y0 y1 = WritesTo n2 n3 n4 ((s5 .now)) (h) ((s0 .now)) ((s1 .now)) (r .number) (r .pool) (y0) (y1)
 
-  abbrev Left : ℕ → List ℕ → List ℕ → Val → List (Item 𝓤)
-  Left r y0 y1 v = ‵ (fobs γ (P.the-row .coded .code h)) ∷ ‵ (fbor κ (Body (mem P.the-row) b o γ)) ∷ ‵ (flft κ q) ∷ (‵ (flft κ1 q1) ⊛ ‵ (flft κ2 q2) ⊛ ‵ (flft κ3 q3) ⊛ ‵ ftrue) ∷ ‵ (finally u8 (s0 .name) y0) ∷ ‵ (finally u8 (s1 .name) y1) ∷ ‵ (ShrSlice (named 3) κ3 u8 .own s5 (v5 ∷ [])) ∷ ‵ (u8 .own r (v ∷ [])) ∷ []
+  abbrev Left : Numbered → List ℕ → List ℕ → List (Item 𝓤)
+  Left r y0 y1 = ‵ (fobs γ (P.the-row .coded .code (r .pool))) ∷ ‵ (fbor κ (Body (mem P.the-row) b o γ)) ∷ ‵ (flft κ q) ∷ (‵ (flft κ1 q1) ⊛ ‵ (flft κ2 q2) ⊛ ‵ (flft κ3 q3) ⊛ ‵ ftrue) ∷ ‵ (finally u8 (s0 .name) y0) ∷ ‵ (finally u8 (s1 .name) y1) ∷ ‵ (ShrSlice (named 3) κ3 u8 .own s5 (v5 ∷ [])) ∷ ‵ (u8 .own (r .number) ((vint w8 (r .number)) ∷ [])) ∷ []
 
-  exits : (r : ℕ) (y0 : List ℕ) (y1 : List ℕ) (v : Val) → Did r y0 y1 → length y0 ≡ length (s0 .now) → length y1 ≡ length (s1 .now) → ent 𝓤 (⋆ 𝓤 H A (Left r y0 y1 v)) (Post v)
-  exits r y0 y1 v did k0 k1 =
-      qed W (Left r y0 y1 v) ∵
-      suffices ! _ (ends-at 𝓤 H A f.ended stayed (f.clauses 𝓤 H A at-mem run) W (((κ, (κ1, (κ2, (κ3, tt)))), (q, (q1, (q2, (q3, tt)))), tt, x, at), tt) v r (h, (y0, (y1, (tt, (tt, (tt, (tt, tt))))))) (tt, (k0, (k1, (tt, (tt, (tt, (tt, tt)))))))) $ says ! (did, refl) $
+  exits : (r : Numbered) (y0 : List ℕ) (y1 : List ℕ) → Did r y0 y1 → length y0 ≡ length (s0 .now) → length y1 ≡ length (s1 .now) → ent 𝓤 (⋆ 𝓤 H A (Left r y0 y1)) (Post (vint w8 (r .number)))
+  exits r y0 y1 did k0 k1 =
+      qed W (Left r y0 y1) ∵
+      suffices ! _ (ends-at 𝓤 H A f.ended stayed (f.clauses 𝓤 H A at-mem run) W (((κ, (κ1, (κ2, (κ3, tt)))), (q, (q1, (q2, (q3, tt)))), tt, x, at), tt) (vint w8 (r .number)) (r .number) ((r .pool), (y0, (y1, (tt, (tt, (tt, (tt, tt))))))) (tt, (k0, (k1, (tt, (tt, (tt, (tt, tt)))))))) $ says ! did $
       move ! (2 ∷ 3 ∷ []) $ join ! $ frame ! $ feqI ! (List Val) (vptr b o ∷ []) (vptr b o ∷ []) refl $ fjoin3 ! $ nothing ! $ move ! (4 ∷ 0 ∷ []) $ fjoin ! $ owned ! u8 (Is u8) (uint-makes 𝓤 H A W w8) n4 _ (refl, n4-fits) $ fjoin ! $ owned ! u32 (Is u32) (uint-makes 𝓤 H A W w32) n3 _ (refl, n3-fits) $ fjoin ! $ owned ! u8 (Is u8) (uint-makes 𝓤 H A W w8) n2 _ (refl, n2-fits) $ fjoin ! $ move ! (3 ∷ 0 ∷ []) $ fjoin ! $ move ! (2 ∷ 0 ∷ []) $ fjoin ! $ move ! (1 ∷ 0 ∷ []) $ fjoin ! $ done !
 
   abbrev to : Called 𝓤 H A at-mem run .Ghost
@@ -124,25 +140,28 @@ module _ {M : Type 1} (𝓤 : URA M) (H : Heap 𝓤) (A : Atoms 𝓤) (W : Given
     walk =
         qed W ((‵ (flft κ q) ⊛ ‵ (flft κ1 q1) ⊛ ‵ (flft κ2 q2) ⊛ ‵ (flft κ3 q3) ⊛ ‵ ftrue) ∷ ‵ (owns (MutRef (named 0) κ P.the-row ∷ MutSlice (named 1) κ1 u8 ∷ MutSlice (named 2) κ2 u8 ∷ u8 ∷ u32 ∷ u8 ∷ ShrSlice (named 3) κ3 u8 ∷ []) x at) ∷ []) ∵ split ! $ move ! (1 ∷ []) $ split ! $ move ! (1 ∷ []) $ split ! $ move ! (1 ∷ []) $ split ! $ move ! (5 ∷ []) $ fsplit ! $ fsplit3 ! $ drop ! $ move ! (2 ∷ []) $ fsplit ! $ move ! (1 ∷ []) $ fsplit ! $ move ! (1 ∷ []) $ fsplit ! $ drop ! $ fsplit ! $ drop ! $ fsplit ! $ drop ! $ fsplit ! $ move ! (4 ∷ 5 ∷ 10 ∷ []) $
         enter ! C Λ code.function (vptr b o ∷ v0 ∷ v1 ∷ vint w8 n2 ∷ vint w32 n3 ∷ vint w8 n4 ∷ v5 ∷ []) _ $
-        alloc1 ! (λ l0. alloc1 ! (λ l1. alloc1 ! (λ l2. alloc1 ! (λ l3. alloc1 ! (λ l4. alloc1 ! (λ l5. alloc1 ! (λ l6. alloc1 ! (λ l7. alloc1 ! (λ l8. alloc1 ! (λ l9. alloc1 ! (λ l10. alloc1 ! (λ l11. alloc1 ! (λ l12. alloc0 ! $ params1 ! $
-        pass1 ! (init ! 22 refl (tt, tt)) $ pass1 ! (init ! 20 refl (tt, (tt, (record { fits = room0 .0 }, tt)))) $ pass1 ! (init ! 18 refl (tt, (tt, (record { fits = room1 .0 }, tt)))) $ pass1 ! (init ! 16 refl (tt, record { fits = n2-fits })) $ pass1 ! (init ! 14 refl (tt, record { fits = n3-fits })) $ pass1 ! (init ! 12 refl (tt, record { fits = n4-fits })) $ pass1 ! (init ! 10 refl (tt, (tt, (record { fits = room5 .0 }, tt)))) $ pass0 ! $
-        move ! (29 ∷ []) $ use1 W (‵ (ShrSlice (named 3) κ3 u8 .own s5 (v5 ∷ [])) ⊛ ‵ (ShrSlice (named 3) κ3 u8 .own s5 (v5 ∷ []))) (shr-slice-copy 𝓤 H A W (named 3) κ3 u8 .twice s5 (v5 ∷ [])) $ split ! $
-        move ! (28 ∷ 29 ∷ 30 ∷ []) $ opens ! tt P.the-row {h = h} b o (λ vs. spelt ! P.the-row (Is P.the-row) (shows 𝓤 H A P.the-row) pv (LL.tells P.the-type P′.the-laws) fullShare h vs b o $ move ! (1 ∷ []) $ peeks ! P.the-row (Is P.the-row) (shows 𝓤 H A P.the-row) h (pv h) (λ was.
-        assigns ! (of-opd ! (load ! (from ! (hop ! (look ! 29 refl) (stop !))) (look-raw ! 1 refl))) (from ! (stop !)) (init ! 15 refl (LL.lawful P.the-type P′.the-laws 𝓤 H A W .typed h _ was .0)) $
-        move ! (1 ∷ 0 ∷ 2 ∷ 3 ∷ 4 ∷ []) $ closes ! tt P.the-row h (pv h) b o $
-        assigns ! (addr ! (from ! (fld ! refl (hop ! (look-in ! 25 (sub ! 0 refl (whole !))) (stop !))))) (from ! (stop !)) (init ! 11 refl (tt, tt)) $
-        assigns ! (agg ! (and-then ! (load ! (from ! (stop !)) (look ! 11 refl)) (and-then ! (load ! (from ! (fld ! refl (stop !))) (look-in ! 25 (sub ! 1 refl (whole !)))) (no-more !)))) (from ! (stop !)) (init ! 9 refl (tt, (tt, (record { fits = room0 .0 }, tt)))) $
-        assigns ! (addr ! (from ! (fld ! refl (hop ! (look-in ! 23 (sub ! 0 refl (whole !))) (stop !))))) (from ! (stop !)) (init ! 7 refl (tt, tt)) $
-        assigns ! (agg ! (and-then ! (load ! (from ! (stop !)) (look ! 7 refl)) (and-then ! (load ! (from ! (fld ! refl (stop !))) (look-in ! 23 (sub ! 1 refl (whole !)))) (no-more !)))) (from ! (stop !)) (init ! 5 refl (tt, (tt, (record { fits = room1 .0 }, tt)))) $
-        move ! (33 ∷ 32 ∷ 3 ∷ 37 ∷ 36 ∷ 34 ∷ []) $ join ! $ join ! $ join ! $ join ! $ join ! $ use1 W (raw (Called 𝓤 H A at-mem run .pre to)) (asks was) $
-        calls-at ! fm (Called 𝓤 H A at-mem run) known to (and-then ! (load ! (from ! (stop !)) (look ! 13 refl)) (and-then ! (load ! (from ! (stop !)) (look ! 9 refl)) (and-then ! (load ! (from ! (stop !)) (look ! 5 refl)) (and-then ! (load ! (from ! (stop !)) (look ! 21 refl)) (and-then ! (load ! (from ! (stop !)) (look ! 19 refl)) (and-then ! (load ! (from ! (stop !)) (look ! 17 refl)) (and-then ! (load ! (from ! (stop !)) (look ! 15 refl)) (no-more !)))))))) (λ v.
-        use1 W (later (some (λ (r : ℕ). ((‵ (flft κ1 q1) ⊛ ‵ (flft κ2 q2) ⊛ ‵ (flft κ3 q3) ⊛ ‵ ftrue) ⊛ ‵ (u8 .own r (v ∷ []))) ⊛ raw (ensured 𝓤 H A call.ended (call.clauses 𝓤 H A at-mem run) (κ1, (κ2, (κ3, tt))) (h, (s0, (s1, (n2, (n3, (n4, (s5, tt))))))) tt r)))) (id⊢ 𝓤 _) $ await ! tt $ pick ! (λ r. split ! $ move ! (1 ∷ []) $
+        alloc1 ! (λ l0. alloc1 ! (λ l1. alloc1 ! (λ l2. alloc1 ! (λ l3. alloc1 ! (λ l4. alloc1 ! (λ l5. alloc1 ! (λ l6. alloc1 ! (λ l7. alloc1 ! (λ l8. alloc1 ! (λ l9. alloc1 ! (λ l10. alloc1 ! (λ l11. alloc1 ! (λ l12. alloc1 ! (λ l13. alloc0 ! $ params1 ! $
+        pass1 ! (init ! 24 refl (tt, tt)) $ pass1 ! (init ! 22 refl (tt, (tt, (record { fits = room0 .0 }, tt)))) $ pass1 ! (init ! 20 refl (tt, (tt, (record { fits = room1 .0 }, tt)))) $ pass1 ! (init ! 18 refl (tt, record { fits = n2-fits })) $ pass1 ! (init ! 16 refl (tt, record { fits = n3-fits })) $ pass1 ! (init ! 14 refl (tt, record { fits = n4-fits })) $ pass1 ! (init ! 12 refl (tt, (tt, (record { fits = room5 .0 }, tt)))) $ pass0 ! $
+        move ! (31 ∷ []) $ use1 W (‵ (ShrSlice (named 3) κ3 u8 .own s5 (v5 ∷ [])) ⊛ ‵ (ShrSlice (named 3) κ3 u8 .own s5 (v5 ∷ []))) (shr-slice-copy 𝓤 H A W (named 3) κ3 u8 .twice s5 (v5 ∷ [])) $ split ! $
+        move ! (30 ∷ 31 ∷ 32 ∷ []) $ opens ! tt P.the-row {h = h} b o (λ vs. spelt ! P.the-row (Is P.the-row) (shows 𝓤 H A P.the-row) pv (LL.tells P.the-type P′.the-laws) fullShare h vs b o $ move ! (1 ∷ []) $ facts ! P.the-row (Is P.the-row) (shows 𝓤 H A P.the-row) h (pv h) (λ was.
+        assigns ! (of-opd ! (load ! (from ! (hop ! (look ! 30 refl) (stop !))) (look-raw ! 0 refl))) (from ! (stop !)) (init ! 14 refl (LL.lawful P.the-type P′.the-laws 𝓤 H A W .typed h _ was .0)) $
+        assigns ! (addr ! (from ! (fld ! refl (hop ! (look-in ! 28 (sub ! 0 refl (whole !))) (stop !))))) (from ! (stop !)) (init ! 12 refl (tt, tt)) $
+        assigns ! (agg ! (and-then ! (load ! (from ! (stop !)) (look ! 12 refl)) (and-then ! (load ! (from ! (fld ! refl (stop !))) (look-in ! 28 (sub ! 1 refl (whole !)))) (no-more !)))) (from ! (stop !)) (init ! 10 refl (tt, (tt, (record { fits = room0 .0 }, tt)))) $
+        assigns ! (addr ! (from ! (fld ! refl (hop ! (look-in ! 26 (sub ! 0 refl (whole !))) (stop !))))) (from ! (stop !)) (init ! 8 refl (tt, tt)) $
+        assigns ! (agg ! (and-then ! (load ! (from ! (stop !)) (look ! 8 refl)) (and-then ! (load ! (from ! (fld ! refl (stop !))) (look-in ! 26 (sub ! 1 refl (whole !)))) (no-more !)))) (from ! (stop !)) (init ! 6 refl (tt, (tt, (record { fits = room1 .0 }, tt)))) $
+        move ! (36 ∷ 35 ∷ 4 ∷ 40 ∷ 39 ∷ 37 ∷ []) $ join ! $ join ! $ join ! $ join ! $ join ! $ use1 W (raw (Called 𝓤 H A at-mem run .pre to)) (asks was) $
+        calls-at ! fm (Called 𝓤 H A at-mem run) known to (and-then ! (load ! (from ! (stop !)) (look ! 14 refl)) (and-then ! (load ! (from ! (stop !)) (look ! 10 refl)) (and-then ! (load ! (from ! (stop !)) (look ! 6 refl)) (and-then ! (load ! (from ! (stop !)) (look ! 24 refl)) (and-then ! (load ! (from ! (stop !)) (look ! 22 refl)) (and-then ! (load ! (from ! (stop !)) (look ! 20 refl)) (and-then ! (load ! (from ! (stop !)) (look ! 18 refl)) (no-more !)))))))) (λ v.
+        use1 W (later (some (λ (r : Numbered). ((‵ (flft κ1 q1) ⊛ ‵ (flft κ2 q2) ⊛ ‵ (flft κ3 q3) ⊛ ‵ ftrue) ⊛ ‵ (J.the-row .own r (v ∷ []))) ⊛ raw (ensured 𝓤 H A call.ended (call.clauses 𝓤 H A at-mem run) (κ1, (κ2, (κ3, tt))) (h, (s0, (s1, (n2, (n3, (n4, (s5, tt))))))) tt r)))) (id⊢ 𝓤 _) $ await ! tt $ pick ! (λ r. split ! $ move ! (1 ∷ []) $
         use1 W (some (λ (ys : Lasts). ‵ (lasts call.ended (κ1, (κ2, (κ3, tt))) (h, (s0, (s1, (n2, (n3, (n4, (s5, tt))))))) ys) ⊛ raw (fact 𝓤 (Did r (ys .1 .0) (ys .1 .1 .0))))) (id⊢ 𝓤 _) $ pick ! (λ ys. split ! $ move ! (1 ∷ []) $ heard ! (Did r (ys .1 .0) (ys .1 .1 .0)) (λ did. fsplit ! $ drop ! $ fsplit ! $ fsplit ! $ move ! (1 ∷ []) $ feqL ! (λ k0. move ! (1 ∷ []) $ fsplit ! $ fsplit ! $ move ! (1 ∷ []) $ feqL ! (λ k1. move ! (1 ∷ []) $ fsplit ! $ drop ! $ fsplit ! $ drop ! $ fsplit ! $ drop ! $ fsplit ! $ drop ! $ drop ! $
-        move ! (2 ∷ []) $ split ! $ move ! (1 ∷ []) $ peeks ! u8 (Is u8) (shows 𝓤 H A u8) r (v ∷ []) (λ is.
-        land ! (from ! (stop !)) (init ! 32 refl (uint-lawful 𝓤 H A W w8 .typed r _ is .0)) $
-        returns ! (look ! 32 refl) $ forget ! 8 refl $ forget ! 10 refl $ forget ! 12 refl $ forget ! 14 refl $ forget ! 16 refl $ forget ! 18 refl $ forget ! 20 refl $ forget ! 22 refl $ forget ! 24 refl $ forget ! 26 refl $ forget ! 28 refl $ forget ! 30 refl $ forget ! 32 refl $
-        move ! (32 ∷ 33 ∷ []) $ free1 ! $ move ! (30 ∷ 31 ∷ []) $ free1 ! $ move ! (28 ∷ 29 ∷ []) $ free1 ! $ move ! (26 ∷ 27 ∷ []) $ free1 ! $ move ! (24 ∷ 25 ∷ []) $ free1 ! $ move ! (22 ∷ 23 ∷ []) $ free1 ! $ move ! (20 ∷ 21 ∷ []) $ free1 ! $ move ! (18 ∷ 19 ∷ []) $ free1 ! $ move ! (16 ∷ 17 ∷ []) $ free1 ! $ move ! (14 ∷ 15 ∷ []) $ free1 ! $ move ! (12 ∷ 13 ∷ []) $ free1 ! $ move ! (10 ∷ 11 ∷ []) $ free1 ! $ move ! (8 ∷ 9 ∷ []) $ free1 ! $ free0 ! $
-        keep ! (4 ∷ 5 ∷ 6 ∷ 1 ∷ 3 ∷ 2 ∷ 7 ∷ 0 ∷ []) $ by ! (exits r (ys .1 .0) (ys .1 .1 .0) v did k0 k1)))))))))))))))))))))))
+        move ! (2 ∷ []) $ split ! $ move ! (1 ∷ []) $ facts ! J.the-row (Is J.the-row) (shows 𝓤 H A J.the-row) r (v ∷ []) (λ is₀.
+        land ! (from ! (stop !)) (init ! 18 refl (LL.lawful J.the-type J′.the-laws 𝓤 H A W .typed r _ is₀ .0)) $
+        rewrite ! 18 (λ (u : Val). ‵ (fat fullShare J′.mir l8 0 u)) (ap only (LL.tells J.the-type J′.the-laws r (v ∷ []) is₀)) refl $
+        assigns ! (of-opd ! (load ! (from ! (fld ! refl (stop !))) (look-in ! 18 (sub ! 1 refl (whole !))))) (from ! (hop ! (look ! 32 refl) (stop !))) (store-raw ! 3 refl (LL.lawful P.the-type P′.the-laws 𝓤 H A W .typed (r .pool) _ (pool-is r (spells-as r v is₀)) .0)) $
+        owned ! P.the-row (Is P.the-row) (LL.makes P.the-type P′.the-plain 𝓤 H A) (r .pool) _ (pool-is r (spells-as r v is₀)) $ move ! (4 ∷ 0 ∷ 5 ∷ 6 ∷ 7 ∷ []) $ closes ! tt P.the-row (r .pool) (pv (r .pool)) b o $
+        assigns ! (of-opd ! (load ! (from ! (fld ! refl (stop !))) (look-in ! 17 (sub ! 0 refl (whole !))))) (from ! (stop !)) (init ! 33 refl (uint-lawful 𝓤 H A W w8 .typed (r .number) _ (number-is r (spells-as r v is₀)) .0)) $
+        owned ! u8 (Is u8) (uint-makes 𝓤 H A W w8) (r .number) _ (number-is r (spells-as r v is₀)) $ returns ! (look ! 34 refl) $ forget ! 8 refl $ forget ! 10 refl $ forget ! 12 refl $ forget ! 14 refl $ forget ! 16 refl $ forget ! 18 refl $ forget ! 20 refl $ forget ! 22 refl $ forget ! 24 refl $ forget ! 26 refl $ forget ! 28 refl $ forget ! 30 refl $ forget ! 32 refl $ forget ! 34 refl $
+        move ! (34 ∷ 35 ∷ []) $ free1 ! $ move ! (32 ∷ 33 ∷ []) $ free1 ! $ move ! (30 ∷ 31 ∷ []) $ free1 ! $ move ! (28 ∷ 29 ∷ []) $ free1 ! $ move ! (26 ∷ 27 ∷ []) $ free1 ! $ move ! (24 ∷ 25 ∷ []) $ free1 ! $ move ! (22 ∷ 23 ∷ []) $ free1 ! $ move ! (20 ∷ 21 ∷ []) $ free1 ! $ move ! (18 ∷ 19 ∷ []) $ free1 ! $ move ! (16 ∷ 17 ∷ []) $ free1 ! $ move ! (14 ∷ 15 ∷ []) $ free1 ! $ move ! (12 ∷ 13 ∷ []) $ free1 ! $ move ! (10 ∷ 11 ∷ []) $ free1 ! $ move ! (8 ∷ 9 ∷ []) $ free1 ! $ free0 ! $
+        keep ! (1 ∷ 2 ∷ 3 ∷ 4 ∷ 6 ∷ 5 ∷ 7 ∷ 0 ∷ []) $ by ! (exits r (ys .1 .0) (ys .1 .1 .0) did k0 k1))))))))))))))))))))))))
 
 module _ {M : Type 1} (𝓤 : URA M) (H : Heap 𝓤) (A : Atoms 𝓤) (W : Given 𝓤 H A) (at-mem : Memory → SProp 𝓤) (run : Routine → Fun 𝓤) where
   walks : (C : Calls 𝓤 H) (Λ : Loops 𝓤 H) → FmC 𝓤 H (W .laws) C → Triple 𝓤 (C #call) (Called 𝓤 H A at-mem run)

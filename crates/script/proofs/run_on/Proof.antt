@@ -20,12 +20,12 @@ use Rattle.script.proofs.run_on.Statement.{statement}
 use Rattle.script.proofs.run_on.Tie as tie
 
 abbrev Inv-loop : tie.InvT-loop
-Inv-loop p small₀ large₀ script start out₀ bytes₀ at₀ written₀ head₀ handles₀ lengths₀ clocks₀ named₀ dues₀ small large out bytes at written head handles lengths clocks named dues =
-    Running p small₀ large₀ script start out₀ (pooled head handles lengths clocks named dues) small large out bytes at written
-    × Sized handles lengths clocks named dues
+Inv-loop p small₀ large₀ script start out₀ bytes₀ at₀ written₀ head₀ handles₀ extents₀ clocks₀ named₀ dues₀ small large out bytes at written head handles extents clocks named dues =
+    Running p small₀ large₀ script start out₀ (pooled head handles extents clocks named dues) small large out bytes at written
+    × Sized handles extents clocks named dues
 
 abbrev μ-loop : tie.MeasureT-loop
-μ-loop p small₀ large₀ script start out₀ bytes₀ at₀ written₀ head₀ handles₀ lengths₀ clocks₀ named₀ dues₀ small large out bytes at written head handles lengths clocks named dues =
+μ-loop p small₀ large₀ script start out₀ bytes₀ at₀ written₀ head₀ handles₀ extents₀ clocks₀ named₀ dues₀ small large out bytes at written head handles extents clocks named dues =
     length script - at
 
 loop-holds : tie.Need-loop-holds Inv-loop μ-loop
@@ -51,7 +51,7 @@ module _ (r : tie.After-next-frame Inv-loop μ-loop) where
   nears = run-nears (loop .loop .inv .0) (r .before .before .loop-test .taken) (r .next-frame .ensures .next)
 
   abbrev before : Pool
-  before = pooled (loop .loop .head) (loop .loop .handles) (loop .loop .lengths) (loop .loop .clocks) (loop .loop .named) (loop .loop .dues)
+  before = pooled (loop .loop .head) (loop .loop .handles) (loop .loop .extents) (loop .loop .clocks) (loop .loop .named) (loop .loop .dues)
 
   turns : {p′ : Pool} {small′ large′ answer : List ℕ}
       → Turn (lineIn (start .args .script .now) (loop .loop .at)) before (loop .loop .small) (loop .loop .large) p′ small′ large′ answer

@@ -3,7 +3,8 @@ use native.Mathlib.Omega.{arith}
 use borrow.Author.Needs.{needs}
 use Rattle.ledger.proofs.Figures.{at-capacity}
 use Rattle.record.proofs.Figures.{small-block, large-block}
-use Rattle.stores.specs.Places.{indexOf, sizeOf, startOf}
+use Rattle.record.specs.Reading.{sizeOf}
+use Rattle.stores.specs.Places.{indexOf, startOf}
 use Rattle.stores.proofs.Places.{blocks-listed}
 use Rattle.stores.proofs.block_start.Statement.{statement}
 use Rattle.stores.proofs.block_start.Tie as tie

@@ -2,7 +2,8 @@
 use native.Mathlib.Nat.{add-zero}
 use borrow.Author.Needs.{needs}
 use Rattle.record.proofs.Figures.{small-block, large-block}
-use Rattle.stores.specs.Places.{sizeOf, smallAfter, largeAfter}
+use Rattle.record.specs.Reading.{sizeOf}
+use Rattle.stores.specs.Places.{smallAfter, largeAfter}
 use Rattle.stores.proofs.Places.{part-within}
 use Rattle.stores.proofs.clear_place.Statement.{statement}
 use Rattle.stores.proofs.clear_place.Tie as tie

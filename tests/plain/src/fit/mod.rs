@@ -9,7 +9,9 @@ use core::mem::replace;
 use crate::limits::{
     BLOCKS, GLOBAL_EXTRA, LARGE_SIZE, LOCAL_EXTRA, LONGEST_EXTENSION, SMALL_BLOCKS, SMALL_SIZE, TASKS,
 };
-use crate::record::{Pool, TaskEntry, ABSENT, DEPARTED, FREE, GLOBAL, GROUP, LOCAL, PINNED, RUNNING, WAITING};
+use crate::record::{
+    length_in, Pool, TaskEntry, ABSENT, DEPARTED, FREE, GLOBAL, GROUP, LOCAL, PINNED, RUNNING, WAITING,
+};
 
 /// For each number that a byte can be, whether an expiration in use names it as its block: not 0 if so.
 type Named = [u8; 256];
@@ -97,8 +99,8 @@ impl Spans {
     }
 }
 
-/// The blocks in use are those that are named, with a length of their store's range and a handle that was given. The
-/// loops have no way out before the end, so that several blocks are tested at once.
+/// The blocks in use are those that are named, with a length of their store's range, whatever their sum, and a handle that
+/// was given. The loops have no way out before the end, so that several blocks are tested at once.
 fn fit_blocks(pool: &Pool, named: &Named) -> bool {
     let (named, beyond) = named.split_at(BLOCKS);
     let (mut used, mut sized) = ([false; BLOCKS], [false; BLOCKS]);
@@ -108,7 +110,7 @@ fn fit_blocks(pool: &Pool, named: &Named) -> bool {
         fit &= handle <= pool.given;
     }
     for i in 0..BLOCKS {
-        sized[i] = pool.lengths[i].wrapping_sub(SHORTEST[i]) <= REST[i];
+        sized[i] = length_in(pool.extents[i]).wrapping_sub(SHORTEST[i]) <= REST[i];
     }
     for i in 0..BLOCKS {
         fit &= (used[i] == (named[i] != 0)) & (!used[i] | sized[i]);

@@ -6,11 +6,13 @@ use crate::limits::{
     BLOCKS, EXPIRATIONS, GLOBAL_EXTRA, LARGEST_BATCH, LARGE_SIZE, LARGE_STORE, LOCAL_EXTRA, LONGEST_EXTENSION, PINNING,
     SMALL_BLOCKS, SMALL_SIZE, SMALL_STORE,
 };
-use crate::record::{is_global, Pool, ABSENT, FREE, GLOBAL, GROUP, LOCAL, PINNED, WAITING};
+use crate::record::{
+    extent_of, is_global, length_in, sum_in, Pool, ABSENT, FREE, GLOBAL, GROUP, LOCAL, PINNED, WAITING,
+};
 use crate::refusals::{
     BATCH_OUT_OF_RANGE, EXTENSION_TOO_LONG, HANDLES_SPENT, HANDLE_NOT_GIVEN, LENGTH_OUT_OF_RANGE, NOT_PINNED,
-    NO_FREE_BLOCK, NO_FREE_EXPIRATION, NO_SUCH_TASK, OBJECT_GONE, ONLY_MAKE_PINS, OUTSIDE_OBJECT, TASK_ABSENT,
-    TASK_WAITING, WRONG_STORE_LENGTH,
+    NO_FREE_BLOCK, NO_FREE_EXPIRATION, NO_SUCH_TASK, OBJECT_GONE, ONLY_MAKE_PINS, OUTSIDE_OBJECT, SUM_DIFFERS,
+    TASK_ABSENT, TASK_WAITING, WRONG_STORE_LENGTH,
 };
 
 const SHORTEST_LARGE: usize = SMALL_SIZE + 1;
@@ -46,12 +48,8 @@ pub fn make(
     set(pool, clock, (task, kind, extension), free)?;
     pool.given += 1;
     pool.handles[free] = pool.given;
-    pool.lengths[free] = length;
-    if free < SMALL_BLOCKS {
-        small[range_of(free, SMALL_SIZE)].fill(0);
-    } else {
-        large[range_of(free, LARGE_SIZE)].fill(0);
-    }
+    pool.extents[free] = extent_of(length, 0);
+    block_mut(small, large, free).fill(0);
     Ok(pool.given)
 }
 
@@ -106,17 +104,20 @@ pub fn release(pool: &mut Pool, task: u8, handle: u32) -> Result<(), u8> {
     Ok(())
 }
 
-/// The object's bytes, where they lie.
+/// The object's bytes, where they lie, if all bytes of its block have their sum.
 pub fn read<'a>(pool: &Pool, small: &'a [u8], large: &'a [u8], task: u8, handle: u32) -> Result<&'a [u8], u8> {
     check_stores(small, large)?;
     running(pool, task)?;
     let block = find(pool, handle)?;
-    let range = range_of(block, usize::from(pool.lengths[block]));
-    Ok(if block < SMALL_BLOCKS { &small[range] } else { &large[range] })
+    let (extent, range) = (pool.extents[block], range_of(block));
+    let bytes = if block < SMALL_BLOCKS { &small[range] } else { &large[range] };
+    check_sum(bytes, extent)?;
+    Ok(&bytes[..usize::from(length_in(extent))])
 }
 
+/// The sum changes by the bytes that are replaced.
 pub fn write(
-    pool: &Pool,
+    pool: &mut Pool,
     small: &mut [u8],
     large: &mut [u8],
     task: u8,
@@ -126,10 +127,14 @@ pub fn write(
     check_stores(small, large)?;
     running(pool, task)?;
     let block = find(pool, handle)?;
-    let range = range_of(block, usize::from(pool.lengths[block]));
-    let object = if block < SMALL_BLOCKS { &mut small[range] } else { &mut large[range] };
+    let (extent, all) = (pool.extents[block], block_mut(small, large, block));
+    check_sum(all, extent)?;
+    let object = &mut all[..usize::from(length_in(extent))];
     let part = object.get_mut(usize::from(offset)..).and_then(|rest| rest.get_mut(..bytes.len()));
-    part.ok_or(OUTSIDE_OBJECT)?.copy_from_slice(bytes);
+    let part = part.ok_or(OUTSIDE_OBJECT)?;
+    let sum = sum_in(extent) - sum_of(part) + sum_of(bytes);
+    part.copy_from_slice(bytes);
+    pool.extents[block] = extent_of(length_in(extent), sum);
     Ok(())
 }
 
@@ -220,6 +225,14 @@ fn find(pool: &Pool, handle: u32) -> Result<usize, u8> {
     place_of(handle, &pool.handles).ok_or(OBJECT_GONE)
 }
 
+/// 23.
+fn check_sum(block: &[u8], extent: u32) -> Result<(), u8> {
+    if sum_of(block) != sum_in(extent) {
+        return Err(SUM_DIFFERS);
+    }
+    Ok(())
+}
+
 /// 11 if one of the handles was not given, 12 if one of the objects is gone, else their blocks. A table tells the block of
 /// a handle by its last byte; where it has another one, all are asked.
 fn find_all(pool: &Pool, handles: &[u32], blocks: &mut [u8; LARGEST_BATCH]) -> Result<(), u8> {
@@ -292,8 +305,22 @@ fn place_of<T: Copy + PartialEq>(entry: T, table: &[T]) -> Option<usize> {
     Some(group * GROUP + place)
 }
 
-/// Where an object of this length lies in its store.
-fn range_of(block: usize, length: usize) -> Range<usize> {
-    let start = if block < SMALL_BLOCKS { block * SMALL_SIZE } else { (block - SMALL_BLOCKS) * LARGE_SIZE };
-    start..start + length
+/// The sum of at most as many bytes as a block has: 65,280 is the most.
+fn sum_of(bytes: &[u8]) -> u16 {
+    bytes.iter().map(|&byte| u16::from(byte)).sum()
+}
+
+/// Where a block lies in its store.
+fn range_of(block: usize) -> Range<usize> {
+    let (place, size) = if block < SMALL_BLOCKS { (block, SMALL_SIZE) } else { (block - SMALL_BLOCKS, LARGE_SIZE) };
+    place * size..(place + 1) * size
+}
+
+fn block_mut<'a>(small: &'a mut [u8], large: &'a mut [u8], block: usize) -> &'a mut [u8] {
+    let range = range_of(block);
+    if block < SMALL_BLOCKS {
+        &mut small[range]
+    } else {
+        &mut large[range]
+    }
 }

@@ -27,6 +27,7 @@ pub fn reason(watch: &Watch, call: &Call, refusal: Refusal) -> String {
         Refusal::BatchOutOfRange => format!("a batch has 1 to {LARGEST_BATCH} objects"),
         Refusal::OnlyMakePins => "only a make pins an object".into(),
         Refusal::NotPinned => not_pinned(watch, call),
+        Refusal::SumDiffers => "bytes of its block were changed from outside".into(),
         Refusal::NotHexadecimal | Refusal::UnknownOperation | Refusal::WrongFrameLength | Refusal::KindAbove2 => {
             unreachable!("refusal {} is a frame's", refusal as u8)
         }
@@ -55,16 +56,6 @@ fn task_of(call: &Call) -> Option<u8> {
     }
 }
 
-/// The objects that the call names.
-fn objects_of(call: &Call) -> Vec<u32> {
-    match *call {
-        Call::Refresh { handle, .. } | Call::Read { handle, .. } => vec![handle],
-        Call::Write { handle, .. } | Call::Remaining { handle, .. } | Call::Release { handle, .. } => vec![handle],
-        Call::Batch { handles, .. } => handles.iter().collect(),
-        _ => Vec::new(),
-    }
-}
-
 fn too_long(call: &Call) -> String {
     match call {
         Call::Make { kind: Kind::Pinned, .. } => "what is pinned has extension 0".into(),
@@ -85,7 +76,7 @@ fn no_block(watch: &Watch, call: &Call) -> String {
 }
 
 fn no_expiration(watch: &Watch, call: &Call) -> String {
-    let (standing, asked) = (watch.ledger.figures().expirations, objects_of(call).len().max(1));
+    let (standing, asked) = (watch.ledger.figures().expirations, call.objects().len().max(1));
     format!("{standing} expirations stand, and with {asked} more they are above {MOST_EXPIRATIONS}; {}", still(watch))
 }
 
@@ -100,7 +91,7 @@ fn still(watch: &Watch) -> String {
 
 fn not_given(watch: &Watch, call: &Call) -> String {
     let given = watch.ledger.figures().given;
-    let unknown: Vec<_> = objects_of(call).into_iter().filter(|&handle| handle == 0 || handle > given).collect();
+    let unknown: Vec<_> = call.objects().into_iter().filter(|&handle| handle == 0 || handle > given).collect();
     let unknown = listed("handle", &unknown[..1]);
     match given {
         0 => format!("{unknown} was not given; none was so far"),
@@ -109,7 +100,7 @@ fn not_given(watch: &Watch, call: &Call) -> String {
 }
 
 fn gone(watch: &Watch, call: &Call) -> String {
-    let objects = objects_of(call);
+    let objects = call.objects();
     let gone: Vec<_> = objects.iter().filter_map(|&handle| Some((handle, watch.trail.gone(handle)?))).collect();
     let (handle, first) = gone[0];
     let which = if objects.len() == 1 { String::new() } else { format!("object {handle} is ") };

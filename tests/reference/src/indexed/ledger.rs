@@ -1,13 +1,15 @@
-//! The pool's rules and refusals 1 to 13 and 20 to 22, by schedules and slots.
+//! The pool's rules and refusals 1 to 13 and 20 to 23, by schedules and slots.
 
 use super::globals::Globals;
 use super::objects::Objects;
 use super::schedule::Schedule;
 use super::tasks::Tasks;
+use crate::block::Block;
 use crate::call::{Accepted, Answer, Figures, Handles, Kind, Lifetime, Model, Refusal};
 use crate::expiration::Remaining;
 use crate::ledger::Standing;
 use crate::limits::{check_batch, check_extension, check_refreshing, Store, LARGEST_BATCH, MOST_EXPIRATIONS, TASKS};
+use crate::outside::{Change, Exposed};
 use crate::tasks::Task;
 
 #[derive(Clone, Debug)]
@@ -92,17 +94,17 @@ impl Model for Ledger {
 
     fn read(&self, task: u8, handle: u32) -> Answer<'_> {
         self.tasks.check_running(task)?;
-        let slot = self.check_standing(handle)?;
+        let slot = self.check_intact(handle)?;
         Ok(Accepted::Bytes(self.objects.bytes(slot)))
     }
 
     fn write(&mut self, task: u8, handle: u32, offset: u8, bytes: &[u8]) -> Answer<'static> {
         self.tasks.check_running(task)?;
-        let slot = self.check_standing(handle)?;
-        let offset = usize::from(offset);
-        let range = offset..offset + bytes.len();
-        let part = self.objects.bytes_mut(slot).get_mut(range).ok_or(Refusal::RangeAboveLength)?;
-        part.copy_from_slice(bytes);
+        let slot = self.check_intact(handle)?;
+        if usize::from(offset) + bytes.len() > self.objects.bytes(slot).len() {
+            return Err(Refusal::RangeAboveLength);
+        }
+        self.objects.replace(slot, usize::from(offset), bytes);
         Ok(Accepted::Done)
     }
 
@@ -180,7 +182,11 @@ impl Ledger {
     pub fn standing(&self) -> Vec<Standing> {
         let show = |&(handle, slot): &(u32, u8)| Standing {
             handle,
-            bytes: self.objects.bytes(slot).to_vec(),
+            block: Block {
+                length: self.objects.bytes(slot).len() as u16,
+                bytes: self.objects.block(slot).to_vec(),
+                sum: self.objects.sum(slot),
+            },
             expirations: self.all_remaining(slot),
         };
         self.objects.order().iter().map(show).collect()
@@ -225,6 +231,15 @@ impl Ledger {
         self.objects.find(handle).ok_or(Refusal::ObjectGone)
     }
 
+    /// Refusals 11, 12 and 23, else the object's slot.
+    fn check_intact(&self, handle: u32) -> Result<u8, Refusal> {
+        let slot = self.check_standing(handle)?;
+        if !self.objects.is_intact(slot) {
+            return Err(Refusal::SumDiffers);
+        }
+        Ok(slot)
+    }
+
     fn all_remaining(&self, slot: u8) -> Vec<Remaining> {
         let local = (0..TASKS as u8).flat_map(|setter| {
             let remaining = self.local[usize::from(setter)].remaining(slot, self.tasks.clock(setter));
@@ -232,6 +247,14 @@ impl Ledger {
         });
         let pinned = self.objects.is_pinned(slot).then_some(Remaining::Pinned);
         local.chain(self.global.remaining(slot)).chain(pinned).collect()
+    }
+}
+
+impl Exposed for Ledger {
+    fn disturb(&mut self, Change { handle, place, byte }: Change) {
+        if let Some(slot) = self.objects.find(handle) {
+            self.objects.disturb(slot, place, byte);
+        }
     }
 }
 

@@ -1,4 +1,5 @@
-//! The standing objects in order of handle, with their bytes, the count of their expirations, and whether one of these is pinned.
+//! The standing objects in order of handle, with the bytes of their blocks and the sum of these, the count of their
+//! expirations, and whether one of these is pinned.
 
 use crate::limits::{Store, LONGEST};
 
@@ -12,11 +13,27 @@ struct Object {
     store: Store,
     expirations: u16,
     pinned: bool,
+    /// As the last call on it left the block.
+    sum: u16,
+    /// The block's are the first, and of these the first are the object's.
     bytes: [u8; LONGEST as usize],
 }
 
-const UNUSED: Object =
-    Object { handle: 0, length: 0, store: Store::Small, expirations: 0, pinned: false, bytes: [0; LONGEST as usize] };
+impl Object {
+    fn block(&self) -> &[u8] {
+        &self.bytes[..self.store.block_size()]
+    }
+}
+
+const UNUSED: Object = Object {
+    handle: 0,
+    length: 0,
+    store: Store::Small,
+    expirations: 0,
+    pinned: false,
+    sum: 0,
+    bytes: [0; LONGEST as usize],
+};
 
 /// An object keeps its slot while it stands. Handles only go up, so `order` is sorted by them.
 #[derive(Clone, Debug)]
@@ -64,9 +81,32 @@ impl Objects {
         &object.bytes[..usize::from(object.length)]
     }
 
-    pub fn bytes_mut(&mut self, slot: u8) -> &mut [u8] {
+    /// All bytes of the object's block.
+    pub fn block(&self, slot: u8) -> &[u8] {
+        self.slots[usize::from(slot)].block()
+    }
+
+    pub fn sum(&self, slot: u8) -> u16 {
+        self.slots[usize::from(slot)].sum
+    }
+
+    /// Whether the block is as the last call left it, by its sum.
+    pub fn is_intact(&self, slot: u8) -> bool {
+        let object = &self.slots[usize::from(slot)];
+        sum_of(object.block()) == object.sum
+    }
+
+    /// New bytes in a block that is intact. The sum changes by what they replace.
+    pub fn replace(&mut self, slot: u8, offset: usize, bytes: &[u8]) {
         let object = &mut self.slots[usize::from(slot)];
-        &mut object.bytes[..usize::from(object.length)]
+        let part = &mut object.bytes[offset..][..bytes.len()];
+        object.sum = object.sum - sum_of(part) + sum_of(bytes);
+        part.copy_from_slice(bytes);
+    }
+
+    /// A byte from outside, which no sum knows of.
+    pub fn disturb(&mut self, slot: u8, place: usize, byte: u8) {
+        self.slots[usize::from(slot)].bytes[place] = byte;
     }
 
     /// A new object of zero bytes. It stands from its first expiration on, which is set next. The
@@ -74,8 +114,8 @@ impl Objects {
     pub fn make(&mut self, handle: u32, length: u16, store: Store) -> u8 {
         let slot = self.free.pop().expect("a free block has a slot");
         let object = &mut self.slots[usize::from(slot)];
-        (object.handle, object.length, object.store) = (handle, length, store);
-        object.bytes[..usize::from(length)].fill(0);
+        (object.handle, object.length, object.store, object.sum) = (handle, length, store, 0);
+        object.bytes[..store.block_size()].fill(0);
         self.order.push((handle, slot));
         self.standing[store as usize] += 1;
         slot
@@ -123,4 +163,8 @@ impl Objects {
     fn place(&self, handle: u32) -> Option<usize> {
         self.order.binary_search_by_key(&handle, |&(other, _)| other).ok()
     }
+}
+
+fn sum_of(bytes: &[u8]) -> u16 {
+    bytes.iter().map(|&byte| u16::from(byte)).sum()
 }

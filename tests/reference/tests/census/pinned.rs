@@ -169,7 +169,7 @@ pub struct Pins {
 impl Pins {
     /// The ledger is as before the call.
     pub fn before(&self, call: &Call, ledger: &Ledger) -> Before {
-        let (named, figures) = (named(call), ledger.figures());
+        let (named, figures) = (call.objects(), ledger.figures());
         let is_given = |&handle: &u32| (1..=figures.given).contains(&handle);
         let handle = named.first().copied().unwrap_or(0);
         Before {
@@ -234,15 +234,5 @@ impl Pins {
             pin.advances += usize::from(advanced);
             pin.count = ledger.expirations_of(handle).len();
         }
-    }
-}
-
-/// The objects that a call names.
-fn named(call: &Call) -> Vec<u32> {
-    match *call {
-        Call::Refresh { handle, .. } | Call::Read { handle, .. } | Call::Write { handle, .. } => vec![handle],
-        Call::Remaining { handle, .. } | Call::Release { handle, .. } => vec![handle],
-        Call::Batch { handles, .. } => handles.iter().collect(),
-        _ => Vec::new(),
     }
 }

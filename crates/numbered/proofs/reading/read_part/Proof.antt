@@ -8,7 +8,7 @@ use Rattle.numbered.proofs.reading.read_part.Tie as tie
 
 block-part-requires : tie.Need-block-part-requires
 block-part-requires c κs =
-    c .before .before .before .locate .ensures _ _ refl refl .inside _ _ _ (c .before .block .given .1)
+    c .before .before .before .locate .ensures .inside _ _ _ (c .before .block .given .1)
 
 returns : tie.Need-returns
 returns c =
@@ -17,7 +17,7 @@ returns c =
       numbered = c .before .number-of .ensures;
       reads =
           rw (c .no-part .ensures)
-          (read-refusal (c .before .before .before .before .before .locate .ensures _ _ refl refl) (c .before .before .before .why .given .1));
+          (read-refusal (c .before .before .before .before .before .locate .ensures) (c .before .before .before .why .given .1));
     }
 
 returns-2 : tie.Need-returns-2
@@ -27,7 +27,7 @@ returns-2 c =
       numbered = refl;
       reads =
           rw (c .block-part .ensures)
-          (read-part (c .before .before .before .before .locate .ensures _ _ refl refl) (c .before .before .block .given .1));
+          (read-part (c .before .before .before .before .locate .ensures) (c .before .before .block .given .1));
     }
 
 pub read-part-spec : {M : Type 1} → statement M

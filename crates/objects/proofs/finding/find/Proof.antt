@@ -12,7 +12,7 @@ use Rattle.objects.proofs.finding.find.Tie as tie
 -- the verdict is that of the tables
 verdict : (c : tie.After-found-verdict)
     → let a = c .before .before .args in
-    c .found-verdict .result ≡ handleVerdict (a .handle) (lent (a .h) (a .handles .now) (a .lengths .now) (a .clocks .now) (a .named .now) (a .dues .now))
+    c .found-verdict .result ≡ handleVerdict (a .handle) (lent (a .h) (a .handles .now) (a .extents .now) (a .clocks .now) (a .named .now) (a .dues .now))
 verdict c =
     let start = c .before .before in
     rw (c .found-verdict .ensures, c .before .locate .ensures) (verdict-at (start .args .h) (start .pre .0) (start .args .asks) (start .args .task) (start .args .handle))
@@ -32,14 +32,12 @@ find-spec =
     (λ c κs. search needs)
     (λ c. search needs)
     (λ c. search needs)
-    (λ c. let h = listed c in search needs)
-    (λ c. let h = listed c in search needs)
     (λ c κs.
-    let start = c .before .before .before .before .before in
-    (start .pre .0 .entries, start .pre .2, listed (c .before), life-fits (start .args .h) _ _ _ _ _ (start .pre .1) _ _))
+    let start = c .before .before .before .before in
+    (start .pre .0 .entries, start .pre .2, listed c, life-fits (start .args .h) _ _ _ _ _ (start .pre .1) _ _))
     (λ c. rw (← verdict (c .before .before .before), c .before .why .given .1))
     (λ c.
-    let located = c .before .before .before .before .before in
+    let located = c .before .before .before .before in
     let start = located .before in
-    rw (← verdict (c .before .before .before .before), c .before .before .enum-told .given .1, c .life-if .ensures, located .locate .ensures)
+    rw (← verdict (c .before .before .before), c .before .enum-told .given .1, c .life-if .ensures, located .locate .ensures)
     (found-at (start .args .h) (start .pre .0) (start .args .asks) (start .args .task) (start .args .handle))))

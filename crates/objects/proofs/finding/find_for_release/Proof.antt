@@ -1,4 +1,4 @@
--- What a read would find, by one test more.
+-- What stands, by one test more.
 use mathlib.Core.Bool.{false}
 use mathlib.Core.Path.{_≡_, sym, _∙_}
 use borrow.Author.Needs.{needs}
@@ -6,43 +6,42 @@ use Rattle.lists.specs.Tests.{any}
 use Rattle.ledger.specs.declared.Verdict.the-variants.{Accepted}
 use Rattle.record.specs.Tables.{Tables, tablesBy, lent}
 use Rattle.record.specs.WellFormed.{isPinning}
-use Rattle.steps.specs.Objects.{placeOf, readVerdict, pinVerdict, releaseVerdict}
+use Rattle.steps.specs.Objects.{placeOf, standingVerdict, pinVerdict, releaseVerdict}
 use Rattle.objects.specs.Outcomes.{foundBy, foundIf}
-use Rattle.objects.proofs.Outcomes.{tested-after, found-accepted, read-listed}
+use Rattle.objects.proofs.Outcomes.{tested-after, found-accepted, standing-listed}
 use Rattle.objects.proofs.finding.find_for_release.Statement.{statement}
 use Rattle.objects.proofs.finding.find_for_release.Tie as tie
 
 abbrev tables : tie.Start → Tables
-tables c = let a = c .args in lent (a .h) (a .handles .now) (a .lengths .now) (a .clocks .now) (a .named .now) (a .dues .now)
+tables c = let a = c .args in lent (a .h) (a .handles .now) (a .extents .now) (a .clocks .now) (a .named .now) (a .dues .now)
 
--- the verdict's outcome, by what a read would find
-found : (c : tie.After-find-for-read)
+-- the verdict's outcome, by what stands
+found : (c : tie.After-find-standing)
     → let a = c .before .args in
     let p = tables (c .before) in
     foundBy false (releaseVerdict (a .task) (a .handle) p) (a .task) (a .handle) p
-    ≡ foundIf (c .find-for-read .result) (pinVerdict (placeOf (a .handle) (p .blocks)) (p .expirations))
+    ≡ foundIf (c .find-standing .result) (pinVerdict (placeOf (a .handle) (p .blocks)) (p .expirations))
 unfolding releaseVerdict
 found c =
     let a = c .before .args in
-    rw (c .find-for-read .ensures) (sym (tested-after false (a .task) (a .handle) (tables (c .before)) (readVerdict (a .task) (a .handle) (tables (c .before))) _))
+    rw (c .find-standing .ensures) (sym (tested-after false (a .task) (a .handle) (tables (c .before)) (standingVerdict (a .task) (a .handle) (tables (c .before))) _))
 
--- an object that a read would find is in its block
+-- an object that stands is in its block
 accepted : (c : tie.After-known-told2)
     → let start = c .before .before .before .before in
-    (readVerdict (start .args .task) (start .args .handle) (tables start) ≡ Accepted)
+    (standingVerdict (start .args .task) (start .args .handle) (tables start) ≡ Accepted)
     × (placeOf (start .args .handle) (tables start .blocks) ≡ c .before .block .given .0 .0)
 accepted c =
     let read = c .before .before .before in
     let a = read .before .args in
-    let (v, place, size) = found-accepted false (a .task) (a .handle) (tables (read .before)) _ (sym (read .find-for-read .ensures) ∙ c .before .block .given .1) in
-    (v, place)
+    found-accepted false (a .task) (a .handle) (tables (read .before)) _ (sym (read .find-standing .ensures) ∙ c .before .block .given .1)
 
 is-pinned-requires : tie.Need-is-pinned-requires
 is-pinned-requires c κs =
     let start = c .before .before .before .before in
     let sized = start .pre .0 .entries in
     let (v, place) = accepted c in
-    (sized .of-clocks, sized .of-named, rw (← place) (read-listed (start .args .task) (start .args .handle) (tables start) v))
+    (sized .of-clocks, sized .of-named, rw (← place) (standing-listed (start .args .task) (start .args .handle) (tables start) v))
 
 -- whether it is pinned
 pinned : (c : tie.After-is-pinned)

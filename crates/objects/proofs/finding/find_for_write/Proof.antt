@@ -1,6 +1,6 @@
 -- What a read would find, by one test more.
 use Prim.Native.Nat.{ℕ, _+_}
-use mathlib.Core.Bool.{cond, false}
+use mathlib.Core.Bool.{cond}
 use mathlib.Core.Path.{_≡_, refl}
 use borrow.Author.Needs.{needs}
 use lib.Dec.{ltb}
@@ -11,33 +11,34 @@ use Rattle.ledger.specs.declared.Verdict.the-variants.{Accepted, Refused}
 use Rattle.record.specs.Tables.{Tables, lent}
 use Rattle.steps.specs.Objects.{readVerdict, endVerdict, andThen, writeVerdict}
 use Rattle.steps.proofs.Finding.{blockOf}
-use Rattle.objects.specs.Outcomes.{foundBy}
-use Rattle.objects.specs.declared.Found.{Found}
-use Rattle.objects.specs.declared.Found.the-variants.{At}
-use Rattle.objects.specs.declared.Found.the-variants.{Refused as RefusedFound}
+use Rattle.objects.specs.Outcomes.{bytesBy}
+use Rattle.objects.specs.declared.FoundBytes.{FoundBytes}
+use Rattle.objects.specs.declared.FoundBytes.the-variants.{At}
+use Rattle.objects.specs.declared.FoundBytes.the-variants.{Refused as RefusedBytes}
 use Rattle.objects.proofs.finding.find_for_write.Statement.{statement}
 use Rattle.objects.proofs.finding.find_for_write.Tie as tie
 
 -- what is found where the bytes lie within it
-abbrev reached : ℕ → Found → Found
-reached end (RefusedFound r) = RefusedFound r
-reached end (At block length life) = cond (ltb length end) (RefusedFound OutsideObject) (At block length life)
+abbrev reached : ℕ → FoundBytes → FoundBytes
+reached end (RefusedBytes r) = RefusedBytes r
+reached end (At block length sum) = cond (ltb length end) (RefusedBytes OutsideObject) (At block length sum)
 
-by-read : (v : Verdict) (task handle end : ℕ) (p : Tables)
-    → foundBy false (andThen v (endVerdict handle end (p .blocks))) task handle p ≡ reached end (foundBy false v task handle p)
-by-read Accepted task handle end p = by-test (ltb (blockOf handle (p .blocks) .length) end) (λ e. rw e) (λ e. rw e)
-by-read (Refused r) task handle end p = refl
+by-read : (v : Verdict) (handle end : ℕ) (p : Tables)
+    → bytesBy (andThen v (endVerdict handle end (p .blocks))) handle p ≡ reached end (bytesBy v handle p)
+by-read Accepted handle end p = by-test (ltb (blockOf handle (p .blocks) .length) end) (λ e. rw e) (λ e. rw e)
+by-read (Refused r) handle end p = refl
 
 -- the verdict's outcome, by what a read would find
 found : (c : tie.After-find-for-read)
-    → let a = c .before .args in
-    let p = lent (a .h) (a .handles .now) (a .lengths .now) (a .clocks .now) (a .named .now) (a .dues .now) in
-    foundBy false (writeVerdict (a .task) (a .handle) (a .offset) (a .count) p) (a .task) (a .handle) p ≡ reached (a .offset + a .count) (c .find-for-read .result)
+    → let a = c .before .before .before .args in
+    let p = lent (a .h) (a .handles .now) (a .extents .now) (a .clocks .now) (a .named .now) (a .dues .now) in
+    bytesBy (writeVerdict (a .task) (a .handle) (a .offset) (a .count) (a .small .now) (a .large .now) p) (a .handle) p
+    ≡ reached (a .offset + a .count) (c .find-for-read .result)
 unfolding writeVerdict
 found c =
-    let a = c .before .args in
-    let p = lent (a .h) (a .handles .now) (a .lengths .now) (a .clocks .now) (a .named .now) (a .dues .now) in
-    rw (c .find-for-read .ensures) (by-read (readVerdict (a .task) (a .handle) p) (a .task) (a .handle) (a .offset + a .count) p)
+    let a = c .before .before .before .args in
+    let p = lent (a .h) (a .handles .now) (a .extents .now) (a .clocks .now) (a .named .now) (a .dues .now) in
+    rw (c .find-for-read .ensures) (by-read (readVerdict (a .task) (a .handle) (a .small .now) (a .large .now) p) (a .handle) (a .offset + a .count) p)
 
 pub find-for-write-spec : {M : Type 1} → statement M
 find-for-write-spec =

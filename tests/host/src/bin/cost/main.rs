@@ -2,8 +2,9 @@
 //! callgrind, under which the program runs itself once more, as `cost count`; nanoseconds are the best of some rounds;
 //! stack is what is painted over. It fails where a call takes more of the plain pool's instructions than the limits allow.
 //!
-//! Before each call the record is put back from a copy, so that each call meets the same state. Callgrind counts
-//! inside `measured` alone, and so not this; of the times, those of putting back alone are taken away.
+//! Before each call the record and the stores are put back from a copy, so that each call meets the same state; a record
+//! alone would have other sums than the bytes of a write. Callgrind counts inside `measured` alone, and so not this; of
+//! the times, those of putting back alone are taken away.
 
 mod limits;
 mod tables;

@@ -1,4 +1,4 @@
-//! Nanoseconds: the best of some rounds, less what putting the record back takes.
+//! Nanoseconds: the best of some rounds, less what putting the memory back takes.
 
 use std::hint::black_box;
 use std::time::Instant;
@@ -18,12 +18,12 @@ pub fn all(cases: &[Case]) -> Measures<f64> {
 fn time(case: &Case, action: Action) -> f64 {
     let mut desk = Desk::with(case.memory.clone());
     let both = best(|| {
-        desk.memory.pool.clone_from(black_box(&case.memory.pool));
+        desk.memory.clone_from(black_box(&case.memory));
         measured(action, &mut desk, &case.arguments);
     });
     let back = best(|| {
-        desk.memory.pool.clone_from(black_box(&case.memory.pool));
-        black_box(&mut desk.memory.pool);
+        desk.memory.clone_from(black_box(&case.memory));
+        black_box(&mut desk.memory);
     });
     (both - back).max(0.0)
 }

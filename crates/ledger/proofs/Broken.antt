@@ -1,0 +1,139 @@
+-- An object whose bytes do not add up: each read and write of it is refused, and every other call leaves it so.
+use Prim.Native.Nat.{ℕ, _+_, _≤_}
+use native.Mathlib.Nat.{le-refl, le-trans}
+use native.Mathlib.Omega.{arith}
+use mathlib.Core.Bool.{true, false, not}
+use mathlib.Core.List.{List, [], _∷_, _++_, map}
+use mathlib.Core.Option.{Option, none, some}
+use mathlib.Core.Path.{_≡_, refl, sym, ap, _∙_}
+use borrow.Author.Tests.{not-false, eqb-false, ne-eqb}
+use lib.Dec.{eqb}
+use Rattle.lists.specs.Tests.{all}
+use Rattle.lists.proofs.Cases.{by-test}
+use Rattle.lists.proofs.Counts.{not-any-not}
+use Rattle.ledger.specs.Expirations.{Expiration}
+use Rattle.ledger.specs.Objects.{Object, Memory, Reply, plain, objectAt, isIntact, written, stands, memoryAfter, expirationsAfter, handlesOf}
+use Rattle.ledger.specs.Refusals.{Test, shared, own, sumDiffers, standingTests, testsOf, verdict}
+use Rattle.ledger.specs.Ledger.{Ledger, settled, replyBy, afterBy, verdictOn, standingVerdictOn, reply, next, replyToRequest, afterRequest}
+use Rattle.ledger.specs.Noticed.{isUseOf, userOf}
+use Rattle.ledger.specs.declared.Answer.the-variants.{Refused}
+use Rattle.ledger.specs.declared.Call.{Call}
+use Rattle.ledger.specs.declared.Call.the-variants.{Schedule, Make, Refresh, Read, Write, Batch, Release}
+use Rattle.ledger.specs.declared.Refusal.{Refusal}
+use Rattle.ledger.specs.declared.Refusal.the-variants.{SumDiffers}
+use Rattle.ledger.specs.declared.Request.{Request}
+use Rattle.ledger.specs.declared.Request.the-variants.{Use, Report, Remaining}
+use Rattle.ledger.proofs.Hidden.{at-map, by-use}
+use Rattle.ledger.proofs.Passed.{Passed, passed}
+use Rattle.ledger.proofs.Standing.{at-standing, setsOn, stood}
+
+-- the earlier of two verdicts counts
+abbrev firstOf : Option Refusal → Option Refusal → Option Refusal
+firstOf none later = later
+firstOf (some r) later = some r
+
+-- the verdict by two lists of tests, where the earlier ones pass before the later ones are made
+verdict-append : (m : Memory) (xs : List Expiration) (ts us : List Test) (v : Option Refusal) → (verdict m xs ts ≡ none → verdict m xs us ≡ v)
+    → verdict m xs (ts ++ us) ≡ firstOf (verdict m xs ts) v
+unfolding verdict
+verdict-append m xs [] us v f = f refl
+verdict-append m xs (shared r holds ∷ ts) us v f =
+    by-test (holds m) (λ h. rw h) (λ h. rw h (verdict-append m xs ts us v (λ e. f (rw h e))))
+verdict-append m xs (own r holds ∷ ts) us v f =
+    by-test (holds m xs) (λ h. rw h) (λ h. rw h (verdict-append m xs ts us v (λ e. f (rw h e))))
+
+-- The object with this handle was given and, as long as it stands, its bytes do not add up.
+pub record Broken (handle : ℕ) (M : Ledger) : Type 0 where
+  pub given : handle ≤ M .memory .given
+  pub differs : stands (M .expirations) handle ≡ true → isIntact (objectAt handle (M .memory .objects)) ≡ false
+
+-- then each read and write of it is refused
+module _ (handle : ℕ) (M : Ledger) (b : Broken handle M) where
+  verdict-broken : (task : ℕ) (us : List Test)
+      → verdict (M .memory) (M .expirations) (standingTests task handle ++ (sumDiffers handle ∷ us)) ≡ firstOf (standingVerdictOn M task handle) (some SumDiffers)
+  unfolding verdict
+  verdict-broken task us =
+      verdict-append (M .memory) (M .expirations) (standingTests task handle) (sumDiffers handle ∷ us) (some SumDiffers)
+      (λ e.
+      let (exists, (present, (active, (given, (gone, end))))) = passed (M .memory) (M .expirations) (standingTests task handle) e in
+      rw (b .differs (not-false _ gone)))
+
+  refused-reply : (v : Option Refusal) (y : Reply) → replyBy (firstOf v (some SumDiffers)) y ≡ replyBy v (plain (Refused SumDiffers))
+  refused-reply none y = refl
+  refused-reply (some r) y = refl
+
+  refused-after : (v : Option Refusal) (N : Ledger) → afterBy (firstOf v (some SumDiffers)) N M ≡ M
+  refused-after none N = refl
+  refused-after (some r) N = refl
+
+  pub use-answered : (request : Request) (new : List ℕ) → isUseOf handle request ≡ true
+      → replyToRequest M request new ≡ replyBy (standingVerdictOn M (userOf request) handle) (plain (Refused SumDiffers))
+  unfolding reply testsOf
+  use-answered request new u =
+      by-use handle (λ (r : Request). replyToRequest M r new ≡ replyBy (standingVerdictOn M (userOf r) handle) (plain (Refused SumDiffers)))
+      (λ task. rw (verdict-broken task []) (refused-reply (standingVerdictOn M task handle) _))
+      (λ task offset. rw (verdict-broken task _) (refused-reply (standingVerdictOn M task handle) _))
+      request u
+
+  pub use-left : (request : Request) (new : List ℕ) → isUseOf handle request ≡ true → afterRequest M request new ≡ M
+  unfolding next testsOf
+  use-left request new u =
+      by-use handle (λ (r : Request). afterRequest M r new ≡ M)
+      (λ task. rw (verdict-broken task []) (refused-after (standingVerdictOn M task handle) _))
+      (λ task offset. rw (verdict-broken task _) (refused-after (standingVerdictOn M task handle) _))
+      request u
+
+-- and every other call leaves it so
+at-made : (handle : ℕ) (os : List Object) (o : Object) → eqb (o .handle) handle ≡ false → objectAt handle (os ++ (o ∷ [])) ≡ objectAt handle os
+unfolding objectAt
+at-made handle [] o d = rw d
+at-made handle (p ∷ os) o d = by-test (eqb (p .handle) handle) (λ e. rw e) (λ e. rw e (at-made handle os o d))
+
+at-written : (handle used offset : ℕ) (new : List ℕ) → eqb used handle ≡ false → (os : List Object)
+    → objectAt handle (map (written used offset new) os) ≡ objectAt handle os
+unfolding written
+at-written handle used offset new d os =
+    at-map handle (written used offset new) (λ o. refl)
+    (λ o q. let e : eqb (o .handle) used ≡ false = rw q (ne-eqb handle used (λ p. eqb-false used handle d (sym p))) in rw e) os
+
+module _ (handle : ℕ) (m : Memory) (xs : List Expiration) (b : Broken handle (record { memory = m; expirations = xs })) where
+  stays-broken : (call : Call) (new : List ℕ) → all (stands xs) (setsOn call new) ≡ true → m .given ≤ memoryAfter call new m .given
+      → objectAt handle (memoryAfter call new m .objects) ≡ objectAt handle (m .objects)
+      → Broken handle (settled (memoryAfter call new m) (expirationsAfter call new m xs))
+  stays-broken call new on g same =
+      record {
+        given = le-trans (b .given) g;
+        differs = λ s.
+            rw (at-standing (expirationsAfter call new m xs) handle (memoryAfter call new m .objects) s, same)
+            (b .differs (stood m xs call new on handle (b .given) s));
+      }
+
+  carried-broken : (call : Call) (new : List ℕ) → Passed m xs call new → isUseOf handle (Use call) ≡ false
+      → Broken handle (settled (memoryAfter call new m) (expirationsAfter call new m xs))
+  unfolding testsOf memoryAfter
+  carried-broken (Schedule event task) new c d = stays-broken (Schedule event task) new refl (le-refl _) refl
+  carried-broken (Make task kind extension size) new c d =
+      stays-broken (Make task kind extension size) new refl (omega arith)
+      (at-made handle (m .objects) _ (ne-eqb (m .given + 1) handle (λ q. omega (arith, q, b .given))))
+  carried-broken (Refresh task kind extension used) new c d =
+      let (exists, (present, (active, (lasts, (short, (given, (gone, (room, end)))))))) = c in
+      stays-broken (Refresh task kind extension used) new (rw (not-false (stands xs used) gone)) (le-refl _) refl
+  carried-broken (Read task used) new c d = stays-broken (Read task used) new refl (le-refl _) refl
+  carried-broken (Write task used offset) new c d =
+      stays-broken (Write task used offset) new refl (le-refl _) (at-written handle used offset new d (m .objects))
+  carried-broken (Batch task kind extension) new c d =
+      let (exists, (present, (active, (range, (lasts, (short, (given, (gone, (room, end))))))))) = c in
+      stays-broken (Batch task kind extension) new (sym (not-any-not (stands xs) (handlesOf new)) ∙ ap not gone) (le-refl _) refl
+  carried-broken (Release task used) new c d = stays-broken (Release task used) new refl (le-refl _) refl
+
+pub broken-after : (handle : ℕ) (M : Ledger) → Broken handle M → (request : Request) (new : List ℕ) → isUseOf handle request ≡ false
+    → Broken handle (afterRequest M request new)
+unfolding next
+broken-after handle M b Report new d = b
+broken-after handle M b (Remaining task used) new d = b
+broken-after handle M b (Use call) new d = by (verdictOn M call new) refl
+  where
+    by : (v : Option Refusal) → verdictOn M call new ≡ v
+        → Broken handle (afterBy v (settled (memoryAfter call new (M .memory)) (expirationsAfter call new (M .memory) (M .expirations))) M)
+    by none e = carried-broken handle (M .memory) (M .expirations) b call new (passed (M .memory) (M .expirations) (testsOf call new) e) d
+    by (some r) e = b

@@ -1,0 +1,196 @@
+-- The bytes and the sum of one object hidden: every call but a read or a write of it is answered alike, and leaves the same ledger but for what is hidden.
+use Prim.Native.Nat.{ℕ, _+_, _≤_}
+use native.Mathlib.Omega.{arith}
+use mathlib.Core.Bool.{true, false, false≢true, cond}
+use mathlib.Core.List.{List, [], _∷_, map, map-map, map-append}
+use mathlib.Core.Option.{Option, none, some}
+use mathlib.Core.Path.{_≡_, refl, sym, subst, _∙_}
+use borrow.Author.Tests.{eqb-true, ne-eqb}
+use lib.Dec.{eqb}
+use Rattle.lists.proofs.Cases.{by-test}
+use Rattle.lists.proofs.Counts.{count-map}
+use Rattle.lists.proofs.All.{all-every, all-map, map-same}
+use Rattle.lists.proofs.Filters.{filter-map, filter-all}
+use Rattle.ledger.specs.Expirations.{Expiration}
+use Rattle.ledger.specs.Objects.{Object, Memory, objectAt, written, replyTo, memoryAfter, expirationsAfter, usage}
+use Rattle.ledger.specs.Refusals.{testsOf, verdict}
+use Rattle.ledger.specs.Ledger.{Ledger, settled, afterBy, verdictOn, reply, next, replyToRequest, afterRequest}
+use Rattle.ledger.specs.Noticed.{disturbed, isUseOf}
+use Rattle.ledger.specs.declared.Call.{Call}
+use Rattle.ledger.specs.declared.Call.the-variants.{Schedule, Make, Refresh, Read, Write, Batch, Release}
+use Rattle.ledger.specs.declared.Event.the-variants.{Join, Leave, Block, Resume, Tick}
+use Rattle.ledger.specs.declared.Refusal.{Refusal}
+use Rattle.ledger.specs.declared.Request.{Request}
+use Rattle.ledger.specs.declared.Request.the-variants.{Use, Report, Remaining}
+use Rattle.ledger.proofs.Standing.{Standing}
+
+-- the object with this handle has no bytes and no sum; all others stay
+unfoldable pub hidden : ℕ → Object → Object
+hidden handle o =
+    record {
+      handle = o .handle;
+      size = o .size;
+      bytes = cond (eqb (o .handle) handle) [] (o .bytes);
+      sum = cond (eqb (o .handle) handle) 0 (o .sum);
+    }
+
+abbrev pub hiddenMemory : ℕ → Memory → Memory
+hiddenMemory handle m =
+    record { clocks = m .clocks; given = m .given; objects = map (hidden handle) (m .objects); pinned = m .pinned }
+
+abbrev pub hiddenIn : ℕ → Ledger → Ledger
+hiddenIn handle L = record { memory = hiddenMemory handle (L .memory); expirations = L .expirations }
+
+-- what a write of the object and a change from outside do is hidden
+pub unseen-written : (handle offset : ℕ) (new : List ℕ) (o : Object) → hidden handle (written handle offset new o) ≡ hidden handle o
+unfolding hidden written
+unseen-written handle offset new o = by-test (eqb (o .handle) handle) (λ e. rw e) (λ e. rw e)
+
+pub unseen-disturbed : (handle at value : ℕ) (o : Object) → hidden handle (disturbed handle at value o) ≡ hidden handle o
+unfolding hidden disturbed
+unseen-disturbed handle at value o = by-test (eqb (o .handle) handle) (λ e. rw e) (λ e. rw e)
+
+pub unseen-map : (handle : ℕ) (f : Object → Object) → ((o : Object) → hidden handle (f o) ≡ hidden handle o) → (os : List Object)
+    → map (hidden handle) (map f os) ≡ map (hidden handle) os
+unseen-map handle f same os = map-map (hidden handle) f os ∙ map-same _ _ os (all-every _ same os)
+
+-- the object with a handle, where those that have it are left as they are
+pub at-map : (used : ℕ) (f : Object → Object) → ((o : Object) → f o .handle ≡ o .handle) → ((o : Object) → o .handle ≡ used → f o ≡ o)
+    → (os : List Object) → objectAt used (map f os) ≡ objectAt used os
+unfolding objectAt
+at-map used f named same [] = refl
+at-map used f named same (o ∷ os) =
+    by-test (eqb (o .handle) used)
+    (λ e. let d : eqb (f o .handle) used ≡ true = rw (named o) e in rw (d, e) (same o (eqb-true (o .handle) used e)))
+    (λ e. let d : eqb (f o .handle) used ≡ false = rw (named o) e in rw (d, e) (at-map used f named same os))
+
+-- what holds of each read and each write of the object with this handle holds of each use of it
+pub by-use : (handle : ℕ) (P : Request → Type 0) → ((task : ℕ) → P (Use (Read task handle))) → ((task offset : ℕ) → P (Use (Write task handle offset)))
+    → (request : Request) → isUseOf handle request ≡ true → P request
+by-use handle P f g (Use (Schedule event task)) u = absurd (false≢true u)
+by-use handle P f g (Use (Make task kind extension size)) u = absurd (false≢true u)
+by-use handle P f g (Use (Refresh task kind extension used)) u = absurd (false≢true u)
+by-use handle P f g (Use (Read task used)) u = subst (λ (h : ℕ). P (Use (Read task h))) (sym (eqb-true used handle u)) (f task)
+by-use handle P f g (Use (Write task used offset)) u = subst (λ (h : ℕ). P (Use (Write task h offset))) (sym (eqb-true used handle u)) (g task offset)
+by-use handle P f g (Use (Batch task kind extension)) u = absurd (false≢true u)
+by-use handle P f g (Use (Release task used)) u = absurd (false≢true u)
+by-use handle P f g Report u = absurd (false≢true u)
+by-use handle P f g (Remaining task used) u = absurd (false≢true u)
+
+-- a call that would leave something as it is when carried out leaves it so in any case: a refused one changes nothing
+unchanged : (f : Ledger → Ledger) (v : Option Refusal) {after now : Ledger} → f after ≡ f now → f (afterBy v after now) ≡ f now
+unchanged f none e = e
+unchanged f (some r) e = refl
+
+module _ (handle : ℕ) where
+  -- another object is the same one
+  at-other : (used : ℕ) → eqb used handle ≡ false → (os : List Object) → objectAt used (map (hidden handle) os) ≡ objectAt used os
+  unfolding hidden
+  at-other used d os = at-map used (hidden handle) (λ o. refl) (λ o q. let e : eqb (o .handle) handle ≡ false = rw q d in rw e) os
+
+  -- and is written alike
+  other-written : (used offset : ℕ) (new : List ℕ) → eqb used handle ≡ false → (o : Object)
+      → written used offset new (hidden handle o) ≡ hidden handle (written used offset new o)
+  unfolding written hidden
+  other-written used offset new d o =
+      by-test (eqb (o .handle) used)
+      (λ e. let f : eqb (o .handle) handle ≡ false = rw (eqb-true (o .handle) used e) d in rw (e, f))
+      (λ e. rw e)
+
+  module _ (m : Memory) where
+    -- tests and answers look at nothing that is hidden, but for 13, 23 and a read: these look at another object
+    verdict-hidden : (xs : List Expiration) (call : Call) (new : List ℕ) → isUseOf handle (Use call) ≡ false
+        → verdict (hiddenMemory handle m) xs (testsOf call new) ≡ verdict m xs (testsOf call new)
+    unfolding testsOf verdict hidden
+    verdict-hidden xs (Schedule Join task) new d = refl
+    verdict-hidden xs (Schedule Leave task) new d = refl
+    verdict-hidden xs (Schedule Block task) new d = refl
+    verdict-hidden xs (Schedule Resume task) new d = refl
+    verdict-hidden xs (Schedule Tick task) new d = refl
+    verdict-hidden xs (Make task kind extension size) new d = simp count-map
+    verdict-hidden xs (Refresh task kind extension used) new d = refl
+    verdict-hidden xs (Read task used) new d = rw (at-other used d (m .objects))
+    verdict-hidden xs (Write task used offset) new d = rw (at-other used d (m .objects))
+    verdict-hidden xs (Batch task kind extension) new d = refl
+    verdict-hidden xs (Release task used) new d = refl
+
+    reply-hidden : (call : Call) → isUseOf handle (Use call) ≡ false → replyTo call (hiddenMemory handle m) ≡ replyTo call m
+    unfolding replyTo
+    reply-hidden (Schedule event task) d = refl
+    reply-hidden (Make task kind extension size) d = refl
+    reply-hidden (Refresh task kind extension used) d = refl
+    reply-hidden (Read task used) d = rw (at-other used d (m .objects))
+    reply-hidden (Write task used offset) d = refl
+    reply-hidden (Batch task kind extension) d = refl
+    reply-hidden (Release task used) d = refl
+
+    -- what a call makes of the memory and of the expirations; the object that a make gives is another
+    memory-hidden : handle ≤ m .given → (call : Call) (new : List ℕ) → isUseOf handle (Use call) ≡ false
+        → memoryAfter call new (hiddenMemory handle m) ≡ hiddenMemory handle (memoryAfter call new m)
+    unfolding memoryAfter hidden
+    memory-hidden g (Schedule event task) new d = refl
+    memory-hidden g (Make task kind extension size) new d =
+        rw (map-append, ne-eqb (m .given + 1) handle (λ q. omega (arith, g, q)))
+    memory-hidden g (Refresh task kind extension used) new d = refl
+    memory-hidden g (Read task used) new d = refl
+    memory-hidden g (Write task used offset) new d =
+        let each = map-same _ _ (m .objects) (all-every _ (other-written used offset new d) (m .objects)) in
+        rw (map-map (written used offset new) (hidden handle) (m .objects), map-map (hidden handle) (written used offset new) (m .objects), each)
+    memory-hidden g (Batch task kind extension) new d = refl
+    memory-hidden g (Release task used) new d = refl
+
+    expirations-hidden : (xs : List Expiration) (call : Call) (new : List ℕ) → expirationsAfter call new (hiddenMemory handle m) xs ≡ expirationsAfter call new m xs
+    unfolding expirationsAfter
+    expirations-hidden xs (Schedule event task) new = refl
+    expirations-hidden xs (Make task kind extension size) new = refl
+    expirations-hidden xs (Refresh task kind extension used) new = refl
+    expirations-hidden xs (Read task used) new = refl
+    expirations-hidden xs (Write task used offset) new = refl
+    expirations-hidden xs (Batch task kind extension) new = refl
+    expirations-hidden xs (Release task used) new = refl
+
+    -- the same objects go
+    settled-hidden : (xs : List Expiration) → settled (hiddenMemory handle m) xs ≡ hiddenIn handle (settled m xs)
+    unfolding hidden
+    settled-hidden xs = rw filter-map
+
+  module _ (L : Ledger) where
+    -- every call but a read or a write of the object is answered alike, and leaves alike
+    pub answered-alike : (request : Request) (new : List ℕ) → isUseOf handle request ≡ false
+        → replyToRequest (hiddenIn handle L) request new ≡ replyToRequest L request new
+    unfolding reply usage verdict hidden
+    answered-alike (Use call) new d = rw (verdict-hidden (L .memory) (L .expirations) call new d, reply-hidden (L .memory) call d)
+    answered-alike Report new d = simp count-map
+    answered-alike (Remaining task used) new d = refl
+
+    carried-alike : handle ≤ L .memory .given → (call : Call) (new : List ℕ) → isUseOf handle (Use call) ≡ false → (v : Option Refusal)
+        → afterBy v (settled (memoryAfter call new (hiddenMemory handle (L .memory))) (expirationsAfter call new (hiddenMemory handle (L .memory)) (L .expirations))) (hiddenIn handle L)
+        ≡ hiddenIn handle (afterBy v (settled (memoryAfter call new (L .memory)) (expirationsAfter call new (L .memory) (L .expirations))) L)
+    carried-alike g call new d none =
+        rw (memory-hidden (L .memory) g call new d, expirations-hidden (L .memory) (L .expirations) call new)
+        (settled-hidden (memoryAfter call new (L .memory)) (expirationsAfter call new (L .memory) (L .expirations)))
+    carried-alike g call new d (some r) = refl
+
+    pub left-alike : handle ≤ L .memory .given → (request : Request) (new : List ℕ) → isUseOf handle request ≡ false
+        → afterRequest (hiddenIn handle L) request new ≡ hiddenIn handle (afterRequest L request new)
+    unfolding next
+    left-alike g (Use call) new d =
+        rw (verdict-hidden (L .memory) (L .expirations) call new d) (carried-alike g call new d (verdictOn L call new))
+    left-alike g Report new d = refl
+    left-alike g (Remaining task used) new d = refl
+
+    -- a read or a write of it changes what is hidden alone, where all objects stand
+    pub left-unseen : Standing L → (request : Request) (new : List ℕ)
+        → isUseOf handle request ≡ true → hiddenIn handle (afterRequest L request new) ≡ hiddenIn handle L
+    unfolding next memoryAfter expirationsAfter written
+    left-unseen h request new u =
+        let os = L .memory .objects in
+        by-use handle (λ (r : Request). hiddenIn handle (afterRequest L r new) ≡ hiddenIn handle L)
+        (λ task. unchanged (hiddenIn handle) (verdictOn L (Read task handle) new) (rw (filter-all _ os h)))
+        (λ task offset.
+        unchanged (hiddenIn handle) (verdictOn L (Write task handle offset) new)
+        (rw (
+          filter-all _ (map (written handle offset new) os) (all-map _ (written handle offset new) os h),
+          unseen-map handle (written handle offset new) (unseen-written handle offset new) os,
+        )))
+        request u

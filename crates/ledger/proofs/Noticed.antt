@@ -1,0 +1,194 @@
+-- A byte that is changed from outside is noticed by each read and write of its object, and by nothing else.
+use Prim.Native.Nat.{ℕ}
+use mathlib.Core.Bool.{Bool, true, false, true≢false, false≢true, not, _&&_, and-eq-true-iff, and-true}
+use mathlib.Core.List.{List, [], _∷_, map}
+use mathlib.Core.Logic.{_≢_}
+use mathlib.Core.Option.{Option, none, some}
+use mathlib.Core.Path.{_≡_, refl, sym, ap, ap₂, _∙_}
+use borrow.Author.Tests.{not-true, eqb-true, ne-eqb}
+use lib.Dec.{eqb}
+use lib.ListN.{getD}
+use Rattle.lists.specs.Tests.{any, All}
+use Rattle.lists.proofs.All.{all-imp, all-left, found}
+use Rattle.lists.proofs.Cases.{by-test}
+use Rattle.lists.proofs.Sums.{total-differs}
+use Rattle.ledger.specs.Numbers.{numberOf}
+use Rattle.ledger.specs.Expirations.{Expiration}
+use Rattle.ledger.specs.Objects.{Object, Memory, Reply, plain, objectAt, isIntact, memoryAfter, expirationsAfter}
+use Rattle.ledger.specs.Refusals.{Test, shared, own, standingTests, testsOf, verdict}
+use Rattle.ledger.specs.Ledger.{Ledger, Sent, fresh, settled, replyBy, afterBy, verdictOn, standingVerdictOn, reply, next, replyToRequest, afterRequest, afterSent, replies}
+use Rattle.ledger.specs.Remaining.{remainingLife}
+use Rattle.ledger.specs.Kept.{Kept}
+use Rattle.ledger.specs.Noticed.{disturbed, Change, changed, isUseOf, userOf, noticed, noticedIn, isRefusal, Notices}
+use Rattle.ledger.specs.declared.Answer.{Answer}
+use Rattle.ledger.specs.declared.Answer.the-variants.{Refused, Lasts}
+use Rattle.ledger.specs.declared.Call.{Call}
+use Rattle.ledger.specs.declared.Call.the-variants.{Schedule, Make, Refresh, Read, Write, Batch, Release}
+use Rattle.ledger.specs.declared.Event.the-variants.{Join, Leave, Block, Resume, Tick}
+use Rattle.ledger.specs.declared.Refusal.{Refusal}
+use Rattle.ledger.specs.declared.Refusal.the-variants.{SumDiffers}
+use Rattle.ledger.specs.declared.Request.{Request}
+use Rattle.ledger.specs.declared.Request.the-variants.{Use, Report, Remaining}
+use Rattle.ledger.proofs.Demand3.{intact-at}
+use Rattle.ledger.proofs.Hidden.{hiddenIn, unseen-disturbed, unseen-map, answered-alike, left-alike, left-unseen}
+use Rattle.ledger.proofs.Kept.{kept-fresh, kept-request}
+use Rattle.ledger.proofs.Passed.{refusalIn, verdict-told, refusal-told}
+use Rattle.ledger.proofs.Standing.{Standing}
+use Rattle.ledger.proofs.Broken.{Broken, use-answered, use-left, broken-after}
+
+-- every object stands after any call too: one that is carried out sweeps the others away
+standing-after : (L : Ledger) → Standing L → (request : Request) (new : List ℕ) → Standing (afterRequest L request new)
+unfolding next
+standing-after L h Report new = h
+standing-after L h (Remaining task used) new = h
+standing-after L h (Use call) new = by (verdictOn L call new)
+  where
+    by : (v : Option Refusal) → Standing (afterBy v (settled (memoryAfter call new (L .memory)) (expirationsAfter call new (L .memory) (L .expirations))) L)
+    by none = all-left _ (memoryAfter call new (L .memory) .objects)
+    by (some r) = h
+
+-- The ledger without the change, and the one with it: they are the same but for what is hidden.
+record Beside (handle : ℕ) (L M : Ledger) : Type 0 where
+  same : hiddenIn handle M ≡ hiddenIn handle L
+  standing : Standing L
+  broken : Broken handle M
+
+module _ (handle : ℕ) (L M : Ledger) (k : Beside handle L M) where
+  same-given : M .memory .given ≡ L .memory .given
+  same-given = ap (λ (N : Ledger). N .memory .given) (k .same)
+
+  same-standing : (task : ℕ) → standingVerdictOn M task handle ≡ standingVerdictOn L task handle
+  unfolding verdict
+  same-standing task = ap (λ (N : Ledger). standingVerdictOn N task handle) (k .same)
+
+  -- one call
+  answered : (s : Sent) → replyToRequest M (s .request) (s .bytes) ≡ noticed handle L s
+  unfolding noticed
+  answered s =
+      by-test (isUseOf handle (s .request))
+      (λ u. rw (u, use-answered handle M (k .broken) (s .request) (s .bytes) u, same-standing (userOf (s .request))))
+      (λ u. rw u
+      (sym (answered-alike handle M (s .request) (s .bytes) u)
+      ∙ ap (λ (N : Ledger). replyToRequest N (s .request) (s .bytes)) (k .same)
+      ∙ answered-alike handle L (s .request) (s .bytes) u))
+
+  beside-after : (s : Sent) → Beside handle (afterSent L s) (afterSent M s)
+  beside-after s =
+      by-test (isUseOf handle (s .request))
+      (λ u. rw (use-left handle M (k .broken) (s .request) (s .bytes) u)
+      (record {
+        same = k .same ∙ sym (left-unseen handle L (k .standing) (s .request) (s .bytes) u);
+        standing = standing-after L (k .standing) (s .request) (s .bytes);
+        broken = k .broken;
+      }))
+      (λ u.
+      record {
+        same =
+            sym (left-alike handle M (k .broken .given) (s .request) (s .bytes) u)
+            ∙ ap (λ (N : Ledger). afterRequest N (s .request) (s .bytes)) (k .same)
+            ∙ left-alike handle L (rw (sym same-given) (k .broken .given)) (s .request) (s .bytes) u;
+        standing = standing-after L (k .standing) (s .request) (s .bytes);
+        broken = broken-after handle M (k .broken) (s .request) (s .bytes) u;
+      })
+
+-- and a list of calls
+every-from : (handle : ℕ) (ss : List Sent) (L M : Ledger) → Beside handle L M → replies M ss ≡ noticedIn handle L ss
+unfolding replies noticedIn
+every-from handle [] L M k = refl
+every-from handle (s ∷ ss) L M k =
+    ap₂ _∷_ (answered handle L M k s) (every-from handle ss (afterSent L s) (afterSent M s) (beside-after handle L M k s))
+
+-- The change: one byte is another, and so the bytes no longer add up.
+at-disturbed : (handle at value : ℕ) (os : List Object) → any (λ (o : Object). eqb (o .handle) handle) os ≡ true
+    → isIntact (objectAt handle os) ≡ true → value ≢ getD (objectAt handle os .bytes) at 0
+    → isIntact (objectAt handle (map (disturbed handle at value) os)) ≡ false
+unfolding objectAt disturbed
+at-disturbed handle at value [] l i other = absurd (false≢true l)
+at-disturbed handle at value (o ∷ os) l i other =
+    by-test (eqb (o .handle) handle)
+    (λ e. rw e (ne-eqb _ _ (λ q. total-differs at value (o .bytes) (rw e at other) (q ∙ sym (eqb-true _ _ (rw e at i))))))
+    (λ e. rw e (at-disturbed handle at value os (rw e at l) (rw e at i) (rw e at other)))
+
+start : (c : Change) → Beside (c .handle) (c .before) (changed c)
+start c =
+    let os = c .before .memory .objects in
+    record {
+      same = rw (unseen-map (c .handle) (disturbed (c .handle) (c .at) (c .value)) (unseen-disturbed (c .handle) (c .at) (c .value)) os);
+      standing = c .standing;
+      broken =
+          record {
+            given = found (λ (o : Object). eqb (o .handle) (c .handle)) (λ o e h. rw (sym (eqb-true (o .handle) (c .handle) e)) h) os (c .listed) (c .numbered);
+            differs = λ s. at-disturbed (c .handle) (c .at) (c .value) os (c .listed) (c .intact) (c .other);
+          };
+    }
+
+-- a use of the object is refused, whatever its verdict
+refused-by : (v : Option Refusal) → isRefusal (replyBy v (plain (Refused SumDiffers)) .answer) ≡ true
+refused-by none = refl
+refused-by (some r) = refl
+
+-- no test that holds gives the refusal with this number
+abbrev isSpared : ℕ → Memory → List Expiration → List Test → Bool
+isSpared n m xs [] = true
+isSpared n m xs (shared r holds ∷ ts) = not (eqb (numberOf r) n && holds m) && isSpared n m xs ts
+isSpared n m xs (own r holds ∷ ts) = not (eqb (numberOf r) n && holds m xs) && isSpared n m xs ts
+
+abbrev isNumbered : ℕ → Option Refusal → Bool
+isNumbered n none = false
+isNumbered n (some r) = eqb (numberOf r) n
+
+spared : (n : ℕ) (m : Memory) (xs : List Expiration) (ts : List Test) → isSpared n m xs ts ≡ true → isNumbered n (verdict m xs ts) ≡ false
+unfolding verdict
+spared n m xs [] e = refl
+spared n m xs (shared r holds ∷ ts) e =
+    let (l, ls) = and-eq-true-iff (not (eqb (numberOf r) n && holds m)) (isSpared n m xs ts) .0 e in
+    by-test (holds m) (λ h. rw h (not-true _ (rw (h, and-true) at l))) (λ h. rw h (spared n m xs ts ls))
+spared n m xs (own r holds ∷ ts) e =
+    let (l, ls) = and-eq-true-iff (not (eqb (numberOf r) n && holds m xs)) (isSpared n m xs ts) .0 e in
+    by-test (holds m xs) (λ h. rw h (not-true _ (rw (h, and-true) at l))) (λ h. rw h (spared n m xs ts ls))
+
+-- 23 is spared where all objects are intact
+intact-spared : (m : Memory) (xs : List Expiration) → All (λ (o : Object). isIntact o ≡ true) (m .objects)
+    → (call : Call) (new : List ℕ) → isSpared 23 m xs (testsOf call new) ≡ true
+unfolding testsOf
+intact-spared m xs i (Schedule Join task) new = refl
+intact-spared m xs i (Schedule Leave task) new = refl
+intact-spared m xs i (Schedule Block task) new = refl
+intact-spared m xs i (Schedule Resume task) new = refl
+intact-spared m xs i (Schedule Tick task) new = refl
+intact-spared m xs i (Make task kind extension size) new = refl
+intact-spared m xs i (Refresh task kind extension handle) new = refl
+intact-spared m xs i (Read task handle) new = rw (intact-at handle (m .objects) i)
+intact-spared m xs i (Write task handle offset) new = rw (intact-at handle (m .objects) i)
+intact-spared m xs i (Batch task kind extension) new = refl
+intact-spared m xs i (Release task handle) new = refl
+
+-- as they are from fresh on
+never-23 : (L : Ledger) → Kept L → (request : Request) (new : List ℕ) → isNumbered 23 (refusalIn (replyToRequest L request new .answer)) ≡ false
+unfolding reply
+never-23 L k (Use call) new =
+    let intact = all-imp (λ o h. h .intact) (L .memory .objects) (k .objects .each) in
+    rw (refusal-told (verdictOn L call new) call (L .memory))
+    (spared 23 (L .memory) (L .expirations) (testsOf call new) (intact-spared (L .memory) (L .expirations) intact call new))
+never-23 L k Report new = refl
+never-23 L k (Remaining task handle) new =
+    rw (verdict-told (standingVerdictOn L task handle) (plain (Lasts (remainingLife task handle (L .memory .clocks) (L .expirations)))) refl)
+    (spared 23 (L .memory) (L .expirations) (standingTests task handle) refl)
+
+never-from : (ss : List Sent) (L : Ledger) → Kept L → All (λ (y : Reply). y .answer ≢ Refused SumDiffers) (replies L ss)
+unfolding replies
+never-from [] L k = tt
+never-from (s ∷ ss) L k = (
+  λ q. true≢false (sym (ap (λ (a : Answer). isNumbered 23 (refusalIn a)) q) ∙ never-23 L k (s .request) (s .bytes)),
+  never-from ss (afterSent L s) (kept-request L k (s .request) (s .bytes)),
+)
+
+pub notices : Notices
+unfolding noticed
+notices =
+    record {
+      every = λ c ss. every-from (c .handle) ss (c .before) (changed c) (start c);
+      refused = λ handle L s u. rw u (refused-by (standingVerdictOn L (userOf (s .request)) handle));
+      others = λ handle L s u. rw u;
+      never = λ ss. never-from ss fresh kept-fresh;
+    }

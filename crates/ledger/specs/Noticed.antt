@@ -1,0 +1,109 @@
+-- The claim of R23 (order 6 of document 02): where one byte of an object is changed from outside, each read and write of it is refused from then on, and all else is
+-- answered as if nothing had been changed.
+use Prim.Native.Nat.{ℕ, _≤_, _<_}
+use mathlib.Core.Bool.{Bool, true, false, cond}
+use mathlib.Core.List.{List, [], _∷_, map}
+use mathlib.Core.Logic.{_≢_}
+use mathlib.Core.Path.{_≡_}
+use lib.Dec.{eqb}
+use lib.ListN.{length, getD}
+use Rattle.lists.specs.Blocks.{overwritten}
+use Rattle.lists.specs.Tests.{any, All}
+use Rattle.ledger.specs.Objects.{Object, Reply, plain, objectAt, isIntact, stands}
+use Rattle.ledger.specs.Ledger.{Ledger, Sent, fresh, replyBy, standingVerdictOn, replyToRequest, afterSent, replies}
+use Rattle.ledger.specs.declared.Answer.{Answer}
+use Rattle.ledger.specs.declared.Answer.the-variants.{Refused, Done, Advanced, Handle, Bytes, Counted, Lasts}
+use Rattle.ledger.specs.declared.Call.the-variants.{Schedule, Make, Refresh, Read, Write, Batch, Release}
+use Rattle.ledger.specs.declared.Refusal.the-variants.{SumDiffers}
+use Rattle.ledger.specs.declared.Request.{Request}
+use Rattle.ledger.specs.declared.Request.the-variants.{Use, Report, Remaining}
+
+-- N1: the object with this handle, with another value at one place of its block; its sum stays, and so do all other objects
+unfoldable pub disturbed : ℕ → ℕ → ℕ → Object → Object
+disturbed handle at value o =
+    record {
+      handle = o .handle;
+      size = o .size;
+      bytes = cond (eqb (o .handle) handle) (overwritten at (value ∷ []) (o .bytes)) (o .bytes);
+      sum = o .sum;
+    }
+
+abbrev pub disturbedIn : ℕ → ℕ → ℕ → Ledger → Ledger
+disturbedIn handle at value L =
+    let m = L .memory in
+    record {
+      memory = record { clocks = m .clocks; given = m .given; objects = map (disturbed handle at value) (m .objects); pinned = m .pinned };
+      expirations = L .expirations;
+    }
+
+-- N2: such a change: the object is one of the ledger's, its sum agreed, and exactly one byte is another. The ledger is one that a well-formed record reads as: its
+-- objects have handles that were given (W4), and stand (W2).
+pub record Change : Type 0 where
+  pub before : Ledger
+  pub handle : ℕ
+  pub at : ℕ
+  pub value : ℕ
+  pub numbered : All (λ (o : Object). o .handle ≤ before .memory .given) (before .memory .objects)
+  pub standing : All (λ (o : Object). stands (before .expirations) (o .handle) ≡ true) (before .memory .objects)
+  pub listed : any (λ (o : Object). eqb (o .handle) handle) (before .memory .objects) ≡ true
+  pub intact : isIntact (objectAt handle (before .memory .objects)) ≡ true
+  pub inside : at < length (objectAt handle (before .memory .objects) .bytes)
+  pub other : value ≢ getD (objectAt handle (before .memory .objects) .bytes) at 0
+
+abbrev pub changed : Change → Ledger
+changed c = disturbedIn (c .handle) (c .at) (c .value) (c .before)
+
+-- N3: a read or a write of an object
+abbrev pub isUseOf : ℕ → Request → Bool
+isUseOf handle (Use (Schedule event task)) = false
+isUseOf handle (Use (Make task kind extension size)) = false
+isUseOf handle (Use (Refresh task kind extension used)) = false
+isUseOf handle (Use (Read task used)) = eqb used handle
+isUseOf handle (Use (Write task used offset)) = eqb used handle
+isUseOf handle (Use (Batch task kind extension)) = false
+isUseOf handle (Use (Release task used)) = false
+isUseOf handle Report = false
+isUseOf handle (Remaining task used) = false
+
+-- the task of such a call
+abbrev pub userOf : Request → ℕ
+userOf (Use (Schedule event task)) = task
+userOf (Use (Make task kind extension size)) = task
+userOf (Use (Refresh task kind extension used)) = task
+userOf (Use (Read task used)) = task
+userOf (Use (Write task used offset)) = task
+userOf (Use (Batch task kind extension)) = task
+userOf (Use (Release task used)) = task
+userOf Report = 0
+userOf (Remaining task used) = task
+
+-- N4: what a call is answered once the object with this handle was changed, by the ledger without the change: such a use is refused, by 23 where no earlier test of
+-- its task and of the object refuses it; any other call is answered as that ledger does
+unfoldable pub noticed : ℕ → Ledger → Sent → Reply
+noticed handle L s =
+    cond (isUseOf handle (s .request)) (replyBy (standingVerdictOn L (userOf (s .request)) handle) (plain (Refused SumDiffers)))
+    (replyToRequest L (s .request) (s .bytes))
+
+-- and a list of calls, the ledger without the change going on beside
+unfoldable pub noticedIn : ℕ → Ledger → List Sent → List Reply
+noticedIn handle L [] = []
+noticedIn handle L (s ∷ ss) = noticed handle L s ∷ noticedIn handle (afterSent L s) ss
+
+abbrev pub isRefusal : Answer → Bool
+isRefusal (Refused why) = true
+isRefusal Done = false
+isRefusal (Advanced b) = false
+isRefusal (Handle handle) = false
+isRefusal Bytes = false
+isRefusal (Counted usage) = false
+isRefusal (Lasts life) = false
+
+pub record Notices : Type 0 where
+  -- N5: after such a change every list of calls is answered so;
+  pub every : (c : Change) (ss : List Sent) → replies (changed c) ss ≡ noticedIn (c .handle) (c .before) ss
+  -- each read and each write of the object is refused,
+  pub refused : (handle : ℕ) (L : Ledger) (s : Sent) → isUseOf handle (s .request) ≡ true → isRefusal (noticed handle L s .answer) ≡ true
+  -- and every other call is answered as the ledger without the change says.
+  pub others : (handle : ℕ) (L : Ledger) (s : Sent) → isUseOf handle (s .request) ≡ false → noticed handle L s ≡ replyToRequest L (s .request) (s .bytes)
+  -- N6: with no change from outside no call is ever answered 23
+  pub never : (ss : List Sent) → All (λ (y : Reply). y .answer ≢ Refused SumDiffers) (replies fresh ss)

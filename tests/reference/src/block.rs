@@ -1,0 +1,56 @@
+//! The block of an object, in the ledger and in the unbounded heap. A number such as O33 is a rule's in docs/RULES.md.
+
+use crate::call::Refusal;
+use crate::limits::Store;
+
+/// O33: the object's length, all bytes of the block, of which the first are the object's, and the sum that they are to have.
+#[derive(Clone, Debug, PartialEq, Eq)]
+pub struct Block {
+    pub length: u16,
+    pub bytes: Vec<u8>,
+    pub sum: u16,
+}
+
+impl Block {
+    /// O12: all zeros.
+    pub fn zeroed(length: u16, store: Store) -> Block {
+        Block { length, bytes: vec![0; store.block_size()], sum: 0 }
+    }
+
+    /// O34: whether the bytes have their sum.
+    pub fn is_intact(&self) -> bool {
+        total(&self.bytes) == self.sum
+    }
+
+    /// 23, then O19: the object's own bytes.
+    pub fn read(&self) -> Result<&[u8], Refusal> {
+        self.check_sum()?;
+        Ok(&self.bytes[..usize::from(self.length)])
+    }
+
+    /// 23, 13, then O20, O21 and O35: these bytes and no others, and the sum of all.
+    pub fn write(&mut self, offset: u8, bytes: &[u8]) -> Result<(), Refusal> {
+        self.check_sum()?;
+        let start = usize::from(offset);
+        let end = start + bytes.len();
+        if end > usize::from(self.length) {
+            return Err(Refusal::RangeAboveLength);
+        }
+        self.bytes[start..end].copy_from_slice(bytes);
+        self.sum = total(&self.bytes);
+        Ok(())
+    }
+
+    /// 23.
+    fn check_sum(&self) -> Result<(), Refusal> {
+        if !self.is_intact() {
+            return Err(Refusal::SumDiffers);
+        }
+        Ok(())
+    }
+}
+
+/// At most 65,280, with 256 bytes.
+fn total(bytes: &[u8]) -> u16 {
+    bytes.iter().map(|&byte| u16::from(byte)).sum()
+}
