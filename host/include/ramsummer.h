@@ -14,8 +14,9 @@
  * the library is lent the record for itself alone (`&mut` in the proved source), so that it must not lie in read-only
  * memory, and nobody may look at it meanwhile. All else that a call only reads is const.
  *
- * The bytes of a store block in use are changed by ramsummer_write alone, which keeps their sum in the record. Whoever else
- * writes there makes read and write refuse the object with 23, unless the changes cancel out in the sum.
+ * The bytes of a store block in use are changed by ramsummer_write, or by a write in ramsummer_frame, alone; both keep their
+ * sum in the record. Whoever else writes there makes read and write refuse the object with 23, unless the changes cancel
+ * out in the sum.
  *
  * Each call returns 0 where it was carried out, else the number of its refusal (enum ramsummer_answer). After a
  * refusal the pool, the stores and what the pointers lead to are as before; ramsummer_frame alone also writes the

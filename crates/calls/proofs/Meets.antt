@@ -57,7 +57,11 @@ pub refused-locates : (task handle : ℕ) (p : Pool) (small large : List ℕ) (r
     → Obeys (Use (Read task handle)) [] p small large (plain (RefusedAnswer r)) p small large
     → Locates task handle p small large (RefusedBytes r)
 refused-locates task handle p small large r o =
-    record { reads = o; inside = λ block count sum f. let z : _≡_ {A = ℕ} 0 1 = cc in absurd (omega arith) }
+    record {
+      reads = o;
+      inside = λ block count sum f. let z : _≡_ {A = ℕ} 0 1 = cc in absurd (omega arith);
+      summed = λ block count sum f. let z : _≡_ {A = ℕ} 0 1 = cc in absurd (omega arith);
+    }
 
 module _ {task handle : ℕ} {p : Pool} {small large : List ℕ} {f : FoundBytes} (l : Locates task handle p small large f) where
   pub read-refusal : {why : Refusal} → f ≡ RefusedBytes why → ReadsBack task handle p small large (RefusedAnswer why) []
@@ -116,6 +120,10 @@ module _ {task handle : ℕ} {p : Pool} {small large : List ℕ} (types : Typed 
             let (small-whole, large-whole) = halves small large (ready .whole refl) in
             let (L, reads) = every-fit-record-reads p types (ready .fit) small large in
             rw (← n, ← b) (read-place (ready .fit) types reads small-whole large-whole task handle e);
+        summed = λ block count sum f.
+            let b : placeOf handle (tablesOf p .blocks) ≡ block = cc in
+            let n : getD (tablesOf p .blocks) (placeOf handle (tablesOf p .blocks)) freeBlock .sum ≡ sum = cc in
+            rw (← n, ← b) (sym (read-sum task handle small large (tablesOf p) e));
       }
   locates-by (Refused r) e =
       refused-locates task handle p small large r (read-refused p types (ready .fit) small large (ready .whole refl) task handle r e)

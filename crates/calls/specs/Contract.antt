@@ -140,10 +140,11 @@ abbrev pub replyFound : List ℕ → List ℕ → FoundBytes → Reply
 replyFound small large (RefusedBytes why) = plain (Refused why)
 replyFound small large (At block count sum) = record { answer = Bytes; bytes = blockBytes small large block count }
 
--- where a read finds its object: those bytes are its reply, and they lie in a block
+-- where a read finds its object: those bytes are its reply, they lie in a block, and the sum is that of the block's
 pub record Locates (task handle : ℕ) (p : Pool) (small large : List ℕ) (f : FoundBytes) : Type 0 where
   pub reads : Obeys (Use (Read task handle)) [] p small large (replyFound small large f) p small large
   pub inside : (block count sum : ℕ) → f ≡ At block count sum → InBlock small large block count
+  pub summed : (block count sum : ℕ) → f ≡ At block count sum → sum ≡ sumAt small large block
 
 -- its answer by the number: 0, or that of the refusal
 pub record ReadsTo (task handle : ℕ) (p : Pool) (small large : List ℕ) (number : ℕ) (part : List ℕ) : Type 0 where

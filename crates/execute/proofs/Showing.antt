@@ -13,7 +13,8 @@ use Rattle.ledger.specs.Limits.{limits, smallSize, largeSize}
 use Rattle.ledger.specs.declared.Answer.{Answer}
 use Rattle.ledger.specs.declared.Request.{Request}
 use Rattle.stores.specs.Places.{InBlock}
-use Rattle.record.specs.Reading.{isSmallBlock, isWholeSmall, isWholeLarge, blockBytes, sizeOf}
+use Rattle.stores.proofs.Places.{most-bytes}
+use Rattle.record.specs.Reading.{isSmallBlock, isWholeSmall, isWholeLarge, blockBytes}
 use Rattle.record.specs.declared.Pool.{Pool}
 use Rattle.calls.specs.Served.{Serves}
 use Rattle.calls.specs.declared.Called.{Called}
@@ -21,11 +22,6 @@ use Rattle.frames.specs.Answers.{answerLine, longestAnswer}
 use Rattle.text.specs.Hex.{Puts}
 use Rattle.frames.proofs.AnswerLines.{line-within}
 use Rattle.execute.specs.Execution.{Showable}
-
--- no block is larger than a large one
-most-bytes : (block : ℕ) → sizeOf block ≤ largeSize
-unfolding sizeOf
-most-bytes block = by-test (isSmallBlock block) (λ e. rw e (omega arith)) (λ e. rw e (omega arith))
 
 at-most : (b : Bool) (n : ℕ) (xs : List ℕ) → length (cond b (take n xs) []) ≤ n
 at-most true n xs = omega (arith, length-take n xs)

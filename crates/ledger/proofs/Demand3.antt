@@ -36,7 +36,7 @@ abbrev swept : List Expiration → Memory → Memory
 swept xs m = settled m xs .memory
 
 -- every object of the heap is intact, and its handle was given
-HeapKept : Memory → Type 0
+unfoldable pub HeapKept : Memory → Type 0
 HeapKept m = All (λ (o : Object). (o .handle ≤ m .given) × (isIntact o ≡ true)) (m .objects)
 
 pub intact-at : (handle : ℕ) (os : List Object) → All (λ (o : Object). isIntact o ≡ true) os → isIntact (objectAt handle os) ≡ true
@@ -156,7 +156,7 @@ kept-after m (Write task handle offset) new k =
 kept-after m (Batch task kind extension) new k = k
 kept-after m (Release task handle) new k = k
 
-heap-kept : (m : Memory) (call : Call) (new : List ℕ) → HeapKept m → HeapKept (heapNext m call new)
+pub heap-kept : (m : Memory) (call : Call) (new : List ℕ) → HeapKept m → HeapKept (heapNext m call new)
 unfolding heapNext
 heap-kept m call new k = by (heapVerdictOn m call new)
   where

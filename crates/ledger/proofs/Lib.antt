@@ -24,5 +24,6 @@ pub mod Batches
 pub mod LongBatches
 pub mod Hidden
 pub mod Broken
+pub mod Spared
 pub mod Noticed
 pub mod NoticedRows

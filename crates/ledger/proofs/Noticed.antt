@@ -1,40 +1,32 @@
 -- A byte that is changed from outside is noticed by each read and write of its object, and by nothing else.
 use Prim.Native.Nat.{ℕ}
-use mathlib.Core.Bool.{Bool, true, false, true≢false, false≢true, not, _&&_, and-eq-true-iff, and-true}
+use mathlib.Core.Bool.{true, false, false≢true}
 use mathlib.Core.List.{List, [], _∷_, map}
 use mathlib.Core.Logic.{_≢_}
 use mathlib.Core.Option.{Option, none, some}
 use mathlib.Core.Path.{_≡_, refl, sym, ap, ap₂, _∙_}
-use borrow.Author.Tests.{not-true, eqb-true, ne-eqb}
+use borrow.Author.Tests.{eqb-true, ne-eqb}
 use lib.Dec.{eqb}
 use lib.ListN.{getD}
-use Rattle.lists.specs.Tests.{any, All}
-use Rattle.lists.proofs.All.{all-imp, all-left, found}
+use Rattle.lists.specs.Tests.{any}
+use Rattle.lists.proofs.All.{all-left, found}
 use Rattle.lists.proofs.Cases.{by-test}
 use Rattle.lists.proofs.Sums.{total-differs}
-use Rattle.ledger.specs.Numbers.{numberOf}
-use Rattle.ledger.specs.Expirations.{Expiration}
-use Rattle.ledger.specs.Objects.{Object, Memory, Reply, plain, objectAt, isIntact, memoryAfter, expirationsAfter}
-use Rattle.ledger.specs.Refusals.{Test, shared, own, standingTests, testsOf, verdict}
-use Rattle.ledger.specs.Ledger.{Ledger, Sent, fresh, settled, replyBy, afterBy, verdictOn, standingVerdictOn, reply, next, replyToRequest, afterRequest, afterSent, replies}
-use Rattle.ledger.specs.Remaining.{remainingLife}
-use Rattle.ledger.specs.Kept.{Kept}
+use Rattle.ledger.specs.Objects.{Object, plain, objectAt, isIntact, memoryAfter, expirationsAfter, freshMemory}
+use Rattle.ledger.specs.Refusals.{verdict}
+use Rattle.ledger.specs.Ledger.{Ledger, Sent, fresh, settled, replyBy, afterBy, verdictOn, standingVerdictOn, next, replyToRequest, afterRequest, afterSent, replies, afterAll}
 use Rattle.ledger.specs.Noticed.{disturbed, Change, changed, isUseOf, userOf, noticed, noticedIn, isRefusal, Notices}
-use Rattle.ledger.specs.declared.Answer.{Answer}
-use Rattle.ledger.specs.declared.Answer.the-variants.{Refused, Lasts}
-use Rattle.ledger.specs.declared.Call.{Call}
-use Rattle.ledger.specs.declared.Call.the-variants.{Schedule, Make, Refresh, Read, Write, Batch, Release}
-use Rattle.ledger.specs.declared.Event.the-variants.{Join, Leave, Block, Resume, Tick}
+use Rattle.ledger.specs.declared.Answer.the-variants.{Refused}
 use Rattle.ledger.specs.declared.Refusal.{Refusal}
 use Rattle.ledger.specs.declared.Refusal.the-variants.{SumDiffers}
 use Rattle.ledger.specs.declared.Request.{Request}
 use Rattle.ledger.specs.declared.Request.the-variants.{Use, Report, Remaining}
-use Rattle.ledger.proofs.Demand3.{intact-at}
+use Rattle.ledger.proofs.Demand3.{HeapKept}
 use Rattle.ledger.proofs.Hidden.{hiddenIn, unseen-disturbed, unseen-map, answered-alike, left-alike, left-unseen}
-use Rattle.ledger.proofs.Kept.{kept-fresh, kept-request}
-use Rattle.ledger.proofs.Passed.{refusalIn, verdict-told, refusal-told}
+use Rattle.ledger.proofs.Kept.{kept-fresh}
 use Rattle.ledger.proofs.Standing.{Standing}
 use Rattle.ledger.proofs.Broken.{Broken, use-answered, use-left, broken-after}
+use Rattle.ledger.proofs.Spared.{never-from, heap-never}
 
 -- every object stands after any call too: one that is carried out sweeps the others away
 standing-after : (L : Ledger) → Standing L → (request : Request) (new : List ℕ) → Standing (afterRequest L request new)
@@ -122,73 +114,28 @@ start c =
           };
     }
 
+-- and after a list of calls they still stand side by side
+beside-all : (handle : ℕ) (ss : List Sent) (L M : Ledger) → Beside handle L M → Beside handle (afterAll L ss) (afterAll M ss)
+unfolding afterAll
+beside-all handle [] L M k = k
+beside-all handle (s ∷ ss) L M k = beside-all handle ss (afterSent L s) (afterSent M s) (beside-after handle L M k s)
+
 -- a use of the object is refused, whatever its verdict
 refused-by : (v : Option Refusal) → isRefusal (replyBy v (plain (Refused SumDiffers)) .answer) ≡ true
 refused-by none = refl
 refused-by (some r) = refl
 
--- no test that holds gives the refusal with this number
-abbrev isSpared : ℕ → Memory → List Expiration → List Test → Bool
-isSpared n m xs [] = true
-isSpared n m xs (shared r holds ∷ ts) = not (eqb (numberOf r) n && holds m) && isSpared n m xs ts
-isSpared n m xs (own r holds ∷ ts) = not (eqb (numberOf r) n && holds m xs) && isSpared n m xs ts
-
-abbrev isNumbered : ℕ → Option Refusal → Bool
-isNumbered n none = false
-isNumbered n (some r) = eqb (numberOf r) n
-
-spared : (n : ℕ) (m : Memory) (xs : List Expiration) (ts : List Test) → isSpared n m xs ts ≡ true → isNumbered n (verdict m xs ts) ≡ false
-unfolding verdict
-spared n m xs [] e = refl
-spared n m xs (shared r holds ∷ ts) e =
-    let (l, ls) = and-eq-true-iff (not (eqb (numberOf r) n && holds m)) (isSpared n m xs ts) .0 e in
-    by-test (holds m) (λ h. rw h (not-true _ (rw (h, and-true) at l))) (λ h. rw h (spared n m xs ts ls))
-spared n m xs (own r holds ∷ ts) e =
-    let (l, ls) = and-eq-true-iff (not (eqb (numberOf r) n && holds m xs)) (isSpared n m xs ts) .0 e in
-    by-test (holds m xs) (λ h. rw h (not-true _ (rw (h, and-true) at l))) (λ h. rw h (spared n m xs ts ls))
-
--- 23 is spared where all objects are intact
-intact-spared : (m : Memory) (xs : List Expiration) → All (λ (o : Object). isIntact o ≡ true) (m .objects)
-    → (call : Call) (new : List ℕ) → isSpared 23 m xs (testsOf call new) ≡ true
-unfolding testsOf
-intact-spared m xs i (Schedule Join task) new = refl
-intact-spared m xs i (Schedule Leave task) new = refl
-intact-spared m xs i (Schedule Block task) new = refl
-intact-spared m xs i (Schedule Resume task) new = refl
-intact-spared m xs i (Schedule Tick task) new = refl
-intact-spared m xs i (Make task kind extension size) new = refl
-intact-spared m xs i (Refresh task kind extension handle) new = refl
-intact-spared m xs i (Read task handle) new = rw (intact-at handle (m .objects) i)
-intact-spared m xs i (Write task handle offset) new = rw (intact-at handle (m .objects) i)
-intact-spared m xs i (Batch task kind extension) new = refl
-intact-spared m xs i (Release task handle) new = refl
-
--- as they are from fresh on
-never-23 : (L : Ledger) → Kept L → (request : Request) (new : List ℕ) → isNumbered 23 (refusalIn (replyToRequest L request new .answer)) ≡ false
-unfolding reply
-never-23 L k (Use call) new =
-    let intact = all-imp (λ o h. h .intact) (L .memory .objects) (k .objects .each) in
-    rw (refusal-told (verdictOn L call new) call (L .memory))
-    (spared 23 (L .memory) (L .expirations) (testsOf call new) (intact-spared (L .memory) (L .expirations) intact call new))
-never-23 L k Report new = refl
-never-23 L k (Remaining task handle) new =
-    rw (verdict-told (standingVerdictOn L task handle) (plain (Lasts (remainingLife task handle (L .memory .clocks) (L .expirations)))) refl)
-    (spared 23 (L .memory) (L .expirations) (standingTests task handle) refl)
-
-never-from : (ss : List Sent) (L : Ledger) → Kept L → All (λ (y : Reply). y .answer ≢ Refused SumDiffers) (replies L ss)
-unfolding replies
-never-from [] L k = tt
-never-from (s ∷ ss) L k = (
-  λ q. true≢false (sym (ap (λ (a : Answer). isNumbered 23 (refusalIn a)) q) ∙ never-23 L k (s .request) (s .bytes)),
-  never-from ss (afterSent L s) (kept-request L k (s .request) (s .bytes)),
-)
-
 pub notices : Notices
-unfolding noticed
+unfolding noticed freshMemory HeapKept
 notices =
     record {
       every = λ c ss. every-from (c .handle) ss (c .before) (changed c) (start c);
-      refused = λ handle L s u. rw u (refused-by (standingVerdictOn L (userOf (s .request)) handle));
-      others = λ handle L s u. rw u;
+      refused = λ c ss s u.
+          let k = beside-all (c .handle) ss (c .before) (changed c) (start c) in
+          rw (answered (c .handle) _ _ k s, u) (refused-by (standingVerdictOn (afterAll (c .before) ss) (userOf (s .request)) (c .handle)));
+      others = λ c ss s u.
+          let k = beside-all (c .handle) ss (c .before) (changed c) (start c) in
+          rw (answered (c .handle) _ _ k s, u);
       never = λ ss. never-from ss fresh kept-fresh;
+      neverHeap = λ us. heap-never us freshMemory tt;
     }

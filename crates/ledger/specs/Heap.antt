@@ -38,7 +38,7 @@ unfoldable pub heapReplies : Memory → List Used → List Reply
 heapReplies m [] = []
 heapReplies m (u ∷ us) = heapReply m (u .call) (u .bytes) ∷ heapReplies (heapNext m (u .call) (u .bytes)) us
 
--- H7: the book is the expirations standing by the heap's clocks; the lengths that it has are the heap's.
+-- H7: the book is the expirations standing by the heap's clocks; the lengths and sums that it has are the heap's.
 -- H6: what the heap refuses leaves the book as it is
 unfoldable pub bookNext : Memory → List Expiration → Call → List ℕ → List Expiration
 bookNext m book call new = afterBy (heapVerdictOn m call new) (expirationsAfter call new m book) book

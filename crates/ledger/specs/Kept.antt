@@ -1,4 +1,4 @@
--- D8: what every ledger keeps from fresh on, its side of the rules W.
+-- D8: what every ledger keeps from fresh on: its side of the rules W, and that every object is intact, which no well-formed record need be.
 use Prim.Native.Nat.{ℕ, _+_, _≤_, _<_}
 use mathlib.Core.Bool.{Bool, true, false, not, _||_}
 use mathlib.Core.List.{List, [], _∷_}
@@ -27,9 +27,10 @@ pub record ClocksKept (clocks : Clocks) : Type 0 where
 pub record ObjectKept (given : ℕ) (o : Object) : Type 0 where
   -- W4: a handle that was given
   pub numbered : (1 ≤ o .handle) × (o .handle ≤ given)
-  -- W3, O33: a length that goes to a store, as many bytes as a block of it has, and their sum
+  -- W3, O33: a length that goes to a store, and as many bytes as a block of it has
   pub sized : (1 ≤ o .size) × (o .size ≤ largeSize)
   pub filled : length (o .bytes) ≡ blockSize (o .size)
+  -- O34: which add up to the sum
   pub intact : isIntact o ≡ true
 
 -- L2: in the order of their handles, and so no two alike (W5)

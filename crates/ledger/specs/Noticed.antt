@@ -9,8 +9,9 @@ use lib.Dec.{eqb}
 use lib.ListN.{length, getD}
 use Rattle.lists.specs.Blocks.{overwritten}
 use Rattle.lists.specs.Tests.{any, All}
-use Rattle.ledger.specs.Objects.{Object, Reply, plain, objectAt, isIntact, stands}
-use Rattle.ledger.specs.Ledger.{Ledger, Sent, fresh, replyBy, standingVerdictOn, replyToRequest, afterSent, replies}
+use Rattle.ledger.specs.Objects.{Object, Reply, freshMemory, plain, objectAt, isIntact, stands}
+use Rattle.ledger.specs.Ledger.{Ledger, Sent, fresh, replyBy, standingVerdictOn, replyToRequest, afterSent, replies, afterAll}
+use Rattle.ledger.specs.Heap.{Used, heapReplies}
 use Rattle.ledger.specs.declared.Answer.{Answer}
 use Rattle.ledger.specs.declared.Answer.the-variants.{Refused, Done, Advanced, Handle, Bytes, Counted, Lasts}
 use Rattle.ledger.specs.declared.Call.the-variants.{Schedule, Make, Refresh, Read, Write, Batch, Release}
@@ -101,9 +102,12 @@ isRefusal (Lasts life) = false
 pub record Notices : Type 0 where
   -- N5: after such a change every list of calls is answered so;
   pub every : (c : Change) (ss : List Sent) → replies (changed c) ss ≡ noticedIn (c .handle) (c .before) ss
-  -- each read and each write of the object is refused,
-  pub refused : (handle : ℕ) (L : Ledger) (s : Sent) → isUseOf handle (s .request) ≡ true → isRefusal (noticed handle L s .answer) ≡ true
+  -- after whatever calls, each read and each write of the object is refused,
+  pub refused : (c : Change) (ss : List Sent) (s : Sent) → isUseOf (c .handle) (s .request) ≡ true
+      → isRefusal (replyToRequest (afterAll (changed c) ss) (s .request) (s .bytes) .answer) ≡ true
   -- and every other call is answered as the ledger without the change says.
-  pub others : (handle : ℕ) (L : Ledger) (s : Sent) → isUseOf handle (s .request) ≡ false → noticed handle L s ≡ replyToRequest L (s .request) (s .bytes)
-  -- N6: with no change from outside no call is ever answered 23
+  pub others : (c : Change) (ss : List Sent) (s : Sent) → isUseOf (c .handle) (s .request) ≡ false
+      → replyToRequest (afterAll (changed c) ss) (s .request) (s .bytes) ≡ replyToRequest (afterAll (c .before) ss) (s .request) (s .bytes)
+  -- N6: with no change from outside no call is ever answered 23, and the heap never gives it
   pub never : (ss : List Sent) → All (λ (y : Reply). y .answer ≢ Refused SumDiffers) (replies fresh ss)
+  pub neverHeap : (us : List Used) → All (λ (y : Reply). y .answer ≢ Refused SumDiffers) (heapReplies freshMemory us)

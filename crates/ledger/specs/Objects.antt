@@ -48,9 +48,9 @@ plain answer = record { answer = answer; bytes = [] }
 abbrev pub zeroed : ℕ → ℕ → Object
 zeroed handle size = record { handle = handle; size = size; bytes = replicate (blockSize size) 0; sum = 0 }
 
--- O19: the object's own bytes, the first of its block
-abbrev pub contents : Object → List ℕ
-contents o = take (o .size) (o .bytes)
+-- O18: the object's own bytes, the first of its block
+abbrev pub ownBytes : Object → List ℕ
+ownBytes o = take (o .size) (o .bytes)
 
 -- O34: the bytes add up to the sum
 abbrev pub isIntact : Object → Bool
@@ -61,7 +61,7 @@ unfoldable pub objectAt : ℕ → List Object → Object
 objectAt handle [] = zeroed 0 0
 objectAt handle (o ∷ os) = cond (eqb (o .handle) handle) o (objectAt handle os)
 
--- O20, O35: new bytes from the offset on, in the object with this handle, and their sum; all others stay
+-- O20, O35: new bytes from the offset on, in the object with this handle, and the sum of all that its block then has; all others stay
 unfoldable pub written : ℕ → ℕ → List ℕ → Object → Object
 written handle offset new o =
     let bytes = overwritten offset new (o .bytes) in
@@ -103,7 +103,7 @@ unfoldable pub replyTo : Call → Memory → Reply
 replyTo (Schedule event task) m = plain (cond (isTested event) (Advanced (advances event task (m .clocks))) Done)
 replyTo (Make task kind extension size) m = plain (Handle (m .given + 1))
 replyTo (Refresh task kind extension handle) m = plain Done
-replyTo (Read task handle) m = record { answer = Bytes; bytes = contents (objectAt handle (m .objects)) }
+replyTo (Read task handle) m = record { answer = Bytes; bytes = ownBytes (objectAt handle (m .objects)) }
 replyTo (Write task handle offset) m = plain Done
 replyTo (Batch task kind extension) m = plain Done
 replyTo (Release task handle) m = plain Done
@@ -118,7 +118,7 @@ pinnedBy Pinned handle handles = handle ∷ handles
 abbrev pub unpinned : ℕ → List ℕ → List ℕ
 unpinned handle handles = filter (λ (h : ℕ). not (eqb handle h)) handles
 
--- O14, O20, O25, E23, E24: what it makes of tasks, times, handles given, bytes and of what is pinned; the list is that of a write or a batch
+-- O14, O20, O25, O35, E23, E24: what it makes of tasks, times, handles given, bytes, sums and of what is pinned; the list is that of a write or a batch
 unfoldable pub memoryAfter : Call → List ℕ → Memory → Memory
 memoryAfter (Schedule event task) new m =
     record { clocks = clocksAfter event task (m .clocks); given = m .given; objects = m .objects; pinned = m .pinned }

@@ -123,7 +123,7 @@ abbrev pub standingTests : ℕ → ℕ → List Test
 standingTests task handle =
     noSuchTask task ∷ taskAbsent task ∷ taskWaiting task ∷ handleNotGiven handle ∷ objectGone handle ∷ []
 
--- R36 to R43, R47, R48: each call's tests in their order; the list is the bytes of a write or a batch
+-- R36 to R43, R47, R48: each call's tests in their order, written out as the papers have them; the list is the bytes of a write or a batch
 unfoldable pub testsOf : Call → List ℕ → List Test
 testsOf (Schedule Join task) new = noSuchTask task ∷ taskPresent task ∷ []
 testsOf (Schedule Leave task) new = noSuchTask task ∷ taskAbsent task ∷ []

@@ -41,7 +41,7 @@ pub record MakesOne (task : ℕ) (kind : Kind) (extension size : ℕ) (p : Pool)
   pub makes : Contract.Makes task kind extension size p small large (record { answer = answer; pool = p′ }) small′ large′
   pub told : withNumber number (lent numbers′) ≡ toldBy (plain answer) (lent numbers)
 
--- write
+-- write: the record gets the block's new sum
 pub record WritesTo (task handle offset : ℕ) (bytes : List ℕ) (p : Pool) (small large : List ℕ) (number : ℕ) (p′ : Pool) (small′ large′ : List ℕ) : Type 0 where
   pub answer : Answer
   pub writes : Contract.Writes task handle offset bytes p small large answer p′ small′ large′

@@ -41,12 +41,14 @@ foundIf (RefusedFound r) v = RefusedFound r
 foundIf (At block life) Accepted = At block life
 foundIf (At block life) (Refused r) = RefusedFound r
 
--- the finding of a read or a write: the object's block, and the length and the sum that it has there
+-- O30: a read and a write make the same finding, and go on by the length and the sum that the block has
+abbrev pub bytesOf : Found → Tables → FoundBytes
+bytesOf (RefusedFound r) p = RefusedBytes r
+bytesOf (At block life) p = AtBytes block (getD (p .blocks) block freeBlock .length) (getD (p .blocks) block freeBlock .sum)
+
+-- no life is asked for, and so it is no task's
 abbrev pub bytesBy : Verdict → ℕ → Tables → FoundBytes
-bytesBy Accepted handle p =
-    let place = placeOf handle (p .blocks) in
-    AtBytes place (getD (p .blocks) place freeBlock .length) (getD (p .blocks) place freeBlock .sum)
-bytesBy (Refused r) handle p = RefusedBytes r
+bytesBy verdict handle p = bytesOf (foundBy false verdict 0 handle p) p
 
 abbrev pub bytesIn : (Tables → Verdict) → ℕ → Tables → FoundBytes
 bytesIn verdict handle p = bytesBy (verdict p) handle p

@@ -1,4 +1,4 @@
-// Where an object is: one finding (O30), which remaining life, refresh, release, read and write make after the tests that go before it. The record is well-formed, or its figures would not fit.
+// Where an object is: one finding (O30), which remaining life, refresh, release, read and write make after the tests that go before it. The record is well-formed, or its figures would not fit; `extents` are lent for that alone where no length is asked.
 ghost use Prim.Native.Nat.{_<_};
 ghost use mathlib.Core.Bool.{true, false};
 ghost use mathlib.Core.Path.{_≡_};

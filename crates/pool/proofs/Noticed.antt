@@ -28,8 +28,8 @@ use Rattle.steps.proofs.Finding.{objectOf, every-object-stands, handles-given, 
 use Rattle.steps.proofs.ReadChanged.{shown-whole, in-place, changed-sizes, disturbed-reads}
 use Rattle.calls.specs.Contract.{areWhole}
 use Rattle.pool.specs.Demands.{Runs}
-use Rattle.pool.specs.Noticed.{StoreChange, PoolNotices}
-use Rattle.pool.proofs.Demands.{runs-follow}
+use Rattle.pool.specs.Noticed.{StoreChange, PoolNotices, PoolNever}
+use Rattle.pool.proofs.Demands.{runs-follow, demand2}
 
 module _ (p : Pool) (small large : List ℕ) (c : StoreChange p small large) (L : Ledger)
     (reads : Reads p small large L) where
@@ -116,3 +116,6 @@ module _ (p : Pool) (small large : List ℕ) (c : StoreChange p small large) (L 
 
 pub pool-notices : PoolNotices
 pool-notices p small large c L reads ss ys p′ small′ large′ runs = noticed-here p small large c L reads runs
+
+pub pool-never : PoolNever
+pool-never small large a b ss ys p′ small′ large′ runs = rw (demand2 small large a b ss ys p′ small′ large′ runs .0) (notices .never ss)

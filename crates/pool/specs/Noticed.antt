@@ -1,14 +1,17 @@
--- N8, order 6 of the pool, over lists of calls: a statement about all that the calls' contracts allow, and so about this code.
+-- N6 and N8, order 6 of the pool, over lists of calls: statements about all that the calls' contracts allow, and so about this code.
 use Prim.Native.Nat.{ℕ, _<_}
 use mathlib.Core.Bool.{true}
 use mathlib.Core.List.{List, [], _∷_}
 use mathlib.Core.Logic.{_≢_}
 use mathlib.Core.Path.{_≡_}
 use lib.ListN.{length, getD}
+use Rattle.lists.specs.Tests.{All}
 use Rattle.ledger.specs.Objects.{Reply}
 use Rattle.ledger.specs.Ledger.{Ledger, Sent}
 use Rattle.ledger.specs.Noticed.{noticedIn}
-use Rattle.record.specs.Reading.{wholeSmall, wholeLarge, blockBytes, sizeOf, Typed}
+use Rattle.ledger.specs.declared.Answer.the-variants.{Refused}
+use Rattle.ledger.specs.declared.Refusal.the-variants.{SumDiffers}
+use Rattle.record.specs.Reading.{freshPool, wholeSmall, wholeLarge, blockBytes, sizeOf, Typed}
 use Rattle.record.specs.Tables.{SizedBlocks, sumIn, tablesOf}
 use Rattle.record.specs.Pools.{isWellFormed, Reads}
 use Rattle.record.specs.declared.Pool.{Pool}
@@ -39,3 +42,10 @@ PoolNotices =
     → (ss : List Sent) (ys : List Reply) (p′ : Pool) (small′ large′ : List ℕ)
     → Runs p (smallAfter (c .block) (c .at) (c .value ∷ []) small) (largeAfter (c .block) (c .at) (c .value ∷ []) large) ss ys p′ small′ large′
     → ys ≡ noticedIn (getD (p .handles) (c .block) 0) L ss
+
+-- N6: from a fresh pool, with stores changed by the calls alone, nothing is ever answered 23.
+abbrev pub PoolNever : Type 0
+PoolNever =
+    (small large : List ℕ) → length small ≡ wholeSmall → length large ≡ wholeLarge
+    → (ss : List Sent) (ys : List Reply) (p′ : Pool) (small′ large′ : List ℕ) → Runs freshPool small large ss ys p′ small′ large′
+    → All (λ (y : Reply). y .answer ≢ Refused SumDiffers) ys

@@ -140,6 +140,7 @@ pub extern "C" fn ramsummer_read<'a>(
     numbered::read(*p, small, large, task, handle, out, count)
 }
 
+// The record gets the block's new sum.
 #[no_mangle]
 pub extern "C" fn ramsummer_write(
     p: &mut Pool,

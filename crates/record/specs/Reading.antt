@@ -60,7 +60,7 @@ blockBytes small large block size =
     cond (isSmallBlock block) (cond (isWholeSmall small) (take size (drop (block * smallSize) small)) [])
     (cond (isWholeLarge large) (take size (drop ((block - limits .smallBlocks) * largeSize) large)) [])
 
--- the bytes of a block
+-- how many bytes a block has
 unfoldable pub sizeOf : ℕ → ℕ
 sizeOf block = cond (isSmallBlock block) smallSize largeSize
 

@@ -8,7 +8,7 @@ use mathlib.Core.Path.{_≡_, sym, subst, _∙_}
 use borrow.Author.Tests.{not-false, not-true, eqb-false}
 use lib.Dec.{eqb}
 use lib.ListN.{length, getD, replicate}
-use Rattle.ledger.specs.Objects.{contents, replyTo, memoryAfter, expirationsAfter, objectAt, stands}
+use Rattle.ledger.specs.Objects.{ownBytes, replyTo, memoryAfter, expirationsAfter, objectAt, stands}
 use Rattle.ledger.specs.Refusals.{asRefusal}
 use Rattle.ledger.specs.Remaining.{remainingLife}
 use Rattle.ledger.specs.Ledger.{Ledger, settled, replyBy, afterBy, verdictOn, reply, next}
@@ -125,7 +125,7 @@ module _ {p : Tables} {small large : List ℕ} {L : Ledger} (w : isWellFormed p 
       read-place = used-in-block small large small-whole large-whole p (fit-parts p w) _ listed (read-found .used)
 
       -- those are what the ledger answers
-      pub read-bytes : contents (objectAt handle (L .memory .objects))
+      pub read-bytes : ownBytes (objectAt handle (L .memory .objects))
           ≡ blockBytes small large (placeOf handle (p .blocks)) (blockOf handle (p .blocks) .length)
       read-bytes =
           let bytes = read-found .bytes (both-whole small large small-whole large-whole (blockOf handle (p .blocks) .length)) in

@@ -1,4 +1,4 @@
--- What make, refresh, read, write, batch and release test and change of a record, as functions of its entries.
+-- What make, refresh, read, write, batch and release test and change of a record, as functions of its entries and, for read and write, of the stores' bytes.
 use Prim.Native.Nat.{ℕ, _+_, _%_}
 use mathlib.Core.Bool.{Bool, cond, not, _||_}
 use mathlib.Core.List.{List, [], _∷_, map}

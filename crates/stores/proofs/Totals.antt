@@ -15,7 +15,7 @@ use Rattle.lists.proofs.Cases.{by-test}
 use Rattle.lists.proofs.Sums.{total-next, total-past, total-within, total-parts, total-overwritten}
 use Rattle.ledger.specs.Limits.{largeSize}
 use Rattle.record.specs.Reading.{isSmallBlock, blockBytes, sizeOf}
-use Rattle.stores.specs.Places.{storeOf, startOf, InBlock, sumAt, sumAfter}
+use Rattle.stores.specs.Places.{storeOf, startOf, InBlock, mostSum, sumAt, sumAfter}
 use Rattle.stores.proofs.Places.{most-bytes, part-bytes, part-size, whole-block}
 
 abbrev pub IsByte : ℕ → Type 0
@@ -35,7 +35,7 @@ total-turn xs h =
     (arith, total-next 0 xs, total-next 1 xs, total-next 2 xs, total-next 3 xs, total-next 4 xs, total-next 5 xs, total-next 6 xs, total-next 7 xs, total-past 8 xs h)
 
 -- no more bytes than a block has
-pub bytes-total : (xs : List ℕ) → All IsByte xs → length xs ≤ largeSize → total xs ≤ 65280
+pub bytes-total : (xs : List ℕ) → All IsByte xs → length xs ≤ largeSize → total xs ≤ mostSum
 bytes-total xs b h = omega (arith, total-within 255 xs b)
 
 all-overwritten : (at : ℕ) (new old : List ℕ) → All IsByte new → All IsByte old → All IsByte (overwritten at new old)
@@ -48,7 +48,7 @@ all-overwritten at new old n o =
 pub record SumChanged (sum replaced new after : ℕ) : Type 0 where
   pub part : replaced ≤ sum
   pub so : after + replaced ≡ sum + new
-  pub most : after ≤ 65280
+  pub most : after ≤ mostSum
 
 module _ {small large : List ℕ} {block : ℕ} (offset : ℕ) (new : List ℕ) (p : InBlock small large block (offset + length new))
     (small-bytes : All IsByte small) (large-bytes : All IsByte large) (new-bytes : All IsByte new) where

@@ -37,6 +37,10 @@ smallAfter block offset new small = cond (isSmallBlock block) (overwritten (star
 unfoldable pub largeAfter : ℕ → ℕ → List ℕ → List ℕ → List ℕ
 largeAfter block offset new large = cond (isSmallBlock block) large (overwritten (startOf block + offset) new large)
 
+-- O33: the most that the bytes of a block add up to
+abbrev pub mostSum : ℕ
+mostSum = 65280
+
 -- O34: the sum of the bytes that a block has
 abbrev pub sumAt : List ℕ → List ℕ → ℕ → ℕ
 sumAt small large block = total (blockBytes small large block (sizeOf block))

@@ -116,8 +116,8 @@ pub fn block_start(block: usize) -> usize
     }
 }
 
-// The bytes of a block.
-pub fn block_size(block: usize) -> usize
+// How many bytes a block has.
+fn block_size(block: usize) -> usize
     ensures { λ r. ⌜ r ≡ sizeOf block ⌝ }
 {
     if block < SMALL_BLOCKS {

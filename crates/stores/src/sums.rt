@@ -5,7 +5,7 @@ ghost use lib.ListN.{length, take, drop};
 ghost use Rattle.lists.specs.Sums.{total};
 ghost use Rattle.ledger.specs.Limits.{largeSize};
 ghost use Rattle.record.specs.Reading.{blockBytes, sizeOf};
-ghost use Rattle.stores.specs.Places.{InBlock, sumAt, sumAfter};
+ghost use Rattle.stores.specs.Places.{InBlock, mostSum, sumAt, sumAfter};
 use super::SMALL_BLOCKS;
 use super::TURN;
 use super::block_size;
@@ -15,7 +15,7 @@ use super::read_turn;
 
 // A turn's eight bytes, each added to the sum of its place among the eight: a machine may add them as one. No sum of a place is larger than a block's.
 fn add_turn(sums: [u16; TURN], turn: [u8; TURN]) -> [u16; TURN]
-    requires { ⌜ total sums + total turn ≤ 65280 ⌝ }
+    requires { ⌜ total sums + total turn ≤ mostSum ⌝ }
     ensures { λ r. ⌜ total r ≡ total sums + total turn ⌝ }
 {
     [

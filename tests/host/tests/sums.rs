@@ -105,6 +105,31 @@ fn own(memory: &Memory, place: usize) -> &[u8] {
     &memory.block(place)[..usize::from(length_in(memory.pool.extents[place]))]
 }
 
+/// Among 96 objects: 23 until the changed one goes, 12 from then on, and the calls that end it answer as without the change.
+#[test]
+fn until_it_goes_among_all_others() {
+    let whole = full();
+    let mut random = Random::new(12);
+    for place in 0..BLOCKS {
+        let handle = whole.pool.handles[place];
+        let next = whole.pool.handles[(place + 1) % BLOCKS];
+        let (mut before, mut after) = (Host::<Library>::new(whole.clone()), Host::<Library>::new(whole.clone()));
+        let offset = random.below(whole.block(place).len());
+        let byte = &mut after.memory.block_mut(place)[offset];
+        *byte = byte.wrapping_add(1 + random.below(255) as u8);
+        let ticks = (0..32).flat_map(|_| (0..TASKS).map(|task| Call::Tick { task }));
+        for call in std::iter::once(Call::Release { task: 0, handle }).chain(ticks) {
+            let number = if after.memory.place(handle).is_some() { SUM_DIFFERS } else { 12 };
+            assert_eq!(after.call(&read(handle)), Err(number), "{place}");
+            assert_eq!(after.call(&write(handle)), Err(number), "{place}");
+            assert_eq!(after.call(&read(next)), before.call(&read(next)), "{place}");
+            assert_eq!(after.call(&call), before.call(&call), "{place}, {call:?}");
+        }
+        assert_eq!(after.call(&read(handle)), Err(12), "{place}");
+        assert_eq!(after.memory.pool, before.memory.pool, "{place}");
+    }
+}
+
 /// All calls but a read and a write of the object: report, remaining life, refreshes, a batch and a release of it; reads and
 /// writes of others, and time. They tell the same with the change as without it, and leave the same record.
 #[test]
@@ -204,7 +229,8 @@ fn changes_that_cancel_out_pass() {
             assert_eq!(host.call(&write(handle)), Ok(Accepted::Done), "{place}");
             assert!(host.call(&read(handle)).is_ok(), "{place}");
             // One of the two alone is noticed.
-            host.memory.block_mut(place)[up] ^= 1;
+            let mut host = Host::<Library>::new(changed);
+            host.memory.block_mut(place)[down] = whole.block(place)[down];
             assert_eq!(host.call(&read(handle)), Err(SUM_DIFFERS), "{place}");
             met += 1;
         }

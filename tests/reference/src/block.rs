@@ -22,7 +22,7 @@ impl Block {
         total(&self.bytes) == self.sum
     }
 
-    /// 23, then O19: the object's own bytes.
+    /// 23, then O18: the object's own bytes.
     pub fn read(&self) -> Result<&[u8], Refusal> {
         self.check_sum()?;
         Ok(&self.bytes[..usize::from(self.length)])

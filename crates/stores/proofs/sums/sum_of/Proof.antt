@@ -5,6 +5,7 @@ use borrow.Author.Needs.{needs}
 use lib.ListN.{length}
 use Rattle.lists.specs.Sums.{total}
 use Rattle.lists.proofs.Sums.{total-zeros, Summed, summed-start, summed-turn, summed-part, summed-end}
+use Rattle.stores.specs.Places.{mostSum}
 use Rattle.stores.proofs.Totals.{all-bytes, bytes-total}
 use Rattle.stores.proofs.sums.sum_of.Statement.{statement}
 use Rattle.stores.proofs.sums.sum_of.Tie as tie
@@ -21,7 +22,7 @@ Inv-loop2 bytes done sum₀ i₀ i-end sum i = Summed bytes i sum
 abbrev μ-loop2 : tie.MeasureT-loop2
 μ-loop2 bytes done sum₀ i₀ i-end sum i = i-end - i
 
-whole : (c : tie.After-shared-slice-known Inv-loop μ-loop Inv-loop2 μ-loop2) → total (c .before .args .bytes .now) ≤ 65280
+whole : (c : tie.After-shared-slice-known Inv-loop μ-loop Inv-loop2 μ-loop2) → total (c .before .args .bytes .now) ≤ mostSum
 whole c =
     let bytes = c .before .args .bytes .now in bytes-total bytes (all-bytes bytes (c .shared-slice-known .given)) (c .before .pre)
 

@@ -1,0 +1,123 @@
+-- With no change from outside 23 is never met: a law over any list of tests, for ledger and heap.
+use Prim.Native.Nat.{ℕ}
+use mathlib.Core.Bool.{Bool, true, false, true≢false, not, _&&_, and-eq-true-iff, and-true}
+use mathlib.Core.List.{List, [], _∷_}
+use mathlib.Core.Logic.{_≢_}
+use mathlib.Core.Option.{Option, none, some}
+use mathlib.Core.Path.{_≡_, refl, sym, ap, _∙_}
+use borrow.Author.Tests.{not-true}
+use lib.Dec.{eqb}
+use Rattle.lists.specs.Tests.{All}
+use Rattle.lists.proofs.All.{all-imp}
+use Rattle.lists.proofs.Cases.{by-test}
+use Rattle.ledger.specs.Numbers.{numberOf}
+use Rattle.ledger.specs.Expirations.{Expiration}
+use Rattle.ledger.specs.Objects.{Object, Memory, Reply, plain, isIntact}
+use Rattle.ledger.specs.Refusals.{Test, shared, own, standingTests, testsOf, verdict, heapVerdict}
+use Rattle.ledger.specs.Ledger.{Ledger, Sent, fresh, verdictOn, standingVerdictOn, reply, replyToRequest, afterSent, replies}
+use Rattle.ledger.specs.Remaining.{remainingLife}
+use Rattle.ledger.specs.Kept.{Kept}
+use Rattle.ledger.specs.declared.Answer.{Answer}
+use Rattle.ledger.specs.declared.Answer.the-variants.{Refused, Lasts}
+use Rattle.ledger.specs.declared.Call.{Call}
+use Rattle.ledger.specs.declared.Call.the-variants.{Schedule, Make, Refresh, Read, Write, Batch, Release}
+use Rattle.ledger.specs.declared.Event.the-variants.{Join, Leave, Block, Resume, Tick}
+use Rattle.ledger.specs.declared.Refusal.{Refusal}
+use Rattle.ledger.specs.declared.Refusal.the-variants.{SumDiffers}
+use Rattle.ledger.specs.declared.Request.{Request}
+use Rattle.ledger.specs.declared.Request.the-variants.{Use, Report, Remaining}
+use Rattle.ledger.proofs.Demand3.{intact-at, HeapKept, heap-kept}
+use Rattle.ledger.proofs.Kept.{kept-request}
+use Rattle.ledger.proofs.Passed.{refusalIn, verdict-told, refusal-told}
+use Rattle.ledger.specs.Heap.{heapVerdictOn, heapReply, heapNext, heapReplies, Used}
+
+-- no test that holds gives the refusal with this number
+abbrev isSpared : ℕ → Memory → List Expiration → List Test → Bool
+isSpared n m xs [] = true
+isSpared n m xs (shared r holds ∷ ts) = not (eqb (numberOf r) n && holds m) && isSpared n m xs ts
+isSpared n m xs (own r holds ∷ ts) = not (eqb (numberOf r) n && holds m xs) && isSpared n m xs ts
+
+abbrev isNumbered : ℕ → Option Refusal → Bool
+isNumbered n none = false
+isNumbered n (some r) = eqb (numberOf r) n
+
+spared : (n : ℕ) (m : Memory) (xs : List Expiration) (ts : List Test) → isSpared n m xs ts ≡ true → isNumbered n (verdict m xs ts) ≡ false
+unfolding verdict
+spared n m xs [] e = refl
+spared n m xs (shared r holds ∷ ts) e =
+    let (l, ls) = and-eq-true-iff (not (eqb (numberOf r) n && holds m)) (isSpared n m xs ts) .0 e in
+    by-test (holds m) (λ h. rw h (not-true _ (rw (h, and-true) at l))) (λ h. rw h (spared n m xs ts ls))
+spared n m xs (own r holds ∷ ts) e =
+    let (l, ls) = and-eq-true-iff (not (eqb (numberOf r) n && holds m xs)) (isSpared n m xs ts) .0 e in
+    by-test (holds m xs) (λ h. rw h (not-true _ (rw (h, and-true) at l))) (λ h. rw h (spared n m xs ts ls))
+
+-- the heap's verdict is that on the shared tests alone, which spare it too
+abbrev sharedOf : List Test → List Test
+sharedOf [] = []
+sharedOf (shared r holds ∷ ts) = shared r holds ∷ sharedOf ts
+sharedOf (own r holds ∷ ts) = sharedOf ts
+
+heap-verdict : (m : Memory) (xs : List Expiration) (ts : List Test) → heapVerdict m ts ≡ verdict m xs (sharedOf ts)
+unfolding heapVerdict verdict
+heap-verdict m xs [] = refl
+heap-verdict m xs (shared r holds ∷ ts) = by-test (holds m) (λ h. rw h) (λ h. rw h (heap-verdict m xs ts))
+heap-verdict m xs (own r holds ∷ ts) = heap-verdict m xs ts
+
+spared-shared : (n : ℕ) (m : Memory) (xs : List Expiration) (ts : List Test) → isSpared n m xs ts ≡ true → isSpared n m xs (sharedOf ts) ≡ true
+spared-shared n m xs [] e = refl
+spared-shared n m xs (shared r holds ∷ ts) e =
+    let (l, ls) = and-eq-true-iff (not (eqb (numberOf r) n && holds m)) (isSpared n m xs ts) .0 e in rw l (spared-shared n m xs ts ls)
+spared-shared n m xs (own r holds ∷ ts) e =
+    spared-shared n m xs ts (and-eq-true-iff (not (eqb (numberOf r) n && holds m xs)) (isSpared n m xs ts) .0 e .1)
+
+-- 23 is spared where all objects are intact
+intact-spared : (m : Memory) (xs : List Expiration) → All (λ (o : Object). isIntact o ≡ true) (m .objects)
+    → (call : Call) (new : List ℕ) → isSpared 23 m xs (testsOf call new) ≡ true
+unfolding testsOf
+intact-spared m xs i (Schedule Join task) new = refl
+intact-spared m xs i (Schedule Leave task) new = refl
+intact-spared m xs i (Schedule Block task) new = refl
+intact-spared m xs i (Schedule Resume task) new = refl
+intact-spared m xs i (Schedule Tick task) new = refl
+intact-spared m xs i (Make task kind extension size) new = refl
+intact-spared m xs i (Refresh task kind extension handle) new = refl
+intact-spared m xs i (Read task handle) new = rw (intact-at handle (m .objects) i)
+intact-spared m xs i (Write task handle offset) new = rw (intact-at handle (m .objects) i)
+intact-spared m xs i (Batch task kind extension) new = refl
+intact-spared m xs i (Release task handle) new = refl
+
+-- as they are from fresh on
+never-23 : (L : Ledger) → Kept L → (request : Request) (new : List ℕ) → isNumbered 23 (refusalIn (replyToRequest L request new .answer)) ≡ false
+unfolding reply
+never-23 L k (Use call) new =
+    let intact = all-imp (λ o h. h .intact) (L .memory .objects) (k .objects .each) in
+    rw (refusal-told (verdictOn L call new) call (L .memory))
+    (spared 23 (L .memory) (L .expirations) (testsOf call new) (intact-spared (L .memory) (L .expirations) intact call new))
+never-23 L k Report new = refl
+never-23 L k (Remaining task handle) new =
+    rw (verdict-told (standingVerdictOn L task handle) (plain (Lasts (remainingLife task handle (L .memory .clocks) (L .expirations)))) refl)
+    (spared 23 (L .memory) (L .expirations) (standingTests task handle) refl)
+
+pub never-from : (ss : List Sent) (L : Ledger) → Kept L → All (λ (y : Reply). y .answer ≢ Refused SumDiffers) (replies L ss)
+unfolding replies
+never-from [] L k = tt
+never-from (s ∷ ss) L k = (
+  λ q. true≢false (sym (ap (λ (a : Answer). isNumbered 23 (refusalIn a)) q) ∙ never-23 L k (s .request) (s .bytes)),
+  never-from ss (afterSent L s) (kept-request L k (s .request) (s .bytes)),
+)
+
+-- and so are the heap's
+heap-23 : (m : Memory) → HeapKept m → (call : Call) (new : List ℕ) → isNumbered 23 (refusalIn (heapReply m call new .answer)) ≡ false
+unfolding heapReply HeapKept
+heap-23 m k call new =
+    let ts = testsOf call new in
+    let clear = intact-spared m [] (all-imp (λ o h. h .1) (m .objects) k) call new in
+    rw (refusal-told (heapVerdictOn m call new) call m, heap-verdict m [] ts) (spared 23 m [] (sharedOf ts) (spared-shared 23 m [] ts clear))
+
+pub heap-never : (us : List Used) (m : Memory) → HeapKept m → All (λ (y : Reply). y .answer ≢ Refused SumDiffers) (heapReplies m us)
+unfolding heapReplies
+heap-never [] m k = tt
+heap-never (u ∷ us) m k = (
+  λ q. true≢false (sym (ap (λ (a : Answer). isNumbered 23 (refusalIn a)) q) ∙ heap-23 m k (u .call) (u .bytes)),
+  heap-never us (heapNext m (u .call) (u .bytes)) (heap-kept m (u .call) (u .bytes) k),
+)
