@@ -7,9 +7,11 @@ use plain::calls::ANSWER_ROOM;
 use plain::limits::LARGE_SIZE;
 use plain::record::extent_of;
 use reference::call::{Accepted, Call, Figures, Kind, Lifetime};
+use reference::frame::encode;
 
 use crate::entries::Entries;
 use crate::memory::Memory;
+use crate::reading::of_record;
 
 /// What a call answers: what it gives back, or the number of its refusal.
 pub type Told<'a> = Result<Accepted<'a>, u8>;
@@ -55,6 +57,18 @@ const UNTOLD: Out = Out {
 impl<E: Entries> Host<E> {
     pub fn new(memory: Memory) -> Host<E> {
         Host { before: memory.clone(), memory, out: UNTOLD, entries: PhantomData }
+    }
+
+    /// The number of the answer, by the entry and, on a copy, by a frame; both leave the same.
+    pub fn told(&mut self, call: &Call) -> u8 {
+        let mut line = Vec::new();
+        encode(call, &mut line);
+        line.pop();
+        let mut framed = Host::<E>::new(self.memory.clone());
+        let number = self.call(call).err().unwrap_or(0);
+        assert_eq!(framed.line(&line, Some(call)).0, number, "{call:?}");
+        assert_eq!(of_record(&framed.memory), of_record(&self.memory), "{call:?}");
+        number
     }
 
     /// Makes the call by its own entry.

@@ -5,28 +5,15 @@ use host_tests::entries::Entries;
 use host_tests::host::Host;
 use host_tests::library::Library;
 use host_tests::memory::Memory;
-use host_tests::reading::{figures, of_record};
+use host_tests::reading::figures;
 use host_tests::samples::{standing_by, Setting};
 use plain::limits::{BLOCKS, EXPIRATIONS, TASKS};
 use plain::record::{Pool, PINNED};
 use reference::call::{packed, Accepted, Call, Handles, Kind, Lifetime};
-use reference::frame::encode;
 use reference::random::Random;
 
-/// The number of the answer, by the entry and by a frame; both leave the same. The host tests that a refusal leaves all.
-fn told(host: &mut Host<Library>, call: &Call) -> u8 {
-    let mut line = Vec::new();
-    encode(call, &mut line);
-    line.pop();
-    let mut framed = Host::<Library>::new(host.memory.clone());
-    let number = host.call(call).err().unwrap_or(0);
-    assert_eq!(framed.line(&line, Some(call)).0, number, "{call:?}");
-    assert_eq!(of_record(&host.memory), of_record(&framed.memory), "{call:?}");
-    number
-}
-
 fn release(host: &mut Host<Library>, task: u8, handle: u32) -> u8 {
-    told(host, &Call::Release { task, handle })
+    host.told(&Call::Release { task, handle })
 }
 
 /// Both stores full and 256 expirations: the first so many objects are pinned, and the rest is on the objects of even number.
@@ -60,7 +47,7 @@ fn each_is_released_once() {
         // Its room is taken again, by one that is pinned too.
         let length = if handle <= 64 { 32 } else { 256 };
         let make = Call::Make { task: 3, kind: Kind::Pinned, extension: 0, length };
-        assert_eq!(told(&mut host, &make), if others == 0 { 0 } else { 9 });
+        assert_eq!(host.told(&make), if others == 0 { 0 } else { 9 });
     }
 }
 
@@ -92,11 +79,11 @@ fn no_time_ends_it() {
         }
         host.memory.pool.global = start;
         for (task, length) in [(0, 4), (1, 256), (2, 32)] {
-            assert_eq!(told(&mut host, &Call::Make { task, kind: Kind::Pinned, extension: 0, length }), 0);
+            assert_eq!(host.told(&Call::Make { task, kind: Kind::Pinned, extension: 0, length }), 0);
         }
-        assert_eq!(told(&mut host, &Call::Refresh { task: 0, kind: Kind::Global, extension: 0, handle: 3 }), 0);
+        assert_eq!(host.told(&Call::Refresh { task: 0, kind: Kind::Global, extension: 0, handle: 3 }), 0);
         for call in [Call::Block { task: 1 }, Call::Leave { task: 2 }, Call::Join { task: 2 }] {
-            assert_eq!(told(&mut host, &call), 0);
+            assert_eq!(host.told(&call), 0);
         }
         for round in 0..40 {
             for task in [0, 2] {
@@ -108,7 +95,7 @@ fn no_time_ends_it() {
                 assert_eq!(host.call(&Call::Remaining { task: 0, handle }), Ok(left), "{start}, {round}");
             }
         }
-        assert_eq!(told(&mut host, &Call::Leave { task: 0 }), 0);
+        assert_eq!(host.told(&Call::Leave { task: 0 }), 0);
         assert_eq!(figures(&host.memory.pool).expirations, 3);
         for handle in 1..=3 {
             assert_eq!(release(&mut host, 2, handle), 0);
@@ -122,8 +109,8 @@ fn no_time_ends_it() {
 fn the_refusals_of_a_release_in_order() {
     let mut host = Host::new(with_pinned(2));
     host.memory.pool.given = 97;
-    assert_eq!(told(&mut host, &Call::Block { task: 1 }), 0);
-    assert_eq!(told(&mut host, &Call::Leave { task: 2 }), 0);
+    assert_eq!(host.told(&Call::Block { task: 1 }), 0);
+    assert_eq!(host.told(&Call::Leave { task: 2 }), 0);
     let rows =
         [(16, 0), (255, 1), (2, 0), (2, 1), (1, 0), (1, 1), (0, 0), (0, 98), (0, u32::MAX), (0, 97), (0, 3), (0, 2)];
     let numbers = [1, 1, 3, 3, 4, 4, 11, 11, 11, 12, 22, 0];
@@ -141,21 +128,21 @@ fn the_refusals_of_a_release_in_order() {
 /// 6 for a make with any extension; 21 for a refresh and a batch, after 20 and before 6, 11, 12 and 10.
 #[test]
 fn only_a_make_pins_and_with_no_extension() {
-    let mut host = Host::new(with_pinned(1));
+    let mut host = Host::<Library>::new(with_pinned(1));
     host.memory.pool.given = 97;
     for extension in 1..=255 {
         for length in [0, 4, 257] {
             let make = Call::Make { task: 0, kind: Kind::Pinned, extension, length };
-            assert_eq!(told(&mut host, &make), 6, "{extension}");
+            assert_eq!(host.told(&make), 6, "{extension}");
         }
     }
     let kind = Kind::Pinned;
     for (extension, handle) in [(0, 1), (0, 2), (1, 1), (31, 2), (255, 0), (0, 97), (0, 98)] {
-        assert_eq!(told(&mut host, &Call::Refresh { task: 0, kind, extension, handle }), 21);
+        assert_eq!(host.told(&Call::Refresh { task: 0, kind, extension, handle }), 21);
         for (task, count, number) in [(0, 0, 20), (0, 33, 20), (0, 1, 21), (0, 32, 21), (16, 33, 1)] {
             let handles = packed(&vec![handle; count]);
             let batch = Call::Batch { task, kind, extension, handles: Handles(&handles) };
-            assert_eq!(told(&mut host, &batch), number, "{batch:?}");
+            assert_eq!(host.told(&batch), number, "{batch:?}");
         }
     }
 }

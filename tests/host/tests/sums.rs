@@ -5,29 +5,15 @@ use host_tests::entries::Entries;
 use host_tests::host::Host;
 use host_tests::library::Library;
 use host_tests::memory::Memory;
-use host_tests::reading::of_record;
 use plain::limits::{BLOCKS, SMALL_BLOCKS};
 use plain::record::{length_in, sum_in};
 use reference::call::{packed, Accepted, Call, Handles, Kind};
-use reference::frame::encode;
 use reference::random::Random;
 
 const SUM_DIFFERS: u8 = 23;
 
 /// Three tasks run.
 const TASKS: u8 = 3;
-
-/// The number of the answer, by the entry and by a frame, and both leave the same. The host tests that a refusal leaves all.
-fn told(host: &mut Host<Library>, call: &Call) -> u8 {
-    let mut line = Vec::new();
-    encode(call, &mut line);
-    line.pop();
-    let mut framed = Host::<Library>::new(host.memory.clone());
-    let number = host.call(call).err().unwrap_or(0);
-    assert_eq!(framed.line(&line, Some(call)).0, number, "{call:?}");
-    assert_eq!(of_record(&framed.memory), of_record(&host.memory), "{call:?}");
-    number
-}
 
 fn read(handle: u32) -> Call<'static> {
     Call::Read { task: 0, handle }
@@ -175,32 +161,29 @@ fn refused_until_it_goes() {
     for (kind, extension) in kinds {
         for (length, place) in [(1, 0), (32, 31), (7, 31), (33, 0), (100, 255), (256, 128)] {
             let mut host = Host::<Library>::new(Memory::fresh(&mut Random::new(9)));
-            (0..2).for_each(|task| assert_eq!(told(&mut host, &Call::Join { task }), 0));
-            assert_eq!(told(&mut host, &Call::Make { task: 0, kind, extension, length }), 0);
-            assert_eq!(told(&mut host, &write(1)), 0);
+            (0..2).for_each(|task| assert_eq!(host.told(&Call::Join { task }), 0));
+            assert_eq!(host.told(&Call::Make { task: 0, kind, extension, length }), 0);
+            assert_eq!(host.told(&write(1)), 0);
             let block = host.memory.place(1).expect("it stands");
             host.memory.block_mut(block)[place] ^= 0x40;
             for rounds in 0..3 {
-                assert_eq!((told(&mut host, &read(1)), told(&mut host, &write(1))), (23, 23), "{kind:?}, {rounds}");
+                assert_eq!((host.told(&read(1)), host.told(&write(1))), (23, 23), "{kind:?}, {rounds}");
                 if rounds == 1 {
-                    assert_eq!(
-                        told(&mut host, &Call::Refresh { task: 1, kind: Kind::Local, extension: 1, handle: 1 }),
-                        0
-                    );
+                    assert_eq!(host.told(&Call::Refresh { task: 1, kind: Kind::Local, extension: 1, handle: 1 }), 0);
                 }
-                (0..2).for_each(|task| assert_eq!(told(&mut host, &Call::Tick { task }), 0));
+                (0..2).for_each(|task| assert_eq!(host.told(&Call::Tick { task }), 0));
             }
-            let released = told(&mut host, &Call::Release { task: 1, handle: 1 });
+            let released = host.told(&Call::Release { task: 1, handle: 1 });
             assert_eq!(released, if kind == Kind::Pinned { 0 } else { 12 });
             // Its block is given out again, once all of its store are.
             let blocks = if length <= 32 { SMALL_BLOCKS } else { BLOCKS - SMALL_BLOCKS };
             for count in 0..blocks as u32 {
-                assert_eq!((told(&mut host, &read(1)), told(&mut host, &write(1))), (12, 12), "{kind:?}, {length}");
-                assert_eq!(told(&mut host, &Call::Make { task: 1, kind: Kind::Global, extension: 9, length }), 0);
-                assert_eq!(told(&mut host, &read(2 + count)), 0);
+                assert_eq!((host.told(&read(1)), host.told(&write(1))), (12, 12), "{kind:?}, {length}");
+                assert_eq!(host.told(&Call::Make { task: 1, kind: Kind::Global, extension: 9, length }), 0);
+                assert_eq!(host.told(&read(2 + count)), 0);
             }
             assert_ne!(host.memory.pool.handles[block], 0);
-            assert_eq!((told(&mut host, &read(1)), told(&mut host, &write(1))), (12, 12), "{kind:?}, {length}");
+            assert_eq!((host.told(&read(1)), host.told(&write(1))), (12, 12), "{kind:?}, {length}");
         }
     }
 }
@@ -263,21 +246,21 @@ fn every_bit_of_a_sum() {
 #[test]
 fn sums_from_the_smallest_to_the_largest() {
     let mut host = Host::<Library>::new(Memory::fresh(&mut Random::new(11)));
-    assert_eq!(told(&mut host, &Call::Join { task: 0 }), 0);
+    assert_eq!(host.told(&Call::Join { task: 0 }), 0);
     for (handle, length, largest) in [(1, 32, 32 * 255), (2, 256, 65_280)] {
         let make = Call::Make { task: 0, kind: Kind::Pinned, extension: 0, length };
         assert_eq!(host.call(&make), Ok(Accepted::Handle(handle)));
         let place = host.memory.place(handle).expect("it stands");
         for (byte, sum) in [(255, largest), (0, 0)] {
             for offset in (0..length).map(|offset| offset as u8) {
-                assert_eq!(told(&mut host, &Call::Write { task: 0, handle, offset, bytes: &[byte] }), 0);
+                assert_eq!(host.told(&Call::Write { task: 0, handle, offset, bytes: &[byte] }), 0);
                 assert!(host.call(&read(handle)).is_ok());
             }
             assert_eq!(sum_in(host.memory.pool.extents[place]), sum);
         }
         let all = vec![255; usize::from(length)];
         for (bytes, sum) in [(&all[..], largest), (&[], largest), (&all, largest)] {
-            assert_eq!(told(&mut host, &Call::Write { task: 0, handle, offset: 0, bytes }), 0);
+            assert_eq!(host.told(&Call::Write { task: 0, handle, offset: 0, bytes }), 0);
             assert_eq!(sum_in(host.memory.pool.extents[place]), sum);
         }
     }
@@ -300,7 +283,7 @@ fn write_nothing(memory: &mut Memory, store: usize, task: u8, handle: u32) -> u8
 fn the_refusals_in_order() {
     let mut host = Host::<Library>::new(full());
     host.memory.pool.given = 97;
-    assert_eq!(told(&mut host, &Call::Block { task: 1 }), 0);
+    assert_eq!(host.told(&Call::Block { task: 1 }), 0);
     // A byte of each block but the first of each store.
     host.memory.small.iter_mut().step_by(32).skip(1).for_each(|byte| *byte ^= 1);
     host.memory.large.iter_mut().step_by(256).skip(1).for_each(|byte| *byte ^= 1);
@@ -310,14 +293,14 @@ fn the_refusals_in_order() {
     let numbers = [1, 3, 4, 11, 11, 12, 23, 23, 0, 0];
     for (&(task, handle), number) in rows.iter().zip(numbers) {
         let or = |last: u8| if number == 0 { last } else { number };
-        assert_eq!(told(&mut host, &Call::Read { task, handle }), number, "{task}, {handle}");
+        assert_eq!(host.told(&Call::Read { task, handle }), number, "{task}, {handle}");
         assert_eq!(read_without_room(&mut host.memory, 2048, task, handle), or(255), "{task}, {handle}");
         assert_eq!(read_without_room(&mut host.memory, 2047, task, handle), 14, "{task}, {handle}");
         assert_eq!(write_nothing(&mut host.memory, 2048, task, handle), number, "{task}, {handle}");
         assert_eq!(write_nothing(&mut host.memory, 2047, task, handle), 14, "{task}, {handle}");
         for offset in [1, 255] {
             let write = Call::Write { task, handle, offset, bytes: &[7; 256] };
-            assert_eq!(told(&mut host, &write), or(13), "{write:?}");
+            assert_eq!(host.told(&write), or(13), "{write:?}");
         }
     }
     host.memory.pool.tasks[5].state = 3;
