@@ -2,77 +2,51 @@
 use Prim.Native.Nat.{ℕ, _+_, _-_, _<_}
 use native.Mathlib.Omega.{arith}
 use mathlib.Core.Bool.{true, false, false≢true, _&&_, _||_, and-eq-true-iff, and-false, and-true, or-false}
-use mathlib.Core.Path.{_≡_, refl, sym, _∙_}
-use borrow.Author.Tests.{eqb-true, eq-eqb, ne-eqb, leb-true, le-leb, lt-leb, lt-ltb}
+use mathlib.Core.List.{List}
+use mathlib.Core.Path.{_≡_, sym, _∙_}
+use borrow.Author.Tests.{eqb-true, eq-eqb, ne-eqb, leb-true, le-leb, lt-ltb}
 use lib.Dec.{eqb, leb, ltb}
-use Rattle.lists.proofs.Cases.{by-test, refuted}
+use Rattle.lists.proofs.Cases.{by-test, same-test}
 use Rattle.ledger.specs.Limits.{taskCount}
-use Rattle.record.specs.Codes.{isGlobalClock, dueBy, isDueLocal, isDueGlobal, localCode, globalCode, pinnedCode}
-use Rattle.record.specs.declared.Due.{Due}
-use Rattle.record.specs.declared.Due.the-variants.{Free, Local, Global, Pinned, Unknown}
-use Rattle.record.specs.declared.GlobalTime.{GlobalTime}
-use Rattle.record.proofs.Asked.{asked-local, asked-global}
-use Rattle.expirations.specs.Ending.{isEnding, isEndingLocal}
+use Rattle.record.specs.Codes.{isGlobalClock, dueBy, localCode, globalCode, pinnedCode}
+use Rattle.expirations.specs.Ending.{isEndingAt, isOwnAt, isOwnOverAt, isOwnEndingAt, isGlobalOverAt}
 use Rattle.expirations.specs.declared.Passing.{Passing}
 
--- only what goes by the global time
-pub global-clock : (now : GlobalTime) (clock due : ℕ) → isDueGlobal now (dueBy clock due) ≡ true → isGlobalClock clock ≡ true
-global-clock now clock due e = and-eq-true-iff (isGlobalClock clock) _ .0 (asked-global clock due now ∙ e) .0
+-- of the codes of the tasks' clocks this task's alone
+own-code : (clock task : ℕ) → (leb localCode clock && ltb clock globalCode) ≡ true → eqb (clock - localCode) task ≡ eqb clock (localCode + task)
+own-code clock task l =
+    let least = leb-true localCode clock (and-eq-true-iff _ _ .0 l .0) in
+    same-test _ _
+    (λ e. eq-eqb clock (localCode + task) (omega (arith, eqb-true (clock - localCode) task e)))
+    (λ e. eq-eqb (clock - localCode) task (omega (arith, eqb-true clock (localCode + task) e)))
 
-module _ (t : Passing) where
-  -- by either clock
-  pub by-either : (due : Due) → isEnding t due ≡ (isEndingLocal t due || t .advanced && isDueGlobal (t .global) due)
-  by-either Free = sym (and-false (t .advanced))
-  by-either (Local setter at) = rw (and-false (t .advanced)) (sym (or-false _))
-  by-either (Global setter at) = refl
-  by-either (Pinned due) = sym (and-false (t .advanced))
-  by-either Unknown = sym (and-false (t .advanced))
+module _ (t : Passing) (dues : List ℕ) where
+  -- all of a leaver's own, and else what is over
+  pub own-leaving : t .leaves ≡ true → (k clock : ℕ) → isOwnAt (t .task) k clock ≡ isOwnEndingAt t dues k clock
+  own-leaving e k clock = rw (e, and-true)
 
-  module _ (clock due : ℕ) where
-    pub local-ends : isEndingLocal t (dueBy clock due) ≡ true → isEnding t (dueBy clock due) ≡ true
-    local-ends e = rw (by-either (dueBy clock due), e)
+  pub own-staying : t .leaves ≡ false → (k clock : ℕ) → isOwnOverAt t dues k clock ≡ isOwnEndingAt t dues k clock
+  own-staying e k clock = rw e
 
-    -- where it does not end by its task's clock
-    module _ (e : isEndingLocal t (dueBy clock due) ≡ false) where
-      pub neither-ends : t .advanced ≡ false → isEnding t (dueBy clock due) ≡ false
-      neither-ends a = rw (by-either (dueBy clock due), e, a)
-
-      pub global-ends : t .advanced ≡ true → isDueGlobal (t .global) (dueBy clock due) ≡ isEnding t (dueBy clock due)
-      global-ends a = rw (by-either (dueBy clock due), e, a)
-
-  -- only what goes by the task's clock
-  pub local-clock : (clock due : ℕ) → isEndingLocal t (dueBy clock due) ≡ true → eqb clock (localCode + t .task) ≡ true
+module _ (t : Passing) (dues : List ℕ) (known : t .task < taskCount) where
+  -- by its task's clock, or by the global time where that has advanced
+  by-clocks : (k clock : ℕ) → (isOwnEndingAt t dues k clock || t .advanced && isGlobalOverAt (t .global) dues k clock) ≡ isEndingAt t dues k clock
   unfolding dueBy
-  local-clock clock due e =
+  by-clocks k clock =
       by-test (eqb clock 0)
-      (λ z. absurd (false≢true (rw z at e)))
+      (λ z. rw (eqb-true clock 0 z, ne-eqb 0 (localCode + t .task) (λ e. omega arith), and-false))
       (λ z.
       by-test (isGlobalClock clock)
-      (λ g. absurd (false≢true (rw (z, g) at e)))
+      (λ g. rw (z, g, ne-eqb clock (localCode + t .task) (λ e. omega (arith, leb-true globalCode clock (and-eq-true-iff _ _ .0 g .0)))))
       (λ g.
       by-test (leb localCode clock && ltb clock globalCode)
+      (λ l. rw (z, g, l, own-code clock (t .task) l, and-false, or-false))
       (λ l.
-      let least = leb-true localCode clock (and-eq-true-iff _ _ .0 l .0) in
-      let same = eqb-true (clock - localCode) (t .task) (and-eq-true-iff _ _ .0 (rw (z, g, l) at e) .0) in
-      eq-eqb clock (localCode + t .task) (omega arith))
-      (λ l.
-      by-test (eqb clock pinnedCode)
-      (λ p. absurd (false≢true (rw (z, g, l, p) at e)))
-      (λ p. absurd (false≢true (rw (z, g, l, p) at e))))))
+      let other = ne-eqb clock (localCode + t .task) (λ e. false≢true (sym l ∙ rw (e, le-leb localCode (localCode + t .task) (omega arith), lt-ltb (localCode + t .task) globalCode (omega arith)))) in
+      by-test (eqb clock pinnedCode) (λ p. rw (z, g, l, p, other, and-false)) (λ p. rw (z, g, l, p, other, and-false)))))
 
-  module _ (known : t .task < taskCount) where
-    own-due : (due : ℕ) → dueBy (localCode + t .task) due ≡ Local (t .task) (record { 0 = due })
-    unfolding dueBy
-    own-due due =
-        let same : localCode + t .task - localCode ≡ t .task = omega arith in
-        rw (ne-eqb (localCode + t .task) 0 (omega arith), lt-leb globalCode (localCode + t .task) (omega arith), le-leb localCode (localCode + t .task) (omega arith), lt-ltb (localCode + t .task) globalCode (omega arith), same)
+  pub not-advanced : t .advanced ≡ false → (k clock : ℕ) → isOwnEndingAt t dues k clock ≡ isEndingAt t dues k clock
+  not-advanced e k clock = rw (← by-clocks k clock, e, or-false)
 
-    pub by-local : (clock due : ℕ)
-        → (t .leaves && eqb clock (localCode + t .task) || isDueLocal (t .task) (t .local) (dueBy clock due)) ≡ isEndingLocal t (dueBy clock due)
-    by-local clock due =
-        by-test (eqb clock (localCode + t .task))
-        (λ e.
-        rw (e, eqb-true clock (localCode + t .task) e, own-due due, eq-eqb (t .task) (t .task) refl, and-true))
-        (λ e.
-        rw (e, and-false, ← asked-local clock due (t .task) (t .local) known, e)
-        (sym (refuted (isEndingLocal t (dueBy clock due)) (λ h. false≢true (sym e ∙ local-clock clock due h)))))
+  pub advanced : t .advanced ≡ true → (k clock : ℕ) → (isOwnEndingAt t dues k clock || isGlobalOverAt (t .global) dues k clock) ≡ isEndingAt t dues k clock
+  advanced e k clock = rw (← by-clocks k clock, e)

@@ -1,4 +1,5 @@
 pub mod Places
+pub mod Ended
 pub mod Clocks
 pub mod Counting
 pub mod Setting

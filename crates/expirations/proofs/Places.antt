@@ -55,9 +55,6 @@ module _ {p : ℕ → Bool} {a b : ℕ} {r : Bool} (s : Asked p a b r) where
   pub asked-end : {c : ℕ} → b ≤ c → c ≤ b → Asked p a c r
   asked-end {c} h k = let same : b ≡ c = omega arith in rw same at s
 
-  pub asked-is : {v : Bool} → r ≡ v → Asked p a b v
-  asked-is e = rw e at s
-
   -- more of which none passes
   pub asked-skip : {c : ℕ} → b ≤ c → ((k : ℕ) → b ≤ k → k < c → p k ≡ false) → Asked p a c r
   asked-skip h f = rw (or-false r) at (asked-join (asked-none p h f))
@@ -70,15 +67,6 @@ module _ {p : ℕ → Bool} {a b : ℕ} {r : Bool} (s : Asked p a b r) where
           ordered = s .ordered;
           some = λ e. let (k, l, m, h) = s .some e in (k, l, m, sym (f k l m) ∙ h);
           none = λ e k l m. sym (f k l m) ∙ s .none e k l m;
-        }
-
-    -- what passes here passes there
-    pub asked-found : r ≡ true → ((k : ℕ) → p k ≡ true → q k ≡ true) → Asked q a b true
-    asked-found e f =
-        record {
-          ordered = s .ordered;
-          some = λ t. let (k, l, m, h) = s .some e in (k, l, m, f k h);
-          none = λ t. absurd (true≢false t);
         }
 
     -- where none passes here, none passes there

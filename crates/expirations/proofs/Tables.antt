@@ -1,7 +1,7 @@
 -- What was asked and changed by places, as the tables have it.
-use Prim.Native.Nat.{ℕ, zero, suc, _≤_, _<_}
+use Prim.Native.Nat.{ℕ, zero, suc, _<_}
 use native.Mathlib.Omega.{arith}
-use mathlib.Core.Bool.{Bool, true, false, cond, _||_}
+use mathlib.Core.Bool.{Bool, true, false, cond}
 use mathlib.Core.List.{List, [], _∷_, map}
 use mathlib.Core.Path.{_≡_, refl, sym, _∙_, ap}
 use borrow.Author.Tests.{eqb-true, eqb-false, ne-eqb, leb-true, leb-false, le-leb, lt-leb, lt-ltb, le-ltb}
@@ -13,19 +13,19 @@ use Rattle.lists.specs.Tests.{any}
 use Rattle.lists.proofs.Cases.{by-test, cond-same, or-right}
 use Rattle.lists.proofs.Tables.{length-mapFrom}
 use Rattle.record.specs.Codes.{dueBy, dueOf, isDated, freeBlock, freeEntry, freedBlock, freedEntry, localCode, globalCode, departedCode, pinnedCode}
-use Rattle.record.specs.Tables.{ExpirationEntry, blockEntry, expirationEntry, blocksOf, entriesOf, SizedEntries, blockEntries, expirationEntries, byteValues}
+use Rattle.record.specs.Tables.{ExpirationEntry, blockEntry, expirationEntry, blocksOf, entriesOf, SizedEntries, blockEntries, expirationEntries}
 use Rattle.record.specs.WellFormed.{isNaming}
 use Rattle.record.specs.declared.TaskEntry.{TaskEntry}
 use Rattle.record.proofs.Columns.{length-blocks, block-at, length-entries, entry-at}
 use Rattle.steps.specs.Events.{keptBlock}
 use Rattle.steps.proofs.KeptBlocks.{block-left}
-use Rattle.expirations.specs.Ending.{isEnding, endedEntry, isEndingAt, Ended, Ends}
+use Rattle.expirations.specs.Ending.{isEnding, endedEntry, Ended, Ends}
 use Rattle.expirations.specs.Late.{lateIn}
 use Rattle.expirations.specs.Places.{Asked, Changed}
 use Rattle.expirations.specs.Releasing.{Flags, keptByFlag}
 use Rattle.expirations.specs.Standing.{isDatedClock}
 use Rattle.expirations.specs.declared.Passing.{Passing}
-use Rattle.expirations.proofs.Places.{split, asked-start, asked-join, asked-same, asked-end, changed-start, changed-join, changed-end}
+use Rattle.expirations.proofs.Places.{split, asked-same}
 
 module _ {ℓ} {A : Type ℓ} (p : A → Bool) (d : A) where
   any-none : (xs : List A) → ((k : ℕ) → k < length xs → p (getD xs k d) ≡ false) → any p xs ≡ false
@@ -43,22 +43,6 @@ module _ {ℓ} {A : Type ℓ} (p : A → Bool) (d : A) where
       by-test r
       (λ t. let (k, l, m, h) = s .some t in t ∙ sym (any-place xs k (omega arith) h))
       (λ t. t ∙ sym (any-none xs (λ k l. s .none t k (omega arith) (omega arith))))
-
--- groups one after the other
-module _ (t : Passing) (dues : List ℕ) where
-  pub ended-start : (clocks : List ℕ) → Ended t dues 0 0 clocks clocks false
-  ended-start clocks = record { changed = changed-start 0 clocks; asked = asked-start (isEndingAt t clocks dues) 0 }
-
-module _ {t : Passing} {dues xs ys : List ℕ} {a b : ℕ} {r : Bool} (s : Ended t dues a b xs ys r) where
-  pub ended-join : {c : ℕ} {zs : List ℕ} {r′ : Bool} → Ended t dues b c ys zs r′ → Ended t dues a c xs zs (r || r′)
-  ended-join z =
-      record {
-        changed = changed-join (s .changed) (z .changed);
-        asked = asked-join (s .asked) (asked-same (z .asked) (λ k l m. rw (s .changed .after k l)));
-      }
-
-  pub ended-end : {c : ℕ} → b ≤ c → c ≤ b → Ended t dues a c xs ys r
-  ended-end h k = record { changed = changed-end (s .changed) h k; asked = asked-end (s .asked) h k }
 
 -- the clock of an expiration in use
 dated-clock : (clock due : ℕ) → isDatedClock clock ≡ isDated (dueBy clock due)
@@ -99,7 +83,7 @@ module _ {cs ns ds : List ℕ} (sized : SizedEntries cs ns ds) where
   asked-entries p f s = asked-any p freeEntry (entriesOf cs ns ds) size-of (asked-same s (λ k l m. f k ∙ ap p (sym (entry-of k))))
 
 -- a block is named where its flag is set
-flag-names : {cs ns ds : List ℕ} {flags : List Bool} → Flags cs ns expirationEntries flags → SizedEntries cs ns ds → (block : ℕ) → block < byteValues
+flag-names : {cs ns ds : List ℕ} {flags : List Bool} → Flags cs ns expirationEntries flags → SizedEntries cs ns ds → (block : ℕ) → block < blockEntries
     → getD flags block false ≡ any (isNaming block) (entriesOf cs ns ds)
 flag-names {cs} {ns} {ds} s sized block l =
     asked-entries sized (isNaming block) (λ k. rw (dated-clock (getD cs k 0) (getD ds k 0))) (s .so block l)
@@ -121,7 +105,7 @@ released {cs} {ns} {hs} {hs′} {flags} ls ds s z sized h l =
     (size ∙ sym (length-mapFrom 0 (keptBlock xs) blocks ∙ length-blocks hs ls h l))
     (λ k m.
     let within : k < blockEntries = omega arith in
-    rw (block-at hs′ ls (z .size ∙ h) l k, z .inside k (omega arith) within, block-left xs blocks k, block-at hs ls h l k, ← flag-names s sized k (omega arith))
+    rw (block-at hs′ ls (z .size ∙ h) l k, z .inside k (omega arith) within, block-left xs blocks k, block-at hs ls h l k, ← flag-names s sized k within)
     (kept-entry (getD flags k false) (getD hs k 0) (getD ls k 0)))
 
 -- an entry by whether it ends
@@ -152,7 +136,7 @@ module _ {f : ℕ → ℕ → ℕ} {cs ns ds cs′ : List ℕ} (s : Changed 0 f 
       ∙ sym (List·getD-map kept xs k freeEntry)
       ∙ ap (getD (map kept xs) k) (cond-same (p freeEntry) freeEntry))
 
-module _ {t : Passing} {cs ns ds cs′ : List ℕ} {r : Bool} (s : Ended t ds 0 expirationEntries cs cs′ r) (sized : SizedEntries cs ns ds) where
+module _ (t : Passing) {cs ns ds cs′ : List ℕ} {r : Bool} (s : Ended t ds 0 expirationEntries cs cs′ r) (sized : SizedEntries cs ns ds) where
   sized′ : SizedEntries cs′ ns ds
   sized′ = sized-after (s .changed) sized
 

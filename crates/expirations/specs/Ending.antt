@@ -1,13 +1,14 @@
 -- What an event ends.
-use Prim.Native.Nat.{ℕ}
+use Prim.Native.Nat.{ℕ, _+_}
 use mathlib.Core.Bool.{Bool, false, cond, _&&_, _||_}
 use mathlib.Core.List.{List, map}
 use mathlib.Core.Path.{_≡_}
 use lib.Dec.{eqb}
 use lib.ListN.{length, getD}
+use Rattle.lists.specs.Filled.{Filled}
 use Rattle.lists.specs.Tests.{any}
 use Rattle.lists.specs.Tables.{mapFrom}
-use Rattle.record.specs.Codes.{dueBy, dueOf, leftAt, isDueGlobal, freedEntry}
+use Rattle.record.specs.Codes.{dueBy, dueOf, leftAt, localCode, isGlobalClock, freedEntry}
 use Rattle.record.specs.Tables.{ExpirationEntry, blocksOf, entriesOf, blockEntries, expirationEntries}
 use Rattle.record.specs.declared.Due.{Due}
 use Rattle.record.specs.declared.Due.the-variants.{Free, Local, Global, Pinned, Unknown}
@@ -16,6 +17,7 @@ use Rattle.record.specs.declared.TaskEntry.{TaskEntry}
 use Rattle.steps.specs.Events.{keptBlock}
 use Rattle.expirations.specs.Late.{lateIn}
 use Rattle.expirations.specs.Places.{Asked, Changed}
+use Rattle.expirations.specs.Standing.{groupSize}
 use Rattle.expirations.specs.declared.Passing.{Passing}
 
 -- an expiration ends where its time has come by the clock that has moved, or where its setter leaves
@@ -29,35 +31,39 @@ isEnding t Unknown = false
 abbrev pub endedEntry : Passing → ExpirationEntry → ExpirationEntry
 endedEntry t e = cond (isEnding t (dueOf e)) (freedEntry e) e
 
--- the same by its task's clock alone
-abbrev pub isEndingLocal : Passing → Due → Bool
-isEndingLocal t Free = false
-isEndingLocal t (Local setter at) = isEnding t (Local setter at)
-isEndingLocal t (Global setter at) = false
-isEndingLocal t (Pinned due) = false
-isEndingLocal t Unknown = false
+-- the same of a place and its clock, with the due numbers of all
+abbrev pub isEndingAt : Passing → List ℕ → ℕ → ℕ → Bool
+isEndingAt t dues k clock = isEnding t (dueBy clock (getD dues k 0))
 
--- and of the entry at a place
-abbrev pub dueAt : List ℕ → List ℕ → ℕ → Due
-dueAt clocks dues k = dueBy (getD clocks k 0) (getD dues k 0)
+-- nothing is left at a place by a time; and which of the places of a group are so
+abbrev pub isOverAt : ℕ → List ℕ → ℕ → Bool
+isOverAt now dues k = eqb (leftAt (getD dues k 0) now) 0
 
-abbrev pub isEndingAt : Passing → List ℕ → List ℕ → ℕ → Bool
-isEndingAt t clocks dues k = isEnding t (dueAt clocks dues k)
+abbrev pub Over : ℕ → List ℕ → ℕ → List Bool → Type 0
+Over now dues from r = Filled false (λ k x. x ≡ isOverAt now dues (from + k)) groupSize groupSize r
 
-abbrev pub isLocalAt : Passing → List ℕ → List ℕ → ℕ → Bool
-isLocalAt t clocks dues k = isEndingLocal t (dueAt clocks dues k)
+-- a clock is the task's; it is, and nothing is left by that; and which of its task's an event ends
+abbrev pub isOwnAt : ℕ → ℕ → ℕ → Bool
+isOwnAt task k clock = eqb clock (localCode + task)
 
-abbrev pub isGlobalAt : GlobalTime → List ℕ → List ℕ → ℕ → Bool
-isGlobalAt now clocks dues k = isDueGlobal now (dueAt clocks dues k)
+abbrev pub isOwnOverAt : Passing → List ℕ → ℕ → ℕ → Bool
+isOwnOverAt t dues k clock = isOwnAt (t .task) k clock && isOverAt (t .local .0) dues k
 
--- one clock after an event, with the due times of all
-abbrev pub keptClock : Passing → List ℕ → ℕ → ℕ → ℕ
-keptClock t dues k clock = cond (isEnding t (dueBy clock (getD dues k 0))) 0 clock
+abbrev pub isOwnEndingAt : Passing → List ℕ → ℕ → ℕ → Bool
+isOwnEndingAt t dues k clock = isOwnAt (t .task) k clock && (t .leaves || isOverAt (t .local .0) dues k)
 
--- What is over is ended from place a up to b, and r says whether that was any.
-pub record Ended (t : Passing) (dues : List ℕ) (a b : ℕ) (clocks clocks′ : List ℕ) (r : Bool) : Type 0 where
-  pub changed : Changed 0 (keptClock t dues) a b clocks clocks′
-  pub asked : Asked (isEndingAt t clocks dues) a b r
+-- a clock goes by the global time, and nothing is left by that
+abbrev pub isGlobalOverAt : GlobalTime → List ℕ → ℕ → ℕ → Bool
+isGlobalOverAt now dues k clock = isGlobalClock clock && isOverAt (now .0) dues k
+
+-- What passes a test of place and clock is ended from place a up to b, and r says whether that was any.
+pub record EndedBy (p : ℕ → ℕ → Bool) (a b : ℕ) (clocks clocks′ : List ℕ) (r : Bool) : Type 0 where
+  pub changed : Changed 0 (λ k clock. cond (p k clock) 0 clock) a b clocks clocks′
+  pub asked : Asked (λ k. p k (getD clocks k 0)) a b r
+
+-- what an event ends
+abbrev pub Ended : Passing → List ℕ → ℕ → ℕ → List ℕ → List ℕ → Bool → Type 0
+Ended t dues a b clocks clocks′ r = EndedBy (isEndingAt t dues) a b clocks clocks′ r
 
 -- Both tables after an event: of what a leave and an advance make of the entries, what it ends is ended; and where it ends anything, the blocks that none
 -- names any more are free.

@@ -1,11 +1,11 @@
 // Blocks that no expiration names are free: which ones are named is marked by flags first.
 ghost use Prim.Native.Nat.{_+_, _≤_};
-ghost use mathlib.Core.Bool.{cond, false};
+ghost use mathlib.Core.Bool.{cond};
 ghost use mathlib.Core.Path.{_≡_};
 ghost use lib.ListN.{length};
 ghost use Rattle.record.specs.Tables.{blockEntries, expirationEntries};
 ghost use Rattle.expirations.specs.Places.{Changed};
-ghost use Rattle.expirations.specs.Releasing.{Flags, keptByFlag};
+ghost use Rattle.expirations.specs.Releasing.{slotBy, Slots, isSlotAt, Marks, Flags, keptByFlag};
 ghost use Rattle.expirations.specs.Standing.{groupSize};
 use super::asking::GROUP;
 use super::asking::GROUP_COUNT;
@@ -16,29 +16,42 @@ use record::BLOCK_COUNT;
 use record::BYTE_VALUES;
 use record::EXPIRATION_COUNT;
 
-// Marks what the entries of a group name.
-fn mark_in<'a>(
-    flags: &mut [bool; BYTE_VALUES],
+// The flag that an entry sets that has no expiration: no block's.
+const NO_BLOCK: u8 = 255;
+
+fn slot_for(clock: u8, block: u8) -> u8
+    ensures { λ r. ⌜ r ≡ slotBy clock block ⌝ }
+{
+    if is_dated(clock) { block } else { NO_BLOCK }
+}
+
+// The flag that each entry sets.
+fn slots<'a>(
     clocks: &'a [u8; EXPIRATION_COUNT],
     named: &'a [u8; EXPIRATION_COUNT],
-    from: usize,
-)
-    requires { ⌜ Flags (now clocks) (now named) from (now flags) × (length (now clocks) ≡ expirationEntries) × (length (now named) ≡ expirationEntries) × (from + groupSize ≤ expirationEntries) ⌝ }
-    ensures { λ _. ⌜ Flags (now (clocks .entry)) (now (named .entry)) (from + groupSize) (now (flags .exit)) ⌝ }
+) -> [u8; EXPIRATION_COUNT]
+    requires { ⌜ (length (now clocks) ≡ expirationEntries) × (length (now named) ≡ expirationEntries) ⌝ }
+    ensures { λ r. ⌜ Slots (now (clocks .entry)) (now (named .entry)) r ⌝ }
 {
-    if !any_dated(clocks, from) {
-        return;
+    let mut out = [0; EXPIRATION_COUNT];
+    for i in 0..EXPIRATION_COUNT {
+        out[i] = slot_for(clocks[i], named[i]);
     }
+    out
+}
+
+// Sets the flags of a group.
+fn mark_in(flags: &mut [bool; BYTE_VALUES], slots: &[u8; EXPIRATION_COUNT], from: usize)
+    requires { ⌜ Marks (isSlotAt (now slots)) from (now flags) × (length (now slots) ≡ expirationEntries) × (from + groupSize ≤ expirationEntries) ⌝ }
+    ensures { λ _. ⌜ Marks (isSlotAt (now (slots .entry))) (from + groupSize) (now (flags .exit)) ⌝ }
+{
     for i in from..from + GROUP {
-        if !is_dated(clocks[i]) {
-            continue;
-        }
-        let at = place_for(named[i]);
+        let at = place_for(slots[i]);
         flags[at] = true;
     }
 }
 
-// Which blocks are named.
+// Which blocks are named: a group in which none is in use is passed by.
 pub fn flags_of<'a>(
     clocks: &'a [u8; EXPIRATION_COUNT],
     named: &'a [u8; EXPIRATION_COUNT],
@@ -46,9 +59,13 @@ pub fn flags_of<'a>(
     requires { ⌜ (length (now clocks) ≡ expirationEntries) × (length (now named) ≡ expirationEntries) ⌝ }
     ensures { λ r. ⌜ Flags (now (clocks .entry)) (now (named .entry)) expirationEntries r ⌝ }
 {
+    let slots = slots(clocks, named);
     let mut flags = [false; BYTE_VALUES];
     for g in 0..GROUP_COUNT {
-        mark_in(&mut flags, clocks, named, g * GROUP);
+        if !any_dated(clocks, g * GROUP) {
+            continue;
+        }
+        mark_in(&mut flags, &slots, g * GROUP);
     }
     flags
 }

@@ -12,7 +12,7 @@ returns c =
     let deserted = put-off .before .before .before in
     let start = deserted .before .before in
     let (sized, late) = late-table (start .args .t) (start .args .tasks) (start .pre .2) (deserted .desert .ensures) (put-off .put-off .ensures) in
-    ends-some (ended .end-due .ensures) sized late (start .pre .1) (c .before .before .before .before .if1 .taken) (c .before .before .flags-of .ensures) (c .keep-named .ensures)
+    ends-some (start .args .t) (ended .end-due .ensures) sized late (start .pre .1) (c .before .before .before .before .if1 .taken) (c .before .before .flags-of .ensures) (c .keep-named .ensures)
 
 returns-2 : tie.Need-returns-2
 returns-2 c =
@@ -20,7 +20,7 @@ returns-2 c =
     let deserted = put-off .before .before .before in
     let start = deserted .before .before in
     let (sized, late) = late-table (start .args .t) (start .args .tasks) (start .pre .2) (deserted .desert .ensures) (put-off .put-off .ensures) in
-    ends-none (c .before .end-due .ensures) sized late (start .pre .1) (c .if1 .left)
+    ends-none (start .args .t) (c .before .end-due .ensures) sized late (start .pre .1) (c .if1 .left)
 
 pub end-spec : {M : Type 1} → statement M
 end-spec = tie.close (tie.spec (λ c κs. search needs) (λ c κs. search needs) (λ c κs. search needs) (λ c κs. search needs) (λ c κs. search needs) returns returns-2)

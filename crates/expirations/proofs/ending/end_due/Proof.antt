@@ -1,29 +1,23 @@
--- Group by group.
-use Prim.Native.Nat.{_*_, _≤_, _-_}
-use native.Mathlib.Omega.{arith}
-use mathlib.Core.Path.{_∙_}
-use Rattle.expirations.specs.Ending.{Ended}
-use Rattle.expirations.specs.Standing.{groupSize, groupCount}
-use Rattle.expirations.proofs.Tables.{ended-start, ended-join, ended-end}
+-- By the task's clock, and then by the global time where that has advanced.
+use borrow.Author.Needs.{needs}
+use borrow.Author.Tests.{not-true, not-false}
+use Rattle.expirations.proofs.Clocks.{not-advanced, advanced}
+use Rattle.expirations.proofs.Ended.{ended-same, ended-then}
 use Rattle.expirations.proofs.ending.end_due.Statement.{statement}
 use Rattle.expirations.proofs.ending.end_due.Tie as tie
 
-abbrev Inv-loop : tie.InvT-loop
-Inv-loop t clocks₀ dues some₀ g₀ clocks some g = (g ≤ groupCount) × Ended t dues 0 (g * groupSize) clocks₀ clocks some
+returns : tie.Need-returns
+returns c =
+    let own = c .before .before in
+    let start = own .before .before in
+    ended-same (own .end-tasks .ensures) (not-advanced (start .args .t) (start .args .dues .now) (start .pre .0) (not-true _ (c .if1 .taken)))
 
-abbrev μ-loop : tie.MeasureT-loop
-μ-loop t clocks₀ dues some₀ g₀ clocks some g = groupCount - g
+returns-2 : tie.Need-returns-2
+returns-2 c =
+    let else = c .before .before .before in
+    let own = else .before .before in
+    let start = own .before .before in
+    ended-same (ended-then (own .end-tasks .ensures) (c .end-global .ensures)) (advanced (start .args .t) (start .args .dues .now) (start .pre .0) (not-false _ (else .if1 .left)))
 
 pub end-due-spec : {M : Type 1} → statement M
-end-due-spec =
-    tie.close
-    (tie.spec
-    Inv-loop
-    μ-loop
-    (λ c. (omega arith, ended-start _ _ _))
-    (λ c. omega arith)
-    (λ c κs. let start = c .before .before .before in (start .pre .0, c .before .before .loop .inv .1 .changed .size ∙ start .pre .1, start .pre .2, omega arith))
-    (λ c. omega arith)
-    (λ c. omega arith)
-    (λ c. (omega arith, ended-end (ended-join (c .before .before .before .loop .inv .1) (c .end-in .ensures)) (omega arith) (omega arith)))
-    (λ c. ended-end (c .before .loop .inv .1) (omega arith) (omega arith)))
+end-due-spec = tie.close (tie.spec (λ c κs. search needs) returns (λ c κs. search needs) returns-2)
