@@ -1,28 +1,31 @@
--- The units left on the expirations of a block, by either time.
-use Prim.Native.Nat.{max}
+-- The units left on the expirations of a block, by either time, as bytes hold them: a number of units below byteValues as it is, of any other the last byte.
+use Prim.Native.Nat.{ℕ, max, _+_, _%_}
 use mathlib.Core.List.{List}
+use mathlib.Core.Path.{_≡_}
+use lib.ListN.{getD}
+use Rattle.lists.specs.Filled.{Filled}
 use Rattle.lists.specs.Most.{most}
-use Rattle.record.specs.Tables.{ExpirationEntry}
-use Rattle.record.specs.declared.Due.{Due}
+use Rattle.record.specs.Codes.{leftAt}
+use Rattle.record.specs.Tables.{ExpirationEntry, byteValues}
 use Rattle.steps.specs.Remaining.{leftLocal, leftGlobal, unitsOn}
+use Rattle.expirations.specs.Standing.{groupSize}
 use Rattle.expirations.specs.declared.remaining.Query.{Query}
 use Rattle.expirations.specs.declared.remaining.Units.{Units}
 
--- on one expiration, for the task that asks
-abbrev pub unitsBy : Query → Due → Units
-unitsBy q due = record { local = leftLocal (q .task) (q .local) due; global = leftGlobal (q .global) due }
+-- on an entry, where it names the block, for the task that asks
+abbrev pub localOn : Query → ExpirationEntry → ℕ
+localOn q e = unitsOn (leftLocal (q .task) (q .local)) (q .block) e % byteValues
 
--- on an entry, where it names the block
-abbrev pub unitsOf : Query → ExpirationEntry → Units
-unitsOf q e = record { local = unitsOn (leftLocal (q .task) (q .local)) (q .block) e; global = unitsOn (leftGlobal (q .global)) (q .block) e }
+abbrev pub globalOn : Query → ExpirationEntry → ℕ
+globalOn q e = unitsOn (leftGlobal (q .global)) (q .block) e % byteValues
 
 -- the most of either
 abbrev pub longest : Units → Units → Units
 longest a b = record { local = max (a .local) (b .local); global = max (a .global) (b .global) }
 
 abbrev pub unitsIn : Query → List ExpirationEntry → Units
-unitsIn q xs =
-    record {
-      local = most (unitsOn (leftLocal (q .task) (q .local)) (q .block)) xs;
-      global = most (unitsOn (leftGlobal (q .global)) (q .block)) xs;
-    }
+unitsIn q xs = record { local = most (localOn q) xs; global = most (globalOn q) xs }
+
+-- of the first i due numbers of a group, by a clock that shows `now`
+abbrev pub Lefts : ℕ → List ℕ → ℕ → ℕ → List ℕ → Type 0
+Lefts now dues from i r = Filled 0 (λ k x. x ≡ leftAt (getD dues (from + k) 0) now % byteValues) groupSize i r

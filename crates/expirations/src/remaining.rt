@@ -1,26 +1,25 @@
-// E15, E16: how long the object in a block has left, group by group: one in which no entry names the block is passed by.
+// E15, E16: how long the object in a block has left, group by group: one in which no entry names the block is passed by. Units are bytes, so that many are looked at at once.
 ghost use Prim.Native.Nat.{max, _+_, _≤_, _<_};
 ghost use mathlib.Core.Bool.{cond};
 ghost use mathlib.Core.Path.{_≡_};
-ghost use lib.Dec.{eqb};
-ghost use lib.ListN.{take, drop};
+ghost use lib.ListN.{length, take, drop};
 ghost use Rattle.ledger.specs.Limits.{taskCount};
-ghost use Rattle.record.specs.Codes.{leftAt};
-ghost use Rattle.record.specs.Tables.{expirationEntry, entriesOf, SizedEntries, blockEntries, expirationEntries};
+ghost use Rattle.record.specs.Tables.{entriesOf, SizedEntries, blockEntries, expirationEntries};
 ghost use Rattle.steps.specs.Remaining.{lifeIn, LifeWithin};
-ghost use Rattle.expirations.specs.Remaining.{unitsBy, unitsOf, longest, unitsIn};
+ghost use Rattle.expirations.specs.Remaining.{Lefts, longest, unitsIn};
 ghost use Rattle.expirations.specs.Standing.{groupSize};
 use super::asking::GROUP;
 use super::asking::GROUP_COUNT;
 use super::asking::has_byte;
 use ledger::Life;
-use record::Due;
+use record::BYTE_VALUES;
 use record::EXPIRATION_COUNT;
 use record::GlobalTime;
 use record::Head;
 use record::LocalTime;
-use record::codes::due_by;
+use record::codes::LOCAL;
 use record::codes::global_left;
+use record::codes::is_global;
 use record::codes::local_left;
 
 // What a task asks for: the object in a block, by the task's local time and by the global time.
@@ -31,10 +30,10 @@ pub struct Query {
     pub block: u8,
 }
 
-// Units left by either time.
+// Units left by either time. Of an expiration that counts they fit a byte; of any other only their last byte is kept.
 pub struct Units {
-    pub local: u32,
-    pub global: u32,
+    pub local: u8,
+    pub global: u8,
 }
 
 const NONE: Units = Units {
@@ -42,63 +41,45 @@ const NONE: Units = Units {
     global: 0,
 };
 
-fn local_units(q: Query, setter: u8, at: LocalTime) -> u32
-    ensures { λ r. ⌜ r ≡ cond (eqb setter (q .task)) (leftAt (at .0) (q .local .0)) 0 ⌝ }
+const BYTE_RANGE: u32 = BYTE_VALUES as u32;
+
+// The last byte of what is left of each due number of a group, read as a local time
+fn local_lefts(local: LocalTime, dues: &[u32; EXPIRATION_COUNT], from: usize) -> [u8; GROUP]
+    requires { ⌜ (length (now dues) ≡ expirationEntries) × (from + groupSize ≤ expirationEntries) ⌝ }
+    ensures { λ r. ⌜ Lefts (local .0) (now (dues .entry)) from groupSize r ⌝ }
 {
-    let now = q.local;
-    if setter == q.task {
-        local_left(at, now)
-    } else {
-        0
+    let mut out = [0; GROUP];
+    for i in 0..GROUP {
+        out[i] = (local_left(LocalTime(dues[from + i]), local) % BYTE_RANGE) as u8;
     }
+    out
 }
 
-// Those left on one expiration that count for the task: local ones that it set, and global ones.
-fn units_by(q: Query, due: Due) -> Units
-    ensures { λ r. ⌜ r ≡ unitsBy q due ⌝ }
+// and as a global one.
+fn global_lefts(global: GlobalTime, dues: &[u32; EXPIRATION_COUNT], from: usize) -> [u8; GROUP]
+    requires { ⌜ (length (now dues) ≡ expirationEntries) × (from + groupSize ≤ expirationEntries) ⌝ }
+    ensures { λ r. ⌜ Lefts (global .0) (now (dues .entry)) from groupSize r ⌝ }
 {
-    let now = q.global;
-    match due {
-        Due::Free => NONE,
-        Due::Local { setter, at } => Units {
-            local: local_units(q, setter, at),
-            global: 0,
-        },
-        Due::Global { setter: _, at } => Units {
-            local: 0,
-            global: global_left(at, now),
-        },
-        Due::Pinned(_) => NONE,
-        Due::Unknown => NONE,
+    let mut out = [0; GROUP];
+    for i in 0..GROUP {
+        out[i] = (global_left(GlobalTime(dues[from + i]), global) % BYTE_RANGE) as u8;
     }
+    out
 }
 
-fn larger(a: u32, b: u32) -> u32
+fn larger(a: u8, b: u8) -> u8
     ensures { λ r. ⌜ r ≡ max a b ⌝ }
 {
     if a < b { b } else { a }
 }
 
-fn longest(a: Units, b: Units) -> Units
-    ensures { λ r. ⌜ r ≡ longest a b ⌝ }
+fn counted(counts: bool, left: u8) -> u8
+    ensures { λ r. ⌜ r ≡ cond counts left 0 ⌝ }
 {
-    Units {
-        local: larger(a.local, b.local),
-        global: larger(a.global, b.global),
-    }
+    if counts { left } else { 0 }
 }
 
-// With one entry more.
-fn longest_with(so_far: Units, q: Query, clock: u8, block: u8, due: u32) -> Units
-    ensures { λ r. ⌜ r ≡ longest «so_far» (unitsOf q (expirationEntry clock block due)) ⌝ }
-{
-    if block != q.block {
-        return so_far;
-    }
-    longest(so_far, units_by(q, due_by(clock, due)))
-}
-
-// With those of a group.
+// With those of a group: local ones that the task set, and global ones.
 fn longest_in<'a>(
     so_far: Units,
     q: Query,
@@ -107,17 +88,28 @@ fn longest_in<'a>(
     dues: &'a [u32; EXPIRATION_COUNT],
     from: usize,
 ) -> Units
-    requires { ⌜ SizedEntries (now clocks) (now named) (now dues) × (from + groupSize ≤ expirationEntries) ⌝ }
+    requires { ⌜ SizedEntries (now clocks) (now named) (now dues) × (from + groupSize ≤ expirationEntries) × (q .task < taskCount) ⌝ }
     ensures { λ r. ⌜ r ≡ longest «so_far» (unitsIn q (drop from (take (from + groupSize) (entriesOf (now (clocks .entry)) (now (named .entry)) (now (dues .entry)))))) ⌝ }
 {
     if !has_byte(named, q.block, from, from + GROUP) {
         return so_far;
     }
-    let mut left = so_far;
-    for i in from..from + GROUP {
-        left = longest_with(left, q, clocks[i], named[i], dues[i]);
+    let at = q.local;
+    let now = q.global;
+    let locals = local_lefts(at, dues, from);
+    let globals = global_lefts(now, dues, from);
+    let mut local = so_far.local;
+    let mut global = so_far.global;
+    for i in 0..GROUP {
+        let on = named[from + i] == q.block;
+        let clock = clocks[from + i];
+        local = larger(local, counted(on & (clock == LOCAL + q.task), locals[i]));
+        global = larger(global, counted(on & is_global(clock), globals[i]));
     }
-    left
+    Units {
+        local: local,
+        global: global,
+    }
 }
 
 // The remaining life of the object in a block, for a task that asks. In a well-formed record each figure fits a byte.
@@ -147,7 +139,7 @@ pub fn remaining_life<'a>(
         left = longest_in(left, q, clocks, named, dues, g * GROUP);
     }
     Life {
-        local: left.local as u8,
-        global: left.global as u8,
+        local: left.local,
+        global: left.global,
     }
 }

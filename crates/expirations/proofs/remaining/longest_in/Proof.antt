@@ -1,18 +1,36 @@
 -- Nothing is added where none names the block; else entry by entry.
-use Prim.Native.Nat.{_≤_, _-_}
+use Prim.Native.Nat.{max, _-_, _<_}
 use native.Mathlib.Omega.{arith}
+use mathlib.Core.Path.{ap, ap₂, _∙_}
 use borrow.Author.Needs.{needs}
 use borrow.Author.Tests.{not-true}
 use Rattle.record.specs.Tables.{entriesOf}
-use Rattle.expirations.proofs.Longest.{Longest, longest-start, longest-turn, longest-end, longest-past}
+use Rattle.expirations.specs.Standing.{groupSize}
+use Rattle.expirations.proofs.Longest.{Longest, units, counted-local, counted-global, longest-start, longest-turn, longest-end, longest-past}
 use Rattle.expirations.proofs.remaining.longest_in.Statement.{statement}
 use Rattle.expirations.proofs.remaining.longest_in.Tie as tie
 
 abbrev Inv-loop : tie.InvT-loop
-Inv-loop q clocks named dues from left₀ i₀ i-end left i = (i ≤ i-end) × Longest q (entriesOf clocks named dues) from i-end left₀ i left
+Inv-loop q clocks named dues from locals globals local₀ global₀ i₀ local global i =
+    Longest q (entriesOf clocks named dues) from groupSize (units local₀ global₀) i (units local global)
 
 abbrev μ-loop : tie.MeasureT-loop
-μ-loop q clocks named dues from left₀ i₀ i-end left i = i-end - i
+μ-loop q clocks named dues from locals globals local₀ global₀ i₀ local global i = groupSize - i
+
+loop-again : tie.Need-loop-again Inv-loop μ-loop
+loop-again c =
+    let locally = c .before .before .before in
+    let turn = locally .before .before .before .before .before .before in
+    let l = turn .before in
+    let i = l .loop .i in
+    let more : i < groupSize = turn .loop-test .taken in
+    let g = l .before in
+    let s = g .before .before .before .before .before .before in
+    let a = s .args in
+    longest-turn (s .pre .0) (l .loop .inv) more
+    (ap₂ units
+    (locally .larger .ensures ∙ ap (max (l .loop .local)) (locally .before .counted .ensures ∙ rw (g .before .local-lefts .ensures .so i more) (counted-local (a .q) _ _ _ (s .pre .2))))
+    (c .larger2 .ensures ∙ ap (max (l .loop .global)) (c .before .counted2 .ensures ∙ rw (c .before .before .is-global .ensures, g .global-lefts .ensures .so i more) (counted-global (a .q) _ _ _))))
 
 pub longest-in-spec : {M : Type 1} → statement M
 longest-in-spec =
@@ -22,17 +40,23 @@ longest-in-spec =
     μ-loop
     (λ c. omega arith)
     (λ c κs. search needs)
-    (λ c. longest-past (c .before .before .args .q) (c .before .before .pre .0) _ _ _ (omega arith) (omega arith) (c .before .has-byte .ensures .none (not-true _ (c .if1 .taken))))
+    (λ c. longest-past (c .before .before .args .q) (c .before .before .pre .0) _ _ groupSize (c .before .before .pre .1) (c .before .has-byte .ensures .none (not-true _ (c .if1 .taken))))
+    (λ c κs. search needs)
+    (λ c κs. search needs)
+    (λ c. longest-start (c .before .before .before .before .before .before .pre .0) _ (omega arith))
     (λ c. omega arith)
-    (λ c. (omega arith, longest-start (c .before .before .pre .0) _ (omega arith) (omega arith)))
     (λ c. omega arith)
     (λ c. omega arith)
     (λ c. omega arith)
     (λ c. omega arith)
+    (λ c. search needs)
+    (λ c κs. search needs)
+    (λ c κs. search needs)
+    (λ c κs. search needs)
+    (λ c. search needs)
+    (λ c κs. search needs)
     (λ c κs. search needs)
     (λ c. omega arith)
     (λ c. omega arith)
-    (λ c.
-    let l = c .before .before .before .before .before in
-    (omega arith, longest-turn (l .before .before .before .pre .0) (l .loop .inv .1) (omega arith) (c .longest-with .ensures)))
-    (λ c. longest-end (c .before .before .before .before .pre .0) (c .before .loop .inv .1) (omega arith)))
+    loop-again
+    (λ c. longest-end (c .before .before .before .before .before .before .before .before .pre .0) (c .before .loop .inv) (omega arith)))

@@ -4,9 +4,7 @@ use native.Mathlib.Omega.{arith}
 use mathlib.Core.Path.{_≡_, refl}
 use borrow.Author.Needs.{needs}
 use lib.ListN.{take}
-use Rattle.ledger.proofs.Figures.{allowed}
 use Rattle.record.specs.Tables.{entriesOf}
-use Rattle.steps.specs.Remaining.{lifeIn, LifeWithin}
 use Rattle.expirations.specs.Remaining.{unitsIn}
 use Rattle.expirations.specs.Standing.{groupSize, groupCount}
 use Rattle.expirations.proofs.Longest.{groups-turn, life-end}
@@ -19,18 +17,11 @@ Inv-loop clocks named dues task block q left₀ g₀ left g = (g ≤ groupCount)
 abbrev μ-loop : tie.MeasureT-loop
 μ-loop clocks named dues task block q left₀ g₀ left g = groupCount - g
 
--- what the groups come to
-life : (c : tie.After-loop Inv-loop μ-loop)
-    → let a = c .before .before .before .before .before .before .args in
-    record { local = c .before .loop .left .local; global = c .before .loop .left .global }
-    ≡ lifeIn (a .task) (a .block) (a .h .tasks) (a .h .global) (entriesOf (a .clocks .now) (a .named .now) (a .dues .now))
-life c =
-    let start = c .before .before .before .before .before .before in
-    let a = start .args in
-    life-end (a .h) (a .task) (a .block) (start .pre .0) (c .before .loop .left) (c .before .loop .g) (omega arith) (c .before .loop .inv .1)
-
-within : (c : tie.After-loop Inv-loop μ-loop) → LifeWithin (record { local = c .before .loop .left .local; global = c .before .loop .left .global })
-within c = rw (life c) (c .before .before .before .before .before .before .pre .3)
+returns : tie.Need-returns Inv-loop μ-loop
+returns c =
+    let s = c .before .before .before .before .before .before in
+    let a = s .args in
+    life-end (a .h) (a .task) (a .block) (s .pre .0) (s .pre .3) (c .before .loop .left) (c .before .loop .g) (omega arith) (c .before .loop .inv .1)
 
 loop-again : tie.Need-loop-again Inv-loop μ-loop
 loop-again c =
@@ -49,10 +40,8 @@ remaining-life-spec =
     (λ c. search needs)
     (λ c. (omega arith, refl))
     (λ c. omega arith)
-    (λ c κs. (c .before .before .before .before .before .before .pre .0, omega arith))
+    (λ c κs. let s = c .before .before .before .before .before .before in (s .pre .0, omega arith, s .pre .1))
     (λ c. omega arith)
     (λ c. omega arith)
     loop-again
-    (λ c. omega (arith, within (c .before) .local, allowed .most-extension))
-    (λ c. omega (arith, within (c .before .before) .global, allowed .most-extension))
-    (λ c. life (c .before .before)))
+    returns)
