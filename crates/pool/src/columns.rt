@@ -1,0 +1,47 @@
+// A record by value and its columns: how those of bytes are taken out, and how all are put together again.
+ghost use mathlib.Core.Path.{_≡_};
+ghost use Rattle.record.specs.Tables.{pooled};
+use record::BLOCK_COUNT;
+use record::EXPIRATION_COUNT;
+use record::Head;
+use record::Pool;
+
+// A column of bytes at the boundary of a word. Where one stands at any address, the compiler lends the record's own instead, and for that keeps a second copy of the whole record on the stack.
+pub struct Aligned {
+    pub bytes: [u8; EXPIRATION_COUNT],
+    pub word: u32,
+}
+
+pub fn taken_out(bytes: [u8; EXPIRATION_COUNT]) -> Aligned
+    ensures { λ r. ⌜ r .bytes ≡ bytes ⌝ }
+{
+    Aligned {
+        bytes: bytes,
+        word: 0,
+    }
+}
+
+// The record that a head and columns make.
+pub fn put_together(
+    head: Head,
+    handles: [u32; BLOCK_COUNT],
+    extents: [u32; BLOCK_COUNT],
+    clocks: [u8; EXPIRATION_COUNT],
+    named: [u8; EXPIRATION_COUNT],
+    dues: [u32; EXPIRATION_COUNT],
+) -> Pool
+    ensures { λ r. ⌜ r ≡ pooled head handles extents clocks named dues ⌝ }
+{
+    let tasks = head.tasks;
+    let global = head.global;
+    Pool {
+        tasks: tasks,
+        global: global,
+        given: head.given,
+        handles: handles,
+        extents: extents,
+        clocks: clocks,
+        named: named,
+        dues: dues,
+    }
+}
