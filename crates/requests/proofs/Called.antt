@@ -1,4 +1,4 @@
--- 15, 14 and the dispatch on lent columns, and on those of a record by value, taken out and stored back.
+-- 15, 14 and the dispatch on lent columns.
 use Prim.Native.Nat.{ℕ}
 use mathlib.Core.Bool.{Bool, true, false, not, _&&_}
 use mathlib.Core.List.{List}
@@ -8,17 +8,14 @@ use lib.ListN.{length}
 use Rattle.ledger.specs.declared.Answer.the-variants.{Refused}
 use Rattle.ledger.specs.declared.Refusal.the-variants.{NotWellFormed, WrongStoreLength}
 use Rattle.ledger.specs.declared.Request.{Request}
-use Rattle.record.specs.Tables.{Sized, lent, headOf, pooled}
+use Rattle.record.specs.Tables.{Sized, lent, pooled}
 use Rattle.record.specs.WellFormed as WellFormed
 use Rattle.record.specs.declared.Head.{Head}
-use Rattle.record.specs.declared.Pool.{Pool}
 use Rattle.calls.specs.Contract.{isStored, TellsWhole, Ready}
 use Rattle.calls.specs.Served.{Serves}
 use Rattle.calls.specs.Served.{withoutBytes as withPool}
 use Rattle.calls.proofs.Promises.{ready, unfit-obeys, wrong-obeys}
 use Rattle.calls.proofs.Served.{refused-serves}
-use Rattle.dispatch.specs.Done.{givenBack}
-use Rattle.dispatch.specs.declared.Done.{Done}
 use Rattle.pool.proofs.ByValue.{fits-by-value}
 
 module _ {h : Head} {hs ls cs ns ds : List ℕ} (sized : Sized hs ls cs ns ds) {fit : Bool} (f : fit ≡ WellFormed.isWellFormed (lent h hs ls cs ns ds))
@@ -36,10 +33,3 @@ module _ {h : Head} {hs ls cs ns ds : List ℕ} (sized : Sized hs ls cs ns ds) {
 
     pub lent-ready : stored && not whole ≡ false → Ready request (pooled h hs ls cs ns ds) small large
     lent-ready passed-too = ready (fits-by-value (pooled h hs ls cs ns ds) refl f) passed s tells passed-too
-
-module _ (p : Pool) {h : Head} (e : h ≡ headOf p) where
-  pub called-by-value : {request : Request} {new small large small′ large′ : List ℕ} {d : Done} {hs′ ls′ cs′ ns′ ds′ : List ℕ}
-      → Serves request new (pooled h (p .handles) (p .extents) (p .clocks) (p .named) (p .dues)) small large (givenBack d hs′ ls′ cs′ ns′ ds′) small′ large′
-      → {p′ : Pool} → p′ ≡ pooled (d .head) hs′ ls′ cs′ ns′ ds′
-      → Serves request new p small large (record { answer = d .answer; pool = p′; block = d .block; length = d .length }) small′ large′
-  called-by-value s left = rw left (rw e at s)

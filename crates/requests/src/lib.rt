@@ -1,11 +1,10 @@
-// Any call by its request, on a record by value (P7): 15 first, then 14 where the request touches a store, then the dispatch.
+// Any call by its request, on lent columns (P7): 15 first, then 14 where the request touches a store, then the dispatch.
 ghost use mathlib.Core.Path.{_≡_};
 ghost use Rattle.ledger.specs.declared.Answer.the-variants.{Refused as RefusedAnswer};
 ghost use Rattle.calls.specs.Contract.{isStored};
 ghost use Rattle.record.specs.Tables.{pooled, Sized};
 ghost use Rattle.calls.specs.Served.{Serves};
 ghost use Rattle.dispatch.specs.Done.{withoutBytes, givenBack};
-use calls::Called;
 use dispatch;
 use dispatch::Done;
 use fitness::is_well_formed;
@@ -17,8 +16,6 @@ use pool::lengths::are_whole;
 use record::BLOCK_COUNT;
 use record::EXPIRATION_COUNT;
 use record::Head;
-use record::Pool;
-use record::head_of;
 
 // The calls that test 14.
 fn is_stored(request: Request) -> bool
@@ -69,8 +66,8 @@ fn refused(why: Refusal, h: Head) -> Done
     }
 }
 
-// On lent columns: who lends them never looks at the record again.
-fn call_lent(
+// One call of the thirteen, by its request. The bytes are those of a write or a batch; other calls leave them aside. Who lends the columns never looks at the record again.
+pub fn call(
     h: Head,
     handles: &mut [u32; BLOCK_COUNT],
     extents: &mut [u32; BLOCK_COUNT],
@@ -103,47 +100,4 @@ fn call_lent(
         request,
         bytes,
     )
-}
-
-// One call of the thirteen, by its request. The bytes are those of a write or a batch; other calls leave them aside.
-pub fn call(p: Pool, small: &mut [u8], large: &mut [u8], request: Request, bytes: &[u8]) -> Called
-    ensures { λ r. ⌜ Serves request (now (bytes .entry)) p (now (small .entry)) (now (large .entry)) r (now (small .exit)) (now (large .exit)) ⌝ }
-{
-    let h = head_of(p);
-    let mut handles = p.handles;
-    let mut extents = p.extents;
-    let mut clocks = p.clocks;
-    let mut named = p.named;
-    let mut dues = p.dues;
-    let done = call_lent(
-        h,
-        &mut handles,
-        &mut extents,
-        &mut clocks,
-        &mut named,
-        &mut dues,
-        small,
-        large,
-        request,
-        bytes,
-    );
-    let answer = done.answer;
-    let head = done.head;
-    let tasks = head.tasks;
-    let global = head.global;
-    Called {
-        answer: answer,
-        pool: Pool {
-            tasks: tasks,
-            global: global,
-            given: head.given,
-            handles: handles,
-            extents: extents,
-            clocks: clocks,
-            named: named,
-            dues: dues,
-        },
-        block: done.block,
-        length: done.length,
-    }
 }
