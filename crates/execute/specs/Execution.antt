@@ -11,7 +11,7 @@ use Rattle.ledger.specs.declared.Answer.the-variants.{Refused}
 use Rattle.ledger.specs.declared.Refusal.{Refusal}
 use Rattle.stores.specs.Places.{InBlock}
 use Rattle.record.specs.Reading.{blockBytes, Typed}
-use Rattle.record.specs.Tables.{tablesOf}
+use Rattle.record.specs.Tables.{tablesOf, pooled}
 use Rattle.record.specs.declared.Pool.{Pool}
 use Rattle.calls.specs.Contract.{Refuses, Obeys}
 use Rattle.calls.specs.Served.{withoutBytes, replyOf, Serves}
@@ -21,6 +21,7 @@ use Rattle.frames.specs.Frames.{frameOf, payloadOf}
 use Rattle.text.specs.Hex.{Puts}
 use Rattle.frames.specs.declared.Frame.{Frame}
 use Rattle.execute.specs.declared.Executed.{Executed}
+use Rattle.execute.specs.declared.Carried.{Carried}
 
 -- the ledger's reply to a frame with the bytes that come with it, and the ledger after it; F26: a frame that is refused is no call
 abbrev pub replyToFrame : Ledger → Frame → List ℕ → Reply
@@ -49,6 +50,10 @@ pub record Executes (line : List ℕ) (p : Pool) (small large out : List ℕ) (r
   pub left : r .pool ≡ called .pool
   pub numbered : r .number ≡ answerNumber (called .answer)
   pub shown : Puts 0 (answerLine (called .answer) (replyOf called small′ large′ .bytes)) out out′ (r .length)
+
+-- what a caller by value is given, with the columns that were left
+abbrev pub executedOf : Carried → List ℕ → List ℕ → List ℕ → List ℕ → List ℕ → Executed
+executedOf r handles extents clocks named dues = record { pool = pooled (r .head) handles extents clocks named dues; number = r .number; length = r .length }
 
 -- The contract settles the answer: any two results that it allows for one line on one record with its stores and buffer have the same number, length and buffer.
 -- `Typed` is what the record's type gives of every value.

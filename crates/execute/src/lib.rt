@@ -4,10 +4,11 @@ ghost use mathlib.Core.Path.{_≡_};
 ghost use lib.ListN.{length};
 ghost use Rattle.ledger.specs.declared.Refusal.{Refusal};
 ghost use Rattle.record.specs.Reading.{blockBytes};
+ghost use Rattle.record.specs.Tables.{pooled, Sized};
 ghost use Rattle.frames.specs.Answers.{answerLine, longestAnswer};
 ghost use Rattle.frames.specs.declared.Frame.{Frame};
 ghost use Rattle.text.specs.Hex.{Puts};
-ghost use Rattle.execute.specs.Execution.{Showable, Executes};
+ghost use Rattle.execute.specs.Execution.{Showable, executedOf, Executes};
 use frames::Frame;
 use frames::MOST_BYTES;
 use frames::WIDEST_HEAD;
@@ -16,7 +17,13 @@ use frames::encode_answer;
 use ledger::Answer;
 use ledger::Refusal;
 use ledger::answer_number;
+use pool::columns::put_together;
+use pool::columns::taken_out;
+use record::BLOCK_COUNT;
+use record::EXPIRATION_COUNT;
+use record::Head;
 use record::Pool;
+use record::head_of;
 use requests::call;
 use stores::block_part;
 use stores::no_part;
@@ -27,6 +34,13 @@ pub const LONGEST_ANSWER: usize = 2 * (WIDEST_HEAD + MOST_BYTES) + 1;
 // The record that a line leaves, the number of its answer, and how long the line of it is.
 pub struct Executed {
     pub pool: Pool,
+    pub number: u8,
+    pub length: usize,
+}
+
+// The same on lent columns: the head that is left.
+pub struct Carried {
+    pub head: Head,
     pub number: u8,
     pub length: usize,
 }
@@ -75,30 +89,85 @@ pub fn show<'a>(
     )
 }
 
-// A line on any record with any stores; the line of its answer goes to the start of a buffer.
-pub fn execute(p: Pool, small: &mut [u8], large: &mut [u8], line: &[u8], out: &mut [u8]) -> Executed
-    requires { ⌜ longestAnswer ≤ length (now out) ⌝ }
-    ensures { λ r. ⌜ Executes (now (line .entry)) p (now (small .entry)) (now (large .entry)) (now (out .entry)) r (now (small .exit)) (now (large .exit)) (now (out .exit)) ⌝ }
+// A line on lent columns and stores; the line of its answer goes to the start of a buffer. A refused frame leaves the columns alone: who lends them never looks at the record again.
+fn execute_lent(
+    h: Head,
+    handles: &mut [u32; BLOCK_COUNT],
+    extents: &mut [u32; BLOCK_COUNT],
+    clocks: &mut [u8; EXPIRATION_COUNT],
+    named: &mut [u8; EXPIRATION_COUNT],
+    dues: &mut [u32; EXPIRATION_COUNT],
+    small: &mut [u8],
+    large: &mut [u8],
+    line: &[u8],
+    out: &mut [u8],
+) -> Carried
+    requires { ⌜ Sized (now handles) (now extents) (now clocks) (now named) (now dues) × (longestAnswer ≤ length (now out)) ⌝ }
+    ensures { λ r. ⌜ Sized (now (handles .exit)) (now (extents .exit)) (now (clocks .exit)) (now (named .exit)) (now (dues .exit)) × Executes (now (line .entry)) (pooled h (now (handles .entry)) (now (extents .entry)) (now (clocks .entry)) (now (named .entry)) (now (dues .entry))) (now (small .entry)) (now (large .entry)) (now (out .entry)) (executedOf r (now (handles .exit)) (now (extents .exit)) (now (clocks .exit)) (now (named .exit)) (now (dues .exit))) (now (small .exit)) (now (large .exit)) (now (out .exit)) ⌝ }
 {
     let mut bytes = [0u8; MOST_BYTES];
     let frame = decode(line, &mut bytes);
     let Frame::Request(request, count) = frame else {
         let refusal = Answer::Refused(refusal_of(frame));
-        return Executed {
-            pool: p,
+        return Carried {
+            head: h,
             number: answer_number(refusal),
             length: put_answer(refusal, no_part(small), out, 0),
         };
     };
-    let called = call(p, small, large, request, &bytes[..count]);
-    let answer = called.answer;
-    let block = called.block;
-    let shown = called.length;
-    let pool = called.pool;
-    let length = show(answer, small, large, block, shown, out, 0);
-    Executed {
-        pool: pool,
+    let done = call(
+        h,
+        handles,
+        extents,
+        clocks,
+        named,
+        dues,
+        small,
+        large,
+        request,
+        &bytes[..count],
+    );
+    let answer = done.answer;
+    let head = done.head;
+    let length = show(answer, small, large, done.block, done.length, out, 0);
+    Carried {
+        head: head,
         number: answer_number(answer),
         length: length,
+    }
+}
+
+// A line on any record with any stores, by its columns.
+pub fn execute(p: Pool, small: &mut [u8], large: &mut [u8], line: &[u8], out: &mut [u8]) -> Executed
+    requires { ⌜ longestAnswer ≤ length (now out) ⌝ }
+    ensures { λ r. ⌜ Executes (now (line .entry)) p (now (small .entry)) (now (large .entry)) (now (out .entry)) r (now (small .exit)) (now (large .exit)) (now (out .exit)) ⌝ }
+{
+    let h = head_of(p);
+    let mut handles = p.handles;
+    let mut extents = p.extents;
+    let clock_bytes = p.clocks;
+    let mut clocks = taken_out(clock_bytes);
+    let named_bytes = p.named;
+    let mut named = taken_out(named_bytes);
+    let mut dues = p.dues;
+    let done = execute_lent(
+        h,
+        &mut handles,
+        &mut extents,
+        &mut clocks.bytes,
+        &mut named.bytes,
+        &mut dues,
+        small,
+        large,
+        line,
+        out,
+    );
+    let head = done.head;
+    let clocks_left = clocks.bytes;
+    let named_left = named.bytes;
+    Executed {
+        pool: put_together(head, handles, extents, clocks_left, named_left, dues),
+        number: done.number,
+        length: done.length,
     }
 }

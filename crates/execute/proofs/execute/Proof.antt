@@ -1,60 +1,34 @@
--- By the frame: refused with nothing changed, or what the pool serves.
-use native.Mathlib.Omega.{arith}
-use mathlib.Core.Path.{sym}
+-- The line on the columns.
 use borrow.Author.Needs.{needs}
-use lib.Seq.{length-take-le}
-use Rattle.execute.proofs.Showing.{serves-showable, short-line}
-use Rattle.execute.proofs.Carrying.{bytes-in, refused-executes, served-executes}
+use Rattle.pool.proofs.Sizes.{columns-sized}
+use Rattle.execute.proofs.Carrying.{taken-sized, executes-by-value}
 use Rattle.execute.proofs.execute.Statement.{statement}
 use Rattle.execute.proofs.execute.Tie as tie
 
-put-answer-requires : tie.Need-put-answer-requires
-put-answer-requires c κs =
-    let start = c .before .before .before .before .before .before .before .before .before .before .before .before .before .before in
-    short-line _ _ (start .args .out .now) 0 (c .before .no-part .ensures) (start .pre)
+execute-lent-requires : tie.Need-execute-lent-requires
+execute-lent-requires c κs =
+    let named = c .before .before .before .before .before .before .before .before .before in
+    let head = named .before .before .before .before .before .before in
+    let start = head .before .before .before .before .before in
+    (taken-sized (start .args .p) (head .head-of .ensures) (named .before .before .taken-out .ensures) (named .taken-out2 .ensures) (columns-sized (start .args .p) _ (start .good .0)), start .pre)
 
 returns : tie.Need-returns
 returns c =
-    let told = c .before .before .before .before .before .before .before in
-    refused-executes (told .before .before .before .before .decode .ensures) _ _ _ _ _ _ (told .refusal-of .ensures) (c .before .before .before .before .no-part .ensures) (c .before .before .before .before .before .before .answer-number .ensures) (c .before .before .put-answer .ensures)
-
-array-share-prefix-bytes : tie.Need-array-share-prefix-bytes
-array-share-prefix-bytes c =
-    let known = c .before .before .before in bytes-in (known .before .before .before .decode .ensures) (known .frame .given .1)
-
-show-requires : tie.Need-show-requires
-show-requires c κs =
-    let called = c .before .before .before .before .before .before .before .before in
-    let start = called .before .before .before .before .before .before .before .before .before .before .before .before .before .before in
-    serves-showable (called .call .ensures) (start .args .out .now) 0 (start .pre)
-
-returns-2 : tie.Need-returns-2
-returns-2 c =
-    let called = c .before .before .before .before .before .before .before .before .before .before .before .before in
-    let known = called .before .before .before .before .before in
-    served-executes (known .before .before .before .decode .ensures) _ _ _ _ _ _ (known .frame .given .1) (called .call .ensures) (c .answer-number2 .ensures) (c .before .before .before .show .ensures)
+    let done = c .before .before .before .before .before .before .before .before .before .before in
+    let named = done .before .before .before .before .before .before .before .before .before .before in
+    let head = named .before .before .before .before .before .before in
+    executes-by-value (head .before .before .before .before .before .args .p) (head .head-of .ensures) (named .before .before .taken-out .ensures) (named .taken-out2 .ensures) (done .execute-lent .ensures .1) (c .put-together .ensures)
 
 pub execute-spec : {M : Type 1} → statement M
 execute-spec =
     tie.close
     (tie.spec
-    (λ c. search needs)
-    (λ c κs. search needs)
-    (λ c. search needs)
-    (λ c. search needs)
     (λ c κs. search needs)
     (λ c κs. search needs)
     (λ c κs. search needs)
-    put-answer-requires
-    (λ c. search needs)
-    (λ c. search needs)
-    returns
-    array-share-prefix-bytes
-    (λ c. sym (length-take-le _ _ (array-share-prefix-bytes (c .before))))
-    (λ c κs. search needs)
-    show-requires
+    execute-lent-requires
     (λ c κs. search needs)
     (λ c. search needs)
     (λ c. search needs)
     (λ c. search needs)
-    returns-2)
+    returns)
