@@ -1,4 +1,4 @@
-// A line carried out on a record with its stores.
+// A line carried out on a record by value (P7) with its stores: its columns are taken out once, lent to the line, and the record is put together once.
 ghost use Prim.Native.Nat.{_+_, _≤_};
 ghost use mathlib.Core.Path.{_≡_};
 ghost use lib.ListN.{length};
@@ -38,7 +38,7 @@ pub struct Executed {
     pub length: usize,
 }
 
-// The same on lent columns: the head that is left.
+// The same on lent columns: the head that a line leaves instead of the record.
 pub struct Carried {
     pub head: Head,
     pub number: u8,
@@ -89,7 +89,7 @@ pub fn show<'a>(
     )
 }
 
-// A line on lent columns and stores; the line of its answer goes to the start of a buffer. A refused frame leaves the columns alone: who lends them never looks at the record again.
+// A line on lent columns and any stores; the line of its answer goes to the start of a buffer. A frame that is refused leaves the columns alone, and so who lends them never looks at the record again.
 fn execute_lent(
     h: Head,
     handles: &mut [u32; BLOCK_COUNT],
@@ -137,7 +137,7 @@ fn execute_lent(
     }
 }
 
-// A line on any record with any stores, by its columns.
+// The same on any record.
 pub fn execute(p: Pool, small: &mut [u8], large: &mut [u8], line: &[u8], out: &mut [u8]) -> Executed
     requires { ⌜ longestAnswer ≤ length (now out) ⌝ }
     ensures { λ r. ⌜ Executes (now (line .entry)) p (now (small .entry)) (now (large .entry)) (now (out .entry)) r (now (small .exit)) (now (large .exit)) (now (out .exit)) ⌝ }

@@ -1,4 +1,4 @@
-// Any call by its request, on lent columns (P7): 15 first, then 14 where the request touches a store, then the dispatch.
+// Any call by its request, on lent columns: 15 first, then 14 where the request touches a store, then the dispatch.
 ghost use mathlib.Core.Path.{_≡_};
 ghost use Rattle.ledger.specs.declared.Answer.the-variants.{Refused as RefusedAnswer};
 ghost use Rattle.calls.specs.Contract.{isStored};
