@@ -1,4 +1,5 @@
 pub mod Searching
+pub mod Firsts
 pub mod Laws
 pub mod Outcomes
 pub mod Batches

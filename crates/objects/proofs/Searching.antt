@@ -1,8 +1,8 @@
 -- Loops for any element type: a search that goes past a group in which none passes, a test of any that goes on to the end, and a list filled by another.
-use Prim.Native.Nat.{ℕ, suc, _+_, _≤_, _<_}
+use Prim.Native.Nat.{ℕ, zero, suc, _+_, _≤_, _<_}
 use native.Mathlib.Nat.{add-zero}
 use native.Mathlib.Omega.{arith}
-use mathlib.Core.Bool.{Bool, false, _||_, or-assoc, or-false}
+use mathlib.Core.Bool.{Bool, true, false, _||_, or-assoc, or-false}
 use mathlib.Core.List.{List, [], _∷_, _++_, map}
 use mathlib.Core.Path.{_≡_, sym, ap, _∙_}
 use lib.Dec.{eqb}
@@ -32,6 +32,15 @@ module _ {ℓ} {A : Type ℓ} (p : A → Bool) where
   first-front i (x ∷ xs) ys e =
       let (here, rest) = or-false-parts (p x) (any p xs) e in
       rw (here, first-front (suc i) xs ys rest) (ap (λ (k : ℕ). firstFrom k p ys) (omega arith))
+
+  -- the first that passes is the one before which none does
+  pub first-is : (d : A) (j : ℕ) (xs : List A) (i : ℕ) → i < length xs → p (getD xs i d) ≡ true → ((k : ℕ) → k < i → p (getD xs k d) ≡ false)
+      → j + i ≡ firstFrom j p xs
+  first-is d j [] i h t f = absurd (omega arith)
+  first-is d j (x ∷ xs) zero h t f = rw (t, add-zero)
+  first-is d j (x ∷ xs) (suc i) h t f =
+      let next : j + suc i ≡ suc j + i = omega arith in
+      rw (next, f 0 (omega arith)) (first-is d (suc j) xs i (omega arith) t (λ k l. f (suc k) (omega arith)))
 
   module _ {xs : List A} {n i : ℕ} where
     pub first-past-group : {v : ℕ} (j : ℕ) → Scanned v xs n i (firstFrom i p) → i ≤ j → j ≤ n → any p (drop i (take j xs)) ≡ false

@@ -1,4 +1,4 @@
-// What a batch decides: one pass finds its objects, each by one search of the blocks; no search is made where a test before it refuses.
+// What a batch decides: one pass finds its objects, each by a table of the blocks that is made once; none is sought where a test before it refuses.
 ghost use Prim.Native.Nat.{_+_, _*_, _/_, _≤_, _<_};
 ghost use mathlib.Core.Path.{_≡_};
 ghost use lib.ListN.{length, getD};
@@ -10,7 +10,8 @@ use super::BatchPlan;
 use super::refusals::batch_call_verdict;
 use super::refusals::batch_objects_verdict;
 use super::refusals::is_ungiven;
-use super::search::locate;
+use super::table::firsts;
+use super::table::locate_by;
 use ledger::Kind;
 use ledger::LARGEST_BATCH;
 use ledger::Verdict;
@@ -45,12 +46,13 @@ fn find_batch(given: u32, handles: &[u32; BLOCK_COUNT], bytes: &[u8]) -> BatchFo
     requires { ⌜ (length (now handles) ≡ blockEntries) × (length (now bytes) / 4 ≤ largestBatch) ⌝ }
     ensures { λ r. ⌜ FindsBatch given (now (handles .entry)) (handlesOf (now (bytes .entry))) r ⌝ }
 {
+    let firsts = firsts(handles);
     let mut blocks = [0u8; LARGEST_BATCH];
     let mut ungiven = false;
     let mut gone = false;
     for i in 0..bytes.len() / 4 {
         let handle = handle_at(bytes, i);
-        let place = locate(handles, handle);
+        let place = locate_by(&firsts, handles, handle);
         blocks[i] = place as u8;
         ungiven = ungiven | is_ungiven(given, handle);
         gone = gone | (BLOCK_COUNT <= place);

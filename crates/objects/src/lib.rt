@@ -5,6 +5,7 @@ mod finding;
 mod refusals;
 mod report;
 mod search;
+mod table;
 
 pub use batch::plan_batch;
 pub use decide::plan_make;
