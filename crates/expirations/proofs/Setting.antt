@@ -69,10 +69,10 @@ module _ (f : ℕ → Entry) where
     pub passed : place ≤ freeIn clocks
     pub room : standingOf clocks + (n - i) ≤ expirationEntries
 
-  pub set-start : {n : ℕ} (blocks clocks named dues : List ℕ) → SizedEntries clocks named dues → standingOf clocks + n ≤ expirationEntries
-      → SetTo blocks n (entriesOf clocks named dues) 0 0 clocks named dues
+  pub set-start : {n place : ℕ} (blocks clocks named dues : List ℕ) → SizedEntries clocks named dues → standingOf clocks + n ≤ expirationEntries → place ≡ freeIn clocks
+      → SetTo blocks n (entriesOf clocks named dues) 0 place clocks named dues
   unfolding setEach
-  set-start blocks clocks named dues s h = record { within = omega arith; sized = s; entries = refl; passed = omega arith; room = omega arith }
+  set-start blocks clocks named dues s h e = record { within = omega arith; sized = s; entries = refl; passed = omega arith; room = omega arith }
 
   module _ {blocks : List ℕ} {n : ℕ} {xs : List ExpirationEntry} {i place : ℕ} {clocks named dues : List ℕ} (s : SetTo blocks n xs i place clocks named dues) where
     -- there is a free one

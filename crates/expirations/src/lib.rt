@@ -128,7 +128,8 @@ pub fn set(
     put(e, at, clocks, named, dues);
 }
 
-// One expiration more on each of the first `count` blocks, where there are free entries for all. The entry is made once, and each search goes on where the last one ended: one pass.
+// One expiration more on each of the first `count` blocks, where there are free entries for all. The entry is made once; the entries before the first free one are passed over
+// many at a time, and each search goes on where the last one ended: one pass.
 pub fn set_all(
     h: Head,
     kind: Kind,
@@ -146,7 +147,7 @@ pub fn set_all(
     let tasks = h.tasks;
     let global = h.global;
     let first = entry_for(tasks, global, kind, task, extension, 0);
-    let mut from = 0;
+    let mut from = free_entry(clocks);
     for i in 0..count {
         let e = Entry {
             clock: first.clock,

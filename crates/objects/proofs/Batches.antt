@@ -1,67 +1,26 @@
--- Laws of a batch: the tests in the two parts in which they are made, and the pass over its handles between them.
-use Prim.Native.Nat.{ℕ, _+_, _≤_, _<_}
-use native.Mathlib.Omega.{arith}
-use mathlib.Core.Bool.{Bool, false, _||_}
+-- Laws of a batch: the tests in the two parts in which they are made, before the pass over its handles and after it.
+use Prim.Native.Nat.{ℕ, _+_, _≤_}
 use mathlib.Core.List.{List}
-use mathlib.Core.Path.{_≡_, sym, ap, _∙_}
+use mathlib.Core.Path.{_≡_, sym}
 use borrow.Author.Tests.{ltb-false}
-use lib.Dec.{eqb, leb, ltb}
-use lib.ListN.{length, getD, set, replicate}
-use Rattle.lists.specs.Filled.{Filled}
+use lib.Dec.{eqb, ltb}
+use lib.ListN.{length}
 use Rattle.lists.specs.Tests.{any}
 use Rattle.lists.proofs.Cases.{or-false-parts}
-use Rattle.lists.proofs.Filling.{filled-start, filled-turn}
-use Rattle.lists.proofs.Loops.{Scanned, scanned-start}
 use Rattle.ledger.specs.Limits.{largestBatch}
 use Rattle.ledger.specs.declared.Kind.{Kind}
 use Rattle.ledger.specs.declared.Refusal.{Refusal}
 use Rattle.ledger.specs.declared.Verdict.{Verdict}
 use Rattle.ledger.specs.declared.Verdict.the-variants.{Accepted, Refused}
-use Rattle.record.specs.Tables.{blockEntries}
 use Rattle.record.specs.declared.Head.{Head}
 use Rattle.record.specs.declared.TaskEntry.{TaskEntry}
-use Rattle.steps.specs.Objects.{placeIn, andThen, isUngiven, isMissingIn, taskVerdict, batchVerdictBy}
+use Rattle.steps.specs.Objects.{andThen, isUngiven, isMissingIn, taskVerdict, batchVerdictBy}
 use Rattle.steps.proofs.Chosen.{both-accept, not-refused}
 use Rattle.steps.proofs.Verdicts.{then-assoc}
-use Rattle.objects.specs.Batches.{batchCallVerdict, batchObjectsVerdict, FindsBatch, PlansBatch}
-use Rattle.objects.specs.Outcomes.{setVerdict}
-use Rattle.objects.specs.declared.batch.BatchFound.{BatchFound}
-use Rattle.objects.proofs.Searching.{any-kept, any-kept-end, filled-map}
-
--- the pass after i of n handles: what was found of those, and what is left to find
-module _ (given : ℕ) (handles named : List ℕ) (n : ℕ) where
-  pub record Passed (i : ℕ) (out : List ℕ) (ungiven gone : Bool) : Type 0 where
-    pub of-given : Scanned (any (isUngiven given) named) named n i (λ ys. ungiven || any (isUngiven given) ys)
-    pub of-gone : Scanned (any (isMissingIn handles) named) named n i (λ ys. gone || any (isMissingIn handles) ys)
-    pub of-places : Filled (placeIn 0 handles) (λ (k place : ℕ). place ≡ placeIn (getD named k 0) handles) largestBatch i out
-
-  pub passed-start : length named ≡ n → Passed 0 (replicate largestBatch 0) false false
-  passed-start e =
-      record {
-        of-given = scanned-start (any (isUngiven given)) named n e;
-        of-gone = scanned-start (any (isMissingIn handles)) named n e;
-        of-places = filled-start 0;
-      }
-
-  pub passed-turn : {i : ℕ} {out : List ℕ} {ungiven gone r : Bool} {handle place : ℕ} → Passed i out ungiven gone → i < n → n ≤ largestBatch
-      → handle ≡ getD named i 0 → r ≡ isUngiven given handle → place ≡ placeIn handle handles
-      → Passed (i + 1) (set out i place) (ungiven || r) (gone || leb blockEntries place)
-  passed-turn {ungiven = ungiven} {gone} s h k e f g =
-      record {
-        of-given = any-kept (isUngiven given) 0 ungiven (s .of-given) h (f ∙ ap (isUngiven given) e);
-        of-gone = any-kept (isMissingIn handles) 0 gone (s .of-gone) h (rw (g, e));
-        of-places = filled-turn _ (s .of-places) (omega arith) (rw e at g);
-      }
-
-  pub passed-end : {i : ℕ} {out : List ℕ} {ungiven gone : Bool} → Passed i out ungiven gone → n ≤ i → length named ≡ n → n ≤ largestBatch
-      → FindsBatch given handles named (record { blocks = out; ungiven = ungiven; gone = gone })
-  passed-end s h e k =
-      record {
-        ungiven = any-kept-end (isUngiven given) _ (s .of-given) h;
-        gone = any-kept-end (isMissingIn handles) _ (s .of-gone) h;
-        sized = s .of-places .size;
-        blocks = filled-map (λ (handle : ℕ). placeIn handle handles) 0 named (s .of-places) (omega arith) (omega arith);
-      }
+use Rattle.refusals.specs.Batches.{FindsBatch}
+use Rattle.refusals.specs.Verdicts.{setVerdict, batchCallVerdict, batchObjectsVerdict}
+use Rattle.refusals.specs.declared.batch.BatchFound.{BatchFound}
+use Rattle.objects.specs.Batches.{PlansBatch}
 
 -- the first tests accept no more handles than a plan has room for
 pub batch-fits : (task : ℕ) (kind : Kind) (extension : ℕ) (tasks : List TaskEntry) (count : ℕ) → batchCallVerdict task kind extension tasks count ≡ Accepted → count ≤ largestBatch

@@ -1,4 +1,3 @@
-pub mod Searching
 pub mod Laws
 pub mod Outcomes
 pub mod Batches

@@ -22,7 +22,8 @@ use Rattle.steps.proofs.Remaining.{life-within}
 use Rattle.steps.proofs.Verdicts.{then-assoc}
 use Rattle.expirations.specs.Standing.{standingOf}
 use Rattle.expirations.proofs.Counting.{standing-of}
-use Rattle.objects.specs.Outcomes.{foundBy, foundIf, lifeIf, bytesBy, setVerdict}
+use Rattle.refusals.specs.Verdicts.{setVerdict}
+use Rattle.objects.specs.Outcomes.{foundBy, foundIf, lifeIf, bytesBy}
 use Rattle.objects.specs.declared.Found.the-variants.{At}
 use Rattle.objects.specs.declared.Found.the-variants.{Refused as RefusedFound}
 use Rattle.objects.specs.declared.FoundBytes.the-variants.{At as AtBytes}

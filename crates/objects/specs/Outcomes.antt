@@ -9,7 +9,7 @@ use Rattle.ledger.specs.declared.Verdict.the-variants.{Accepted, Refused}
 use Rattle.record.specs.Codes.{freeBlock}
 use Rattle.record.specs.Tables.{Tables}
 use Rattle.record.specs.declared.Head.{Head}
-use Rattle.steps.specs.Objects.{placeOf, andThen, kindVerdict, extensionVerdict, makeVerdictBy}
+use Rattle.steps.specs.Objects.{placeOf, makeVerdictBy}
 use Rattle.steps.specs.Remaining.{lifeIn}
 use Rattle.objects.specs.declared.Plan.{Plan}
 use Rattle.objects.specs.declared.Found.{Found}
@@ -52,10 +52,6 @@ bytesBy verdict handle p = bytesOf (foundBy false verdict 0 handle p) p
 
 abbrev pub bytesIn : (Tables → Verdict) → ℕ → Tables → FoundBytes
 bytesIn verdict handle p = bytesBy (verdict p) handle p
-
--- 21, 6: of one expiration more on an object that stands
-abbrev pub setVerdict : Kind → ℕ → Verdict
-setVerdict kind extension = andThen (kindVerdict kind) (extensionVerdict kind extension)
 
 -- the verdict of a make, by the block that was found and how many expirations stand; and that block
 unfoldable pub makePlan : ℕ → Kind → ℕ → ℕ → Head → ℕ → ℕ → Plan

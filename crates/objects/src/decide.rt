@@ -1,15 +1,23 @@
-// What a make decides, on the tables that it reads: nothing is changed here.
+// What a make and a batch decide, on the tables that they read: nothing is changed here. A batch's objects are sought where no test before that refuses.
 ghost use mathlib.Core.Path.{_≡_};
 ghost use lib.ListN.{length};
+ghost use Rattle.ledger.specs.Objects.{handlesOf};
 ghost use Rattle.record.specs.Tables.{blockEntries};
 ghost use Rattle.steps.specs.Objects.{freePlaceIn};
+ghost use Rattle.objects.specs.Batches.{PlansBatch};
 ghost use Rattle.objects.specs.Outcomes.{makePlan};
+use super::BatchPlan;
 use super::Plan;
-use super::refusals::make_verdict;
-use super::search::free_place;
 use ledger::Kind;
+use ledger::LARGEST_BATCH;
+use ledger::Verdict;
 use record::BLOCK_COUNT;
 use record::Head;
+use refusals::batch_call_verdict;
+use refusals::batch_objects_verdict;
+use refusals::find_batch;
+use refusals::free_place;
+use refusals::make_verdict;
 
 // A make, with the first free block, where so many expirations stand.
 pub fn plan_make(
@@ -32,5 +40,40 @@ pub fn plan_make(
     Plan {
         verdict: verdict,
         place: place,
+    }
+}
+
+// A batch, with the blocks of its objects, where so many expirations stand.
+pub fn plan_batch(
+    h: Head,
+    handles: &[u32; BLOCK_COUNT],
+    standing: u16,
+    task: u8,
+    kind: Kind,
+    extension: u8,
+    bytes: &[u8],
+) -> BatchPlan
+    requires { ⌜ length (now handles) ≡ blockEntries ⌝ }
+    ensures { λ r. ⌜ PlansBatch task kind extension (handlesOf (now (bytes .entry))) h (now (handles .entry)) standing r ⌝ }
+{
+    let count = bytes.len() / 4;
+    let tasks = h.tasks;
+    match batch_call_verdict(task, kind, extension, tasks, count) {
+        Verdict::Refused(why) => BatchPlan {
+            verdict: Verdict::Refused(why),
+            blocks: [0u8; LARGEST_BATCH],
+            count: count,
+        },
+        Verdict::Accepted => {
+            let found = find_batch(h.given, handles, bytes);
+            let blocks = found.blocks;
+            let after = standing as usize + count;
+            let verdict = batch_objects_verdict(found.ungiven, found.gone, after);
+            BatchPlan {
+                verdict: verdict,
+                blocks: blocks,
+                count: count,
+            }
+        }
     }
 }

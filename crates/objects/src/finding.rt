@@ -11,13 +11,6 @@ ghost use Rattle.steps.specs.Objects.{handleVerdict, standingVerdict, readVerdi
 ghost use Rattle.objects.specs.Outcomes.{foundIn, foundIf, lifeIf, bytesIn};
 use super::Found;
 use super::FoundBytes;
-use super::refusals::and_then;
-use super::refusals::found_verdict;
-use super::refusals::reaches_past;
-use super::refusals::room_verdict;
-use super::refusals::set_verdict;
-use super::refusals::task_verdict;
-use super::search::locate;
 use expirations::is_pinned;
 use expirations::remaining_life;
 use expirations::standing;
@@ -30,6 +23,13 @@ use record::EXPIRATION_COUNT;
 use record::Head;
 use record::codes::length_in;
 use record::codes::sum_in;
+use refusals::and_then;
+use refusals::found_verdict;
+use refusals::locate;
+use refusals::reaches_past;
+use refusals::room_verdict;
+use refusals::set_verdict;
+use refusals::task_verdict;
 use stores::block_sum;
 
 // The remaining life, where it is asked for.

@@ -1,12 +1,9 @@
 // What make, refresh, read, write, batch and release decide, on a head by value and the tables of blocks and expirations that they read.
-mod batch;
 mod decide;
 mod finding;
-mod refusals;
 mod report;
-mod search;
 
-pub use batch::plan_batch;
+pub use decide::plan_batch;
 pub use decide::plan_make;
 pub use finding::find_for_read;
 pub use finding::find_for_refresh;

@@ -1,4 +1,4 @@
--- The entry made once, and put on block after block.
+-- The entry made once, and put on block after block from the first free place on.
 use Prim.Native.Nat.{_-_, _<_}
 use native.Mathlib.Omega.{arith}
 use borrow.Author.Needs.{needs}
@@ -24,10 +24,12 @@ put-requires c κs =
 
 loop-again : tie.Need-loop-again Inv-loop μ-loop
 loop-again c =
-    let l = c .before .before .before .before .before .before .before .before in
-    let a = l .before .before .before .before .args in
-    let used = made-used (a .h .tasks) (a .h .global) (a .kind) (a .task) (a .extension) 0 (l .before .entry-for .ensures) in
-    set-turn _ (l .loop .inv) (search needs) (omega arith) (c .before .before .before .before .free-from .ensures) used (c .put .ensures)
+    let turn = c .before .before .before .before .before .before .before in
+    let l = turn .before in
+    let made = l .before .before .before in
+    let a = made .before .before .before .args in
+    let used = made-used (a .h .tasks) (a .h .global) (a .kind) (a .task) (a .extension) 0 (made .entry-for .ensures) in
+    set-turn _ (l .loop .inv) (turn .loop-test .taken) (omega arith) (c .before .before .before .before .free-from .ensures) used (c .put .ensures)
 
 pub set-all-spec : {M : Type 1} → statement M
 set-all-spec =
@@ -36,7 +38,8 @@ set-all-spec =
     Inv-loop
     μ-loop
     (λ c κs. search needs)
-    (λ c. let pre = c .before .before .before .pre in set-start _ _ _ _ _ (pre .0) (pre .3))
+    (λ c κs. search needs)
+    (λ c. let pre = c .before .before .before .before .before .pre in set-start _ _ _ _ _ (pre .0) (pre .3) (c .free-entry .ensures))
     (λ c. omega arith)
     (λ c κs. let s = c .before .before .before .loop .inv in (s .sized .of-clocks, s .passed))
     put-requires
@@ -44,4 +47,4 @@ set-all-spec =
     (λ c. omega arith)
     (λ c. omega arith)
     loop-again
-    (λ c. set-end 0 (c .before .before .entry-for .ensures) (c .before .loop .inv) (search needs)))
+    (λ c. set-end 0 (c .before .before .before .before .entry-for .ensures) (c .before .loop .inv) (search needs)))

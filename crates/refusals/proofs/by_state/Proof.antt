@@ -1,0 +1,15 @@
+-- State by state.
+use borrow.Author.Needs.{needs}
+use Rattle.refusals.proofs.by_state.Statement.{statement}
+use Rattle.refusals.proofs.by_state.Tie as tie
+
+pub by-state-spec : {M : Type 1} → statement M
+by-state-spec =
+    tie.close
+    (tie.spec
+    (λ c. search needs)
+    (λ c. search needs)
+    (λ c. search needs)
+    (λ c. rw (c .enum-told .given .1))
+    (λ c. search needs)
+    (λ c. rw (c .enum-told3 .given .1)))

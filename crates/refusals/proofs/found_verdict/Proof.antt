@@ -1,0 +1,14 @@
+-- By what the two tests ensure.
+use borrow.Author.Needs.{needs}
+use Rattle.refusals.proofs.found_verdict.Statement.{statement}
+use Rattle.refusals.proofs.found_verdict.Tie as tie
+
+pub found-verdict-spec : {M : Type 1} → statement M
+found-verdict-spec =
+    tie.close
+    (tie.spec
+    (λ c κs. search needs)
+    (λ c κs. search needs)
+    (λ c κs. search needs)
+    (λ c κs. search needs)
+    (λ c. rw (c .and-then .ensures, c .before .refuse-if2 .ensures, c .before .before .refuse-if .ensures, c .before .before .before .is-ungiven .ensures)))

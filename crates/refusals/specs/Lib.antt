@@ -1,0 +1,3 @@
+pub mod Verdicts
+pub mod Firsts
+pub mod Batches
