@@ -1,13 +1,10 @@
-// The rules F: the request of a line, and the line of an answer.
+// The request of a line: the rules F, but for those of an answer.
 use ledger::Refusal;
 use ledger::Request;
 
-mod answers;
 mod requests;
 mod words;
 
-pub use answers::WIDEST_HEAD;
-pub use answers::encode_answer;
 pub use requests::KindByte;
 pub use requests::decode;
 pub use requests::kind_of;
