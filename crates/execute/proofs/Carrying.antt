@@ -14,7 +14,7 @@ use Rattle.record.specs.declared.Head.{Head}
 use Rattle.record.specs.declared.Pool.{Pool}
 use Rattle.calls.specs.Served.{withoutBytes, Serves}
 use Rattle.calls.specs.declared.Called.{Called}
-use Rattle.frames.specs.Answers.{answerLine}
+use Rattle.answers.specs.Answers.{answerLine}
 use Rattle.frames.specs.Frames.{payloadOf, Decodes}
 use Rattle.text.specs.Hex.{Puts}
 use Rattle.frames.specs.declared.Frame.{Frame}

@@ -12,7 +12,7 @@ use Rattle.record.specs.declared.Pool.{Pool}
 use Rattle.calls.specs.Served.{replyOf}
 use Rattle.calls.specs.declared.Called.{Called}
 use Rattle.calls.proofs.OneReply.{one-reply}
-use Rattle.frames.specs.Answers.{answerLine}
+use Rattle.answers.specs.Answers.{answerLine}
 use Rattle.frames.specs.Frames.{frameOf, payloadOf}
 use Rattle.frames.specs.declared.Frame.{Frame}
 use Rattle.execute.specs.Execution.{Performs, OneAnswer}

@@ -18,9 +18,9 @@ use Rattle.record.specs.Reading.{isSmallBlock, isWholeSmall, isWholeLarge, bloc
 use Rattle.record.specs.declared.Pool.{Pool}
 use Rattle.calls.specs.Served.{Serves}
 use Rattle.calls.specs.declared.Called.{Called}
-use Rattle.frames.specs.Answers.{answerLine, longestAnswer}
+use Rattle.answers.specs.Answers.{answerLine, longestAnswer}
 use Rattle.text.specs.Hex.{Puts}
-use Rattle.frames.proofs.AnswerLines.{line-within}
+use Rattle.answers.proofs.AnswerLines.{line-within}
 use Rattle.execute.specs.Execution.{Showable}
 
 at-most : (b : Bool) (n : ℕ) (xs : List ℕ) → length (cond b (take n xs) []) ≤ n

@@ -16,7 +16,7 @@ use Rattle.record.specs.declared.Pool.{Pool}
 use Rattle.calls.specs.Contract.{Refuses, Obeys}
 use Rattle.calls.specs.Served.{withoutBytes, replyOf, Serves}
 use Rattle.calls.specs.declared.Called.{Called}
-use Rattle.frames.specs.Answers.{answerLine}
+use Rattle.answers.specs.Answers.{answerLine}
 use Rattle.frames.specs.Frames.{frameOf, payloadOf}
 use Rattle.text.specs.Hex.{Puts}
 use Rattle.frames.specs.declared.Frame.{Frame}

@@ -1,4 +1,3 @@
-pub mod AnswerLines
 pub mod Frames
 pub mod Payloads
 pub mod RoundTrip

@@ -1,4 +1,3 @@
 pub mod Frames
 pub mod HandedOn
 pub mod HandleBytes
-pub mod Answers

@@ -1,17 +1,14 @@
-// The rules F: the request of a line, and the line of an answer.
+// The request of a line: the rules F, but for those of an answer.
 use ledger::Refusal;
 use ledger::Request;
 
-mod answers;
 mod requests;
 mod words;
 
-pub use answers::WIDEST_HEAD;
-pub use answers::encode_answer;
 pub use requests::KindByte;
-pub use requests::MOST_BYTES;
 pub use requests::decode;
 pub use requests::kind_of;
+pub use text::hex::MOST_BYTES;
 pub use words::Handed;
 pub use words::MOST_HANDLE_BYTES;
 pub use words::handle_bytes;

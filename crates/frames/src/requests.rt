@@ -6,9 +6,9 @@ use super::words::capped;
 use ledger::Call;
 use ledger::Event;
 use ledger::Kind;
-use ledger::LARGE_SIZE;
 use ledger::Refusal;
 use ledger::Request;
+use text::hex::MOST_BYTES;
 use text::hex::byte_at;
 use text::hex::is_hex;
 use text::hex::short_at;
@@ -113,9 +113,6 @@ fn read(line: &[u8]) -> Frame
     let handle = word_at(line, 2);
     Frame::Request(Request::Use(Call::Read { task, handle }), 0)
 }
-
-// The bytes that may come with a request: those of the largest object.
-pub const MOST_BYTES: usize = LARGE_SIZE as usize;
 
 // F9: operation, task, handle and offset; then the bytes to write.
 const WRITE_HEAD: usize = 7;

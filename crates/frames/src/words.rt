@@ -1,23 +1,12 @@
 // A batch's handles as bytes, for a host that has them as numbers.
 use ledger::LARGEST_BATCH;
+use text::words::word;
 ghost use Prim.Native.Nat.{_+_, _≤_, min};
 ghost use mathlib.Core.Path.{_≡_};
 ghost use lib.ListN.{length};
 ghost use Rattle.frames.specs.HandleBytes.{HandsOn};
 ghost use Rattle.text.specs.Fields.{inBytes};
 ghost use Rattle.text.specs.Hex.{Puts};
-
-// A number in four bytes, high byte first.
-pub fn word(value: u32) -> [u8; 4]
-    ensures { λ r. ⌜ r ≡ inBytes 4 value ⌝ }
-{
-    [
-        (value / 16777216 % 256) as u8,
-        (value / 65536 % 256) as u8,
-        (value / 256 % 256) as u8,
-        (value % 256) as u8,
-    ]
-}
 
 // F12: the bytes of a handle.
 pub const HANDLE_WIDTH: usize = 4;

@@ -22,7 +22,7 @@ use Rattle.ledger.specs.declared.Request.the-variants.{Use}
 use Rattle.record.specs.declared.Pool.{Pool}
 use Rattle.calls.specs.Contract.{Obeys}
 use Rattle.text.specs.Hex.{Puts}
-use Rattle.frames.specs.Answers.{answerLine, longestAnswer}
+use Rattle.answers.specs.Answers.{answerLine, longestAnswer}
 use Rattle.frames.specs.Frames.{withKind}
 use Rattle.frames.specs.HandleBytes.{handleBytes}
 use Rattle.frames.specs.declared.requests.KindByte.{KindByte}

@@ -17,7 +17,7 @@ use Rattle.ledger.specs.declared.Request.the-variants.{Use}
 use Rattle.record.specs.Pools.{isWellFormed, Reads}
 use Rattle.record.specs.declared.Pool.{Pool}
 use Rattle.calls.specs.Contract as Contract
-use Rattle.frames.specs.Answers.{longestAnswer}
+use Rattle.answers.specs.Answers.{longestAnswer}
 use Rattle.frames.specs.HandleBytes.{handleBytes}
 use Rattle.frames.specs.declared.requests.KindByte.{KindByte}
 use Rattle.frames.specs.declared.requests.KindByte.the-variants.{Known, Unknown}

@@ -13,7 +13,7 @@ use Rattle.ledger.specs.declared.Kind.{Kind}
 use Rattle.ledger.specs.declared.Request.{Request}
 use Rattle.ledger.specs.declared.Request.the-variants.{Use}
 use Rattle.record.specs.declared.Pool.{Pool}
-use Rattle.frames.specs.Answers.{longestAnswer}
+use Rattle.answers.specs.Answers.{longestAnswer}
 use Rattle.frames.specs.Frames.{frameOf, payloadOf, frameWith, withKind}
 use Rattle.frames.specs.HandleBytes.{handleBytes}
 use Rattle.frames.specs.declared.Frame.{Frame}

@@ -10,7 +10,7 @@ use Rattle.ledger.specs.Numbers.{answerNumber, answerValues}
 use Rattle.ledger.specs.Objects.{Reply}
 use Rattle.ledger.specs.declared.Answer.{Answer}
 use Rattle.ledger.specs.declared.Answer.the-variants.{Refused, Done, Advanced, Handle, Bytes, Counted, Lasts}
-use Rattle.frames.specs.Answers.{answerLine}
+use Rattle.answers.specs.Answers.{answerLine}
 
 -- a buffer too short: a number that is none of 01's
 abbrev pub tooShort : ℕ

@@ -24,7 +24,7 @@ use Rattle.record.specs.declared.Pool.{Pool}
 use Rattle.calls.specs.Contract.{areWhole, Ready}
 use Rattle.calls.specs.Served.{Serves}
 use Rattle.calls.specs.declared.Called.{Called}
-use Rattle.frames.specs.Answers.{answerLine, longestAnswer}
+use Rattle.answers.specs.Answers.{answerLine, longestAnswer}
 use Rattle.frames.specs.Frames.{Decodes}
 use Rattle.text.specs.Hex.{Puts}
 use Rattle.text.specs.Lines.{linesOf, lineAt}

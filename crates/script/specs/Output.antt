@@ -7,7 +7,7 @@ use lib.ListN.{length, take, drop}
 use Rattle.ledger.specs.Objects.{Reply}
 use Rattle.ledger.specs.Ledger.{Ledger, fresh}
 use Rattle.ledger.specs.Limits.{largeSize}
-use Rattle.frames.specs.Answers.{answerLine, longestAnswer}
+use Rattle.answers.specs.Answers.{answerLine, longestAnswer}
 use Rattle.frames.specs.Frames.{frameOf, payloadOf, Decodes}
 use Rattle.text.specs.Lines.{linesOf, lineEnd, lineAt}
 use Rattle.text.specs.Hex.{Puts}

@@ -37,6 +37,13 @@ digit-test c =
     (λ f. rw (e, f, lt-ltb (c - 65 + 10) 16 (omega (arith, bounds 65 70 c f .1))))
     (λ f. rw (e, f)))
 
+-- digits are low characters
+pub digit-most : (c : ℕ) → digitOf c < 16 → c ≤ 70
+unfolding digitOf
+digit-most c h =
+    by-test (isWithin 48 57 c) (λ e. omega (arith, bounds 48 57 c e .1))
+    (λ e. by-test (isWithin 65 70 c) (λ f. bounds 65 70 c f .1) (λ f. let k : 16 < 16 = rw (e, f) at h in absurd (omega arith)))
+
 -- the value of a digit, by its low four bits and the seventh
 pub digit-bits : (c : ℕ) → digitOf c < 16 → c % 16 + 9 * (c / 64) ≡ digitOf c
 unfolding digitOf

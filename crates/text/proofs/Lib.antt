@@ -1,4 +1,5 @@
 pub mod Fields
 pub mod Digits
+pub mod Pairs
 pub mod Puts
 pub mod Scripts

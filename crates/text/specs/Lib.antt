@@ -1,4 +1,5 @@
 pub mod Hex
+pub mod Pairs
 pub mod Fields
 pub mod Lines
 pub mod Reader

@@ -3,8 +3,11 @@ ghost use Prim.Native.Nat.{_+_, _-_, _*_, _/_, _≤_, _<_};
 ghost use mathlib.Core.List.{[], _∷_};
 ghost use mathlib.Core.Path.{_≡_};
 ghost use lib.ListN.{length, drop};
+ghost use Rattle.ledger.specs.Limits.{largeSize};
 ghost use Rattle.text.specs.Fields.{fieldAt};
 ghost use Rattle.text.specs.Hex.{digitOf, isDigit, isHex, bytesOf, digitFor, hexOf, Spells, Puts};
+ghost use Rattle.text.specs.Pairs.{pairOf, spelledBy, DigitPair, Pairs, DigitPairs, Spelled};
+use ledger::LARGE_SIZE;
 
 // Whether a character is 0-9 or A-F.
 fn is_digit(c: u8) -> bool
@@ -27,11 +30,26 @@ pub fn is_hex(line: &[u8]) -> bool
 }
 
 // The value of a digit: its low four bits, and 9 more for a letter.
-fn value_of(c: u8) -> u8
+fn value_of(c: u16) -> u16
     requires { ⌜ digitOf c < 16 ⌝ }
     ensures { λ r. ⌜ r ≡ digitOf c ⌝ }
 {
     c % 16 + 9 * (c / 64)
+}
+
+// Two characters as one number, as they stand in memory, so that to join many of them is one copy.
+fn paired(first: u8, second: u8) -> u16
+    ensures { λ r. ⌜ r ≡ pairOf first second ⌝ }
+{
+    first as u16 + 256 * (second as u16)
+}
+
+// The byte that a pair of digits spells.
+fn spelled(pair: u16) -> u8
+    requires { ⌜ DigitPair pair ⌝ }
+    ensures { λ r. ⌜ r ≡ spelledBy pair ⌝ }
+{
+    (16 * value_of(pair % 256) + value_of(pair / 256)) as u8
 }
 
 // The byte at a place of those that a line spells.
@@ -39,7 +57,7 @@ pub fn byte_at(line: &[u8], at: usize) -> u8
     requires { ⌜ Spells (now line) (at + 1) ⌝ }
     ensures { λ r. ⌜ r ≡ fieldAt at 1 (bytesOf (now (line .entry))) ⌝ }
 {
-    16 * value_of(line[2 * at]) + value_of(line[2 * at + 1])
+    spelled(paired(line[2 * at], line[2 * at + 1]))
 }
 
 // The number in two bytes from a place on.
@@ -62,15 +80,39 @@ pub fn word_at(line: &[u8], at: usize) -> u32
     65536 * high as u32 + low as u32
 }
 
+// The most bytes that are spelled in one go: those of the largest object.
+pub const MOST_BYTES: usize = LARGE_SIZE as usize;
+
+// Digits joined to pairs, all before the first is spelled: then many are read at once.
+fn pairs(digits: &[u8]) -> [u16; MOST_BYTES]
+    requires { ⌜ length (now digits) / 2 ≤ largeSize ⌝ }
+    ensures { λ r. ⌜ Pairs (now (digits .entry)) r ⌝ }
+{
+    let mut out = [0; MOST_BYTES];
+    for i in 0..digits.len() / 2 {
+        out[i] = paired(digits[2 * i], digits[2 * i + 1]);
+    }
+    out
+}
+
+// The bytes of pairs, over a part.
+fn spell(part: &mut [u8], pairs: &[u16; MOST_BYTES])
+    requires { ⌜ DigitPairs (length (now part)) (now pairs) ⌝ }
+    ensures { λ _. ⌜ Spelled (now (pairs .entry)) (length (now (part .entry))) (now (part .exit)) ⌝ }
+{
+    for i in 0..part.len() {
+        part[i] = spelled(pairs[i]);
+    }
+}
+
 // The last bytes that a line spells, over a part of as many.
 pub fn spell_last(part: &mut [u8], line: &[u8])
-    requires { ⌜ Spells (now line) (length (now part)) ⌝ }
+    requires { ⌜ Spells (now line) (length (now part)) × (length (now part) ≤ largeSize) ⌝ }
     ensures { λ _. ⌜ now (part .exit) ≡ drop (length (now (line .entry)) / 2 - length (now (part .entry))) (bytesOf (now (line .entry))) ⌝ }
 {
     let first = line.len() / 2 - part.len();
-    for i in 0..part.len() {
-        part[i] = byte_at(line, first + i);
-    }
+    let pairs = pairs(&line[2 * first..]);
+    spell(part, &pairs);
 }
 
 // The digit of a value.

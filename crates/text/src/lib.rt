@@ -1,7 +1,8 @@
-// The characters of a script: hexadecimal digits, two for a byte, and lines.
+// The characters of a script: hexadecimal digits, two for a byte, the bytes of a field, and lines.
 pub mod hex;
 mod lines;
 mod reader;
+pub mod words;
 
 pub use lines::Line;
 pub use reader::Reader;

@@ -10,7 +10,7 @@ use Rattle.ledger.specs.declared.Answer.{Answer}
 use Rattle.record.specs.Tables.{Sized, pooled}
 use Rattle.record.specs.declared.Pool.{Pool}
 use Rattle.pool.proofs.Sizes.{columns-sized}
-use Rattle.frames.specs.Answers.{answerLine, longestAnswer}
+use Rattle.answers.specs.Answers.{answerLine, longestAnswer}
 use Rattle.text.specs.Hex.{Puts}
 use Rattle.script.specs.Output.{lineIn}
 use Rattle.execute.proofs.Showing.{serves-showable, short-line}

@@ -23,7 +23,7 @@ room c = omega (arith, requested _ (gives c) .most, c .before .before .before .b
 spell-last-requires : tie.Need-spell-last-requires
 spell-last-requires c κs =
     let r = requested _ (gives (c .before)) in
-    rw (length-take-le _ _ (room (c .before))) (record { hex = r .hex; enough = omega (arith, r .within) })
+    rw (length-take-le _ _ (room (c .before))) (record { hex = r .hex; enough = omega (arith, r .within) }, r .most)
 
 returns : tie.Need-returns
 unfolding overwritten

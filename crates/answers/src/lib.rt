@@ -1,15 +1,15 @@
-// The line of an answer.
-use super::words::word;
+// The rules F27 to F32: the line of an answer.
 use ledger::Answer;
 use ledger::Life;
 use ledger::Usage;
 use ledger::number_of;
 use text::hex::put_byte;
 use text::hex::put_hex;
+use text::words::word;
 ghost use Prim.Native.Nat.{_+_, _*_, _≤_};
 ghost use mathlib.Core.Path.{_≡_};
 ghost use lib.ListN.{length};
-ghost use Rattle.frames.specs.Answers.{answerHead, answerLine};
+ghost use Rattle.answers.specs.Answers.{answerHead, answerLine};
 ghost use Rattle.text.specs.Fields.{inBytes};
 ghost use Rattle.text.specs.Hex.{hexOf, Puts};
 ghost use Rattle.ledger.specs.declared.Answer.the-variants.{Counted, Lasts};

@@ -3,9 +3,9 @@ use Prim.Native.Nat.{_<_}
 use native.Mathlib.Omega.{arith}
 use borrow.Author.Needs.{needs}
 use lib.ListN.{length, length-set}
-use Rattle.frames.proofs.AnswerLines.{length-line, room-after-head, room-after-bytes, puts-line}
-use Rattle.frames.proofs.answers.encode_answer.Statement.{statement}
-use Rattle.frames.proofs.answers.encode_answer.Tie as tie
+use Rattle.answers.proofs.AnswerLines.{length-line, room-after-head, room-after-bytes, puts-line}
+use Rattle.answers.proofs.encode_answer.Statement.{statement}
+use Rattle.answers.proofs.encode_answer.Tie as tie
 
 put-head-requires : tie.Need-put-head-requires
 put-head-requires c κs =

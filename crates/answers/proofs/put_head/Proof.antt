@@ -4,12 +4,12 @@ use mathlib.Core.List.{[], _∷_}
 use mathlib.Core.Path.{ap}
 use borrow.Author.Needs.{needs}
 use lib.ListN.{length}
-use Rattle.frames.specs.Answers.{answerHead}
+use Rattle.answers.specs.Answers.{answerHead}
 use Rattle.text.specs.Fields.{inBytes}
-use Rattle.frames.proofs.AnswerLines.{head-one, advanced-head, handle-head}
+use Rattle.answers.proofs.AnswerLines.{head-one, advanced-head, handle-head}
 use Rattle.text.proofs.Puts.{puts-hex}
-use Rattle.frames.proofs.answers.put_head.Statement.{statement}
-use Rattle.frames.proofs.answers.put_head.Tie as tie
+use Rattle.answers.proofs.put_head.Statement.{statement}
+use Rattle.answers.proofs.put_head.Tie as tie
 
 put-byte-requires : tie.Need-put-byte-requires
 put-byte-requires c κs = let start = c .before .before .before .before .before .before in omega (arith, start .pre, head-one (start .args .answer))

@@ -1,7 +1,7 @@
 -- The array that is lent is the number's bytes.
 use borrow.Author.Needs.{needs}
-use Rattle.frames.proofs.answers.put_word.Statement.{statement}
-use Rattle.frames.proofs.answers.put_word.Tie as tie
+use Rattle.answers.proofs.put_word.Statement.{statement}
+use Rattle.answers.proofs.put_word.Tie as tie
 
 returns : tie.Need-returns
 returns c = rw (c .before .before .before .before .word .ensures) at (c .before .before .put-hex .ensures)

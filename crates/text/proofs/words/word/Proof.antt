@@ -1,8 +1,8 @@
 -- A division by 256 after another is one by their product.
 use native.Mathlib.Nat.{div-div-eq-div-mul}
 use borrow.Author.Needs.{needs}
-use Rattle.frames.proofs.words.word.Statement.{statement}
-use Rattle.frames.proofs.words.word.Tie as tie
+use Rattle.text.proofs.words.word.Statement.{statement}
+use Rattle.text.proofs.words.word.Tie as tie
 
 pub word-spec : {M : Type 1} → statement M
 word-spec =

@@ -9,7 +9,7 @@ use lib.ListN.{length, set, length-append}
 use Rattle.ledger.specs.declared.Answer.{Answer}
 use Rattle.ledger.specs.declared.Answer.the-variants.{Refused, Done, Advanced, Handle, Bytes, Counted, Lasts}
 use Rattle.ledger.specs.Limits.{largeSize}
-use Rattle.frames.specs.Answers.{answerHead, answerLine, longestAnswer}
+use Rattle.answers.specs.Answers.{answerHead, answerLine, longestAnswer}
 use Rattle.text.specs.Fields.{inBytes}
 use Rattle.text.specs.Hex.{hexOf, Puts}
 use Rattle.text.proofs.Digits.{length-hex, hex-append}
