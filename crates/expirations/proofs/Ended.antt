@@ -42,7 +42,7 @@ module _ {p : ℕ → ℕ → Bool} {a b : ℕ} {xs ys : List ℕ} {r : Bool} (s
     -- the same by another test
     pub ended-same : ((k clock : ℕ) → p k clock ≡ q k clock) → EndedBy q a b xs ys r
     ended-same e =
-        record { changed = changed-same (s .changed) (λ k clock. rw (e k clock)); asked = asked-same (s .asked) (λ k l m. e k (getD xs k 0)) }
+        record { changed = changed-same (s .changed) (λ k l m. rw (e k (getD xs k 0))); asked = asked-same (s .asked) (λ k l m. e k (getD xs k 0)) }
 
     -- Another test after it, on the same places: what passes either is ended. What the first has ended is free, and stays so; what it has left, the second judges as it was.
     pub ended-then : {zs : List ℕ} {r′ : Bool} → EndedBy q a b ys zs r′ → EndedBy (λ k clock. p k clock || q k clock) a b xs zs (r || r′)

@@ -8,9 +8,10 @@ use borrow.Author.Tests.{eqb-true, eqb-false, ne-eqb, leb-true, leb-false, le-le
 use lib.Dec.{eqb, leb}
 use lib.ListN.{length, getD, length-map, List·getD-map}
 use lib.Seq.{ext-getD}
-use Rattle.lists.specs.Tables.{mapFrom}
+use Rattle.lists.specs.Tables.{firstFrom, mapFrom}
 use Rattle.lists.specs.Tests.{any}
 use Rattle.lists.proofs.Cases.{by-test, cond-same, or-right}
+use Rattle.lists.proofs.First.{first-within, first-passes}
 use Rattle.lists.proofs.Tables.{length-mapFrom}
 use Rattle.record.specs.Codes.{dueBy, dueOf, isDated, freeBlock, freeEntry, freedBlock, freedEntry, localCode, globalCode, departedCode, pinnedCode}
 use Rattle.record.specs.Tables.{ExpirationEntry, blockEntry, expirationEntry, blocksOf, entriesOf, SizedEntries, blockEntries, expirationEntries}
@@ -22,10 +23,10 @@ use Rattle.steps.proofs.KeptBlocks.{block-left}
 use Rattle.expirations.specs.Ending.{isEnding, endedEntry, Ended, Ends}
 use Rattle.expirations.specs.Late.{lateIn}
 use Rattle.expirations.specs.Places.{Asked, Changed}
-use Rattle.expirations.specs.Releasing.{Flags, keptByFlag}
+use Rattle.expirations.specs.Releasing.{isNamedAt, Flags, keptByFlag}
 use Rattle.expirations.specs.Standing.{isDatedClock}
 use Rattle.expirations.specs.declared.Passing.{Passing}
-use Rattle.expirations.proofs.Places.{split, asked-same}
+use Rattle.expirations.proofs.Places.{split, asked-at, asked-same, changed-same}
 
 module _ {ℓ} {A : Type ℓ} (p : A → Bool) (d : A) where
   any-none : (xs : List A) → ((k : ℕ) → k < length xs → p (getD xs k d) ≡ false) → any p xs ≡ false
@@ -82,31 +83,42 @@ module _ {cs ns ds : List ℕ} (sized : SizedEntries cs ns ds) where
       → ((k : ℕ) → q k ≡ p (expirationEntry (getD cs k 0) (getD ns k 0) (getD ds k 0))) → Asked q 0 expirationEntries r → r ≡ any p (entriesOf cs ns ds)
   asked-entries p f s = asked-any p freeEntry (entriesOf cs ns ds) size-of (asked-same s (λ k l m. f k ∙ ap p (sym (entry-of k))))
 
--- a block is named where its flag is set
-flag-names : {cs ns ds : List ℕ} {flags : List Bool} → Flags cs ns expirationEntries flags → SizedEntries cs ns ds → (block : ℕ) → block < blockEntries
-    → getD flags block false ≡ any (isNaming block) (entriesOf cs ns ds)
-flag-names {cs} {ns} {ds} s sized block l =
-    asked-entries sized (isNaming block) (λ k. rw (dated-clock (getD cs k 0) (getD ds k 0))) (s .so block l)
+-- a block is named where one of all places names it
+pub asked-naming : {cs ns ds : List ℕ} → SizedEntries cs ns ds → (block : ℕ) {r : Bool} → Asked (isNamedAt cs ns block) 0 expirationEntries r
+    → r ≡ any (isNaming block) (entriesOf cs ns ds)
+asked-naming {cs} {ns} {ds} sized block s = asked-entries sized (isNaming block) (λ k. rw (dated-clock (getD cs k 0) (getD ds k 0))) s
 
--- a block by its flag
+-- and one of them does, where it is named
+pub naming-asked : {cs ns ds : List ℕ} → SizedEntries cs ns ds → (block : ℕ) → any (isNaming block) (entriesOf cs ns ds) ≡ true
+    → Asked (isNamedAt cs ns block) 0 expirationEntries true
+naming-asked {cs} {ns} {ds} sized block e =
+    let xs = entriesOf cs ns ds in
+    let k = firstFrom 0 (isNaming block) xs in
+    asked-at (isNamedAt cs ns block) k (omega arith) (omega (arith, first-within (isNaming block) xs e, size-of sized))
+    (rw (dated-clock (getD cs k 0) (getD ds k 0)) (sym (ap (isNaming block) (entry-of sized k)) ∙ first-passes (isNaming block) freeEntry xs e))
+
+-- a block with its handle or without
 kept-entry : (flag : Bool) (handle extent : ℕ)
     → blockEntry (cond flag handle 0) extent ≡ cond flag (blockEntry handle extent) (freedBlock (blockEntry handle extent))
 kept-entry true handle extent = refl
 kept-entry false handle extent = refl
 
--- the blocks after their handles are kept by the flags
-pub released : {cs ns hs hs′ : List ℕ} {flags : List Bool} (ls ds : List ℕ) → Flags cs ns expirationEntries flags → Changed 0 (keptByFlag flags) 0 blockEntries hs hs′
-    → SizedEntries cs ns ds → length hs ≡ blockEntries → length ls ≡ blockEntries → blocksOf hs′ ls ≡ mapFrom 0 (keptBlock (entriesOf cs ns ds)) (blocksOf hs ls)
-released {cs} {ns} {hs} {hs′} {flags} ls ds s z sized h l =
-    let xs = entriesOf cs ns ds in
+-- the blocks after the handles of those are given up that no entry names
+pub freed-blocks : {hs hs′ : List ℕ} (xs : List ExpirationEntry) (ls : List ℕ) → length hs ≡ blockEntries → length ls ≡ blockEntries
+    → Changed 0 (λ block handle. cond (any (isNaming block) xs) handle 0) 0 blockEntries hs hs′ → blocksOf hs′ ls ≡ mapFrom 0 (keptBlock xs) (blocksOf hs ls)
+freed-blocks {hs} {hs′} xs ls h l z =
     let blocks = blocksOf hs ls in
     let size = length-blocks hs′ ls (z .size ∙ h) l in
     ext-getD freeBlock (blocksOf hs′ ls) (mapFrom 0 (keptBlock xs) blocks)
     (size ∙ sym (length-mapFrom 0 (keptBlock xs) blocks ∙ length-blocks hs ls h l))
     (λ k m.
-    let within : k < blockEntries = omega arith in
-    rw (block-at hs′ ls (z .size ∙ h) l k, z .inside k (omega arith) within, block-left xs blocks k, block-at hs ls h l k, ← flag-names s sized k within)
-    (kept-entry (getD flags k false) (getD hs k 0) (getD ls k 0)))
+    rw (block-at hs′ ls (z .size ∙ h) l k, z .inside k (omega arith) (omega arith), block-left xs blocks k, block-at hs ls h l k)
+    (kept-entry (any (isNaming k) xs) (getD hs k 0) (getD ls k 0)))
+
+-- those that no flag is set for
+released : {cs ns ds hs hs′ : List ℕ} {flags : List Bool} (ls : List ℕ) → Flags cs ns expirationEntries flags → Changed 0 (keptByFlag flags) 0 blockEntries hs hs′
+    → SizedEntries cs ns ds → length hs ≡ blockEntries → length ls ≡ blockEntries → blocksOf hs′ ls ≡ mapFrom 0 (keptBlock (entriesOf cs ns ds)) (blocksOf hs ls)
+released {cs} {ns} {ds} ls s z sized h l = freed-blocks (entriesOf cs ns ds) ls h l (changed-same z (λ k a b. rw (asked-naming sized k (s .so k b))))
 
 -- an entry by whether it ends
 ended-entry : (ends : Bool) (clock block due : ℕ)
@@ -159,7 +171,7 @@ module _ (t : Passing) {cs ns ds cs′ : List ℕ} {r : Bool} (s : Ended t ds 0 
           clocksSize = sized′ .of-clocks;
           duesSize = sized′ .of-dues;
           entries = ended-entries ∙ ap (map (endedEntry t)) late;
-          blocks = λ ls l. rw (← late, ← ended-any, e) (released ls ds f z sized′ h l);
+          blocks = λ ls l. rw (← late, ← ended-any, e) (released ls f z sized′ h l);
         }
 
     -- and else nothing changes

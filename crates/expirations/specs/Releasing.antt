@@ -1,7 +1,8 @@
 -- Which blocks are named, and what is left of the others.
 use Prim.Native.Nat.{ℕ, _<_}
-use mathlib.Core.Bool.{Bool, false, cond, _&&_}
+use mathlib.Core.Bool.{Bool, true, false, cond, _&&_}
 use mathlib.Core.List.{List}
+use mathlib.Core.Logic.{_≢_}
 use mathlib.Core.Path.{_≡_}
 use lib.Dec.{eqb}
 use lib.ListN.{length, getD}
@@ -21,6 +22,10 @@ isNamedAt clocks named block k = isDatedAt clocks k && eqb (getD named k 0) bloc
 
 abbrev pub Flags : List ℕ → List ℕ → ℕ → List Bool → Type 0
 Flags clocks named n flags = Marks (isNamedAt clocks named) n flags
+
+-- W2: each block in use is named
+pub record AllNamed (handles clocks named : List ℕ) : Type 0 where
+  pub so : (block : ℕ) → block < blockEntries → getD handles block 0 ≢ 0 → Asked (isNamedAt clocks named block) 0 expirationEntries true
 
 -- the flag that an entry sets: its block's, or the last, which is no block's, where it has no expiration
 abbrev pub slotBy : ℕ → ℕ → ℕ

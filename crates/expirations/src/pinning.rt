@@ -5,12 +5,13 @@ ghost use lib.ListN.{length};
 ghost use Rattle.record.specs.Tables.{blockEntries, expirationEntries};
 ghost use Rattle.expirations.specs.Pinning.{isPinBy, isPinAt, unpinnedClock, unpinnedAt, Pins, Releases};
 ghost use Rattle.expirations.specs.Places.{Asked, Changed};
+ghost use Rattle.expirations.specs.Releasing.{isNamedAt, AllNamed};
 ghost use Rattle.expirations.specs.Standing.{groupSize};
 use super::asking::GROUP;
 use super::asking::GROUP_COUNT;
 use super::asking::has_byte;
-use super::releasing::flags_of;
-use super::releasing::keep_named;
+use super::asking::is_dated;
+use super::releasing::kept_handle;
 use record::BLOCK_COUNT;
 use record::EXPIRATION_COUNT;
 use record::codes::FREE;
@@ -80,16 +81,53 @@ fn unpin(block: u8, clocks: &mut [u8; EXPIRATION_COUNT], named: &[u8; EXPIRATION
     }
 }
 
-// E24: the pinned expiration of the object in a block ends. Where it was the last, the object is gone, and its block is free.
+// Whether one of a group names the block: a group in which none has its number is passed by.
+fn names_in<'a>(
+    block: u8,
+    clocks: &'a [u8; EXPIRATION_COUNT],
+    named: &'a [u8; EXPIRATION_COUNT],
+    from: usize,
+) -> bool
+    requires { ⌜ (length (now clocks) ≡ expirationEntries) × (length (now named) ≡ expirationEntries) × (from + groupSize ≤ expirationEntries) ⌝ }
+    ensures { λ r. ⌜ Asked (isNamedAt (now (clocks .entry)) (now (named .entry)) block) from (from + groupSize) r ⌝ }
+{
+    if !has_byte(named, block, from, from + GROUP) {
+        return false;
+    }
+    let mut some = false;
+    for i in from..from + GROUP {
+        some = some | (is_dated(clocks[i]) & (named[i] == block));
+    }
+    some
+}
+
+// Whether an expiration names the block.
+fn is_named<'a>(
+    block: u8,
+    clocks: &'a [u8; EXPIRATION_COUNT],
+    named: &'a [u8; EXPIRATION_COUNT],
+) -> bool
+    requires { ⌜ (length (now clocks) ≡ expirationEntries) × (length (now named) ≡ expirationEntries) ⌝ }
+    ensures { λ r. ⌜ Asked (isNamedAt (now (clocks .entry)) (now (named .entry)) block) 0 expirationEntries r ⌝ }
+{
+    let mut some = false;
+    for g in 0..GROUP_COUNT {
+        some = some | names_in(block, clocks, named, g * GROUP);
+    }
+    some
+}
+
+// E24: the pinned expiration of the object in a block ends. Where it was the last, the object is gone, and its block is free: no other block's entries are changed, so that those in
+// use are named still.
 pub fn release(
     block: usize,
     handles: &mut [u32; BLOCK_COUNT],
     clocks: &mut [u8; EXPIRATION_COUNT],
     named: &[u8; EXPIRATION_COUNT],
 )
-    requires { ⌜ (block < blockEntries) × (length (now handles) ≡ blockEntries) × (length (now clocks) ≡ expirationEntries) × (length (now named) ≡ expirationEntries) ⌝ }
+    requires { ⌜ (block < blockEntries) × (length (now handles) ≡ blockEntries) × (length (now clocks) ≡ expirationEntries) × (length (now named) ≡ expirationEntries) × AllNamed (now handles) (now clocks) (now named) ⌝ }
     ensures { λ _. ⌜ Releases block (now (named .entry)) (now (handles .entry)) (now (clocks .entry)) (now (handles .exit)) (now (clocks .exit)) ⌝ }
 {
     unpin(block as u8, clocks, named);
-    keep_named(flags_of(clocks, named), handles);
+    handles[block] = kept_handle(is_named(block as u8, clocks, named), handles[block]);
 }

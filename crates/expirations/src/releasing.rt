@@ -71,7 +71,7 @@ pub fn flags_of<'a>(
 }
 
 // What is left of a handle.
-fn kept_handle(named: bool, handle: u32) -> u32
+pub fn kept_handle(named: bool, handle: u32) -> u32
     ensures { λ r. ⌜ r ≡ cond named handle 0 ⌝ }
 {
     if named { handle } else { 0 }

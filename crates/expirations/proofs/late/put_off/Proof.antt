@@ -35,7 +35,7 @@ returns-3 c =
     let start = c .before .before .before .before .before in
     let t = start .before .before .args .t in
     let flags = c .before .before .put-off-flags .ensures in
-    changed-same (changed-end (c .before .loop .inv .1) (omega arith) (omega arith)) (λ k x. rw (not-false (t .advanced) (start .if1 .left), flags .so))
+    changed-same (changed-end (c .before .loop .inv .1) (omega arith) (omega arith)) (λ k l m. rw (not-false (t .advanced) (start .if1 .left), flags .so))
 
 pub put-off-spec : {M : Type 1} → statement M
 put-off-spec =

@@ -1,4 +1,5 @@
--- Its clock first, then the blocks.
+-- Its clock first, then its block.
+use native.Mathlib.Omega.{arith}
 use borrow.Author.Needs.{needs}
 use Rattle.expirations.proofs.Pins.{releases}
 use Rattle.expirations.proofs.pinning.release.Statement.{statement}
@@ -8,7 +9,7 @@ returns : tie.Need-returns
 returns c =
     let unpinned = c .before .before .before .before in
     let pre = unpinned .before .before .pre in
-    releases (pre .2) (pre .3) (unpinned .unpin .ensures) (pre .1) (c .before .before .flags-of .ensures) (c .keep-named .ensures)
+    releases (pre .2) (pre .3) (unpinned .unpin .ensures) (pre .0) (pre .1) (pre .4) (c .before .before .is-named .ensures) (c .kept-handle .ensures)
 
 pub release-spec : {M : Type 1} → statement M
 release-spec =
@@ -16,6 +17,11 @@ release-spec =
     (tie.spec
     (λ c. search needs)
     (λ c κs. search needs)
+    (λ c. search needs)
     (λ c κs. search needs)
+    (λ c. omega arith)
+    (λ c. omega arith)
     (λ c κs. search needs)
+    (λ c. omega arith)
+    (λ c. omega arith)
     returns)
