@@ -1,7 +1,7 @@
 -- By what was found: refused with nothing changed, or the pinned expiration ended.
 use borrow.Author.Needs.{needs}
 use Rattle.record.proofs.Types.{head-typed}
-use Rattle.expirations.proofs.Pins.{well-named}
+use Rattle.endings.proofs.Unpins.{well-named}
 use Rattle.calls.proofs.Lent.{lent-fits}
 use Rattle.calls.proofs.ReleaseLent.{release-kept, release-known, release-carried}
 use Rattle.calls.proofs.release.Statement.{statement}
