@@ -22,10 +22,10 @@ own-code clock task l =
 
 module _ (t : Passing) (dues : List ℕ) where
   -- all of a leaver's own, and else what is over
-  pub own-leaving : t .leaves ≡ true → (k clock : ℕ) → isOwnAt (t .task) k clock ≡ isOwnEndingAt t dues k clock
+  pub own-leaving : t .leaves ≡ true → (k clock : ℕ) → isOwnAt (localCode + t .task) k clock ≡ isOwnEndingAt t dues k clock
   own-leaving e k clock = rw (e, and-true)
 
-  pub own-staying : t .leaves ≡ false → (k clock : ℕ) → isOwnOverAt t dues k clock ≡ isOwnEndingAt t dues k clock
+  pub own-staying : t .leaves ≡ false → (k clock : ℕ) → isOwnOverAt (localCode + t .task) (t .local) dues k clock ≡ isOwnEndingAt t dues k clock
   own-staying e k clock = rw e
 
 module _ (t : Passing) (dues : List ℕ) (known : t .task < taskCount) where

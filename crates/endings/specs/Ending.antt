@@ -13,6 +13,7 @@ use Rattle.record.specs.Tables.{ExpirationEntry, blocksOf, entriesOf, blockEntr
 use Rattle.record.specs.declared.Due.{Due}
 use Rattle.record.specs.declared.Due.the-variants.{Free, Local, Global, Pinned, Unknown}
 use Rattle.record.specs.declared.GlobalTime.{GlobalTime}
+use Rattle.record.specs.declared.LocalTime.{LocalTime}
 use Rattle.record.specs.declared.TaskEntry.{TaskEntry}
 use Rattle.steps.specs.Events.{keptBlock}
 use Rattle.endings.specs.Late.{lateIn}
@@ -42,15 +43,15 @@ isOverAt now dues k = eqb (leftAt (getD dues k 0) now) 0
 abbrev pub Over : ℕ → List ℕ → ℕ → List Bool → Type 0
 Over now dues from r = Filled false (λ k x. x ≡ isOverAt now dues (from + k)) groupSize groupSize r
 
--- a clock is the task's; it is, and nothing is left by that; and which of its task's an event ends
+-- a clock is a task's own, by its code; it is, and nothing is left by that; and which of its task's an event ends
 abbrev pub isOwnAt : ℕ → ℕ → ℕ → Bool
-isOwnAt task k clock = eqb clock (localCode + task)
+isOwnAt own k clock = eqb clock own
 
-abbrev pub isOwnOverAt : Passing → List ℕ → ℕ → ℕ → Bool
-isOwnOverAt t dues k clock = isOwnAt (t .task) k clock && isOverAt (t .local .0) dues k
+abbrev pub isOwnOverAt : ℕ → LocalTime → List ℕ → ℕ → ℕ → Bool
+isOwnOverAt own now dues k clock = isOwnAt own k clock && isOverAt (now .0) dues k
 
 abbrev pub isOwnEndingAt : Passing → List ℕ → ℕ → ℕ → Bool
-isOwnEndingAt t dues k clock = isOwnAt (t .task) k clock && (t .leaves || isOverAt (t .local .0) dues k)
+isOwnEndingAt t dues k clock = isOwnAt (localCode + t .task) k clock && (t .leaves || isOverAt (t .local .0) dues k)
 
 -- a clock goes by the global time, and nothing is left by that
 abbrev pub isGlobalOverAt : GlobalTime → List ℕ → ℕ → ℕ → Bool

@@ -30,13 +30,13 @@ fn kept(ends: bool, clock: u8) -> u8
 }
 
 // Ends all that go by a task's clock, and says whether that was any.
-fn end_own(task: u8, clocks: &mut [u8; EXPIRATION_COUNT]) -> bool
-    requires { ⌜ (task < taskCount) × (length (now clocks) ≡ expirationEntries) ⌝ }
-    ensures { λ r. ⌜ EndedBy (isOwnAt task) 0 expirationEntries (now (clocks .entry)) (now (clocks .exit)) r ⌝ }
+fn end_own(own: u8, clocks: &mut [u8; EXPIRATION_COUNT]) -> bool
+    requires { ⌜ length (now clocks) ≡ expirationEntries ⌝ }
+    ensures { λ r. ⌜ EndedBy (isOwnAt own) 0 expirationEntries (now (clocks .entry)) (now (clocks .exit)) r ⌝ }
 {
     let mut some = false;
     for i in 0..EXPIRATION_COUNT {
-        let ends = clocks[i] == LOCAL + task;
+        let ends = clocks[i] == own;
         some = some | ends;
         clocks[i] = kept(ends, clocks[i]);
     }
@@ -69,22 +69,22 @@ fn global_over(global: GlobalTime, dues: &[u32; EXPIRATION_COUNT], from: usize) 
 
 // Ends what is over by the task's clock in a group, and says whether that was any.
 fn end_local_in(
-    t: Passing,
+    own: u8,
+    local: LocalTime,
     clocks: &mut [u8; EXPIRATION_COUNT],
     dues: &[u32; EXPIRATION_COUNT],
     from: usize,
 ) -> bool
-    requires { ⌜ (t .task < taskCount) × (length (now clocks) ≡ expirationEntries) × (length (now dues) ≡ expirationEntries) × (from + groupSize ≤ expirationEntries) ⌝ }
-    ensures { λ r. ⌜ EndedBy (isOwnOverAt t (now (dues .entry))) from (from + groupSize) (now (clocks .entry)) (now (clocks .exit)) r ⌝ }
+    requires { ⌜ (length (now clocks) ≡ expirationEntries) × (length (now dues) ≡ expirationEntries) × (from + groupSize ≤ expirationEntries) ⌝ }
+    ensures { λ r. ⌜ EndedBy (isOwnOverAt own local (now (dues .entry))) from (from + groupSize) (now (clocks .entry)) (now (clocks .exit)) r ⌝ }
 {
-    if !has_byte(clocks, LOCAL + t.task, from, from + GROUP) {
+    if !has_byte(clocks, own, from, from + GROUP) {
         return false;
     }
-    let local = t.local;
     let over = local_over(local, dues, from);
     let mut some = false;
     for i in 0..GROUP {
-        let ends = (clocks[from + i] == LOCAL + t.task) & over[i];
+        let ends = (clocks[from + i] == own) & over[i];
         some = some | ends;
         clocks[from + i] = kept(ends, clocks[from + i]);
     }
@@ -93,16 +93,17 @@ fn end_local_in(
 
 // The same of all.
 fn end_local(
-    t: Passing,
+    own: u8,
+    local: LocalTime,
     clocks: &mut [u8; EXPIRATION_COUNT],
     dues: &[u32; EXPIRATION_COUNT],
 ) -> bool
-    requires { ⌜ (t .task < taskCount) × (length (now clocks) ≡ expirationEntries) × (length (now dues) ≡ expirationEntries) ⌝ }
-    ensures { λ r. ⌜ EndedBy (isOwnOverAt t (now (dues .entry))) 0 expirationEntries (now (clocks .entry)) (now (clocks .exit)) r ⌝ }
+    requires { ⌜ (length (now clocks) ≡ expirationEntries) × (length (now dues) ≡ expirationEntries) ⌝ }
+    ensures { λ r. ⌜ EndedBy (isOwnOverAt own local (now (dues .entry))) 0 expirationEntries (now (clocks .entry)) (now (clocks .exit)) r ⌝ }
 {
     let mut some = false;
     for g in 0..GROUP_COUNT {
-        some = some | end_local_in(t, clocks, dues, g * GROUP);
+        some = some | end_local_in(own, local, clocks, dues, g * GROUP);
     }
     some
 }
@@ -155,10 +156,12 @@ fn end_tasks(
     requires { ⌜ (t .task < taskCount) × (length (now clocks) ≡ expirationEntries) × (length (now dues) ≡ expirationEntries) ⌝ }
     ensures { λ r. ⌜ EndedBy (isOwnEndingAt t (now (dues .entry))) 0 expirationEntries (now (clocks .entry)) (now (clocks .exit)) r ⌝ }
 {
+    let own = LOCAL + t.task;
+    let local = t.local;
     if t.leaves {
-        end_own(t.task, clocks)
+        end_own(own, clocks)
     } else {
-        end_local(t, clocks, dues)
+        end_local(own, local, clocks, dues)
     }
 }
 

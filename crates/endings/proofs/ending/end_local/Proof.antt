@@ -9,10 +9,10 @@ use Rattle.endings.proofs.ending.end_local.Statement.{statement}
 use Rattle.endings.proofs.ending.end_local.Tie as tie
 
 abbrev Inv-loop : tie.InvT-loop
-Inv-loop t clocks₀ dues some₀ g₀ clocks some g = (g ≤ groupCount) × EndedBy (isOwnOverAt t dues) 0 (g * groupSize) clocks₀ clocks some
+Inv-loop own local clocks₀ dues some₀ g₀ clocks some g = (g ≤ groupCount) × EndedBy (isOwnOverAt own local dues) 0 (g * groupSize) clocks₀ clocks some
 
 abbrev μ-loop : tie.MeasureT-loop
-μ-loop t clocks₀ dues some₀ g₀ clocks some g = groupCount - g
+μ-loop own local clocks₀ dues some₀ g₀ clocks some g = groupCount - g
 
 pub end-local-spec : {M : Type 1} → statement M
 end-local-spec =
@@ -22,7 +22,7 @@ end-local-spec =
     μ-loop
     (λ c. (omega arith, ended-start _ _ _))
     (λ c. omega arith)
-    (λ c κs. let start = c .before .before .before in (start .pre .0, c .before .before .loop .inv .1 .changed .size ∙ start .pre .1, start .pre .2, omega arith))
+    (λ c κs. let start = c .before .before .before in (c .before .before .loop .inv .1 .changed .size ∙ start .pre .0, start .pre .1, omega arith))
     (λ c. omega arith)
     (λ c. omega arith)
     (λ c. (omega arith, ended-end (ended-join (c .before .before .before .loop .inv .1) (c .end-local-in .ensures)) (omega arith) (omega arith)))

@@ -10,15 +10,15 @@ use Rattle.endings.proofs.ending.end_own.Statement.{statement}
 use Rattle.endings.proofs.ending.end_own.Tie as tie
 
 abbrev Inv-loop : tie.InvT-loop
-Inv-loop task clocks₀ some₀ i₀ clocks some i = (i ≤ expirationEntries) × EndedBy (isOwnAt task) 0 i clocks₀ clocks some
+Inv-loop own clocks₀ some₀ i₀ clocks some i = (i ≤ expirationEntries) × EndedBy (isOwnAt own) 0 i clocks₀ clocks some
 
 abbrev μ-loop : tie.MeasureT-loop
-μ-loop task clocks₀ some₀ i₀ clocks some i = expirationEntries - i
+μ-loop own clocks₀ some₀ i₀ clocks some i = expirationEntries - i
 
 loop-again : tie.Need-loop-again Inv-loop μ-loop
 loop-again c =
     let l = c .before .before .before .before in
-    (omega arith, ended-turn (l .loop .inv .1) (omega (arith, l .before .pre .1)) refl (c .kept .ensures))
+    (omega arith, ended-turn (l .loop .inv .1) (omega (arith, l .before .pre)) refl (c .kept .ensures))
 
 pub end-own-spec : {M : Type 1} → statement M
 end-own-spec =
@@ -27,7 +27,6 @@ end-own-spec =
     Inv-loop
     μ-loop
     (λ c. (omega arith, ended-start _ _ _))
-    (λ c. omega arith)
     (λ c. omega arith)
     (λ c. omega arith)
     (λ c κs. search needs)
