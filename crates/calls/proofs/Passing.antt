@@ -28,8 +28,8 @@ use Rattle.steps.specs.Events.{nextTime, movedEntry, untickedEntry, movedTasks,
 use Rattle.steps.proofs.Late.{lateDue, late-due, late-none}
 use Rattle.tasks.specs.Steps.{isLeave, testedAfter}
 use Rattle.tasks.specs.declared.Planned.{Planned}
-use Rattle.expirations.specs.Ending.{isEnding, endedEntry}
-use Rattle.expirations.specs.declared.Passing.{Passing}
+use Rattle.endings.specs.Ending.{isEnding, endedEntry}
+use Rattle.endings.specs.declared.Passing.{Passing}
 
 -- the time that a plan leaves
 abbrev pub passingOf : ℕ → Planned → Passing

@@ -21,7 +21,7 @@ use Rattle.objects.specs.declared.Found.{Found}
 use Rattle.objects.specs.declared.Found.the-variants.{At}
 use Rattle.objects.specs.declared.Found.the-variants.{Refused as RefusedFound}
 use Rattle.objects.proofs.Outcomes.{found-refused, found-accepted}
-use Rattle.expirations.specs.Pinning.{Releases}
+use Rattle.endings.specs.Unpinning.{Releases}
 use Rattle.calls.specs.Contract.{Follows}
 use Rattle.calls.proofs.Lent.{tables-of, lent-typed}
 use Rattle.calls.proofs.Outcomes.{release-refused, release-done}

@@ -42,8 +42,8 @@ use Rattle.steps.proofs.Standing.{none-freed, swept-none}
 use Rattle.steps.proofs.Staying.{event-stays}
 use Rattle.tasks.specs.Steps.{mayEnd, testedAfter, plannedAfter, plannedBy, planned}
 use Rattle.tasks.specs.declared.Planned.{Planned}
-use Rattle.expirations.specs.Ending.{isEnding, endedEntry}
-use Rattle.expirations.specs.declared.Passing.{Passing}
+use Rattle.endings.specs.Ending.{isEnding, endedEntry}
+use Rattle.endings.specs.declared.Passing.{Passing}
 use Rattle.calls.specs.Contract.{Obeys}
 use Rattle.calls.proofs.Passing.{passingOf, kept-as, block-keeps}
 use Rattle.calls.proofs.Promises.{isRefusal}

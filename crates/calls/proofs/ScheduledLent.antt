@@ -21,7 +21,7 @@ use Rattle.steps.specs.Events.{leaverOf, lateEntry, passedEntry, keptBlock, swe
 use Rattle.steps.proofs.Late.{late-blocks}
 use Rattle.tasks.specs.Steps.{planned}
 use Rattle.tasks.specs.declared.Planned.{Planned}
-use Rattle.expirations.specs.Ending.{Ends}
+use Rattle.endings.specs.Ending.{Ends}
 use Rattle.calls.specs.Engine.{FollowsBeside}
 use Rattle.calls.proofs.Lent.{lent-typed}
 use Rattle.calls.proofs.Passing.{passingOf, leaver-as, kept-as}

@@ -9,9 +9,9 @@ ghost use Rattle.record.specs.Pools.{isWellFormed};
 ghost use Rattle.record.specs.Tables.{pooled, SizedEntries, Sized, blockEntries};
 ghost use Rattle.calls.specs.Contract.{Ready, FollowsWith, Follows, Makes, Writes};
 ghost use Rattle.calls.specs.Engine.{refusedBy, withGiven, outcomeOf, FollowsBeside};
-use expirations;
-use expirations::Passing;
-use expirations::end;
+use endings;
+use endings::Passing;
+use endings::end;
 use expirations::set;
 use expirations::set_all;
 use expirations::standing;
@@ -222,7 +222,7 @@ pub fn release<'a>(
             head: h,
         },
         Found::At { block, life: _ } => {
-            expirations::release(block, handles, clocks, named);
+            endings::release(block, handles, clocks, named);
             Step {
                 answer: Answer::Done,
                 head: h,

@@ -10,7 +10,7 @@ use lib.ListN.{getD, set, replicate, length-set, length-replicate, getD-replicat
 use lib.Seq.{getD-set-same, getD-set-other}
 use Rattle.lists.proofs.Cases.{by-test}
 use Rattle.record.specs.Tables.{blockEntries, expirationEntries, byteValues}
-use Rattle.expirations.specs.Releasing.{isNamedAt, isSlotAt, Marks, Slots}
+use Rattle.expirations.specs.Naming.{isNamedAt, isSlotAt, Marks, Slots}
 use Rattle.expirations.specs.Standing.{isDatedAt}
 use Rattle.expirations.proofs.Places.{asked-start, asked-turn, asked-skip, asked-same, asked-end}
 

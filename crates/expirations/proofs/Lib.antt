@@ -1,10 +1,7 @@
 pub mod Places
-pub mod Ended
-pub mod Clocks
 pub mod Counting
 pub mod Setting
 pub mod Flags
 pub mod Tables
 pub mod Pins
-pub mod PutOff
 pub mod Longest

@@ -8,15 +8,14 @@ use lib.Dec.{eqb, leb, ltb}
 use lib.ListN.{length, getD}
 use Rattle.lists.proofs.Cases.{by-test}
 use Rattle.record.specs.Codes.{isGlobalClock, dueBy, isPinnedDue, localCode, globalCode, pinnedCode}
-use Rattle.record.specs.Tables.{SizedEntries, blockEntries, expirationEntries}
+use Rattle.record.specs.Tables.{SizedEntries, expirationEntries}
 use Rattle.record.specs.WellFormed.{isPinning}
-use Rattle.expirations.specs.Pinning.{isPinAt, unpinnedAt, Pins, Releases}
-use Rattle.expirations.specs.Places.{Asked, Changed}
-use Rattle.expirations.specs.Releasing.{Flags, keptByFlag}
-use Rattle.expirations.proofs.Tables.{asked-entries, released, sized-after, freed-entries}
+use Rattle.expirations.specs.Pinning.{isPinAt, Pins}
+use Rattle.expirations.specs.Places.{Asked}
+use Rattle.expirations.proofs.Tables.{asked-entries}
 
 -- its clock is no other's
-pinned-clock : (clock due : ℕ) → eqb clock pinnedCode ≡ isPinnedDue (dueBy clock due)
+pub pinned-clock : (clock due : ℕ) → eqb clock pinnedCode ≡ isPinnedDue (dueBy clock due)
 unfolding dueBy
 pinned-clock clock due =
     by-test (eqb clock pinnedCode)
@@ -30,21 +29,10 @@ pinned-clock clock due =
     (λ g. by-test (leb localCode clock && ltb clock globalCode) (λ l. rw (p, z, g, l)) (λ l. rw (p, z, g, l)))))
 
 module _ {cs ns : List ℕ} (c : length cs ≡ expirationEntries) (n : length ns ≡ expirationEntries) where
-  sized-with : {ds : List ℕ} → length ds ≡ expirationEntries → SizedEntries cs ns ds
+  pub sized-with : {ds : List ℕ} → length ds ≡ expirationEntries → SizedEntries cs ns ds
   sized-with d = record { of-clocks = c; of-named = n; of-dues = d }
 
   -- all places asked
   pub pins-all : {block : ℕ} {r : Bool} → Asked (isPinAt block cs ns) 0 expirationEntries r → Pins block cs ns r
   pins-all {block} s =
       record { so = λ ds d. asked-entries (sized-with d) (isPinning block) (λ k. rw (pinned-clock (getD cs k 0) (getD ds k 0))) s }
-
-  -- the tables after it is ended and blocks are kept by the flags
-  pub releases : {block : ℕ} {cs′ hs hs′ : List ℕ} {flags : List Bool} → Changed 0 (unpinnedAt block ns) 0 expirationEntries cs cs′ → length hs ≡ blockEntries
-      → Flags cs′ ns expirationEntries flags → Changed 0 (keptByFlag flags) 0 blockEntries hs hs′ → Releases block ns hs cs hs′ cs′
-  releases {block} s h f z =
-      record {
-        handlesSize = z .size ∙ h;
-        clocksSize = s .size ∙ c;
-        entries = λ ds d. freed-entries s (sized-with d) (isPinning block) (λ k clock. rw (pinned-clock clock (getD ds k 0)));
-        blocks = λ ls ds l d. released ls ds f z (sized-after s (sized-with d)) h l;
-      }

@@ -25,6 +25,10 @@ module _ (p : ℕ → Bool) where
   pub asked-none : {a b : ℕ} → a ≤ b → ((k : ℕ) → a ≤ k → k < b → p k ≡ false) → Asked p a b false
   asked-none h f = record { ordered = h; some = λ e. absurd (false≢true e); none = λ e. f }
 
+  -- where one does
+  pub asked-at : {a b : ℕ} (k : ℕ) → a ≤ k → k < b → p k ≡ true → Asked p a b true
+  asked-at k l m h = record { ordered = omega arith; some = λ e. (k, l, m, h); none = λ e. absurd (true≢false e) }
+
   pub asked-start : (a : ℕ) → Asked p a a false
   asked-start a = asked-none (omega arith) (λ k l m. absurd (omega arith))
 
@@ -115,13 +119,13 @@ module _ {ℓ} {A : Type ℓ} {d : A} {f : ℕ → A → A} where
         }
 
     -- the same made in another way
-    pub changed-same : {g : ℕ → A → A} → ((k : ℕ) (x : A) → f k x ≡ g k x) → Changed d g a b xs ys
+    pub changed-same : {g : ℕ → A → A} → ((k : ℕ) → a ≤ k → k < b → f k (getD xs k d) ≡ g k (getD xs k d)) → Changed d g a b xs ys
     changed-same e =
         record {
           ordered = s .ordered;
           size = s .size;
           before = s .before;
-          inside = λ k l m. s .inside k l m ∙ e k (getD xs k d);
+          inside = λ k l m. s .inside k l m ∙ e k l m;
           after = s .after;
         }
 

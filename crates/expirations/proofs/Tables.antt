@@ -1,31 +1,24 @@
--- What was asked and changed by places, as the tables have it.
+-- What was asked by places, as the tables have it.
 use Prim.Native.Nat.{ℕ, zero, suc, _<_}
 use native.Mathlib.Omega.{arith}
-use mathlib.Core.Bool.{Bool, true, false, cond}
-use mathlib.Core.List.{List, [], _∷_, map}
+use mathlib.Core.Bool.{Bool, true, false}
+use mathlib.Core.List.{List, [], _∷_}
 use mathlib.Core.Path.{_≡_, refl, sym, _∙_, ap}
 use borrow.Author.Tests.{eqb-true, eqb-false, ne-eqb, leb-true, leb-false, le-leb, lt-leb, lt-ltb, le-ltb}
 use lib.Dec.{eqb, leb}
-use lib.ListN.{length, getD, length-map, List·getD-map}
-use lib.Seq.{ext-getD}
-use Rattle.lists.specs.Tables.{mapFrom}
+use lib.ListN.{length, getD}
+use Rattle.lists.specs.Tables.{firstFrom}
 use Rattle.lists.specs.Tests.{any}
-use Rattle.lists.proofs.Cases.{by-test, cond-same, or-right}
-use Rattle.lists.proofs.Tables.{length-mapFrom}
-use Rattle.record.specs.Codes.{dueBy, dueOf, isDated, freeBlock, freeEntry, freedBlock, freedEntry, localCode, globalCode, departedCode, pinnedCode}
-use Rattle.record.specs.Tables.{ExpirationEntry, blockEntry, expirationEntry, blocksOf, entriesOf, SizedEntries, blockEntries, expirationEntries}
+use Rattle.lists.proofs.Cases.{by-test, or-right}
+use Rattle.lists.proofs.First.{first-within, first-passes}
+use Rattle.record.specs.Codes.{dueBy, isDated, freeEntry, localCode, globalCode, departedCode, pinnedCode}
+use Rattle.record.specs.Tables.{ExpirationEntry, expirationEntry, entriesOf, SizedEntries, expirationEntries}
 use Rattle.record.specs.WellFormed.{isNaming}
-use Rattle.record.specs.declared.TaskEntry.{TaskEntry}
-use Rattle.record.proofs.Columns.{length-blocks, block-at, length-entries, entry-at}
-use Rattle.steps.specs.Events.{keptBlock}
-use Rattle.steps.proofs.KeptBlocks.{block-left}
-use Rattle.expirations.specs.Ending.{isEnding, endedEntry, Ended, Ends}
-use Rattle.expirations.specs.Late.{lateIn}
-use Rattle.expirations.specs.Places.{Asked, Changed}
-use Rattle.expirations.specs.Releasing.{Flags, keptByFlag}
+use Rattle.record.proofs.Columns.{length-entries, entry-at}
+use Rattle.expirations.specs.Naming.{isNamedAt}
+use Rattle.expirations.specs.Places.{Asked}
 use Rattle.expirations.specs.Standing.{isDatedClock}
-use Rattle.expirations.specs.declared.Passing.{Passing}
-use Rattle.expirations.proofs.Places.{split, asked-same}
+use Rattle.expirations.proofs.Places.{split, asked-at, asked-same}
 
 module _ {ℓ} {A : Type ℓ} (p : A → Bool) (d : A) where
   any-none : (xs : List A) → ((k : ℕ) → k < length xs → p (getD xs k d) ≡ false) → any p xs ≡ false
@@ -82,93 +75,16 @@ module _ {cs ns ds : List ℕ} (sized : SizedEntries cs ns ds) where
       → ((k : ℕ) → q k ≡ p (expirationEntry (getD cs k 0) (getD ns k 0) (getD ds k 0))) → Asked q 0 expirationEntries r → r ≡ any p (entriesOf cs ns ds)
   asked-entries p f s = asked-any p freeEntry (entriesOf cs ns ds) size-of (asked-same s (λ k l m. f k ∙ ap p (sym (entry-of k))))
 
--- a block is named where its flag is set
-flag-names : {cs ns ds : List ℕ} {flags : List Bool} → Flags cs ns expirationEntries flags → SizedEntries cs ns ds → (block : ℕ) → block < blockEntries
-    → getD flags block false ≡ any (isNaming block) (entriesOf cs ns ds)
-flag-names {cs} {ns} {ds} s sized block l =
-    asked-entries sized (isNaming block) (λ k. rw (dated-clock (getD cs k 0) (getD ds k 0))) (s .so block l)
+-- a block is named where one of all places names it
+pub asked-naming : {cs ns ds : List ℕ} → SizedEntries cs ns ds → (block : ℕ) {r : Bool} → Asked (isNamedAt cs ns block) 0 expirationEntries r
+    → r ≡ any (isNaming block) (entriesOf cs ns ds)
+asked-naming {cs} {ns} {ds} sized block s = asked-entries sized (isNaming block) (λ k. rw (dated-clock (getD cs k 0) (getD ds k 0))) s
 
--- a block by its flag
-kept-entry : (flag : Bool) (handle extent : ℕ)
-    → blockEntry (cond flag handle 0) extent ≡ cond flag (blockEntry handle extent) (freedBlock (blockEntry handle extent))
-kept-entry true handle extent = refl
-kept-entry false handle extent = refl
-
--- the blocks after their handles are kept by the flags
-pub released : {cs ns hs hs′ : List ℕ} {flags : List Bool} (ls ds : List ℕ) → Flags cs ns expirationEntries flags → Changed 0 (keptByFlag flags) 0 blockEntries hs hs′
-    → SizedEntries cs ns ds → length hs ≡ blockEntries → length ls ≡ blockEntries → blocksOf hs′ ls ≡ mapFrom 0 (keptBlock (entriesOf cs ns ds)) (blocksOf hs ls)
-released {cs} {ns} {hs} {hs′} {flags} ls ds s z sized h l =
+-- and one of them does, where it is named
+pub naming-asked : {cs ns ds : List ℕ} → SizedEntries cs ns ds → (block : ℕ) → any (isNaming block) (entriesOf cs ns ds) ≡ true
+    → Asked (isNamedAt cs ns block) 0 expirationEntries true
+naming-asked {cs} {ns} {ds} sized block e =
     let xs = entriesOf cs ns ds in
-    let blocks = blocksOf hs ls in
-    let size = length-blocks hs′ ls (z .size ∙ h) l in
-    ext-getD freeBlock (blocksOf hs′ ls) (mapFrom 0 (keptBlock xs) blocks)
-    (size ∙ sym (length-mapFrom 0 (keptBlock xs) blocks ∙ length-blocks hs ls h l))
-    (λ k m.
-    let within : k < blockEntries = omega arith in
-    rw (block-at hs′ ls (z .size ∙ h) l k, z .inside k (omega arith) within, block-left xs blocks k, block-at hs ls h l k, ← flag-names s sized k within)
-    (kept-entry (getD flags k false) (getD hs k 0) (getD ls k 0)))
-
--- an entry by whether it ends
-ended-entry : (ends : Bool) (clock block due : ℕ)
-    → expirationEntry (cond ends 0 clock) block due ≡ cond ends (freedEntry (expirationEntry clock block due)) (expirationEntry clock block due)
-ended-entry true clock block due = refl
-ended-entry false clock block due = refl
-
--- the table after the clocks of all are made anew
-module _ {f : ℕ → ℕ → ℕ} {cs ns ds cs′ : List ℕ} (s : Changed 0 f 0 expirationEntries cs cs′) (sized : SizedEntries cs ns ds) where
-  pub sized-after : SizedEntries cs′ ns ds
-  sized-after = record { of-clocks = s .size ∙ sized .of-clocks; of-named = sized .of-named; of-dues = sized .of-dues }
-
-  -- where those of entries that pass are freed
-  pub freed-entries : (p : ExpirationEntry → Bool) → ((k clock : ℕ) → f k clock ≡ cond (p (expirationEntry clock (getD ns k 0) (getD ds k 0))) 0 clock)
-      → entriesOf cs′ ns ds ≡ map (λ (e : ExpirationEntry). cond (p e) (freedEntry e) e) (entriesOf cs ns ds)
-  freed-entries p e =
-      let xs = entriesOf cs ns ds in
-      let size = size-of sized-after in
-      let kept : ExpirationEntry → ExpirationEntry = λ x. cond (p x) (freedEntry x) x in
-      let x : ℕ → ExpirationEntry = λ k. expirationEntry (getD cs k 0) (getD ns k 0) (getD ds k 0) in
-      ext-getD freeEntry (entriesOf cs′ ns ds) (map kept xs)
-      (size ∙ sym (length-map xs kept ∙ size-of sized))
-      (λ k m.
-      entry-of sized-after k
-      ∙ rw (s .inside k (omega arith) (omega arith), e k (getD cs k 0)) (ended-entry (p (x k)) (getD cs k 0) (getD ns k 0) (getD ds k 0))
-      ∙ ap kept (sym (entry-of sized k))
-      ∙ sym (List·getD-map kept xs k freeEntry)
-      ∙ ap (getD (map kept xs) k) (cond-same (p freeEntry) freeEntry))
-
-module _ (t : Passing) {cs ns ds cs′ : List ℕ} {r : Bool} (s : Ended t ds 0 expirationEntries cs cs′ r) (sized : SizedEntries cs ns ds) where
-  sized′ : SizedEntries cs′ ns ds
-  sized′ = sized-after (s .changed) sized
-
-  -- the entries after what is over is ended
-  ended-entries : entriesOf cs′ ns ds ≡ map (endedEntry t) (entriesOf cs ns ds)
-  ended-entries = freed-entries (s .changed) sized (λ (e : ExpirationEntry). isEnding t (dueOf e)) (λ k clock. refl)
-
-  -- and whether any was
-  ended-any : r ≡ any (λ (e : ExpirationEntry). isEnding t (dueOf e)) (entriesOf cs ns ds)
-  ended-any = asked-entries sized _ (λ k. refl) (s .asked)
-
-  -- of what a leave and an advance make of other entries
-  module _ {tasks : List TaskEntry} {cs₀ ds₀ hs : List ℕ} (late : entriesOf cs ns ds ≡ lateIn t tasks (entriesOf cs₀ ns ds₀)) (h : length hs ≡ blockEntries) where
-    -- where any was, blocks are released
-    pub ends-some : {hs′ : List ℕ} {flags : List Bool} → r ≡ true → Flags cs′ ns expirationEntries flags → Changed 0 (keptByFlag flags) 0 blockEntries hs hs′
-        → Ends t tasks ns ds₀ hs cs₀ hs′ cs′ ds
-    ends-some e f z =
-        record {
-          handlesSize = z .size ∙ h;
-          clocksSize = sized′ .of-clocks;
-          duesSize = sized′ .of-dues;
-          entries = ended-entries ∙ ap (map (endedEntry t)) late;
-          blocks = λ ls l. rw (← late, ← ended-any, e) (released ls ds f z sized′ h l);
-        }
-
-    -- and else nothing changes
-    pub ends-none : r ≡ false → Ends t tasks ns ds₀ hs cs₀ hs cs′ ds
-    ends-none e =
-        record {
-          handlesSize = h;
-          clocksSize = sized′ .of-clocks;
-          duesSize = sized′ .of-dues;
-          entries = ended-entries ∙ ap (map (endedEntry t)) late;
-          blocks = λ ls l. rw (← late, ← ended-any, e);
-        }
+    let k = firstFrom 0 (isNaming block) xs in
+    asked-at (isNamedAt cs ns block) k (omega arith) (omega (arith, first-within (isNaming block) xs e, size-of sized))
+    (rw (dated-clock (getD cs k 0) (getD ds k 0)) (sym (ap (isNaming block) (entry-of sized k)) ∙ first-passes (isNaming block) freeEntry xs e))

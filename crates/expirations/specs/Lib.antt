@@ -1,8 +1,6 @@
 pub mod Places
 pub mod Standing
 pub mod Setting
-pub mod Late
-pub mod Ending
-pub mod Releasing
+pub mod Naming
 pub mod Pinning
 pub mod Remaining

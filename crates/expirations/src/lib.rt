@@ -1,44 +1,33 @@
 // How expirations (01: dates) are kept: a table of entries, of which those with clock 0 are free. A call knows how many stand and how
-// long the object in a block has left, sets one on a block or one on each of a batch's, ends the pinned one of a block, and has an event end those that are over; where an entry stands is known here alone.
+// long the object in a block has left, and sets one on a block or one on each of a batch's. Where an entry stands is known here and in crates/endings, which ends them, alone.
 ghost use Prim.Native.Nat.{_+_, _≤_, _<_};
 ghost use mathlib.Core.Path.{_≡_};
 ghost use lib.ListN.{length, take};
 ghost use Rattle.ledger.specs.Limits.{taskCount, largestBatch};
 ghost use Rattle.expirations.specs.Standing.{standingOf, freeIn};
 ghost use Rattle.expirations.specs.Setting.{entryFor, Sets, SetsEach};
-ghost use Rattle.expirations.specs.Ending.{Ends};
 ghost use Rattle.record.specs.Tables.{SizedEntries, blockEntries, expirationEntries};
 
-mod asking;
-mod ending;
-mod late;
-mod pinning;
-mod releasing;
+pub mod asking;
+pub mod naming;
+pub mod pinning;
 mod remaining;
 
 use asking::HALF;
 use asking::free_entry;
 use asking::free_from;
 use asking::standing_in;
-use ending::end_due;
-use late::desert;
-use late::put_off;
 use ledger::Kind;
 use ledger::LARGEST_BATCH;
 use ledger::TASK_COUNT;
 pub use pinning::is_pinned;
-pub use pinning::release;
-use record::BLOCK_COUNT;
 use record::EXPIRATION_COUNT;
 use record::GlobalTime;
 use record::Head;
-use record::LocalTime;
 use record::TaskEntry;
 use record::codes::GLOBAL;
 use record::codes::LOCAL;
 use record::codes::PINNED;
-use releasing::flags_of;
-use releasing::keep_named;
 pub use remaining::remaining_life;
 use std::num::wrapping_add_u32;
 
@@ -157,34 +146,5 @@ pub fn set_all(
         let at = free_from(clocks, from);
         put(e, at, clocks, named, dues);
         from = at + 1;
-    }
-}
-
-// The time that an event of a task leaves: the task's local time, and whether it leaves for good; the global time, and whether that has advanced.
-pub struct Passing {
-    pub task: u8,
-    pub leaves: bool,
-    pub local: LocalTime,
-    pub advanced: bool,
-    pub global: GlobalTime,
-}
-
-// What an event ends: the task's local expirations that are due, all of them where it leaves, and at an advance the global ones that are due, after those whose
-// setter waits are put off. An object whose last one ends is gone, and its block is free.
-pub fn end(
-    t: Passing,
-    tasks: [TaskEntry; TASK_COUNT],
-    handles: &mut [u32; BLOCK_COUNT],
-    clocks: &mut [u8; EXPIRATION_COUNT],
-    named: &[u8; EXPIRATION_COUNT],
-    dues: &mut [u32; EXPIRATION_COUNT],
-)
-    requires { ⌜ (t .task < taskCount) × (length (now handles) ≡ blockEntries) × SizedEntries (now clocks) (now named) (now dues) ⌝ }
-    ensures { λ _. ⌜ Ends t tasks (now (named .entry)) (now (dues .entry)) (now (handles .entry)) (now (clocks .entry)) (now (handles .exit)) (now (clocks .exit)) (now (dues .exit)) ⌝ }
-{
-    desert(t, clocks);
-    put_off(t, tasks, clocks, dues);
-    if end_due(t, clocks, dues) {
-        keep_named(flags_of(clocks, named), handles);
     }
 }

@@ -1,23 +1,19 @@
-// The pinned expiration of a block (02: kept): whether there is one, and its end by a release.
+// The pinned expiration of a block (02: kept): whether there is one.
 ghost use Prim.Native.Nat.{_+_, _≤_, _<_};
 ghost use mathlib.Core.Path.{_≡_};
 ghost use lib.ListN.{length};
 ghost use Rattle.record.specs.Tables.{blockEntries, expirationEntries};
-ghost use Rattle.expirations.specs.Pinning.{isPinBy, isPinAt, unpinnedClock, unpinnedAt, Pins, Releases};
-ghost use Rattle.expirations.specs.Places.{Asked, Changed};
+ghost use Rattle.expirations.specs.Pinning.{isPinBy, isPinAt, Pins};
+ghost use Rattle.expirations.specs.Places.{Asked};
 ghost use Rattle.expirations.specs.Standing.{groupSize};
 use super::asking::GROUP;
 use super::asking::GROUP_COUNT;
 use super::asking::has_byte;
-use super::releasing::flags_of;
-use super::releasing::keep_named;
-use record::BLOCK_COUNT;
 use record::EXPIRATION_COUNT;
-use record::codes::FREE;
 use record::codes::PINNED;
 
 // Whether an entry is it.
-fn is_pin(block: u8, clock: u8, named: u8) -> bool
+pub fn is_pin(block: u8, clock: u8, named: u8) -> bool
     ensures { λ r. ⌜ r ≡ isPinBy block clock named ⌝ }
 {
     (clock == PINNED) & (named == block)
@@ -57,39 +53,4 @@ pub fn is_pinned<'a>(
         some = some | any_pin(block as u8, clocks, named, g * GROUP);
     }
     some
-}
-
-// What is left of a clock.
-fn unpinned(block: u8, clock: u8, named: u8) -> u8
-    ensures { λ r. ⌜ r ≡ unpinnedClock block clock named ⌝ }
-{
-    if is_pin(block, clock, named) {
-        FREE
-    } else {
-        clock
-    }
-}
-
-// Ends it.
-fn unpin(block: u8, clocks: &mut [u8; EXPIRATION_COUNT], named: &[u8; EXPIRATION_COUNT])
-    requires { ⌜ (length (now clocks) ≡ expirationEntries) × (length (now named) ≡ expirationEntries) ⌝ }
-    ensures { λ _. ⌜ Changed 0 (unpinnedAt block (now (named .entry))) 0 expirationEntries (now (clocks .entry)) (now (clocks .exit)) ⌝ }
-{
-    for i in 0..EXPIRATION_COUNT {
-        clocks[i] = unpinned(block, clocks[i], named[i]);
-    }
-}
-
-// E24: the pinned expiration of the object in a block ends. Where it was the last, the object is gone, and its block is free.
-pub fn release(
-    block: usize,
-    handles: &mut [u32; BLOCK_COUNT],
-    clocks: &mut [u8; EXPIRATION_COUNT],
-    named: &[u8; EXPIRATION_COUNT],
-)
-    requires { ⌜ (block < blockEntries) × (length (now handles) ≡ blockEntries) × (length (now clocks) ≡ expirationEntries) × (length (now named) ≡ expirationEntries) ⌝ }
-    ensures { λ _. ⌜ Releases block (now (named .entry)) (now (handles .entry)) (now (clocks .entry)) (now (handles .exit)) (now (clocks .exit)) ⌝ }
-{
-    unpin(block as u8, clocks, named);
-    keep_named(flags_of(clocks, named), handles);
 }

@@ -1,6 +1,7 @@
 -- By what was found: refused with nothing changed, or the pinned expiration ended.
 use borrow.Author.Needs.{needs}
 use Rattle.record.proofs.Types.{head-typed}
+use Rattle.endings.proofs.Unpins.{well-named}
 use Rattle.calls.proofs.Lent.{lent-fits}
 use Rattle.calls.proofs.ReleaseLent.{release-kept, release-known, release-carried}
 use Rattle.calls.proofs.release.Statement.{statement}
@@ -12,7 +13,7 @@ release-requires c κs =
     let start = found .before .before .before in
     let sized = start .pre .0 in
     let known = release-known (head-typed _ _ (start .good .0)) sized (start .args .task) (start .args .handle) _ (found .find-for-release .ensures) (c .before .before .before .block .given .1) in
-    (known, sized .blocks .of-handles, sized .entries .of-clocks, sized .entries .of-named)
+    (known, sized .blocks .of-handles, sized .entries .of-clocks, sized .entries .of-named, well-named _ sized (lent-fits _ _ _ _ _ _ (start .pre .1)))
 
 returns : tie.Need-returns
 returns c =

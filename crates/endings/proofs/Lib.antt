@@ -1,0 +1,5 @@
+pub mod Ended
+pub mod Clocks
+pub mod Tables
+pub mod Unpins
+pub mod PutOff

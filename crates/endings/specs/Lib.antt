@@ -1,0 +1,4 @@
+pub mod Late
+pub mod Ending
+pub mod Releasing
+pub mod Unpinning

@@ -1,0 +1,49 @@
+// E24: the end of a pinned expiration by a release.
+ghost use Prim.Native.Nat.{_<_};
+ghost use mathlib.Core.Path.{_≡_};
+ghost use lib.ListN.{length};
+ghost use Rattle.record.specs.Tables.{blockEntries, expirationEntries};
+ghost use Rattle.expirations.specs.Places.{Changed};
+ghost use Rattle.endings.specs.Unpinning.{unpinnedClock, unpinnedAt, AllNamed, Releases};
+use super::releasing::kept_handle;
+use expirations::naming::is_named;
+use expirations::pinning::is_pin;
+use record::BLOCK_COUNT;
+use record::EXPIRATION_COUNT;
+use record::codes::FREE;
+
+// What is left of a clock.
+fn unpinned(block: u8, clock: u8, named: u8) -> u8
+    ensures { λ r. ⌜ r ≡ unpinnedClock block clock named ⌝ }
+{
+    if is_pin(block, clock, named) {
+        FREE
+    } else {
+        clock
+    }
+}
+
+// Ends it.
+fn unpin(block: u8, clocks: &mut [u8; EXPIRATION_COUNT], named: &[u8; EXPIRATION_COUNT])
+    requires { ⌜ (length (now clocks) ≡ expirationEntries) × (length (now named) ≡ expirationEntries) ⌝ }
+    ensures { λ _. ⌜ Changed 0 (unpinnedAt block (now (named .entry))) 0 expirationEntries (now (clocks .entry)) (now (clocks .exit)) ⌝ }
+{
+    for i in 0..EXPIRATION_COUNT {
+        clocks[i] = unpinned(block, clocks[i], named[i]);
+    }
+}
+
+// The pinned expiration of the object in a block ends. Where it was the last, the object is gone, and its block is free: no other block's entries are changed, so that those in
+// use are named still.
+pub fn release(
+    block: usize,
+    handles: &mut [u32; BLOCK_COUNT],
+    clocks: &mut [u8; EXPIRATION_COUNT],
+    named: &[u8; EXPIRATION_COUNT],
+)
+    requires { ⌜ (block < blockEntries) × (length (now handles) ≡ blockEntries) × (length (now clocks) ≡ expirationEntries) × (length (now named) ≡ expirationEntries) × AllNamed (now handles) (now clocks) (now named) ⌝ }
+    ensures { λ _. ⌜ Releases block (now (named .entry)) (now (handles .entry)) (now (clocks .entry)) (now (handles .exit)) (now (clocks .exit)) ⌝ }
+{
+    unpin(block as u8, clocks, named);
+    handles[block] = kept_handle(is_named(block as u8, clocks, named), handles[block]);
+}

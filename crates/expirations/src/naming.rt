@@ -1,0 +1,106 @@
+// Which blocks expirations name: all of them, marked by flags, or one.
+ghost use Prim.Native.Nat.{_+_, _≤_};
+ghost use mathlib.Core.Path.{_≡_};
+ghost use lib.ListN.{length};
+ghost use Rattle.record.specs.Tables.{expirationEntries};
+ghost use Rattle.expirations.specs.Naming.{slotBy, Slots, isSlotAt, isNamedAt, Marks, Flags};
+ghost use Rattle.expirations.specs.Places.{Asked};
+ghost use Rattle.expirations.specs.Standing.{groupSize};
+use super::asking::GROUP;
+use super::asking::GROUP_COUNT;
+use super::asking::any_dated;
+use super::asking::has_byte;
+use super::asking::is_dated;
+use super::asking::place_for;
+use record::BYTE_VALUES;
+use record::EXPIRATION_COUNT;
+
+// The flag that an entry sets that has no expiration: no block's.
+const NO_BLOCK: u8 = 255;
+
+fn slot_for(clock: u8, block: u8) -> u8
+    ensures { λ r. ⌜ r ≡ slotBy clock block ⌝ }
+{
+    if is_dated(clock) { block } else { NO_BLOCK }
+}
+
+// The flag that each entry sets.
+fn slots<'a>(
+    clocks: &'a [u8; EXPIRATION_COUNT],
+    named: &'a [u8; EXPIRATION_COUNT],
+) -> [u8; EXPIRATION_COUNT]
+    requires { ⌜ (length (now clocks) ≡ expirationEntries) × (length (now named) ≡ expirationEntries) ⌝ }
+    ensures { λ r. ⌜ Slots (now (clocks .entry)) (now (named .entry)) r ⌝ }
+{
+    let mut out = [0; EXPIRATION_COUNT];
+    for i in 0..EXPIRATION_COUNT {
+        out[i] = slot_for(clocks[i], named[i]);
+    }
+    out
+}
+
+// Sets the flags of a group.
+fn mark_in(flags: &mut [bool; BYTE_VALUES], slots: &[u8; EXPIRATION_COUNT], from: usize)
+    requires { ⌜ Marks (isSlotAt (now slots)) from (now flags) × (length (now slots) ≡ expirationEntries) × (from + groupSize ≤ expirationEntries) ⌝ }
+    ensures { λ _. ⌜ Marks (isSlotAt (now (slots .entry))) (from + groupSize) (now (flags .exit)) ⌝ }
+{
+    for i in from..from + GROUP {
+        let at = place_for(slots[i]);
+        flags[at] = true;
+    }
+}
+
+// Which blocks are named: a group in which none is in use is passed by.
+pub fn flags_of<'a>(
+    clocks: &'a [u8; EXPIRATION_COUNT],
+    named: &'a [u8; EXPIRATION_COUNT],
+) -> [bool; BYTE_VALUES]
+    requires { ⌜ (length (now clocks) ≡ expirationEntries) × (length (now named) ≡ expirationEntries) ⌝ }
+    ensures { λ r. ⌜ Flags (now (clocks .entry)) (now (named .entry)) expirationEntries r ⌝ }
+{
+    let slots = slots(clocks, named);
+    let mut flags = [false; BYTE_VALUES];
+    for g in 0..GROUP_COUNT {
+        if !any_dated(clocks, g * GROUP) {
+            continue;
+        }
+        mark_in(&mut flags, &slots, g * GROUP);
+    }
+    flags
+}
+
+// Whether one of a group names the block: a group in which none has its number is passed by.
+fn names_in<'a>(
+    block: u8,
+    clocks: &'a [u8; EXPIRATION_COUNT],
+    named: &'a [u8; EXPIRATION_COUNT],
+    from: usize,
+) -> bool
+    requires { ⌜ (length (now clocks) ≡ expirationEntries) × (length (now named) ≡ expirationEntries) × (from + groupSize ≤ expirationEntries) ⌝ }
+    ensures { λ r. ⌜ Asked (isNamedAt (now (clocks .entry)) (now (named .entry)) block) from (from + groupSize) r ⌝ }
+{
+    if !has_byte(named, block, from, from + GROUP) {
+        return false;
+    }
+    let mut some = false;
+    for i in from..from + GROUP {
+        some = some | (is_dated(clocks[i]) & (named[i] == block));
+    }
+    some
+}
+
+// Whether an expiration names the block.
+pub fn is_named<'a>(
+    block: u8,
+    clocks: &'a [u8; EXPIRATION_COUNT],
+    named: &'a [u8; EXPIRATION_COUNT],
+) -> bool
+    requires { ⌜ (length (now clocks) ≡ expirationEntries) × (length (now named) ≡ expirationEntries) ⌝ }
+    ensures { λ r. ⌜ Asked (isNamedAt (now (clocks .entry)) (now (named .entry)) block) 0 expirationEntries r ⌝ }
+{
+    let mut some = false;
+    for g in 0..GROUP_COUNT {
+        some = some | names_in(block, clocks, named, g * GROUP);
+    }
+    some
+}
