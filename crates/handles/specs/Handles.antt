@@ -1,6 +1,6 @@
 -- How handles are told apart: by remainders, and by parts that one digit after another makes finer.
 use Prim.Native.Nat.{ℕ, _+_, _*_, _/_, _%_, _^_, _<_}
-use mathlib.Core.Bool.{Bool, false, cond, not, _&&_, _||_}
+use mathlib.Core.Bool.{Bool, false, not, _&&_, _||_}
 use mathlib.Core.List.{List}
 use mathlib.Core.Path.{_≡_}
 use lib.Dec.{eqb, ltb}
@@ -9,12 +9,13 @@ use Rattle.lists.specs.Tests.{count}
 use Rattle.lists.specs.Filled.{Filled}
 use Rattle.record.specs.Tables.{blockEntries}
 
-abbrev pub oneOf : ℕ → ℕ
-oneOf handle = cond (eqb handle 0) 0 1
+-- a handle that has this remainder
+abbrev pub isOfRest : ℕ → ℕ → Bool
+isOfRest k handle = eqb (handle % 256) k
 
--- a handle, and no free block's 0, that has this remainder
+-- and is no free block's 0
 abbrev pub hasRest : ℕ → ℕ → Bool
-hasRest k handle = not (eqb handle 0) && eqb (handle % 256) k
+hasRest k handle = not (eqb handle 0) && isOfRest k handle
 
 pub record Counted (handles r : List ℕ) : Type 0 where
   pub size : length r ≡ 256

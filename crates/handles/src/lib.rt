@@ -1,8 +1,8 @@
 // Whether two blocks in use have one handle.
-ghost use mathlib.Core.Bool.{true};
+ghost use mathlib.Core.Bool.{true, not};
 ghost use mathlib.Core.Path.{_≡_};
 ghost use lib.ListN.{length};
-ghost use Rattle.lists.specs.Tests.{all};
+ghost use Rattle.lists.specs.Tests.{all, count};
 ghost use Rattle.record.specs.WellFormed.{isDistinct};
 ghost use Rattle.record.specs.Tables.{blockEntries};
 ghost use Rattle.handles.specs.Handles.{Used, UsedIn, Counted, isFew};
@@ -27,7 +27,18 @@ pub fn used_of(handles: &[u32; BLOCK_COUNT]) -> [bool; BLOCK_COUNT]
     out
 }
 
-// How many blocks in use have a handle of each remainder.
+fn free_count(used: &[bool; BLOCK_COUNT]) -> u8
+    requires { ⌜ length (now used) ≡ blockEntries ⌝ }
+    ensures { λ r. ⌜ r ≡ count not (now (used .entry)) ⌝ }
+{
+    let mut out = 0;
+    for i in 0..BLOCK_COUNT {
+        out = out + ((!used[i]) as u8);
+    }
+    out
+}
+
+// How many blocks in use have a handle of each remainder. All are counted, and the free ones, whose handle is 0, are taken off at the end: so no turn looks whether its block is in use.
 fn counts<'a>(handles: &'a [u32; BLOCK_COUNT], used: &'a [bool; BLOCK_COUNT]) -> [u8; REMAINDERS]
     requires { ⌜ UsedIn (now handles) (now used) ⌝ }
     ensures { λ r. ⌜ Counted (now (handles .entry)) r ⌝ }
@@ -35,8 +46,9 @@ fn counts<'a>(handles: &'a [u32; BLOCK_COUNT], used: &'a [bool; BLOCK_COUNT]) ->
     let mut out = [0; REMAINDERS];
     for i in 0..BLOCK_COUNT {
         let at = (handles[i] % 256) as usize;
-        out[at] = out[at] + (used[i] as u8);
+        out[at] = out[at] + 1;
     }
+    out[0] = out[0] - free_count(used);
     out
 }
 
