@@ -65,3 +65,7 @@ module _ {line pairs : List ℕ} {count : ℕ} (s : Spells line count)
       ext-getD 0 bytes _ (b .size ∙ simp (length-drop, length-bytes) (omega (arith, s .enough)))
       (λ k l. let below : k < count = omega (arith, b .size) in
       rw (b .so k below, pair-on k below, pair-spelled line _ (spells-on k below), field-one, getD-drop))
+
+-- where none are spelled
+pub last-none : (line part : List ℕ) → length part ≡ 0 → part ≡ drop (from line (length part)) (bytesOf line)
+last-none line part e = ext-getD 0 part _ (simp (length-drop, length-bytes) (omega arith)) (λ k l. absurd (omega arith))
