@@ -8,8 +8,8 @@ use lib.Seq.{take-all, getD-drop, ext-getD}
 use Rattle.ledger.specs.Limits.{largeSize}
 use Rattle.text.specs.Fields.{fieldAt}
 use Rattle.text.specs.Hex.{digitOf, bytesOf, Spells}
-use Rattle.text.specs.Pairs.{pairOf, pairAt, spelledBy, DigitPair, Pairs, DigitPairs, Spelled}
-use Rattle.text.proofs.Digits.{digit-most, length-bytes, byte-spelled, high-below, low-below}
+use Rattle.text.specs.Pairs.{pairOf, pairAt, valuesBy, spelledBy, DigitPair, Pairs, DigitPairs, Spelled}
+use Rattle.text.proofs.Digits.{digit-most, digit-bits, length-bytes, byte-spelled, high-below, low-below}
 use Rattle.text.proofs.Fields.{field-one}
 
 module _ (first second : ℕ) (d : digitOf first < 16) where
@@ -69,3 +69,22 @@ module _ {line pairs : List ℕ} {count : ℕ} (s : Spells line count)
 -- where none are spelled
 pub last-none : (line part : List ℕ) → length part ≡ 0 → part ≡ drop (from line (length part)) (bytesOf line)
 last-none line part e = ext-getD 0 part _ (simp (length-drop, length-bytes) (omega arith)) (λ k l. absurd (omega arith))
+
+-- the low and the high bits of either character of a pair
+module _ (pair : ℕ) where
+  low-bits : pair % 16 ≡ pair % 256 % 16
+  low-bits = omega arith
+
+  first-bits : pair / 64 % 4 ≡ pair % 256 / 64
+  first-bits = omega arith
+
+  second-bits : pair / 16384 ≡ pair / 256 / 64
+  second-bits = omega arith
+
+both : (a b c d : ℕ) → a + 256 * b + 9 * (c + 256 * d) ≡ a + 9 * c + 256 * (b + 9 * d)
+both a b c d = omega arith
+
+-- the values of both at once
+pub pair-bits : (pair : ℕ) → DigitPair pair → pair % 16 + 256 * (pair / 256 % 16) + 9 * (pair / 64 % 4 + 256 * (pair / 16384)) ≡ valuesBy pair
+pair-bits pair digits =
+    rw (low-bits pair, first-bits pair, second-bits pair, both (pair % 256 % 16) (pair / 256 % 16) (pair % 256 / 64) (pair / 256 / 64), digit-bits (pair % 256) (digits .first), digit-bits (pair / 256) (digits .second))

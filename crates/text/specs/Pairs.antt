@@ -14,6 +14,10 @@ pairOf first second = first + 256 * second
 abbrev pub pairAt : List ℕ → ℕ → ℕ
 pairAt digits at = pairOf (getD digits (2 * at) 0) (getD digits (2 * at + 1) 0)
 
+-- the values of both digits of a pair, each where its character stands
+abbrev pub valuesBy : ℕ → ℕ
+valuesBy pair = pairOf (digitOf (pair % 256)) (digitOf (pair / 256))
+
 -- the byte that a pair of digits spells
 abbrev pub spelledBy : ℕ → ℕ
 spelledBy pair = 16 * digitOf (pair % 256) + digitOf (pair / 256)

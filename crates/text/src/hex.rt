@@ -6,7 +6,7 @@ ghost use lib.ListN.{length, drop};
 ghost use Rattle.ledger.specs.Limits.{largeSize};
 ghost use Rattle.text.specs.Fields.{fieldAt};
 ghost use Rattle.text.specs.Hex.{digitOf, isDigit, isHex, bytesOf, digitFor, hexOf, Spells, Puts};
-ghost use Rattle.text.specs.Pairs.{pairOf, spelledBy, DigitPair, Pairs, DigitPairs, Spelled};
+ghost use Rattle.text.specs.Pairs.{pairOf, valuesBy, spelledBy, DigitPair, Pairs, DigitPairs, Spelled};
 use ledger::LARGE_SIZE;
 
 // Whether a character is 0-9 or A-F.
@@ -29,14 +29,6 @@ pub fn is_hex(line: &[u8]) -> bool
     ok
 }
 
-// The value of a digit: its low four bits, and 9 more for a letter.
-fn value_of(c: u16) -> u16
-    requires { ⌜ digitOf c < 16 ⌝ }
-    ensures { λ r. ⌜ r ≡ digitOf c ⌝ }
-{
-    c % 16 + 9 * (c / 64)
-}
-
 // Two characters as one number, as they stand in memory, so that to join many of them is one copy.
 fn paired(first: u8, second: u8) -> u16
     ensures { λ r. ⌜ r ≡ pairOf first second ⌝ }
@@ -44,12 +36,21 @@ fn paired(first: u8, second: u8) -> u16
     first as u16 + 256 * (second as u16)
 }
 
+// The values of both digits of a pair at once, each where its character stands: the low four bits, and 9 more for a letter.
+fn values_of(pair: u16) -> u16
+    requires { ⌜ DigitPair pair ⌝ }
+    ensures { λ r. ⌜ r ≡ valuesBy pair ⌝ }
+{
+    pair % 16 + 256 * (pair / 256 % 16) + 9 * (pair / 64 % 4 + 256 * (pair / 16384))
+}
+
 // The byte that a pair of digits spells.
 fn spelled(pair: u16) -> u8
     requires { ⌜ DigitPair pair ⌝ }
     ensures { λ r. ⌜ r ≡ spelledBy pair ⌝ }
 {
-    (16 * value_of(pair % 256) + value_of(pair / 256)) as u8
+    let values = values_of(pair);
+    (16 * (values % 256) + values / 256) as u8
 }
 
 // The byte at a place of those that a line spells.
