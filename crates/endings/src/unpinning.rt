@@ -1,12 +1,17 @@
 // E24: the end of a pinned expiration by a release.
-ghost use Prim.Native.Nat.{_<_};
+ghost use Prim.Native.Nat.{_+_, _≤_, _<_};
 ghost use mathlib.Core.Path.{_≡_};
 ghost use lib.ListN.{length};
 ghost use Rattle.record.specs.Tables.{blockEntries, expirationEntries};
-ghost use Rattle.expirations.specs.Places.{Changed};
+ghost use Rattle.expirations.specs.Naming.{isNamedAt};
+ghost use Rattle.expirations.specs.Places.{Asked, Changed};
+ghost use Rattle.expirations.specs.Standing.{groupSize};
 ghost use Rattle.endings.specs.Unpinning.{unpinnedClock, unpinnedAt, AllNamed, Releases};
 use super::releasing::kept_handle;
-use expirations::naming::is_named;
+use expirations::asking::GROUP;
+use expirations::asking::GROUP_COUNT;
+use expirations::asking::has_byte;
+use expirations::asking::is_dated;
 use expirations::pinning::is_pin;
 use record::BLOCK_COUNT;
 use record::EXPIRATION_COUNT;
@@ -31,6 +36,42 @@ fn unpin(block: u8, clocks: &mut [u8; EXPIRATION_COUNT], named: &[u8; EXPIRATION
     for i in 0..EXPIRATION_COUNT {
         clocks[i] = unpinned(block, clocks[i], named[i]);
     }
+}
+
+// Whether one of a group names the block: a group in which none has its number is passed by.
+fn names_in<'a>(
+    block: u8,
+    clocks: &'a [u8; EXPIRATION_COUNT],
+    named: &'a [u8; EXPIRATION_COUNT],
+    from: usize,
+) -> bool
+    requires { ⌜ (length (now clocks) ≡ expirationEntries) × (length (now named) ≡ expirationEntries) × (from + groupSize ≤ expirationEntries) ⌝ }
+    ensures { λ r. ⌜ Asked (isNamedAt (now (clocks .entry)) (now (named .entry)) block) from (from + groupSize) r ⌝ }
+{
+    if !has_byte(named, block, from, from + GROUP) {
+        return false;
+    }
+    let mut some = false;
+    for i in from..from + GROUP {
+        some = some | (is_dated(clocks[i]) & (named[i] == block));
+    }
+    some
+}
+
+// Whether an expiration names the block.
+fn is_named<'a>(
+    block: u8,
+    clocks: &'a [u8; EXPIRATION_COUNT],
+    named: &'a [u8; EXPIRATION_COUNT],
+) -> bool
+    requires { ⌜ (length (now clocks) ≡ expirationEntries) × (length (now named) ≡ expirationEntries) ⌝ }
+    ensures { λ r. ⌜ Asked (isNamedAt (now (clocks .entry)) (now (named .entry)) block) 0 expirationEntries r ⌝ }
+{
+    let mut some = false;
+    for g in 0..GROUP_COUNT {
+        some = some | names_in(block, clocks, named, g * GROUP);
+    }
+    some
 }
 
 // The pinned expiration of the object in a block ends. Where it was the last, the object is gone, and its block is free: no other block's entries are changed, so that those in

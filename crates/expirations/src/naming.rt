@@ -1,15 +1,13 @@
-// Which blocks expirations name: all of them, marked by flags, or one.
+// Which blocks expirations name, marked by flags.
 ghost use Prim.Native.Nat.{_+_, _≤_};
 ghost use mathlib.Core.Path.{_≡_};
 ghost use lib.ListN.{length};
 ghost use Rattle.record.specs.Tables.{expirationEntries};
-ghost use Rattle.expirations.specs.Naming.{slotBy, Slots, isSlotAt, isNamedAt, Marks, Flags};
-ghost use Rattle.expirations.specs.Places.{Asked};
+ghost use Rattle.expirations.specs.Naming.{slotBy, Slots, isSlotAt, Marks, Flags};
 ghost use Rattle.expirations.specs.Standing.{groupSize};
 use super::asking::GROUP;
 use super::asking::GROUP_COUNT;
 use super::asking::any_dated;
-use super::asking::has_byte;
 use super::asking::is_dated;
 use super::asking::place_for;
 use record::BYTE_VALUES;
@@ -67,40 +65,4 @@ pub fn flags_of<'a>(
         mark_in(&mut flags, &slots, g * GROUP);
     }
     flags
-}
-
-// Whether one of a group names the block: a group in which none has its number is passed by.
-fn names_in<'a>(
-    block: u8,
-    clocks: &'a [u8; EXPIRATION_COUNT],
-    named: &'a [u8; EXPIRATION_COUNT],
-    from: usize,
-) -> bool
-    requires { ⌜ (length (now clocks) ≡ expirationEntries) × (length (now named) ≡ expirationEntries) × (from + groupSize ≤ expirationEntries) ⌝ }
-    ensures { λ r. ⌜ Asked (isNamedAt (now (clocks .entry)) (now (named .entry)) block) from (from + groupSize) r ⌝ }
-{
-    if !has_byte(named, block, from, from + GROUP) {
-        return false;
-    }
-    let mut some = false;
-    for i in from..from + GROUP {
-        some = some | (is_dated(clocks[i]) & (named[i] == block));
-    }
-    some
-}
-
-// Whether an expiration names the block.
-pub fn is_named<'a>(
-    block: u8,
-    clocks: &'a [u8; EXPIRATION_COUNT],
-    named: &'a [u8; EXPIRATION_COUNT],
-) -> bool
-    requires { ⌜ (length (now clocks) ≡ expirationEntries) × (length (now named) ≡ expirationEntries) ⌝ }
-    ensures { λ r. ⌜ Asked (isNamedAt (now (clocks .entry)) (now (named .entry)) block) 0 expirationEntries r ⌝ }
-{
-    let mut some = false;
-    for g in 0..GROUP_COUNT {
-        some = some | names_in(block, clocks, named, g * GROUP);
-    }
-    some
 }

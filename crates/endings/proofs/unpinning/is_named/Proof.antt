@@ -2,12 +2,12 @@
 use Prim.Native.Nat.{_*_, _≤_, _-_}
 use native.Mathlib.Omega.{arith}
 use borrow.Author.Needs.{needs}
 use Rattle.expirations.specs.Places.{Asked}
 use Rattle.expirations.specs.Naming.{isNamedAt}
 use Rattle.expirations.specs.Standing.{groupSize, groupCount}
 use Rattle.expirations.proofs.Places.{asked-start, asked-join, asked-end}
-use Rattle.expirations.proofs.naming.is_named.Statement.{statement}
-use Rattle.expirations.proofs.naming.is_named.Tie as tie
+use Rattle.endings.proofs.unpinning.is_named.Statement.{statement}
+use Rattle.endings.proofs.unpinning.is_named.Tie as tie
 
 abbrev Inv-loop : tie.InvT-loop
 Inv-loop block clocks named some₀ g₀ some g = (g ≤ groupCount) × Asked (isNamedAt clocks named block) 0 (g * groupSize) some
