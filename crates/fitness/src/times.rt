@@ -1,6 +1,9 @@
-// When expirations may be due: by each clock, so many units from a first time on. A due number becomes a LocalTime where that is a task's, and a GlobalTime where it is the global one.
+// When expirations may be due: by each clock, so many units from a first time on. A due number and a first time become LocalTimes where that is a task's, and GlobalTimes where it is the global one.
+ghost use Prim.Native.Nat.{_+_, _≤_, _<_};
 ghost use mathlib.Core.Path.{_≡_};
-ghost use Rattle.fitness.specs.Checks.{leftFrom, WithinBy, nextLocal, nextGlobal, Firsts, unitsOf, Units, CodedTimes, AllWithin, AllTimely};
+ghost use Rattle.record.specs.Codes.{leftAt};
+ghost use Rattle.record.specs.Tables.{expirationEntries};
+ghost use Rattle.fitness.specs.Checks.{WithinBy, nextLocal, nextGlobal, Firsts, unitsOf, Units, CodedTimes, Timed, Late, AllWithin, AllTimely};
 use super::codes::code_at;
 use ledger::LIMITS;
 use ledger::TASK_COUNT;
@@ -42,52 +45,47 @@ const GLOBAL_UNITS: u64 = (LIMITS.extension + 2) as u64;
 // A pinned one has no time: its number is 0 and no other.
 const PINNED_UNITS: u64 = 1;
 
-// A time by one of the clocks.
-pub enum Time {
-    Local(LocalTime),
-    Global(GlobalTime),
-}
-
-// The units from a time on.
-fn left_from(due: u32, first: Time) -> u32
-    ensures { λ r. ⌜ r ≡ leftFrom due first ⌝ }
+// The units from a first time on. Both are numbers of tables, and times by the clock that their code is of.
+fn left_from(code: usize, due: u32, first: u32) -> u32
+    ensures { λ r. ⌜ r ≡ leftAt due first ⌝ }
 {
-    match first {
-        Time::Local(at) => local_left(LocalTime(due), at),
-        Time::Global(at) => global_left(GlobalTime(due), at),
+    if code < FIRST_GLOBAL {
+        local_left(LocalTime(due), LocalTime(first))
+    } else {
+        global_left(GlobalTime(due), GlobalTime(first))
     }
 }
 
-fn is_within(due: u32, first: Time, units: u64) -> bool
+fn is_within(code: usize, due: u32, first: u32, units: u64) -> bool
     ensures { λ r. ⌜ WithinBy units first due r ⌝ }
 {
-    (left_from(due, first) as u64) < units
+    (left_from(code, due, first) as u64) < units
 }
 
 // The first times that lie ahead.
-fn next_local(now: LocalTime) -> Time
+fn next_local(now: LocalTime) -> LocalTime
     ensures { λ r. ⌜ r ≡ nextLocal now ⌝ }
 {
-    Time::Local(LocalTime(std::num::wrapping_add_u32(now.0, 1)))
+    LocalTime(std::num::wrapping_add_u32(now.0, 1))
 }
 
-fn next_global(now: GlobalTime) -> Time
+fn next_global(now: GlobalTime) -> GlobalTime
     ensures { λ r. ⌜ r ≡ nextGlobal now ⌝ }
 {
-    Time::Global(GlobalTime(std::num::wrapping_add_u32(now.0, 1)))
+    GlobalTime(std::num::wrapping_add_u32(now.0, 1))
 }
 
 // By each clock the first time that lies ahead, and 0 for a pinned one; of other codes that are no clock's nothing is told.
-fn firsts(tasks: [TaskEntry; TASK_COUNT], global: GlobalTime) -> [Time; CODES]
+fn firsts(tasks: [TaskEntry; TASK_COUNT], global: GlobalTime) -> [u32; CODES]
     ensures { λ r. ⌜ Firsts tasks global r ⌝ }
 {
     let last = next_global(global);
-    let mut out = [last; CODES];
-    out[OF_PINNED] = Time::Local(LocalTime(0));
+    let mut out = [last.0; CODES];
+    out[OF_PINNED] = 0;
     for i in 0..TASK_COUNT {
         let e = tasks[i];
         let first = next_local(e.clock);
-        out[i + FIRST_LOCAL] = first;
+        out[i + FIRST_LOCAL] = first.0;
     }
     out
 }
@@ -115,21 +113,51 @@ fn units(tasks: [TaskEntry; TASK_COUNT]) -> [u64; CODES]
     out
 }
 
-// Those that are not within are counted, which takes no branch.
+// 1 where an entry is late, that is not within its clock's units, and else 0: they are counted, which takes no branch.
+fn late_at<'a>(
+    firsts: &'a [u32; CODES],
+    units: &'a [u64; CODES],
+    clocks: &'a [u8; EXPIRATION_COUNT],
+    dues: &'a [u32; EXPIRATION_COUNT],
+    i: usize,
+) -> u32
+    requires { ⌜ Timed (now firsts) (now units) (now clocks) (now dues) × (i < expirationEntries) ⌝ }
+    ensures { λ r. ⌜ Late (now (firsts .entry)) (now (units .entry)) (now (clocks .entry)) (now (dues .entry)) i (i + 1) r ⌝ }
+{
+    let code = code_at(clocks, i);
+    (!is_within(code, dues[i], firsts[code], units[code])) as u32
+}
+
+// How many of four are.
+fn late_from<'a>(
+    firsts: &'a [u32; CODES],
+    units: &'a [u64; CODES],
+    clocks: &'a [u8; EXPIRATION_COUNT],
+    dues: &'a [u32; EXPIRATION_COUNT],
+    i: usize,
+) -> u32
+    requires { ⌜ Timed (now firsts) (now units) (now clocks) (now dues) × (i + 4 ≤ expirationEntries) ⌝ }
+    ensures { λ r. ⌜ Late (now (firsts .entry)) (now (units .entry)) (now (clocks .entry)) (now (dues .entry)) i (i + 4) r ⌝ }
+{
+    late_at(firsts, units, clocks, dues, i)
+        + late_at(firsts, units, clocks, dues, i + 1)
+        + late_at(firsts, units, clocks, dues, i + 2)
+        + late_at(firsts, units, clocks, dues, i + 3)
+}
+
+// None is. With eight in a turn it takes longer.
 fn all_within<'a>(
-    firsts: [Time; CODES],
-    units: [u64; CODES],
+    firsts: &'a [u32; CODES],
+    units: &'a [u64; CODES],
     clocks: &'a [u8; EXPIRATION_COUNT],
     dues: &'a [u32; EXPIRATION_COUNT],
 ) -> bool
-    requires { ⌜ CodedTimes (now clocks) (now dues) ⌝ }
-    ensures { λ r. ⌜ AllWithin firsts units (now (clocks .entry)) (now (dues .entry)) r ⌝ }
+    requires { ⌜ Timed (now firsts) (now units) (now clocks) (now dues) ⌝ }
+    ensures { λ r. ⌜ AllWithin (now (firsts .entry)) (now (units .entry)) (now (clocks .entry)) (now (dues .entry)) r ⌝ }
 {
     let mut out = 0u32;
-    for i in 0..EXPIRATION_COUNT {
-        let code = code_at(clocks, i);
-        let first = firsts[code];
-        out = out + ((!is_within(dues[i], first, units[code])) as u32);
+    for q in 0..EXPIRATION_COUNT / 4 {
+        out = out + late_from(firsts, units, clocks, dues, 4 * q);
     }
     out == 0
 }
@@ -145,5 +173,5 @@ pub fn all_timely<'a>(
     let tasks = h.tasks;
     let firsts = firsts(tasks, h.global);
     let units = units(tasks);
-    all_within(firsts, units, clocks, dues)
+    all_within(&firsts, &units, clocks, dues)
 }
