@@ -24,26 +24,28 @@ use Rattle.record.specs.declared.GlobalTime.{GlobalTime}
 use Rattle.record.specs.declared.Head.{Head}
 use Rattle.record.specs.declared.TaskEntry.{TaskEntry}
 use Rattle.record.proofs.Columns.{length-entries, entry-at}
-use Rattle.fitness.specs.Checks.{nextLocal, nextGlobal, Firsts, unitsOf, Units, isWithin, isTimely}
+use Rattle.fitness.specs.Checks.{leftFrom, nextLocal, nextGlobal, noTime, Firsts, unitsOf, Units, isWithin, isTimely}
+use Rattle.fitness.specs.declared.times.Time.{Time}
+use Rattle.fitness.specs.declared.times.Time.the-variants.{Local, Global}
 
 -- what is put at the clocks of tasks
-abbrev pub nextOf : List TaskEntry → ℕ → ℕ
-nextOf tasks t = nextLocal (getD tasks t absentEntry .clock) .0
+abbrev pub nextOf : List TaskEntry → ℕ → Time
+nextOf tasks t = nextLocal (getD tasks t absentEntry .clock)
 
 abbrev pub unitsAt : List TaskEntry → ℕ → ℕ → ℕ
 unitsAt tasks most t = unitsOf most (getD tasks t absentEntry .state)
 
-pub firsts-end : {tasks : List TaskEntry} {global : GlobalTime} (last : ℕ) → last ≡ nextGlobal global .0 → {i : ℕ} {out : List ℕ}
-    → Laid 0 (nextOf tasks) 16 16 (set (replicate 50 last) 49 0) i out → 16 ≤ i → Firsts tasks global out
+pub firsts-end : {tasks : List TaskEntry} {global : GlobalTime} (last : Time) → last ≡ nextGlobal global → {i : ℕ} {out : List Time}
+    → Laid noTime (nextOf tasks) 16 16 (set (replicate 50 last) 49 noTime) i out → 16 ≤ i → Firsts tasks global out
 firsts-end last e m h =
     record {
       by-task = λ t l. m .so t (omega arith);
       by-global = λ k a b.
           m .rest k (λ t l e. absurd (omega arith))
-          ∙ getD-set-other (replicate 50 last) 49 k 0 0 (λ e. absurd (omega arith))
-          ∙ getD-replicate 50 k last 0 (omega arith)
+          ∙ getD-set-other (replicate 50 last) 49 k noTime noTime (λ e. absurd (omega arith))
+          ∙ getD-replicate 50 k last noTime (omega arith)
           ∙ e;
-      by-pinned = m .rest 49 (λ t l e. absurd (omega arith)) ∙ getD-set-same (replicate 50 last) 49 0 0 (rw length-replicate (omega arith));
+      by-pinned = m .rest 49 (λ t l e. absurd (omega arith)) ∙ getD-set-same (replicate 50 last) 49 noTime noTime (rw length-replicate (omega arith));
     }
 
 -- the table before the tasks: a free entry's units, those of a departed setter and those of a pinned one
@@ -103,9 +105,10 @@ module _ {tasks : List TaskEntry} {i : ℕ} {out : List ℕ} (m : UnitsTo tasks 
         by-pinned = m .rest 49 (λ t l e. absurd (omega arith));
       }
 
-left-below : (due first : ℕ) → leftAt due first < counterRange
+left-below : (due : ℕ) (first : Time) → leftFrom due first < counterRange
 unfolding counterRange
-left-below due first = omega arith
+left-below due (Local at) = omega arith
+left-below due (Global at) = omega arith
 
 zero-below : 0 < counterRange
 unfolding counterRange
@@ -148,7 +151,7 @@ pub dues-below : (clocks named dues : List ℕ) → length clocks ≡ 256 → le
 dues-below clocks named dues a b d below k l =
     rw (entry-at clocks named dues a b d k) (below k (omega (arith, length-entries clocks named dues a b d)))
 
-module _ {h : Head} (typed : HeadTyped h) {firsts units : List ℕ} (f : Firsts (h .tasks) (h .global) firsts) (u : Units (h .tasks) units) where
+module _ {h : Head} (typed : HeadTyped h) {firsts : List Time} {units : List ℕ} (f : Firsts (h .tasks) (h .global) firsts) (u : Units (h .tasks) units) where
   -- the task that an entry's code is of, where the codes of the tasks start at a
   abbrev setter : ExpirationEntry → ℕ → TaskEntry
   setter e a = getD (h .tasks) (e .clock - a) absentEntry
@@ -158,7 +161,7 @@ module _ {h : Head} (typed : HeadTyped h) {firsts units : List ℕ} (f : Firsts 
   unfolding isFitDue dueBy
   local-timely e least below =
       let place : e .clock ≡ e .clock - 16 + 16 = omega arith in
-      let first : getD firsts (e .clock) 0 ≡ nextLocal (setter e 16 .clock) .0 = ap (λ k. getD firsts k 0) place ∙ f .by-task (e .clock - 16) (omega arith) in
+      let first : getD firsts (e .clock) noTime ≡ nextLocal (setter e 16 .clock) = ap (λ k. getD firsts k noTime) place ∙ f .by-task (e .clock - 16) (omega arith) in
       let unit : getD units (e .clock) 0 ≡ unitsOf (limits .extension + 1) (setter e 16 .state) = ap (λ k. getD units k 0) place ∙ u .by-task (e .clock - 16) (omega arith) in
       let now = all-getD (λ (x : TaskEntry). x .clock .0 < counterRange) absentEntry zero-below (h .tasks) (typed .clocks) (e .clock - 16) in
       rw
@@ -199,7 +202,7 @@ module _ {h : Head} (typed : HeadTyped h) {firsts units : List ℕ} (f : Firsts 
   unfolding isFitDue dueBy
   timely e below =
       by-test (eqb (e .clock) 0)
-      (λ z. rw (eqb-true (e .clock) 0 z, u .free) (lt-ltb _ counterRange (left-below (e .due) (getD firsts 0 0))))
+      (λ z. rw (eqb-true (e .clock) 0 z, u .free) (lt-ltb _ counterRange (left-below (e .due) (getD firsts 0 noTime))))
       (λ z.
       by-test (eqb (e .clock) 49)
       (λ p. pinned-timely e below (eqb-true (e .clock) 49 p))
@@ -215,7 +218,7 @@ module _ {h : Head} (typed : HeadTyped h) {firsts units : List ℕ} (f : Firsts 
       (λ l.
       let (least, below) = and-eq-true-iff (leb 16 (e .clock)) (ltb (e .clock) 32) .0 l in
       local-timely e (leb-true 16 (e .clock) least) (ltb-true (e .clock) 32 below))
-      (λ l. rw (no-units (e .clock) z p g l, z, p, g, l) (le-ltb (leftAt (e .due) (getD firsts (e .clock) 0)) 0 (omega arith))))))
+      (λ l. rw (no-units (e .clock) z p g l, z, p, g, l) (le-ltb (leftFrom (e .due) (getD firsts (e .clock) noTime)) 0 (omega arith))))))
 
   pub all-timely : (xs : List ExpirationEntry) → ((k : ℕ) → k < length xs → getD xs k freeEntry .due < counterRange)
       → all (isWithin firsts units) xs ≡ all (isTimely (h .tasks) (h .global)) xs

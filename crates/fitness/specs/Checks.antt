@@ -4,8 +4,8 @@ use mathlib.Core.Bool.{Bool, Bool·beq, true, false, cond, not, _&&_, _||_}
 use mathlib.Core.List.{List}
 use mathlib.Core.Path.{_≡_}
 use lib.Dec.{eqb, leb, ltb}
-use lib.ListN.{length, getD, take, drop}
-use Rattle.lists.specs.Tests.{any, all, count}
+use lib.ListN.{length, getD, take}
+use Rattle.lists.specs.Tests.{any, all}
 use Rattle.lists.specs.Filled.{Filled}
 use Rattle.ledger.specs.Limits.{counterRange, limits, taskCount}
 use Rattle.ledger.specs.Tasks.{isAbsent}
@@ -16,6 +16,8 @@ use Rattle.record.specs.declared.GlobalTime.{GlobalTime}
 use Rattle.record.specs.declared.Head.{Head}
 use Rattle.record.specs.declared.LocalTime.{LocalTime}
 use Rattle.record.specs.declared.TaskEntry.{TaskEntry}
+use Rattle.fitness.specs.declared.times.Time.{Time}
+use Rattle.fitness.specs.declared.times.Time.the-variants.{Local, Global}
 
 -- a free entry, or one that has a code that there is and names a block that there is
 abbrev pub isCodedBy : ℕ → ℕ → Bool
@@ -86,27 +88,39 @@ pub record CodedTimes (clocks dues : List ℕ) : Type 0 where
   pub codes : Codes clocks
   pub of-dues : length dues ≡ expirationEntries
 
--- due within so many units from a first time on
-abbrev pub isWithinBy : ℕ → ℕ → ℕ → Bool
-isWithinBy units first due = ltb (leftAt due first) units
+-- units from a first time on, by the clock of that time
+abbrev pub leftFrom : ℕ → Time → ℕ
+leftFrom due (Local at) = leftAt due (at .0)
+leftFrom due (Global at) = leftAt due (at .0)
+
+abbrev pub isWithinBy : ℕ → Time → ℕ → Bool
+isWithinBy units first due = ltb (leftFrom due first) units
 
 -- of a due number that the counters can have
-pub record WithinBy (units first due : ℕ) (r : Bool) : Type 0 where
+pub record WithinBy (units : ℕ) (first : Time) (due : ℕ) (r : Bool) : Type 0 where
   pub so : r ≡ isWithinBy units first due
   pub below : due < counterRange
 
--- the first times that lie ahead
-abbrev pub nextLocal : LocalTime → LocalTime
-nextLocal now = record { 0 = (now .0 + 1) % counterRange }
+-- 1 where it is late, that is not within them
+pub record LateBy (units : ℕ) (first : Time) (due r : ℕ) : Type 0 where
+  pub so : r ≡ cond (isWithinBy units first due) 0 1
+  pub below : due < counterRange
 
-abbrev pub nextGlobal : GlobalTime → GlobalTime
-nextGlobal now = record { 0 = (now .0 + 1) % counterRange }
+-- the first times that lie ahead
+abbrev pub nextLocal : LocalTime → Time
+nextLocal now = Local (record { 0 = (now .0 + 1) % counterRange })
+
+abbrev pub nextGlobal : GlobalTime → Time
+nextGlobal now = Global (record { 0 = (now .0 + 1) % counterRange })
+
+abbrev pub noTime : Time
+noTime = Local (record { 0 = 0 })
 
 -- By each clock the first time that lies ahead, and 0 for a pinned expiration, which has none,
-pub record Firsts (tasks : List TaskEntry) (global : GlobalTime) (r : List ℕ) : Type 0 where
-  pub by-task : (t : ℕ) → t < taskCount → getD r (t + localCode) 0 ≡ nextLocal (getD tasks t absentEntry .clock) .0
-  pub by-global : (k : ℕ) → globalCode ≤ k → k ≤ departedCode → getD r k 0 ≡ nextGlobal global .0
-  pub by-pinned : getD r pinnedCode 0 ≡ 0
+pub record Firsts (tasks : List TaskEntry) (global : GlobalTime) (r : List Time) : Type 0 where
+  pub by-task : (t : ℕ) → t < taskCount → getD r (t + localCode) noTime ≡ nextLocal (getD tasks t absentEntry .clock)
+  pub by-global : (k : ℕ) → globalCode ≤ k → k ≤ departedCode → getD r k noTime ≡ nextGlobal global
+  pub by-pinned : getD r pinnedCode noTime ≡ noTime
 
 -- and the units in which its expirations may be due: all of a free entry, none of an absent task nor by a code that there is not.
 abbrev pub unitsOf : ℕ → ℕ → ℕ
@@ -122,27 +136,11 @@ pub record Units (tasks : List TaskEntry) (r : List ℕ) : Type 0 where
   pub by-pinned : getD r pinnedCode 0 ≡ 1
 
 -- an entry by such tables
-abbrev pub isWithin : List ℕ → List ℕ → ExpirationEntry → Bool
-isWithin firsts units e = isWithinBy (getD units (e .clock) 0) (getD firsts (e .clock) 0) (e .due)
+abbrev pub isWithin : List Time → List ℕ → ExpirationEntry → Bool
+isWithin firsts units e = isWithinBy (getD units (e .clock) 0) (getD firsts (e .clock) noTime) (e .due)
 
-abbrev pub isLate : List ℕ → List ℕ → ExpirationEntry → Bool
-isLate firsts units e = not (isWithin firsts units e)
-
--- such tables and columns, each of its length
-pub record Timed (firsts units clocks dues : List ℕ) : Type 0 where
-  pub of-firsts : length firsts ≡ codeCount
-  pub of-units : length units ≡ codeCount
-  pub times : CodedTimes clocks dues
-
--- Of the entries from a up to b so many are late, as there are that many more of them from a on than from b on,
--- whatever blocks the entries name; the due numbers are such as the counters can have.
-pub record Late (firsts units clocks dues : List ℕ) (a b r : ℕ) : Type 0 where
-  pub most : a + r ≤ b
-  pub so : (named : List ℕ) → length named ≡ expirationEntries
-      → count (isLate firsts units) (drop a (entriesOf clocks named dues)) ≡ r + count (isLate firsts units) (drop b (entriesOf clocks named dues))
-  pub below : (k : ℕ) → a ≤ k → k < b → getD dues k 0 < counterRange
-
-pub record AllWithin (firsts units clocks dues : List ℕ) (r : Bool) : Type 0 where
+-- whatever blocks the entries name; the due numbers are such as the counters can have
+pub record AllWithin (firsts : List Time) (units clocks dues : List ℕ) (r : Bool) : Type 0 where
   pub so : (named : List ℕ) → length named ≡ expirationEntries → r ≡ all (isWithin firsts units) (entriesOf clocks named dues)
   pub below : (k : ℕ) → k < expirationEntries → getD dues k 0 < counterRange
 

@@ -1,9 +1,6 @@
-// When expirations may be due: by each clock, so many units from a first time on. A due number and a first time become LocalTimes where that is a task's, and GlobalTimes where it is the global one.
-ghost use Prim.Native.Nat.{_+_, _≤_, _<_};
+// When expirations may be due: by each clock, so many units from a first time on. A due number becomes a LocalTime where that is a task's, and a GlobalTime where it is the global one.
 ghost use mathlib.Core.Path.{_≡_};
-ghost use Rattle.record.specs.Codes.{leftAt};
-ghost use Rattle.record.specs.Tables.{expirationEntries};
-ghost use Rattle.fitness.specs.Checks.{WithinBy, nextLocal, nextGlobal, Firsts, unitsOf, Units, CodedTimes, Timed, Late, AllWithin, AllTimely};
+ghost use Rattle.fitness.specs.Checks.{leftFrom, WithinBy, LateBy, nextLocal, nextGlobal, Firsts, unitsOf, Units, CodedTimes, AllWithin, AllTimely};
 use super::codes::code_at;
 use ledger::LIMITS;
 use ledger::TASK_COUNT;
@@ -45,47 +42,52 @@ const GLOBAL_UNITS: u64 = (LIMITS.extension + 2) as u64;
 // A pinned one has no time: its number is 0 and no other.
 const PINNED_UNITS: u64 = 1;
 
-// The units from a first time on. Both are numbers of tables, and times by the clock that their code is of.
-fn left_from(code: usize, due: u32, first: u32) -> u32
-    ensures { λ r. ⌜ r ≡ leftAt due first ⌝ }
+// A time by one of the clocks.
+pub enum Time {
+    Local(LocalTime),
+    Global(GlobalTime),
+}
+
+// The units from a time on.
+fn left_from(due: u32, first: Time) -> u32
+    ensures { λ r. ⌜ r ≡ leftFrom due first ⌝ }
 {
-    if code < FIRST_GLOBAL {
-        local_left(LocalTime(due), LocalTime(first))
-    } else {
-        global_left(GlobalTime(due), GlobalTime(first))
+    match first {
+        Time::Local(at) => local_left(LocalTime(due), at),
+        Time::Global(at) => global_left(GlobalTime(due), at),
     }
 }
 
-fn is_within(code: usize, due: u32, first: u32, units: u64) -> bool
+fn is_within(due: u32, first: Time, units: u64) -> bool
     ensures { λ r. ⌜ WithinBy units first due r ⌝ }
 {
-    (left_from(code, due, first) as u64) < units
+    (left_from(due, first) as u64) < units
 }
 
 // The first times that lie ahead.
-fn next_local(now: LocalTime) -> LocalTime
+fn next_local(now: LocalTime) -> Time
     ensures { λ r. ⌜ r ≡ nextLocal now ⌝ }
 {
-    LocalTime(std::num::wrapping_add_u32(now.0, 1))
+    Time::Local(LocalTime(std::num::wrapping_add_u32(now.0, 1)))
 }
 
-fn next_global(now: GlobalTime) -> GlobalTime
+fn next_global(now: GlobalTime) -> Time
     ensures { λ r. ⌜ r ≡ nextGlobal now ⌝ }
 {
-    GlobalTime(std::num::wrapping_add_u32(now.0, 1))
+    Time::Global(GlobalTime(std::num::wrapping_add_u32(now.0, 1)))
 }
 
 // By each clock the first time that lies ahead, and 0 for a pinned one; of other codes that are no clock's nothing is told.
-fn firsts(tasks: [TaskEntry; TASK_COUNT], global: GlobalTime) -> [u32; CODES]
+fn firsts(tasks: [TaskEntry; TASK_COUNT], global: GlobalTime) -> [Time; CODES]
     ensures { λ r. ⌜ Firsts tasks global r ⌝ }
 {
     let last = next_global(global);
-    let mut out = [last.0; CODES];
-    out[OF_PINNED] = 0;
+    let mut out = [last; CODES];
+    out[OF_PINNED] = Time::Local(LocalTime(0));
     for i in 0..TASK_COUNT {
         let e = tasks[i];
         let first = next_local(e.clock);
-        out[i + FIRST_LOCAL] = first.0;
+        out[i + FIRST_LOCAL] = first;
     }
     out
 }
@@ -113,51 +115,39 @@ fn units(tasks: [TaskEntry; TASK_COUNT]) -> [u64; CODES]
     out
 }
 
-// 1 where an entry is late, that is not within its clock's units, and else 0: they are counted, which takes no branch.
-fn late_at<'a>(
-    firsts: &'a [u32; CODES],
-    units: &'a [u64; CODES],
-    clocks: &'a [u8; EXPIRATION_COUNT],
-    dues: &'a [u32; EXPIRATION_COUNT],
-    i: usize,
-) -> u32
-    requires { ⌜ Timed (now firsts) (now units) (now clocks) (now dues) × (i < expirationEntries) ⌝ }
-    ensures { λ r. ⌜ Late (now (firsts .entry)) (now (units .entry)) (now (clocks .entry)) (now (dues .entry)) i (i + 1) r ⌝ }
+// 1 where one is late, that is not within its units, and else 0.
+fn late(first: Time, units: u64, due: u32) -> u32
+    ensures { λ r. ⌜ LateBy units first due r ⌝ }
 {
-    let code = code_at(clocks, i);
-    (!is_within(code, dues[i], firsts[code], units[code])) as u32
+    (!is_within(due, first, units)) as u32
 }
 
-// How many of four are.
-fn late_from<'a>(
-    firsts: &'a [u32; CODES],
-    units: &'a [u64; CODES],
-    clocks: &'a [u8; EXPIRATION_COUNT],
-    dues: &'a [u32; EXPIRATION_COUNT],
-    i: usize,
-) -> u32
-    requires { ⌜ Timed (now firsts) (now units) (now clocks) (now dues) × (i + 4 ≤ expirationEntries) ⌝ }
-    ensures { λ r. ⌜ Late (now (firsts .entry)) (now (units .entry)) (now (clocks .entry)) (now (dues .entry)) i (i + 4) r ⌝ }
-{
-    late_at(firsts, units, clocks, dues, i)
-        + late_at(firsts, units, clocks, dues, i + 1)
-        + late_at(firsts, units, clocks, dues, i + 2)
-        + late_at(firsts, units, clocks, dues, i + 3)
-}
-
-// None is. With eight in a turn it takes longer.
+// Those that are late are counted, which takes no branch, four in a turn.
 fn all_within<'a>(
-    firsts: &'a [u32; CODES],
-    units: &'a [u64; CODES],
+    firsts: [Time; CODES],
+    units: [u64; CODES],
     clocks: &'a [u8; EXPIRATION_COUNT],
     dues: &'a [u32; EXPIRATION_COUNT],
 ) -> bool
-    requires { ⌜ Timed (now firsts) (now units) (now clocks) (now dues) ⌝ }
-    ensures { λ r. ⌜ AllWithin (now (firsts .entry)) (now (units .entry)) (now (clocks .entry)) (now (dues .entry)) r ⌝ }
+    requires { ⌜ CodedTimes (now clocks) (now dues) ⌝ }
+    ensures { λ r. ⌜ AllWithin firsts units (now (clocks .entry)) (now (dues .entry)) r ⌝ }
 {
     let mut out = 0u32;
     for q in 0..EXPIRATION_COUNT / 4 {
-        out = out + late_from(firsts, units, clocks, dues, 4 * q);
+        let i = 4 * q;
+        let a = code_at(clocks, i);
+        let b = code_at(clocks, i + 1);
+        let c = code_at(clocks, i + 2);
+        let d = code_at(clocks, i + 3);
+        let first_a = firsts[a];
+        let first_b = firsts[b];
+        let first_c = firsts[c];
+        let first_d = firsts[d];
+        out = out
+            + late(first_a, units[a], dues[i])
+            + late(first_b, units[b], dues[i + 1])
+            + late(first_c, units[c], dues[i + 2])
+            + late(first_d, units[d], dues[i + 3]);
     }
     out == 0
 }
@@ -173,5 +163,5 @@ pub fn all_timely<'a>(
     let tasks = h.tasks;
     let firsts = firsts(tasks, h.global);
     let units = units(tasks);
-    all_within(&firsts, &units, clocks, dues)
+    all_within(firsts, units, clocks, dues)
 }

@@ -9,7 +9,7 @@ use Rattle.fitness.proofs.times.all_timely.Tie as tie
 
 returns : tie.Need-returns
 returns c =
-    let units = c .before .before .before in
+    let units = c .before in
     let firsts = units .before in
     let s = firsts .before .before in
     record {

@@ -1,16 +1,15 @@
 -- The next times of the first tasks stand at their codes.
 use Prim.Native.Nat.{_-_}
 use native.Mathlib.Omega.{arith}
-use mathlib.Core.Path.{ap}
 use borrow.Author.Needs.{needs}
 use Rattle.lists.proofs.Filling.{Laid, laid-start, laid-turn}
-use Rattle.record.specs.declared.GlobalTime.{GlobalTime}
+use Rattle.fitness.specs.Checks.{noTime}
 use Rattle.fitness.proofs.Within.{nextOf, firsts-end}
 use Rattle.fitness.proofs.times.firsts.Statement.{statement}
 use Rattle.fitness.proofs.times.firsts.Tie as tie
 
 abbrev Inv-loop : tie.InvT-loop
-Inv-loop tasks out₀ i₀ out i = Laid 0 (nextOf tasks) 16 16 out₀ i out
+Inv-loop tasks out₀ i₀ out i = Laid noTime (nextOf tasks) 16 16 out₀ i out
 
 abbrev μ-loop : tie.MeasureT-loop
 μ-loop tasks out₀ i₀ out i = 16 - i
@@ -18,10 +17,10 @@ abbrev μ-loop : tie.MeasureT-loop
 loop-again : tie.Need-loop-again Inv-loop μ-loop
 loop-again c =
     let l = c .before .before .before in
-    rw (c .next-local .ensures) (laid-turn 0 (nextOf (l .before .before .args .t1)) 16 16 (l .loop .inv) (search needs) (omega (arith, c .before .before .loop-test .taken)))
+    rw (c .next-local .ensures) (laid-turn noTime (nextOf (l .before .before .args .t1)) 16 16 (l .loop .inv) (search needs) (omega (arith, c .before .before .loop-test .taken)))
 
 returns : tie.Need-returns Inv-loop μ-loop
-returns c = firsts-end _ (ap (λ (t : GlobalTime). t .0) (c .before .before .next-global .ensures)) (c .before .loop .inv) (search needs)
+returns c = firsts-end (c .before .before .next-global .result) (c .before .before .next-global .ensures) (c .before .loop .inv) (search needs)
 
 pub firsts-spec : {M : Type 1} → statement M
 firsts-spec =
@@ -31,7 +30,7 @@ firsts-spec =
     μ-loop
     (λ c κs. search needs)
     (λ c. search needs)
-    (λ c. laid-start 0 _ 16 16 _)
+    (λ c. laid-start noTime _ 16 16 _)
     (λ c. search needs)
     (λ c. search needs)
     (λ c κs. search needs)

@@ -1,0 +1,15 @@
+-- Each kind of time by its test.
+use borrow.Author.Needs.{needs}
+use Rattle.fitness.proofs.times.left_from.Statement.{statement}
+use Rattle.fitness.proofs.times.left_from.Tie as tie
+
+pub left-from-spec : {M : Type 1} → statement M
+left-from-spec =
+    tie.close
+    (tie.spec
+    (λ c. search needs)
+    (λ c κs. search needs)
+    (λ c. search needs)
+    (λ c κs. search needs)
+    (λ c. rw (c .before .before .first .given .1) (c .local-left .ensures))
+    (λ c. rw (c .before .before .first2 .given .1) (c .global-left .ensures)))
