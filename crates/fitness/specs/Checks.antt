@@ -4,7 +4,7 @@ use mathlib.Core.Bool.{Bool, Bool·beq, true, false, cond, not, _&&_, _||_}
 use mathlib.Core.List.{List}
 use mathlib.Core.Path.{_≡_}
 use lib.Dec.{eqb, leb, ltb}
-use lib.ListN.{length, getD}
+use lib.ListN.{length, getD, take}
 use Rattle.lists.specs.Tests.{any, all}
 use Rattle.lists.specs.Filled.{Filled}
 use Rattle.ledger.specs.Limits.{counterRange, limits, taskCount}
@@ -51,6 +51,12 @@ pub record IndexOf (byte r : ℕ) : Type 0 where
 abbrev pub isByte : ℕ → ℕ → Bool
 isByte k byte = eqb byte k
 
+-- among the first i
+pub record MarksTo (bytes : List ℕ) (i : ℕ) (flags : List Bool) : Type 0 where
+  pub size : length flags ≡ byteValues
+  pub so : (k : ℕ) → k < byteValues → getD flags k false ≡ any (isByte k) (take i bytes)
+
+-- and among all
 pub record Marks (bytes : List ℕ) (flags : List Bool) : Type 0 where
   pub so : (k : ℕ) → k < byteValues → getD flags k false ≡ any (isByte k) bytes
 
@@ -93,6 +99,11 @@ isWithinBy units first due = ltb (leftFrom due first) units
 -- of a due number that the counters can have
 pub record WithinBy (units : ℕ) (first : Time) (due : ℕ) (r : Bool) : Type 0 where
   pub so : r ≡ isWithinBy units first due
+  pub below : due < counterRange
+
+-- 1 where it is late, that is not within them
+pub record LateBy (units : ℕ) (first : Time) (due r : ℕ) : Type 0 where
+  pub so : r ≡ cond (isWithinBy units first due) 0 1
   pub below : due < counterRange
 
 -- the first times that lie ahead

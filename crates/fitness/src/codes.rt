@@ -1,8 +1,9 @@
 // The codes of expirations: those that there are, and the flags of the blocks that they name. Nothing is left before the end, so that many are tested at once.
-ghost use Prim.Native.Nat.{_<_};
+ghost use Prim.Native.Nat.{_+_, _≤_, _<_};
 ghost use mathlib.Core.Path.{_≡_};
+ghost use lib.ListN.{length};
 ghost use Rattle.record.specs.Tables.{expirationEntries};
-ghost use Rattle.fitness.specs.Checks.{isCodedBy, SizedCodes, AllCoded, IndexOf, Codes, CodeAt, slotBy, Slots, Marks, Flags};
+ghost use Rattle.fitness.specs.Checks.{isCodedBy, SizedCodes, AllCoded, IndexOf, Codes, CodeAt, slotBy, Slots, MarksTo, Marks, Flags};
 use record::BLOCK_COUNT;
 use record::BYTE_VALUES;
 use record::EXPIRATION_COUNT;
@@ -65,14 +66,35 @@ fn slots<'a>(
     out
 }
 
-// Which bytes there are.
-fn marks(bytes: [u8; EXPIRATION_COUNT]) -> [bool; BYTE_VALUES]
-    ensures { λ r. ⌜ Marks bytes r ⌝ }
+// Sets the flag of a byte,
+fn mark(out: &mut [bool; BYTE_VALUES], bytes: &[u8; EXPIRATION_COUNT], i: usize)
+    requires { ⌜ MarksTo (now bytes) i (now out) × (length (now bytes) ≡ expirationEntries) × (i < expirationEntries) ⌝ }
+    ensures { λ _. ⌜ MarksTo (now (bytes .entry)) (i + 1) (now (out .exit)) ⌝ }
+{
+    let at = index_of(bytes[i]);
+    out[at] = true;
+}
+
+// of four,
+fn mark_four(out: &mut [bool; BYTE_VALUES], bytes: &[u8; EXPIRATION_COUNT], i: usize)
+    requires { ⌜ MarksTo (now bytes) i (now out) × (length (now bytes) ≡ expirationEntries) × (i + 4 ≤ expirationEntries) ⌝ }
+    ensures { λ _. ⌜ MarksTo (now (bytes .entry)) (i + 4) (now (out .exit)) ⌝ }
+{
+    mark(out, bytes, i);
+    mark(out, bytes, i + 1);
+    mark(out, bytes, i + 2);
+    mark(out, bytes, i + 3);
+}
+
+// and of all, eight in a turn: which bytes there are.
+fn marks(bytes: &[u8; EXPIRATION_COUNT]) -> [bool; BYTE_VALUES]
+    requires { ⌜ length (now bytes) ≡ expirationEntries ⌝ }
+    ensures { λ r. ⌜ Marks (now (bytes .entry)) r ⌝ }
 {
     let mut out = [false; BYTE_VALUES];
-    for i in 0..EXPIRATION_COUNT {
-        let at = index_of(bytes[i]);
-        out[at] = true;
+    for q in 0..EXPIRATION_COUNT / 8 {
+        mark_four(&mut out, bytes, 8 * q);
+        mark_four(&mut out, bytes, 8 * q + 4);
     }
     out
 }
@@ -85,5 +107,6 @@ pub fn flags_of<'a>(
     requires { ⌜ SizedCodes (now clocks) (now named) ⌝ }
     ensures { λ r. ⌜ Flags (now (clocks .entry)) (now (named .entry)) r ⌝ }
 {
-    marks(slots(clocks, named))
+    let slots = slots(clocks, named);
+    marks(&slots)
 }
