@@ -101,11 +101,6 @@ pub record WithinBy (units : ℕ) (first : Time) (due : ℕ) (r : Bool) : Type 0
   pub so : r ≡ isWithinBy units first due
   pub below : due < counterRange
 
--- 1 where it is late, that is not within them
-pub record LateBy (units : ℕ) (first : Time) (due r : ℕ) : Type 0 where
-  pub so : r ≡ cond (isWithinBy units first due) 0 1
-  pub below : due < counterRange
-
 -- the first times that lie ahead
 abbrev pub nextLocal : LocalTime → Time
 nextLocal now = Local (record { 0 = (now .0 + 1) % counterRange })

@@ -1,6 +1,6 @@
 // When expirations may be due: by each clock, so many units from a first time on. A due number becomes a LocalTime where that is a task's, and a GlobalTime where it is the global one.
 ghost use mathlib.Core.Path.{_≡_};
-ghost use Rattle.fitness.specs.Checks.{leftFrom, WithinBy, LateBy, nextLocal, nextGlobal, Firsts, unitsOf, Units, CodedTimes, AllWithin, AllTimely};
+ghost use Rattle.fitness.specs.Checks.{leftFrom, WithinBy, nextLocal, nextGlobal, Firsts, unitsOf, Units, CodedTimes, AllWithin, AllTimely};
 use super::codes::code_at;
 use ledger::LIMITS;
 use ledger::TASK_COUNT;
@@ -115,14 +115,7 @@ fn units(tasks: [TaskEntry; TASK_COUNT]) -> [u64; CODES]
     out
 }
 
-// 1 where one is late, that is not within its units, and else 0.
-fn late(first: Time, units: u64, due: u32) -> u32
-    ensures { λ r. ⌜ LateBy units first due r ⌝ }
-{
-    (!is_within(due, first, units)) as u32
-}
-
-// Those that are late are counted, which takes no branch, four in a turn.
+// Those that are not within are counted, which takes no branch.
 fn all_within<'a>(
     firsts: [Time; CODES],
     units: [u64; CODES],
@@ -133,21 +126,10 @@ fn all_within<'a>(
     ensures { λ r. ⌜ AllWithin firsts units (now (clocks .entry)) (now (dues .entry)) r ⌝ }
 {
     let mut out = 0u32;
-    for q in 0..EXPIRATION_COUNT / 4 {
-        let i = 4 * q;
-        let a = code_at(clocks, i);
-        let b = code_at(clocks, i + 1);
-        let c = code_at(clocks, i + 2);
-        let d = code_at(clocks, i + 3);
-        let first_a = firsts[a];
-        let first_b = firsts[b];
-        let first_c = firsts[c];
-        let first_d = firsts[d];
-        out = out
-            + late(first_a, units[a], dues[i])
-            + late(first_b, units[b], dues[i + 1])
-            + late(first_c, units[c], dues[i + 2])
-            + late(first_d, units[d], dues[i + 3]);
+    for i in 0..EXPIRATION_COUNT {
+        let code = code_at(clocks, i);
+        let first = firsts[code];
+        out = out + ((!is_within(dues[i], first, units[code])) as u32);
     }
     out == 0
 }
