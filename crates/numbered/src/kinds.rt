@@ -12,6 +12,7 @@ use checked;
 use frames::handle_bytes;
 use ledger::Answer;
 use ledger::Kind;
+use pool::columns::taken_out;
 use record::Pool;
 use record::head_of;
 
@@ -45,15 +46,17 @@ pub fn make_one(
     let h = head_of(p);
     let mut handles = p.handles;
     let mut extents = p.extents;
-    let mut clocks = p.clocks;
-    let mut named = p.named;
+    let clocks = p.clocks;
+    let mut clocks = taken_out(clocks);
+    let named = p.named;
+    let mut named = taken_out(named);
     let mut dues = p.dues;
     let step = checked::make(
         h,
         &mut handles,
         &mut extents,
-        &mut clocks,
-        &mut named,
+        &mut clocks.bytes,
+        &mut named.bytes,
         &mut dues,
         small,
         large,
@@ -65,6 +68,8 @@ pub fn make_one(
     let answer = step.answer;
     let head = step.head;
     *handle = handle_or(*handle, answer);
+    let clocks = clocks.bytes;
+    let named = named.bytes;
     put_together(answer, head, handles, extents, clocks, named, dues)
 }
 
@@ -74,15 +79,17 @@ pub fn refresh_one(p: Pool, task: u8, kind: Kind, extension: u8, handle: u32) ->
     let h = head_of(p);
     let handles = p.handles;
     let extents = p.extents;
-    let mut clocks = p.clocks;
-    let mut named = p.named;
+    let clocks = p.clocks;
+    let mut clocks = taken_out(clocks);
+    let named = p.named;
+    let mut named = taken_out(named);
     let mut dues = p.dues;
     let step = checked::refresh(
         h,
         &handles,
         &extents,
-        &mut clocks,
-        &mut named,
+        &mut clocks.bytes,
+        &mut named.bytes,
         &mut dues,
         task,
         kind,
@@ -91,6 +98,8 @@ pub fn refresh_one(p: Pool, task: u8, kind: Kind, extension: u8, handle: u32) ->
     );
     let answer = step.answer;
     let head = step.head;
+    let clocks = clocks.bytes;
+    let named = named.bytes;
     put_together(answer, head, handles, extents, clocks, named, dues)
 }
 
@@ -104,15 +113,17 @@ pub fn refresh_each(p: Pool, task: u8, kind: Kind, extension: u8, objects: &[u32
     let h = head_of(p);
     let handles = p.handles;
     let extents = p.extents;
-    let mut clocks = p.clocks;
-    let mut named = p.named;
+    let clocks = p.clocks;
+    let mut clocks = taken_out(clocks);
+    let named = p.named;
+    let mut named = taken_out(named);
     let mut dues = p.dues;
     let step = checked::batch(
         h,
         &handles,
         &extents,
-        &mut clocks,
-        &mut named,
+        &mut clocks.bytes,
+        &mut named.bytes,
         &mut dues,
         task,
         kind,
@@ -121,5 +132,7 @@ pub fn refresh_each(p: Pool, task: u8, kind: Kind, extension: u8, objects: &[u32
     );
     let answer = step.answer;
     let head = step.head;
+    let clocks = clocks.bytes;
+    let named = named.bytes;
     put_together(answer, head, handles, extents, clocks, named, dues)
 }
