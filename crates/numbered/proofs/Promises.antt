@@ -10,15 +10,15 @@ use Rattle.ledger.specs.Objects.{Reply, plain, replyTo}
 use Rattle.ledger.specs.Ledger.{Ledger}
 use Rattle.ledger.specs.declared.Answer.{Answer}
 use Rattle.ledger.specs.declared.Answer.the-variants.{Done}
-use Rattle.ledger.specs.declared.Call.the-variants.{Make, Refresh, Write, Batch, Release}
+use Rattle.ledger.specs.declared.Call.the-variants.{Make, Refresh, Batch, Release}
 use Rattle.ledger.specs.declared.Kind.{Kind}
 use Rattle.ledger.specs.declared.Request.{Request}
 use Rattle.ledger.specs.declared.Request.the-variants.{Use}
 use Rattle.record.specs.declared.Pool.{Pool}
 use Rattle.record.proofs.Pool.{the-row}
-use Rattle.calls.specs.Contract.{Obeys, FollowsWith, Makes, Writes}
+use Rattle.calls.specs.Contract.{Obeys, FollowsWith, Makes}
 use Rattle.numbered.specs.Told.{lent, withNumber, numbersOf, toldBy, handleOr}
-use Rattle.numbered.specs.Entries.{DoesWith, Does, MakesOne, WritesTo}
+use Rattle.numbered.specs.Entries.{DoesWith, Does, MakesOne}
 use Rattle.numbered.specs.declared.Numbered.{Numbered}
 use Rattle.numbered.proofs.Replies.{carriedOut, by-reply}
 
@@ -42,22 +42,29 @@ tells-by new e n = rw e (record { now = n })
 pub answered : {y y₂ : Reply} → y ≡ y₂ → y .answer ≡ y₂ .answer
 answered e = ap (λ (y : Reply). y .answer) e
 
+-- a make tells its handle; write and the calls of `does-silently` tell no number
+module _ {p : Pool} {vs : List Val} (is : Is the-row p vs) {answer : Answer} {p′ : Pool} {new small large small′ large′ : List ℕ} where
+  tells-handle : {task : ℕ} {kind : Kind} {extension size : ℕ} → Obeys (Use (Make task kind extension size)) new p small large (plain answer) p′ small′ large′
+      → (old : ℕ) → Tells answer (old ∷ []) (handleOr old answer ∷ [])
+  unfolding replyTo overwritten
+  tells-handle o old =
+      by-reply is o (λ why e. tells-by (λ (a : Answer). handleOr old a ∷ []) (answered e) refl) (λ L e. tells-by (λ (a : Answer). handleOr old a ∷ []) (answered e) refl)
+
+  pub silent : {request : Request} → ((L : Ledger) → carriedOut request L .answer ≡ Done) → Obeys request new p small large (plain answer) p′ small′ large′ → Tells answer [] []
+  unfolding overwritten
+  silent done o =
+      by-reply is o (λ why e. tells-by (λ (a : Answer). []) (answered e) refl) (λ L e. tells-by (λ (a : Answer). []) (answered e ∙ done L) refl)
+
 -- a call that was carried out on `q`, which is the record, and gave this
 module _ {p : Pool} {vs : List Val} (is : Is the-row p vs) {q : Pool} (same : q ≡ p) {answer : Answer} {p′ : Pool} {r : Numbered} (gave : Gave answer p′ r) where
   pub does : {request : Request} {new numbers numbers′ : List ℕ} → FollowsWith request new q answer p′ → (FollowsWith request new p answer p′ → Tells answer numbers numbers′)
       → DoesWith request new p numbers (r .number) (r .pool) numbers′
   does f t = let g = rw same at f in record { answer = answer; follows = rw (gave .1) g; told = told answer (gave .0) (t g) }
 
-  silent : {request : Request} {new small large small′ large′ : List ℕ} → ((L : Ledger) → carriedOut request L .answer ≡ Done)
-      → Obeys request new p small large (plain answer) p′ small′ large′ → Tells answer [] []
-  unfolding overwritten
-  silent done o =
-      by-reply is o (λ why e. tells-by (λ (a : Answer). []) (answered e) refl) (λ L e. tells-by (λ (a : Answer). []) (answered e ∙ done L) refl)
-
-  -- join, resume, refresh, batch and release tell no number
+  -- join, resume, refresh, batch and release
   pub does-silently : {request : Request} {new : List ℕ} → ((L : Ledger) → carriedOut request L .answer ≡ Done) → FollowsWith request new q answer p′
       → DoesWith request new p [] (r .number) (r .pool) []
-  does-silently done f = does f (λ g. silent done (g [] []))
+  does-silently done f = does f (λ g. silent is done (g [] []))
 
   pub refreshes : {task : ℕ} {kind : Kind} {extension handle : ℕ} → FollowsWith (Use (Refresh task kind extension handle)) [] q answer p′
       → Does (Use (Refresh task kind extension handle)) p [] (r .number) (r .pool) []
@@ -73,20 +80,8 @@ module _ {p : Pool} {vs : List Val} (is : Is the-row p vs) {q : Pool} (same : q 
   unfolding replyTo
   releases f = does-silently (λ L. refl) f
 
-  pub writes : {task handle offset : ℕ} {bytes small large small′ large′ : List ℕ} → Writes task handle offset bytes q small large answer p′ small′ large′
-      → WritesTo task handle offset bytes p small large (r .number) (r .pool) small′ large′
-  unfolding replyTo
-  writes f =
-      let w = rw same at f in record { answer = answer; writes = rw (gave .1) w; told = told answer (gave .0) (silent (λ L. refl) (w .obeys)) }
-
-  tells-handle : {task : ℕ} {kind : Kind} {extension size : ℕ} {small large small′ large′ : List ℕ}
-      → Obeys (Use (Make task kind extension size)) [] p small large (plain answer) p′ small′ large′ → (old : ℕ) → Tells answer (old ∷ []) (handleOr old answer ∷ [])
-  unfolding replyTo overwritten
-  tells-handle o old =
-      by-reply is o (λ why e. tells-by (λ (a : Answer). handleOr old a ∷ []) (answered e) refl) (λ L e. tells-by (λ (a : Answer). handleOr old a ∷ []) (answered e) refl)
-
   pub makes : {task : ℕ} {kind : Kind} {extension size : ℕ} {small large small′ large′ : List ℕ} {old new : ℕ}
       → Makes task kind extension size q small large (record { answer = answer; pool = p′ }) small′ large′ → new ≡ handleOr old answer
       → MakesOne task kind extension size p small large (old ∷ []) (r .number) (r .pool) small′ large′ (new ∷ [])
   makes f n =
-      let m = rw same at f in rw n (record { answer = answer; makes = rw (gave .1) m; told = told answer (gave .0) (tells-handle (m .obeys) _) })
+      let m = rw same at f in rw n (record { answer = answer; makes = rw (gave .1) m; told = told answer (gave .0) (tells-handle is (m .obeys) _) })

@@ -7,12 +7,13 @@ ghost use Rattle.frames.specs.HandleBytes.{handleBytes};
 ghost use Rattle.numbered.specs.Told.{handleOr};
 ghost use Rattle.numbered.specs.Entries.{Does, DoesWith, MakesOne};
 use super::Numbered;
-use super::put_together;
+use super::taking::clocks_of;
+use super::taking::named_of;
+use super::taking::put_together;
 use checked;
 use frames::handle_bytes;
 use ledger::Answer;
 use ledger::Kind;
-use pool::columns::taken_out;
 use record::Pool;
 use record::head_of;
 
@@ -46,10 +47,8 @@ pub fn make_one(
     let h = head_of(p);
     let mut handles = p.handles;
     let mut extents = p.extents;
-    let clocks = p.clocks;
-    let mut clocks = taken_out(clocks);
-    let named = p.named;
-    let mut named = taken_out(named);
+    let mut clocks = clocks_of(p);
+    let mut named = named_of(p);
     let mut dues = p.dues;
     let step = checked::make(
         h,
@@ -68,8 +67,6 @@ pub fn make_one(
     let answer = step.answer;
     let head = step.head;
     *handle = handle_or(*handle, answer);
-    let clocks = clocks.bytes;
-    let named = named.bytes;
     put_together(answer, head, handles, extents, clocks, named, dues)
 }
 
@@ -79,10 +76,8 @@ pub fn refresh_one(p: Pool, task: u8, kind: Kind, extension: u8, handle: u32) ->
     let h = head_of(p);
     let handles = p.handles;
     let extents = p.extents;
-    let clocks = p.clocks;
-    let mut clocks = taken_out(clocks);
-    let named = p.named;
-    let mut named = taken_out(named);
+    let mut clocks = clocks_of(p);
+    let mut named = named_of(p);
     let mut dues = p.dues;
     let step = checked::refresh(
         h,
@@ -98,8 +93,6 @@ pub fn refresh_one(p: Pool, task: u8, kind: Kind, extension: u8, handle: u32) ->
     );
     let answer = step.answer;
     let head = step.head;
-    let clocks = clocks.bytes;
-    let named = named.bytes;
     put_together(answer, head, handles, extents, clocks, named, dues)
 }
 
@@ -113,10 +106,8 @@ pub fn refresh_each(p: Pool, task: u8, kind: Kind, extension: u8, objects: &[u32
     let h = head_of(p);
     let handles = p.handles;
     let extents = p.extents;
-    let clocks = p.clocks;
-    let mut clocks = taken_out(clocks);
-    let named = p.named;
-    let mut named = taken_out(named);
+    let mut clocks = clocks_of(p);
+    let mut named = named_of(p);
     let mut dues = p.dues;
     let step = checked::batch(
         h,
@@ -132,7 +123,5 @@ pub fn refresh_each(p: Pool, task: u8, kind: Kind, extension: u8, objects: &[u32
     );
     let answer = step.answer;
     let head = step.head;
-    let clocks = clocks.bytes;
-    let named = named.bytes;
     put_together(answer, head, handles, extents, clocks, named, dues)
 }

@@ -1,16 +1,16 @@
-// The calls on a record by value (P7), each with its answer by the number: what the entries call. Here is what all of them share, and those of the calls on objects that change the
-// record. Each takes the columns out, has them tested (15, then 14 where it touches a store) and changed, and puts the record together again. What an answer tells goes to numbers
-// that the host lends.
+// The calls on a record by value (P7), each with its answer by the number: what the entries call. Each tests first whether the record is well-formed (15), then the stores (14) where it
+// touches one. One that changes the record takes its columns out, has them tested and changed, and puts the record together again. What an answer tells goes to numbers that the host
+// lends. Here is what all of them share, and those that set or release the expirations of an object: make, refresh, batch and release.
 ghost use mathlib.Core.List.{[], _∷_};
 ghost use mathlib.Core.Path.{_≡_};
-ghost use Rattle.ledger.specs.Numbers.{numberOf, answerNumber};
+ghost use Rattle.ledger.specs.Numbers.{numberOf};
 ghost use Rattle.ledger.specs.declared.Call.the-variants.{Release};
 ghost use Rattle.ledger.specs.declared.Request.the-variants.{Use};
-ghost use Rattle.record.specs.Tables.{pooled};
 ghost use Rattle.frames.specs.Frames.{kindOf};
-ghost use Rattle.numbered.specs.Entries.{Does, MakesBy, RefreshesBy, RefreshesAllBy, WritesTo};
+ghost use Rattle.numbered.specs.Entries.{Does, MakesBy, RefreshesBy, RefreshesAllBy};
 
 mod kinds;
+pub mod taking;
 
 use checked;
 use frames::KindByte;
@@ -18,17 +18,13 @@ use frames::kind_of;
 use kinds::make_one;
 use kinds::refresh_each;
 use kinds::refresh_one;
-use ledger::Answer;
 use ledger::Refusal;
-use ledger::answer_number;
 use ledger::number_of;
-use pool::columns;
-use pool::columns::taken_out;
-use record::BLOCK_COUNT;
-use record::EXPIRATION_COUNT;
-use record::Head;
 use record::Pool;
 use record::head_of;
+use taking::clocks_of;
+use taking::named_of;
+use taking::put_together;
 
 // A buffer too short: a number that is none of 01's.
 pub const TOO_SHORT: u8 = 255;
@@ -46,24 +42,6 @@ fn refused(why: Refusal, p: Pool) -> Numbered
     Numbered {
         number: number_of(why),
         pool: p,
-    }
-}
-
-// The number of an answer, and the record put together from its head and its columns.
-pub fn put_together(
-    answer: Answer,
-    head: Head,
-    handles: [u32; BLOCK_COUNT],
-    extents: [u32; BLOCK_COUNT],
-    clocks: [u8; EXPIRATION_COUNT],
-    named: [u8; EXPIRATION_COUNT],
-    dues: [u32; EXPIRATION_COUNT],
-) -> Numbered
-    ensures { λ r. ⌜ (r .number ≡ answerNumber answer) × (r .pool ≡ pooled head handles extents clocks named dues) ⌝ }
-{
-    Numbered {
-        number: answer_number(answer),
-        pool: columns::put_together(head, handles, extents, clocks, named, dues),
     }
 }
 
@@ -109,10 +87,8 @@ pub fn release(p: Pool, task: u8, handle: u32) -> Numbered
     let h = head_of(p);
     let mut handles = p.handles;
     let extents = p.extents;
-    let clocks = p.clocks;
-    let mut clocks = taken_out(clocks);
-    let named = p.named;
-    let named = taken_out(named);
+    let mut clocks = clocks_of(p);
+    let named = named_of(p);
     let dues = p.dues;
     let step = checked::release(
         h,
@@ -126,45 +102,5 @@ pub fn release(p: Pool, task: u8, handle: u32) -> Numbered
     );
     let answer = step.answer;
     let head = step.head;
-    let clocks = clocks.bytes;
-    let named = named.bytes;
     put_together(answer, head, handles, extents, clocks, named, dues)
-}
-
-pub fn write(
-    p: Pool,
-    small: &mut [u8],
-    large: &mut [u8],
-    task: u8,
-    handle: u32,
-    offset: u8,
-    bytes: &[u8],
-) -> Numbered
-    ensures { λ r. ⌜ WritesTo task handle offset (now (bytes .entry)) p (now (small .entry)) (now (large .entry)) (r .number) (r .pool) (now (small .exit)) (now (large .exit)) ⌝ }
-{
-    let h = head_of(p);
-    let handles = p.handles;
-    let mut extents = p.extents;
-    let clocks = p.clocks;
-    let clocks = taken_out(clocks);
-    let named = p.named;
-    let named = taken_out(named);
-    let dues = p.dues;
-    let answer = checked::write(
-        h,
-        &handles,
-        &mut extents,
-        &clocks.bytes,
-        &named.bytes,
-        &dues,
-        small,
-        large,
-        task,
-        handle,
-        offset,
-        bytes,
-    );
-    let clocks = clocks.bytes;
-    let named = named.bytes;
-    put_together(answer, h, handles, extents, clocks, named, dues)
 }

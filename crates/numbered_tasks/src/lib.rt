@@ -1,23 +1,30 @@
-// The tasks' own calls on a record by value: renew, join, leave, block, resume and tick, each with its answer by the number.
+// The calls on a record by value that concern tasks and times: renew, join, leave, block, resume, tick and awaited.
 ghost use mathlib.Core.List.{[], _∷_};
 ghost use mathlib.Core.Path.{_≡_};
 ghost use Rattle.ledger.specs.declared.Call.the-variants.{Schedule};
 ghost use Rattle.ledger.specs.declared.Event.the-variants.{Join, Leave, Block, Resume, Tick};
 ghost use Rattle.ledger.specs.declared.Request.the-variants.{Use};
 ghost use Rattle.record.specs.Reading.{freshPool};
-ghost use Rattle.numbered.specs.Entries.{Does};
+ghost use Rattle.numbered.specs.Entries.{Does, TellsAwaited};
 
 mod advancing;
 
 use advancing::advance_or;
 use checked::schedule;
+use fitness::is_well_formed;
 use ledger::Event;
+use ledger::Refusal;
+use ledger::answer_number;
+use ledger::number_of;
 use numbered::Numbered;
-use numbered::put_together;
-use pool::columns::taken_out;
+use numbered::taking::clocks_of;
+use numbered::taking::named_of;
+use numbered::taking::put_together;
+use pool::columns;
 use record::Pool;
 use record::fresh;
 use record::head_of;
+use record::running;
 
 // The record as on the first day, whatever it was.
 pub fn renew(p: Pool) -> Numbered
@@ -29,7 +36,7 @@ pub fn renew(p: Pool) -> Numbered
     }
 }
 
-// A call that changes the record takes its columns out, has them tested and changed, and puts the record together again; one that only reads it lends them where they are.
+// Join and resume change no column, and are slower where those of bytes are taken out at the boundary of a word: they take them out as they are.
 pub fn join(p: Pool, task: u8) -> Numbered
     ensures { λ r. ⌜ Does (Use (Schedule Join task)) p [] (r .number) (r .pool) [] ⌝ }
 {
@@ -51,7 +58,10 @@ pub fn join(p: Pool, task: u8) -> Numbered
     );
     let answer = step.answer;
     let head = step.head;
-    put_together(answer, head, handles, extents, clocks, named, dues)
+    Numbered {
+        number: answer_number(answer),
+        pool: columns::put_together(head, handles, extents, clocks, named, dues),
+    }
 }
 
 pub fn leave(p: Pool, task: u8, advanced: &mut u8) -> Numbered
@@ -60,10 +70,8 @@ pub fn leave(p: Pool, task: u8, advanced: &mut u8) -> Numbered
     let h = head_of(p);
     let mut handles = p.handles;
     let extents = p.extents;
-    let clocks = p.clocks;
-    let mut clocks = taken_out(clocks);
-    let named = p.named;
-    let named = taken_out(named);
+    let mut clocks = clocks_of(p);
+    let named = named_of(p);
     let mut dues = p.dues;
     let step = schedule(
         h,
@@ -78,8 +86,6 @@ pub fn leave(p: Pool, task: u8, advanced: &mut u8) -> Numbered
     let answer = step.answer;
     let head = step.head;
     *advanced = advance_or(*advanced, answer);
-    let clocks = clocks.bytes;
-    let named = named.bytes;
     put_together(answer, head, handles, extents, clocks, named, dues)
 }
 
@@ -89,10 +95,8 @@ pub fn block(p: Pool, task: u8, advanced: &mut u8) -> Numbered
     let h = head_of(p);
     let mut handles = p.handles;
     let extents = p.extents;
-    let clocks = p.clocks;
-    let mut clocks = taken_out(clocks);
-    let named = p.named;
-    let named = taken_out(named);
+    let mut clocks = clocks_of(p);
+    let named = named_of(p);
     let mut dues = p.dues;
     let step = schedule(
         h,
@@ -107,8 +111,6 @@ pub fn block(p: Pool, task: u8, advanced: &mut u8) -> Numbered
     let answer = step.answer;
     let head = step.head;
     *advanced = advance_or(*advanced, answer);
-    let clocks = clocks.bytes;
-    let named = named.bytes;
     put_together(answer, head, handles, extents, clocks, named, dues)
 }
 
@@ -133,7 +135,10 @@ pub fn resume(p: Pool, task: u8) -> Numbered
     );
     let answer = step.answer;
     let head = step.head;
-    put_together(answer, head, handles, extents, clocks, named, dues)
+    Numbered {
+        number: answer_number(answer),
+        pool: columns::put_together(head, handles, extents, clocks, named, dues),
+    }
 }
 
 pub fn tick(p: Pool, task: u8, advanced: &mut u8) -> Numbered
@@ -142,10 +147,8 @@ pub fn tick(p: Pool, task: u8, advanced: &mut u8) -> Numbered
     let h = head_of(p);
     let mut handles = p.handles;
     let extents = p.extents;
-    let clocks = p.clocks;
-    let mut clocks = taken_out(clocks);
-    let named = p.named;
-    let named = taken_out(named);
+    let mut clocks = clocks_of(p);
+    let named = named_of(p);
     let mut dues = p.dues;
     let step = schedule(
         h,
@@ -160,7 +163,18 @@ pub fn tick(p: Pool, task: u8, advanced: &mut u8) -> Numbered
     let answer = step.answer;
     let head = step.head;
     *advanced = advance_or(*advanced, answer);
-    let clocks = clocks.bytes;
-    let named = named.bytes;
     put_together(answer, head, handles, extents, clocks, named, dues)
+}
+
+// For whom the global time waits. It is no call of the ledger: it changes nothing, and no frame asks it.
+pub fn awaited(p: Pool, tasks: &mut u16) -> u8
+    ensures { λ r. ⌜ TellsAwaited p (now (tasks .entry)) r (now (tasks .exit)) ⌝ }
+{
+    let h = head_of(p);
+    if !is_well_formed(h, &p.handles, &p.extents, &p.clocks, &p.named, &p.dues) {
+        return number_of(Refusal::NotWellFormed);
+    }
+    let entries = p.tasks;
+    *tasks = running::awaited(entries);
+    0
 }

@@ -1,4 +1,4 @@
--- `ramsummer_frame` meets its contract: a walk of its MIR. The record is copied out of the borrow and passed to `numbered_reading::frame`; the record that comes back is stored
+-- `ramsummer_frame` meets its contract: a walk of its MIR. The record is copied out of the borrow and passed to `numbered_bytes::frame`; the record that comes back is stored
 -- behind the borrow, which is closed at it, and the number is returned.
 -- All that the walk knows of the call is that it meets its contract. Written by tools/entry-walk.
 use mathlib.Core.Path.{_≡_, refl, ap, subst}
@@ -55,10 +55,10 @@ use Rattle.numbered.specs.Told.{buffered}
 use Rattle.numbered.specs.Entries.{Does, MakesBy, RefreshesBy, RefreshesAllBy, WritesTo, CopiesOut, TellsAwaited, Carries}
 use Rattle.numbered.proofs.Numbered as J
 use Rattle.numbered.proofs.Numbered.Laws as J′
-use Rattle.numbered_reading.proofs.frame as call
-use Rattle.numbered_reading.proofs.frame.Symbol as call-def
-use Rattle.numbered_reading.proofs.frame.Symbol.{name as #call}
-use Rattle.numbered_reading.proofs.frame.Met as call-thm
+use Rattle.numbered_bytes.proofs.frame as call
+use Rattle.numbered_bytes.proofs.frame.Symbol as call-def
+use Rattle.numbered_bytes.proofs.frame.Symbol.{name as #call}
+use Rattle.numbered_bytes.proofs.frame.Met as call-thm
 use Rattle.ramsummer.proofs.ramsummer_frame.Key.{name as #f}
 use Rattle.ramsummer.proofs.ramsummer_frame as f
 use Rattle.ramsummer.proofs.ramsummer_frame.Statement as stated

@@ -8,19 +8,19 @@ use Rattle.numbered.proofs.kinds.make_one.Tie as tie
 make-requires : tie.Need-make-requires
 make-requires c κs =
     let named = c .before .before .before .before .before .before .before .before in
-    let clocks = named .before .before in
-    let start = clocks .before .before .before .before .before .before .before in
-    out-sized (start .args .p) (clocks .taken-out .ensures) (named .taken-out2 .ensures) _ (start .good .0)
+    let clocks = named .before in
+    let start = clocks .before .before .before .before .before .before in
+    out-sized (start .args .p) (clocks .clocks-of .ensures) (named .named-of .ensures) _ (start .good .0)
 
 returns : tie.Need-returns
 returns c =
-    let called = c .before .before .before .before .before .before .before .before .before .before in
+    let called = c .before .before .before .before .before .before .before .before in
     let named = called .before .before .before .before .before .before .before .before .before in
-    let clocks = named .before .before in
-    let made = clocks .before .before .before .before in
+    let clocks = named .before in
+    let made = clocks .before .before .before in
     let start = made .before .before .before in
-    let whole = out-whole (start .args .p) (clocks .taken-out .ensures) (named .taken-out2 .ensures) (made .head-of .ensures) in
-    makes (start .good .0) whole (c .put-together .ensures) (called .make .ensures .1) (c .before .before .before .handle-or .ensures)
+    let whole = out-whole (start .args .p) (clocks .clocks-of .ensures) (named .named-of .ensures) (made .head-of .ensures) in
+    makes (start .good .0) whole (c .put-together .ensures) (called .make .ensures .1) (c .before .handle-or .ensures)
 
 pub make-one-spec : {M : Type 1} → statement M
 make-one-spec =

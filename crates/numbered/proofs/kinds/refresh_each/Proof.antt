@@ -10,18 +10,18 @@ use Rattle.numbered.proofs.kinds.refresh_each.Tie as tie
 batch-requires : tie.Need-batch-requires
 batch-requires c κs =
     let named = c .before .before .before .before .before .before .before in
-    let clocks = named .before .before in
-    let start = clocks .before .before .before .before .before .before .before .before in
-    out-sized (start .args .p) (clocks .taken-out .ensures) (named .taken-out2 .ensures) _ (start .good .0)
+    let clocks = named .before in
+    let start = clocks .before .before .before .before .before .before .before in
+    out-sized (start .args .p) (clocks .clocks-of .ensures) (named .named-of .ensures) _ (start .good .0)
 
 returns : tie.Need-returns
 returns c =
-    let called = c .before .before .before .before in
+    let called = c .before .before in
     let named = called .before .before .before .before .before .before .before .before in
-    let clocks = named .before .before in
-    let made = clocks .before .before .before .before in
+    let clocks = named .before in
+    let made = clocks .before .before .before in
     let start = made .before .before .before .before in
-    let whole = out-whole (start .args .p) (clocks .taken-out .ensures) (named .taken-out2 .ensures) (made .head-of .ensures) in
+    let whole = out-whole (start .args .p) (clocks .clocks-of .ensures) (named .named-of .ensures) (made .head-of .ensures) in
     refreshes-each (start .good .0) whole (c .put-together .ensures) (handles-sent (made .before .before .handle-bytes .ensures) (called .batch .ensures .1))
 
 pub refresh-each-spec : {M : Type 1} → statement M

@@ -2,9 +2,9 @@
 use borrow.Author.Needs.{needs}
 use Rattle.pool.proofs.ByValue.{fits-by-value}
 use Rattle.pool.proofs.Sizes.{columns-sized}
-use Rattle.numbered_reading.proofs.AwaitedTold.{none-told, awaited-told}
-use Rattle.numbered_reading.proofs.awaited.Statement.{statement}
-use Rattle.numbered_reading.proofs.awaited.Tie as tie
+use Rattle.numbered_tasks.proofs.AwaitedTold.{none-told, awaited-told}
+use Rattle.numbered_tasks.proofs.awaited.Statement.{statement}
+use Rattle.numbered_tasks.proofs.awaited.Tie as tie
 
 returns : tie.Need-returns
 returns c =

@@ -1,12 +1,14 @@
-// The calls on a record by value that change nothing, read, report, remaining life and awaited, each with its answer by the number; and the line of a frame, which may be any call.
+// The calls on a record by value that take or give bytes, read, write and the line of a frame, and those that tell figures alone, report and remaining life. All but write and a frame
+// leave the record, and so lend its columns where they are.
 ghost use mathlib.Core.List.{[], _∷_};
 ghost use Rattle.ledger.specs.declared.Request.the-variants.{Report, Remaining};
 ghost use Rattle.numbered.specs.Told.{buffered};
-ghost use Rattle.numbered.specs.Entries.{Does, CopiesOut, TellsAwaited, Carries};
+ghost use Rattle.numbered.specs.Entries.{Does, CopiesOut, WritesTo, Carries};
 
 mod reading;
 
 use calls;
+use checked;
 use execute::LONGEST_ANSWER;
 use execute::execute;
 use expirations::standing;
@@ -17,11 +19,13 @@ use ledger::answer_number;
 use ledger::number_of;
 use numbered::Numbered;
 use numbered::TOO_SHORT;
+use numbered::taking::clocks_of;
+use numbered::taking::named_of;
+use numbered::taking::put_together;
 use objects::usage;
 use reading::read_part;
 use record::Pool;
 use record::head_of;
-use record::running;
 use stores::write_block;
 
 // That part copied out.
@@ -47,6 +51,40 @@ pub fn read<'a>(
     write_block(out, 0, part);
     *count = part.len();
     0
+}
+
+pub fn write(
+    p: Pool,
+    small: &mut [u8],
+    large: &mut [u8],
+    task: u8,
+    handle: u32,
+    offset: u8,
+    bytes: &[u8],
+) -> Numbered
+    ensures { λ r. ⌜ WritesTo task handle offset (now (bytes .entry)) p (now (small .entry)) (now (large .entry)) (r .number) (r .pool) (now (small .exit)) (now (large .exit)) ⌝ }
+{
+    let h = head_of(p);
+    let handles = p.handles;
+    let mut extents = p.extents;
+    let clocks = clocks_of(p);
+    let named = named_of(p);
+    let dues = p.dues;
+    let answer = checked::write(
+        h,
+        &handles,
+        &mut extents,
+        &clocks.bytes,
+        &named.bytes,
+        &dues,
+        small,
+        large,
+        task,
+        handle,
+        offset,
+        bytes,
+    );
+    put_together(answer, h, handles, extents, clocks, named, dues)
 }
 
 pub fn report(p: Pool, small: &mut u8, large: &mut u8, expirations: &mut u16, given: &mut u32) -> u8
@@ -87,19 +125,6 @@ pub fn remaining(p: Pool, task: u8, handle: u32, local: &mut u8, global: &mut u8
     };
     *local = life.local;
     *global = life.global;
-    0
-}
-
-// For whom the global time waits. It is no call of the ledger: it changes nothing, and no frame asks it.
-pub fn awaited(p: Pool, tasks: &mut u16) -> u8
-    ensures { λ r. ⌜ TellsAwaited p (now (tasks .entry)) r (now (tasks .exit)) ⌝ }
-{
-    let h = head_of(p);
-    if !is_well_formed(h, &p.handles, &p.extents, &p.clocks, &p.named, &p.dues) {
-        return number_of(Refusal::NotWellFormed);
-    }
-    let entries = p.tasks;
-    *tasks = running::awaited(entries);
     0
 }
 

@@ -1,4 +1,4 @@
--- From what reads, reports and looks at a life find to what their entries promise: the reply told.
+-- From what a write, a read, a report and a look at a life promise on the columns to what their entries promise: the reply told.
 use Prim.Native.Nat.{ℕ, _≤_, _<_}
 use native.Mathlib.Omega.{arith}
 use mathlib.Core.List.{List, [], _∷_}
@@ -23,11 +23,20 @@ use Rattle.ledger.specs.declared.Usage.{Usage}
 use Rattle.ledger.proofs.Answer.{the-type}
 use Rattle.record.specs.declared.Pool.{Pool}
 use Rattle.record.proofs.Pool.{the-row}
-use Rattle.calls.specs.Contract.{Follows, ReadsBack, ReadsTo}
+use Rattle.calls.specs.Contract.{Follows, Writes, ReadsBack, ReadsTo}
 use Rattle.numbered.specs.Told.{tooShort, buffered}
-use Rattle.numbered.specs.Entries.{Does, CopiesOut}
+use Rattle.numbered.specs.Entries.{Does, WritesTo, CopiesOut}
+use Rattle.numbered.specs.declared.Numbered.{Numbered}
 use Rattle.numbered.proofs.Replies.{by-reply, refusal-in}
-use Rattle.numbered.proofs.Promises.{Tells, told, tells-by, answered}
+use Rattle.numbered.proofs.Promises.{Gave, Tells, told, tells-by, answered, silent}
+
+-- a write that was carried out on `q`, which is the record, and gave this
+pub writes : {p : Pool} {vs : List Val} → Is the-row p vs → {q : Pool} → q ≡ p → {answer : Answer} {p′ : Pool} {r : Numbered} → Gave answer p′ r
+    → {task handle offset : ℕ} {bytes small large small′ large′ : List ℕ} → Writes task handle offset bytes q small large answer p′ small′ large′
+    → WritesTo task handle offset bytes p small large (r .number) (r .pool) small′ large′
+unfolding replyTo
+writes is same {answer} gave f =
+    let w = rw same at f in record { answer = answer; writes = rw (gave .1) w; told = told answer (gave .0) (silent is (λ L. refl) (w .obeys)) }
 
 -- report and remaining life leave the record
 pub reports : {request : Request} {p : Pool} (answer : Answer) {number : ℕ} {numbers numbers′ : List ℕ}
