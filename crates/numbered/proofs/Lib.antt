@@ -1,5 +1,4 @@
 pub mod ByValue
 pub mod Replies
 pub mod Promises
-pub mod AwaitedTold
 pub mod Steps

@@ -1,6 +1,5 @@
 -- A reply that the contract of a call allows is a refusal, or what the call answers when it is carried out on some ledger.
 use Prim.Native.Nat.{ℕ}
-use native.Mathlib.Omega.{arith}
 use mathlib.Core.Bool.{true, true≢false}
 use mathlib.Core.List.{List, []}
 use mathlib.Core.Option.{Option, none, some}
@@ -8,14 +7,13 @@ use mathlib.Core.Path.{_≡_, refl, sym, _∙_}
 use mir.Val.{Val}
 use denote.Laws.{Is}
 use Rattle.lists.proofs.Cases.{by-test}
-use Rattle.ledger.specs.Numbers.{numberOf, answerNumber}
+use Rattle.ledger.specs.Numbers.{answerNumber}
 use Rattle.ledger.specs.Objects.{Reply, plain, replyTo, usage}
 use Rattle.ledger.specs.Remaining.{remainingLife}
 use Rattle.ledger.specs.Ledger.{Ledger, verdictOn, standingVerdictOn, replyBy, reply}
 use Rattle.ledger.specs.declared.Answer.{Answer}
 use Rattle.ledger.specs.declared.Answer.the-variants.{Refused, Done, Advanced, Handle, Bytes, Counted, Lasts}
 use Rattle.ledger.specs.declared.Refusal.{Refusal}
-use Rattle.ledger.specs.declared.Refusal.the-variants.{NoSuchTask, TaskPresent, TaskAbsent, TaskWaiting, TaskRunning, ExtensionTooLong, LengthOutOfRange, HandlesSpent, NoFreeBlock, NoFreeExpiration, HandleNotGiven, ObjectGone, OutsideObject, WrongStoreLength, NotWellFormed, NotHexadecimal, UnknownOperation, WrongFrameLength, UnknownKind, BatchOutOfRange, OnlyMakePins, NotPinned, SumDiffers}
 use Rattle.ledger.specs.declared.Request.{Request}
 use Rattle.ledger.specs.declared.Request.the-variants.{Use, Report, Remaining}
 use Rattle.record.specs.Reading.{Typed}
@@ -34,7 +32,7 @@ carriedOut (Use call) L = replyTo call (L .memory)
 carriedOut Report L = plain (Counted (usage (L .memory) (L .expirations)))
 carriedOut (Remaining task handle) L = plain (Lasts (remainingLife task handle (L .memory .clocks) (L .expirations)))
 
-pub typed : (p : Pool) (vs : List Val) → Is the-row p vs → Typed (tablesOf p)
+typed : (p : Pool) (vs : List Val) → Is the-row p vs → Typed (tablesOf p)
 typed p vs is =
     let sized = columns-sized p vs is in
     lent-typed _ (p .handles) (p .extents) (p .clocks) (p .named) (p .dues) (head-typed p vs is) (sized .blocks) (sized .entries)
@@ -44,17 +42,17 @@ by-verdict : {C : Type 0} {y done : Reply} (v : Option Refusal) → ((why : Refu
 by-verdict none refused carried e = carried e
 by-verdict (some why) refused carried e = refused why e
 
-module _ {C : Type 0} {p : Pool} (types : Typed (tablesOf p)) {new small large : List ℕ} {y : Reply} {p′ : Pool} {small′ large′ : List ℕ} where
+module _ {C : Type 0} {p : Pool} {vs : List Val} (is : Is the-row p vs) {new small large : List ℕ} {y : Reply} {p′ : Pool} {small′ large′ : List ℕ} where
   by-ledger : (request : Request) → ((why : Refusal) → y ≡ plain (Refused why) → C) → ((L : Ledger) → y ≡ carriedOut request L → C)
       → isWellFormed p ≡ true → (isStored request ≡ true → areWhole small large ≡ true) → Obeys request new p small large y p′ small′ large′ → C
   unfolding reply
   by-ledger Report refused carried w whole o =
-      let (L, reads) = every-fit-record-reads p types w small large in carried L (o .answers w whole L reads)
+      let (L, reads) = every-fit-record-reads p (typed p vs is) w small large in carried L (o .answers w whole L reads)
   by-ledger (Remaining task handle) refused carried w whole o =
-      let (L, reads) = every-fit-record-reads p types w small large in
+      let (L, reads) = every-fit-record-reads p (typed p vs is) w small large in
       by-verdict (standingVerdictOn L task handle) refused (carried L) (o .answers w whole L reads)
   by-ledger (Use call) refused carried w whole o =
-      let (L, reads) = every-fit-record-reads p types w small large in by-verdict (verdictOn L call new) refused (carried L) (o .answers w whole L reads)
+      let (L, reads) = every-fit-record-reads p (typed p vs is) w small large in by-verdict (verdictOn L call new) refused (carried L) (o .answers w whole L reads)
 
   pub by-reply : {request : Request} → Obeys request new p small large y p′ small′ large′
       → ((why : Refusal) → y ≡ plain (Refused why) → C) → ((L : Ledger) → y ≡ carriedOut request L → C) → C
@@ -67,7 +65,7 @@ module _ {C : Type 0} {p : Pool} (types : Typed (tablesOf p)) {new small large :
       (λ s. by-ledger request refused carried w (λ t. absurd (true≢false (sym t ∙ s))) o)))
       (λ u. refused _ (o .unfit u .refused))
 
--- an answer that is not 0 is a refusal,
+-- an answer that is not 0 is a refusal
 pub refusal-in : (answer : Answer) → (answerNumber answer ≡ 0 → ⊥) → (why : Refusal) × (answer ≡ Refused why)
 refusal-in (Refused why) n = (why, refl)
 refusal-in Done n = absurd (n refl)
@@ -76,29 +74,3 @@ refusal-in (Handle handle) n = absurd (n refl)
 refusal-in Bytes n = absurd (n refl)
 refusal-in (Counted usage) n = absurd (n refl)
 refusal-in (Lasts life) n = absurd (n refl)
-
--- and a refusal is not 0
-pub above-0 : (why : Refusal) → numberOf why ≡ 0 → ⊥
-above-0 NoSuchTask e = omega arith
-above-0 TaskPresent e = omega arith
-above-0 TaskAbsent e = omega arith
-above-0 TaskWaiting e = omega arith
-above-0 TaskRunning e = omega arith
-above-0 ExtensionTooLong e = omega arith
-above-0 LengthOutOfRange e = omega arith
-above-0 HandlesSpent e = omega arith
-above-0 NoFreeBlock e = omega arith
-above-0 NoFreeExpiration e = omega arith
-above-0 HandleNotGiven e = omega arith
-above-0 ObjectGone e = omega arith
-above-0 OutsideObject e = omega arith
-above-0 WrongStoreLength e = omega arith
-above-0 NotWellFormed e = omega arith
-above-0 NotHexadecimal e = omega arith
-above-0 UnknownOperation e = omega arith
-above-0 WrongFrameLength e = omega arith
-above-0 UnknownKind e = omega arith
-above-0 BatchOutOfRange e = omega arith
-above-0 OnlyMakePins e = omega arith
-above-0 NotPinned e = omega arith
-above-0 SumDiffers e = omega arith

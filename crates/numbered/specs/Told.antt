@@ -4,7 +4,6 @@ use mathlib.Core.Bool.{cond}
 use mathlib.Core.List.{List, [], _∷_}
 use lib.Dec.{ltb}
 use lib.ListN.{length}
-use mir.Val.{boolByte}
 use Rattle.lists.specs.Blocks.{overwritten}
 use Rattle.ledger.specs.Numbers.{answerNumber, answerValues}
 use Rattle.ledger.specs.Objects.{Reply}
@@ -64,16 +63,7 @@ toldAsLine y loans =
     let line = answerLine (y .answer) (y .bytes) in
     withNumber (answerNumber (y .answer)) (filled (length line ∷ []) line loans)
 
--- whether time advanced and the handle, where an answer tells it; else the number that was lent for it
-abbrev pub advanceOr : ℕ → Answer → ℕ
-advanceOr old (Refused why) = old
-advanceOr old Done = old
-advanceOr old (Advanced b) = boolByte b
-advanceOr old (Handle handle) = old
-advanceOr old Bytes = old
-advanceOr old (Counted usage) = old
-advanceOr old (Lasts life) = old
-
+-- the handle, where an answer tells it; else the number that was lent for it
 abbrev pub handleOr : ℕ → Answer → ℕ
 handleOr old (Refused why) = old
 handleOr old Done = old

@@ -7,7 +7,9 @@ ghost use Rattle.frames.specs.HandleBytes.{handleBytes};
 ghost use Rattle.numbered.specs.Told.{handleOr};
 ghost use Rattle.numbered.specs.Entries.{Does, DoesWith, MakesOne};
 use super::Numbered;
-use super::put_together;
+use super::taking::clocks_of;
+use super::taking::named_of;
+use super::taking::put_together;
 use checked;
 use frames::handle_bytes;
 use ledger::Answer;
@@ -45,15 +47,15 @@ pub fn make_one(
     let h = head_of(p);
     let mut handles = p.handles;
     let mut extents = p.extents;
-    let mut clocks = p.clocks;
-    let mut named = p.named;
+    let mut clocks = clocks_of(p);
+    let mut named = named_of(p);
     let mut dues = p.dues;
     let step = checked::make(
         h,
         &mut handles,
         &mut extents,
-        &mut clocks,
-        &mut named,
+        &mut clocks.bytes,
+        &mut named.bytes,
         &mut dues,
         small,
         large,
@@ -74,15 +76,15 @@ pub fn refresh_one(p: Pool, task: u8, kind: Kind, extension: u8, handle: u32) ->
     let h = head_of(p);
     let handles = p.handles;
     let extents = p.extents;
-    let mut clocks = p.clocks;
-    let mut named = p.named;
+    let mut clocks = clocks_of(p);
+    let mut named = named_of(p);
     let mut dues = p.dues;
     let step = checked::refresh(
         h,
         &handles,
         &extents,
-        &mut clocks,
-        &mut named,
+        &mut clocks.bytes,
+        &mut named.bytes,
         &mut dues,
         task,
         kind,
@@ -104,15 +106,15 @@ pub fn refresh_each(p: Pool, task: u8, kind: Kind, extension: u8, objects: &[u32
     let h = head_of(p);
     let handles = p.handles;
     let extents = p.extents;
-    let mut clocks = p.clocks;
-    let mut named = p.named;
+    let mut clocks = clocks_of(p);
+    let mut named = named_of(p);
     let mut dues = p.dues;
     let step = checked::batch(
         h,
         &handles,
         &extents,
-        &mut clocks,
-        &mut named,
+        &mut clocks.bytes,
+        &mut named.bytes,
         &mut dues,
         task,
         kind,

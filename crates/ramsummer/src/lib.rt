@@ -15,7 +15,7 @@ use record::Pool;
 pub extern "C" fn ramsummer_fresh(p: &mut Pool) -> u8
     ensures { λ r. ⌜ (r ≡ 0) × (now (p .exit) ≡ freshPool) ⌝ }
 {
-    let r = numbered::renew(*p);
+    let r = numbered_tasks::renew(*p);
     *p = r.pool;
     r.number
 }
@@ -24,7 +24,7 @@ pub extern "C" fn ramsummer_fresh(p: &mut Pool) -> u8
 pub extern "C" fn ramsummer_join(p: &mut Pool, task: u8) -> u8
     ensures { λ r. ⌜ Does (Use (Schedule Join task)) (now (p .entry)) [] r (now (p .exit)) [] ⌝ }
 {
-    let r = numbered::join(*p, task);
+    let r = numbered_tasks::join(*p, task);
     *p = r.pool;
     r.number
 }
@@ -33,7 +33,7 @@ pub extern "C" fn ramsummer_join(p: &mut Pool, task: u8) -> u8
 pub extern "C" fn ramsummer_leave(p: &mut Pool, task: u8, advanced: &mut u8) -> u8
     ensures { λ r. ⌜ Does (Use (Schedule Leave task)) (now (p .entry)) (now (advanced .entry) ∷ []) r (now (p .exit)) (now (advanced .exit) ∷ []) ⌝ }
 {
-    let r = numbered::leave(*p, task, advanced);
+    let r = numbered_tasks::leave(*p, task, advanced);
     *p = r.pool;
     r.number
 }
@@ -42,7 +42,7 @@ pub extern "C" fn ramsummer_leave(p: &mut Pool, task: u8, advanced: &mut u8) -> 
 pub extern "C" fn ramsummer_block(p: &mut Pool, task: u8, advanced: &mut u8) -> u8
     ensures { λ r. ⌜ Does (Use (Schedule Block task)) (now (p .entry)) (now (advanced .entry) ∷ []) r (now (p .exit)) (now (advanced .exit) ∷ []) ⌝ }
 {
-    let r = numbered::block(*p, task, advanced);
+    let r = numbered_tasks::block(*p, task, advanced);
     *p = r.pool;
     r.number
 }
@@ -51,7 +51,7 @@ pub extern "C" fn ramsummer_block(p: &mut Pool, task: u8, advanced: &mut u8) -> 
 pub extern "C" fn ramsummer_resume(p: &mut Pool, task: u8) -> u8
     ensures { λ r. ⌜ Does (Use (Schedule Resume task)) (now (p .entry)) [] r (now (p .exit)) [] ⌝ }
 {
-    let r = numbered::resume(*p, task);
+    let r = numbered_tasks::resume(*p, task);
     *p = r.pool;
     r.number
 }
@@ -60,7 +60,7 @@ pub extern "C" fn ramsummer_resume(p: &mut Pool, task: u8) -> u8
 pub extern "C" fn ramsummer_tick(p: &mut Pool, task: u8, advanced: &mut u8) -> u8
     ensures { λ r. ⌜ Does (Use (Schedule Tick task)) (now (p .entry)) (now (advanced .entry) ∷ []) r (now (p .exit)) (now (advanced .exit) ∷ []) ⌝ }
 {
-    let r = numbered::tick(*p, task, advanced);
+    let r = numbered_tasks::tick(*p, task, advanced);
     *p = r.pool;
     r.number
 }
@@ -137,7 +137,7 @@ pub extern "C" fn ramsummer_read<'a>(
 ) -> u8
     ensures { λ r. ⌜ CopiesOut task handle (now (p .entry)) (now (small .entry)) (now (large .entry)) (buffered (now (count .entry)) (now (out .entry))) r (buffered (now (count .exit)) (now (out .exit))) × (now (p .exit) ≡ now (p .entry)) ⌝ }
 {
-    numbered::read(*p, small, large, task, handle, out, count)
+    numbered_bytes::read(*p, small, large, task, handle, out, count)
 }
 
 // The record gets the block's new sum.
@@ -153,7 +153,7 @@ pub extern "C" fn ramsummer_write(
 ) -> u8
     ensures { λ r. ⌜ WritesTo task handle offset (now (bytes .entry)) (now (p .entry)) (now (small .entry)) (now (large .entry)) r (now (p .exit)) (now (small .exit)) (now (large .exit)) ⌝ }
 {
-    let r = numbered::write(*p, small, large, task, handle, offset, bytes);
+    let r = numbered_bytes::write(*p, small, large, task, handle, offset, bytes);
     *p = r.pool;
     r.number
 }
@@ -169,7 +169,7 @@ pub extern "C" fn ramsummer_report(
 ) -> u8
     ensures { λ r. ⌜ Does Report (now (p .entry)) (now (small .entry) ∷ now (large .entry) ∷ now (expirations .entry) ∷ now (given .entry) ∷ []) r (now (p .entry)) (now (small .exit) ∷ now (large .exit) ∷ now (expirations .exit) ∷ now (given .exit) ∷ []) × (now (p .exit) ≡ now (p .entry)) ⌝ }
 {
-    numbered::report(*p, small, large, expirations, given)
+    numbered_bytes::report(*p, small, large, expirations, given)
 }
 
 // How long an object has left: ticks of the task that asks, and advances. The record stays.
@@ -183,7 +183,7 @@ pub extern "C" fn ramsummer_remaining(
 ) -> u8
     ensures { λ r. ⌜ Does (Remaining task handle) (now (p .entry)) (now (local .entry) ∷ now (global .entry) ∷ []) r (now (p .entry)) (now (local .exit) ∷ now (global .exit) ∷ []) × (now (p .exit) ≡ now (p .entry)) ⌝ }
 {
-    numbered::remaining(*p, task, handle, local, global)
+    numbered_bytes::remaining(*p, task, handle, local, global)
 }
 
 // For whom the global time waits: the tasks that run and have not ticked, a bit each. It asks nothing of the pool's rules, and the record stays.
@@ -191,7 +191,7 @@ pub extern "C" fn ramsummer_remaining(
 pub extern "C" fn ramsummer_awaited(p: &mut Pool, tasks: &mut u16) -> u8
     ensures { λ r. ⌜ TellsAwaited (now (p .entry)) (now (tasks .entry)) r (now (tasks .exit)) × (now (p .exit) ≡ now (p .entry)) ⌝ }
 {
-    numbered::awaited(*p, tasks)
+    numbered_tasks::awaited(*p, tasks)
 }
 
 // One line without its LF; the line of its answer goes to the start of a buffer of at least 531 bytes, and how many to `count`.
@@ -206,7 +206,7 @@ pub extern "C" fn ramsummer_frame(
 ) -> u8
     ensures { λ r. ⌜ Carries (now (line .entry)) (now (p .entry)) (now (small .entry)) (now (large .entry)) (now (out .entry)) (now (count .entry)) r (now (p .exit)) (now (small .exit)) (now (large .exit)) (now (out .exit)) (now (count .exit)) ⌝ }
 {
-    let r = numbered::frame(*p, small, large, line, out, count);
+    let r = numbered_bytes::frame(*p, small, large, line, out, count);
     *p = r.pool;
     r.number
 }
