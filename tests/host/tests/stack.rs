@@ -9,15 +9,9 @@ use host_tests::stack::depth;
 
 const KB: usize = 1024;
 
-/// What each call may take: docs/BUDGET.md has the goals, 8 KB and of a frame 10, and says who misses them. The line and
-/// the answer of a frame are its caller's, and not in it.
-const fn limit(entry: Entry) -> usize {
-    match entry {
-        Entry::Frame => 10 * KB,
-        Entry::Leave | Entry::Block | Entry::Tick | Entry::Batch => 8 * KB + KB / 2,
-        _ => 8 * KB,
-    }
-}
+/// What each call may take, a frame too: the goal of docs/BUDGET.md. The line and the answer of a frame are its caller's,
+/// and not in it.
+const LIMIT: usize = 8 * KB;
 
 fn deepest(cases: &[Case], entry: Entry, subject: Subject) -> usize {
     let of_entry = cases.iter().filter(|case| case.entry == entry);
@@ -31,7 +25,7 @@ fn a_call_stays_within_its_limit() {
     for entry in Entry::ALL {
         let [library, plain] = [Subject::Library, Subject::Plain].map(|subject| deepest(&cases, entry, subject));
         println!("{}: {library} bytes, plain {plain}", entry.name());
-        assert!(library <= limit(entry), "{} takes {library} bytes of stack", entry.name());
+        assert!(library <= LIMIT, "{} takes {library} bytes of stack", entry.name());
     }
 }
 

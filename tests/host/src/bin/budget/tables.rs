@@ -14,9 +14,8 @@ use crate::archive::Size;
 /// How many times the typical instructions the worst ones may be.
 const MOST_TO_TYPICAL: f64 = 2.0;
 
-/// The stack that a call may take, and a frame, in bytes.
-const CALL_STACK: usize = 8 * 1024;
-const FRAME_STACK: usize = 10 * 1024;
+/// The stack that a call may take, a frame too, in bytes.
+const STACK: usize = 8 * 1024;
 
 /// How many expirations stand where a call is typical: half of all.
 const TYPICAL_STANDING: usize = 128;
@@ -74,7 +73,6 @@ fn calls(cases: &[Case], counts: &Measures<Count>) -> (usize, usize) {
     let met = ROWS.map(|(row, typical)| {
         let of_row = || cases.iter().enumerate().filter(|(_, case)| row_of(case) == row);
         let stack = of_row().filter_map(|(_, case)| depth(case)).max().expect("a case");
-        let stack_goal = if row.starts_with("frame") { FRAME_STACK } else { CALL_STACK };
         let (place, _) = of_row().find(|(_, case)| is_typical(case, typical)).expect("a typical case");
         let typical = instructions(counts, place);
         // 15 is of damaged records alone.
@@ -83,9 +81,9 @@ fn calls(cases: &[Case], counts: &Measures<Count>) -> (usize, usize) {
             .map(|(place, case)| (instructions(counts, place), case))
             .max_by(|one, other| one.0.total_cmp(&other.0))
             .expect("a case");
-        let met = (stack <= stack_goal, worst <= MOST_TO_TYPICAL * typical);
+        let met = (stack <= STACK, worst <= MOST_TO_TYPICAL * typical);
         println!(
-            "| {row} | {stack} | {stack_goal} | {} | {typical:.0} | {worst:.0} | {:.2} | {MOST_TO_TYPICAL} | {} | {} |",
+            "| {row} | {stack} | {STACK} | {} | {typical:.0} | {worst:.0} | {:.2} | {MOST_TO_TYPICAL} | {} | {} |",
             says(met.0),
             worst / typical,
             says(met.1),
