@@ -10,7 +10,7 @@ use Rattle.ledger.specs.Objects.{Reply, plain, replyTo}
 use Rattle.ledger.specs.Ledger.{Ledger}
 use Rattle.ledger.specs.declared.Answer.{Answer}
 use Rattle.ledger.specs.declared.Answer.the-variants.{Done}
-use Rattle.ledger.specs.declared.Call.the-variants.{Make, Refresh, Batch, Release}
+use Rattle.ledger.specs.declared.Call.the-variants.{Make, Refresh, Batch}
 use Rattle.ledger.specs.declared.Kind.{Kind}
 use Rattle.ledger.specs.declared.Request.{Request}
 use Rattle.ledger.specs.declared.Request.the-variants.{Use}
@@ -75,10 +75,6 @@ module _ {p : Pool} {vs : List Val} (is : Is the-row p vs) {q : Pool} (same : q 
       → DoesWith (Use (Batch task kind extension)) new p [] (r .number) (r .pool) []
   unfolding replyTo
   refreshes-each f = does-silently (λ L. refl) f
-
-  pub releases : {task handle : ℕ} → FollowsWith (Use (Release task handle)) [] q answer p′ → Does (Use (Release task handle)) p [] (r .number) (r .pool) []
-  unfolding replyTo
-  releases f = does-silently (λ L. refl) f
 
   pub makes : {task : ℕ} {kind : Kind} {extension size : ℕ} {small large small′ large′ : List ℕ} {old new : ℕ}
       → Makes task kind extension size q small large (record { answer = answer; pool = p′ }) small′ large′ → new ≡ handleOr old answer

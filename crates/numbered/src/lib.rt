@@ -1,18 +1,15 @@
 // The calls on a record by value (P7), each with its answer by the number: what the entries call. Each tests first whether the record is well-formed (15), then the stores (14) where it
 // touches one. One that changes the record takes its columns out, has them tested and changed, and puts the record together again. What an answer tells goes to numbers that the host
-// lends. Here is what all of them share, and those that set or release the expirations of an object: make, refresh, batch and release.
+// lends. Here is what all of them share, and those whose kind is given by its code (19): make, refresh and batch.
 ghost use mathlib.Core.List.{[], _∷_};
 ghost use mathlib.Core.Path.{_≡_};
 ghost use Rattle.ledger.specs.Numbers.{numberOf};
-ghost use Rattle.ledger.specs.declared.Call.the-variants.{Release};
-ghost use Rattle.ledger.specs.declared.Request.the-variants.{Use};
 ghost use Rattle.frames.specs.Frames.{kindOf};
-ghost use Rattle.numbered.specs.Entries.{Does, MakesBy, RefreshesBy, RefreshesAllBy};
+ghost use Rattle.numbered.specs.Entries.{MakesBy, RefreshesBy, RefreshesAllBy};
 
 mod kinds;
 pub mod taking;
 
-use checked;
 use frames::KindByte;
 use frames::kind_of;
 use kinds::make_one;
@@ -21,10 +18,6 @@ use kinds::refresh_one;
 use ledger::Refusal;
 use ledger::number_of;
 use record::Pool;
-use record::head_of;
-use taking::clocks_of;
-use taking::named_of;
-use taking::put_together;
 
 // A buffer too short: a number that is none of 01's.
 pub const TOO_SHORT: u8 = 255;
@@ -79,28 +72,4 @@ pub fn refresh_all(p: Pool, task: u8, kind: u8, extension: u8, objects: &[u32]) 
         return refused(Refusal::UnknownKind, p);
     };
     refresh_each(p, task, known, extension, objects)
-}
-
-pub fn release(p: Pool, task: u8, handle: u32) -> Numbered
-    ensures { λ r. ⌜ Does (Use (Release task handle)) p [] (r .number) (r .pool) [] ⌝ }
-{
-    let h = head_of(p);
-    let mut handles = p.handles;
-    let extents = p.extents;
-    let mut clocks = clocks_of(p);
-    let named = named_of(p);
-    let dues = p.dues;
-    let step = checked::release(
-        h,
-        &mut handles,
-        &extents,
-        &mut clocks.bytes,
-        &named.bytes,
-        &dues,
-        task,
-        handle,
-    );
-    let answer = step.answer;
-    let head = step.head;
-    put_together(answer, head, handles, extents, clocks, named, dues)
 }

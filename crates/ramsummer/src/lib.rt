@@ -119,7 +119,7 @@ pub extern "C" fn ramsummer_refresh_all(
 pub extern "C" fn ramsummer_release(p: &mut Pool, task: u8, handle: u32) -> u8
     ensures { λ r. ⌜ Does (Use (Release task handle)) (now (p .entry)) [] r (now (p .exit)) [] ⌝ }
 {
-    let r = numbered::release(*p, task, handle);
+    let r = numbered_objects::release(*p, task, handle);
     *p = r.pool;
     r.number
 }
@@ -137,7 +137,7 @@ pub extern "C" fn ramsummer_read<'a>(
 ) -> u8
     ensures { λ r. ⌜ CopiesOut task handle (now (p .entry)) (now (small .entry)) (now (large .entry)) (buffered (now (count .entry)) (now (out .entry))) r (buffered (now (count .exit)) (now (out .exit))) × (now (p .exit) ≡ now (p .entry)) ⌝ }
 {
-    numbered_bytes::read(*p, small, large, task, handle, out, count)
+    numbered_objects::read(*p, small, large, task, handle, out, count)
 }
 
 // The record gets the block's new sum.
@@ -153,7 +153,7 @@ pub extern "C" fn ramsummer_write(
 ) -> u8
     ensures { λ r. ⌜ WritesTo task handle offset (now (bytes .entry)) (now (p .entry)) (now (small .entry)) (now (large .entry)) r (now (p .exit)) (now (small .exit)) (now (large .exit)) ⌝ }
 {
-    let r = numbered_bytes::write(*p, small, large, task, handle, offset, bytes);
+    let r = numbered_objects::write(*p, small, large, task, handle, offset, bytes);
     *p = r.pool;
     r.number
 }
@@ -169,7 +169,7 @@ pub extern "C" fn ramsummer_report(
 ) -> u8
     ensures { λ r. ⌜ Does Report (now (p .entry)) (now (small .entry) ∷ now (large .entry) ∷ now (expirations .entry) ∷ now (given .entry) ∷ []) r (now (p .entry)) (now (small .exit) ∷ now (large .exit) ∷ now (expirations .exit) ∷ now (given .exit) ∷ []) × (now (p .exit) ≡ now (p .entry)) ⌝ }
 {
-    numbered_bytes::report(*p, small, large, expirations, given)
+    numbered_objects::report(*p, small, large, expirations, given)
 }
 
 // How long an object has left: ticks of the task that asks, and advances. The record stays.
@@ -183,7 +183,7 @@ pub extern "C" fn ramsummer_remaining(
 ) -> u8
     ensures { λ r. ⌜ Does (Remaining task handle) (now (p .entry)) (now (local .entry) ∷ now (global .entry) ∷ []) r (now (p .entry)) (now (local .exit) ∷ now (global .exit) ∷ []) × (now (p .exit) ≡ now (p .entry)) ⌝ }
 {
-    numbered_bytes::remaining(*p, task, handle, local, global)
+    numbered_objects::remaining(*p, task, handle, local, global)
 }
 
 // For whom the global time waits: the tasks that run and have not ticked, a bit each. It asks nothing of the pool's rules, and the record stays.
@@ -206,7 +206,7 @@ pub extern "C" fn ramsummer_frame(
 ) -> u8
     ensures { λ r. ⌜ Carries (now (line .entry)) (now (p .entry)) (now (small .entry)) (now (large .entry)) (now (out .entry)) (now (count .entry)) r (now (p .exit)) (now (small .exit)) (now (large .exit)) (now (out .exit)) (now (count .exit)) ⌝ }
 {
-    let r = numbered_bytes::frame(*p, small, large, line, out, count);
+    let r = numbered_frame::frame(*p, small, large, line, out, count);
     *p = r.pool;
     r.number
 }

@@ -1,8 +1,8 @@
 -- Refused, a buffer too short for the part, or the part copied out.
 use borrow.Author.Needs.{needs}
-use Rattle.numbered_bytes.proofs.Promises.{read-refused, read-short, read-copied}
-use Rattle.numbered_bytes.proofs.read.Statement.{statement}
-use Rattle.numbered_bytes.proofs.read.Tie as tie
+use Rattle.numbered_objects.proofs.Promises.{read-refused, read-short, read-copied}
+use Rattle.numbered_objects.proofs.read.Statement.{statement}
+use Rattle.numbered_objects.proofs.read.Tie as tie
 
 returns : tie.Need-returns
 returns c = read-refused (c .before .read-part .ensures) (c .if1 .taken)

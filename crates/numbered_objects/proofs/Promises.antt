@@ -1,4 +1,4 @@
--- From what a write, a read, a report and a look at a life promise on the columns to what their entries promise: the reply told.
+-- From what the calls on the objects that stand promise of the columns to what their entries promise: the record put together, and the reply told.
 use Prim.Native.Nat.{ℕ, _≤_, _<_}
 use native.Mathlib.Omega.{arith}
 use mathlib.Core.List.{List, [], _∷_}
@@ -14,11 +14,12 @@ use Rattle.ledger.specs.Numbers.{numberOf, answerNumber}
 use Rattle.ledger.specs.Objects.{replyTo}
 use Rattle.ledger.specs.declared.Answer.{Answer}
 use Rattle.ledger.specs.declared.Answer.the-variants.{Refused, Bytes, Counted, Lasts}
+use Rattle.ledger.specs.declared.Call.the-variants.{Release}
 use Rattle.ledger.specs.declared.Life.{Life}
 use Rattle.ledger.specs.declared.Refusal.{Refusal}
 use Rattle.ledger.specs.declared.Refusal.the-variants.{NoSuchTask, TaskPresent, TaskAbsent, TaskWaiting, TaskRunning, ExtensionTooLong, LengthOutOfRange, HandlesSpent, NoFreeBlock, NoFreeExpiration, HandleNotGiven, ObjectGone, OutsideObject, WrongStoreLength, NotWellFormed, NotHexadecimal, UnknownOperation, WrongFrameLength, UnknownKind, BatchOutOfRange, OnlyMakePins, NotPinned, SumDiffers}
 use Rattle.ledger.specs.declared.Request.{Request}
-use Rattle.ledger.specs.declared.Request.the-variants.{Remaining}
+use Rattle.ledger.specs.declared.Request.the-variants.{Use, Remaining}
 use Rattle.ledger.specs.declared.Usage.{Usage}
 use Rattle.ledger.proofs.Answer.{the-type}
 use Rattle.record.specs.declared.Pool.{Pool}
@@ -28,15 +29,19 @@ use Rattle.numbered.specs.Told.{tooShort, buffered}
 use Rattle.numbered.specs.Entries.{Does, WritesTo, CopiesOut}
 use Rattle.numbered.specs.declared.Numbered.{Numbered}
 use Rattle.numbered.proofs.Replies.{by-reply, refusal-in}
-use Rattle.numbered.proofs.Promises.{Gave, Tells, told, tells-by, answered, silent}
+use Rattle.numbered.proofs.Promises.{Gave, Tells, told, tells-by, answered, silent, does-silently}
 
--- a write that was carried out on `q`, which is the record, and gave this
-pub writes : {p : Pool} {vs : List Val} → Is the-row p vs → {q : Pool} → q ≡ p → {answer : Answer} {p′ : Pool} {r : Numbered} → Gave answer p′ r
-    → {task handle offset : ℕ} {bytes small large small′ large′ : List ℕ} → Writes task handle offset bytes q small large answer p′ small′ large′
-    → WritesTo task handle offset bytes p small large (r .number) (r .pool) small′ large′
-unfolding replyTo
-writes is same {answer} gave f =
-    let w = rw same at f in record { answer = answer; writes = rw (gave .1) w; told = told answer (gave .0) (silent is (λ L. refl) (w .obeys)) }
+-- a write or a release that was carried out on `q`, which is the record, and gave this
+module _ {p : Pool} {vs : List Val} (is : Is the-row p vs) {q : Pool} (same : q ≡ p) {answer : Answer} {p′ : Pool} {r : Numbered} (gave : Gave answer p′ r) where
+  pub writes : {task handle offset : ℕ} {bytes small large small′ large′ : List ℕ} → Writes task handle offset bytes q small large answer p′ small′ large′
+      → WritesTo task handle offset bytes p small large (r .number) (r .pool) small′ large′
+  unfolding replyTo
+  writes f =
+      let w = rw same at f in record { answer = answer; writes = rw (gave .1) w; told = told answer (gave .0) (silent is (λ L. refl) (w .obeys)) }
+
+  pub releases : {task handle : ℕ} → Follows (Use (Release task handle)) q answer p′ → Does (Use (Release task handle)) p [] (r .number) (r .pool) []
+  unfolding replyTo
+  releases f = does-silently is same gave (λ L. refl) f
 
 -- report and remaining life leave the record
 pub reports : {request : Request} {p : Pool} (answer : Answer) {number : ℕ} {numbers numbers′ : List ℕ}

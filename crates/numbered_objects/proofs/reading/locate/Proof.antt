@@ -10,9 +10,9 @@ use Rattle.calls.proofs.Meets.{halves, refused-locates}
 use Rattle.pool.proofs.ByValue.{fits-by-value}
 use Rattle.pool.proofs.Sizes.{head-typed, columns-sized}
 use Rattle.checked.proofs.Tested.{unfit-by-value}
-use Rattle.numbered_bytes.proofs.ByValue.{located-by-value}
-use Rattle.numbered_bytes.proofs.reading.locate.Statement.{statement}
-use Rattle.numbered_bytes.proofs.reading.locate.Tie as tie
+use Rattle.numbered_objects.proofs.ByValue.{located-by-value}
+use Rattle.numbered_objects.proofs.reading.locate.Statement.{statement}
+use Rattle.numbered_objects.proofs.reading.locate.Tie as tie
 
 -- where a test of the record began
 abbrev made : tie.After-is-well-formed → tie.After-head-of

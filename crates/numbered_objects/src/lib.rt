@@ -1,16 +1,15 @@
-// The calls on a record by value that take or give bytes, read, write and the line of a frame, and those that tell figures alone, report and remaining life. All but write and a frame
-// leave the record, and so lend its columns where they are.
+// The calls on a record by value that concern the objects that stand: read, write, release, remaining life and report. Write and release change the record; the others lend its columns
+// where they are.
 ghost use mathlib.Core.List.{[], _∷_};
-ghost use Rattle.ledger.specs.declared.Request.the-variants.{Report, Remaining};
+ghost use Rattle.ledger.specs.declared.Call.the-variants.{Release};
+ghost use Rattle.ledger.specs.declared.Request.the-variants.{Use, Report, Remaining};
 ghost use Rattle.numbered.specs.Told.{buffered};
-ghost use Rattle.numbered.specs.Entries.{Does, CopiesOut, WritesTo, Carries};
+ghost use Rattle.numbered.specs.Entries.{Does, CopiesOut, WritesTo};
 
 mod reading;
 
 use calls;
 use checked;
-use execute::LONGEST_ANSWER;
-use execute::execute;
 use expirations::standing;
 use fitness::is_well_formed;
 use ledger::Answer;
@@ -87,6 +86,30 @@ pub fn write(
     put_together(answer, h, handles, extents, clocks, named, dues)
 }
 
+pub fn release(p: Pool, task: u8, handle: u32) -> Numbered
+    ensures { λ r. ⌜ Does (Use (Release task handle)) p [] (r .number) (r .pool) [] ⌝ }
+{
+    let h = head_of(p);
+    let mut handles = p.handles;
+    let extents = p.extents;
+    let mut clocks = clocks_of(p);
+    let named = named_of(p);
+    let dues = p.dues;
+    let step = checked::release(
+        h,
+        &mut handles,
+        &extents,
+        &mut clocks.bytes,
+        &named.bytes,
+        &dues,
+        task,
+        handle,
+    );
+    let answer = step.answer;
+    let head = step.head;
+    put_together(answer, head, handles, extents, clocks, named, dues)
+}
+
 pub fn report(p: Pool, small: &mut u8, large: &mut u8, expirations: &mut u16, given: &mut u32) -> u8
     ensures { λ r. ⌜ Does Report p (now (small .entry) ∷ now (large .entry) ∷ now (expirations .entry) ∷ now (given .entry) ∷ []) r p (now (small .exit) ∷ now (large .exit) ∷ now (expirations .exit) ∷ now (given .exit) ∷ []) ⌝ }
 {
@@ -126,29 +149,4 @@ pub fn remaining(p: Pool, task: u8, handle: u32, local: &mut u8, global: &mut u8
     *local = life.local;
     *global = life.global;
     0
-}
-
-pub fn frame(
-    p: Pool,
-    small: &mut [u8],
-    large: &mut [u8],
-    line: &[u8],
-    out: &mut [u8],
-    count: &mut usize,
-) -> Numbered
-    ensures { λ r. ⌜ Carries (now (line .entry)) p (now (small .entry)) (now (large .entry)) (now (out .entry)) (now (count .entry)) (r .number) (r .pool) (now (small .exit)) (now (large .exit)) (now (out .exit)) (now (count .exit)) ⌝ }
-{
-    if out.len() < LONGEST_ANSWER {
-        return Numbered {
-            number: TOO_SHORT,
-            pool: p,
-        };
-    }
-    let done = execute(p, small, large, line, out);
-    let pool = done.pool;
-    *count = done.length;
-    Numbered {
-        number: done.number,
-        pool: pool,
-    }
 }

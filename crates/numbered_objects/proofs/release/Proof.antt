@@ -1,9 +1,9 @@
 -- The release on the columns.
 use borrow.Author.Needs.{needs}
 use Rattle.numbered.proofs.ByValue.{out-sized, out-whole}
-use Rattle.numbered.proofs.Promises.{releases}
-use Rattle.numbered.proofs.release.Statement.{statement}
-use Rattle.numbered.proofs.release.Tie as tie
+use Rattle.numbered_objects.proofs.Promises.{releases}
+use Rattle.numbered_objects.proofs.release.Statement.{statement}
+use Rattle.numbered_objects.proofs.release.Tie as tie
 
 release-requires : tie.Need-release-requires
 release-requires c κs =

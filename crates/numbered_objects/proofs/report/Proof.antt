@@ -3,10 +3,10 @@ use mathlib.Core.Path.{refl}
 use borrow.Author.Needs.{needs}
 use Rattle.pool.proofs.Sizes.{columns-sized}
 use Rattle.checked.proofs.Tested.{unfit-by-value, fit-by-value}
-use Rattle.numbered_bytes.proofs.ByValue.{reported-by-value}
-use Rattle.numbered_bytes.proofs.Promises.{reports, tells-none, tells-usage}
-use Rattle.numbered_bytes.proofs.report.Statement.{statement}
-use Rattle.numbered_bytes.proofs.report.Tie as tie
+use Rattle.numbered_objects.proofs.ByValue.{reported-by-value}
+use Rattle.numbered_objects.proofs.Promises.{reports, tells-none, tells-usage}
+use Rattle.numbered_objects.proofs.report.Statement.{statement}
+use Rattle.numbered_objects.proofs.report.Tie as tie
 
 returns : tie.Need-returns
 returns c =

@@ -2,8 +2,8 @@
 use native.Mathlib.Omega.{arith}
 use mathlib.Core.Path.{refl}
 use borrow.Author.Needs.{needs}
-use Rattle.numbered_bytes.proofs.frame.Statement.{statement}
-use Rattle.numbered_bytes.proofs.frame.Tie as tie
+use Rattle.numbered_frame.proofs.frame.Statement.{statement}
+use Rattle.numbered_frame.proofs.frame.Tie as tie
 
 returns : tie.Need-returns
 returns c = record { short = λ _. (refl, refl, refl, refl, refl, refl); roomy = λ h. absurd (omega (arith, c .if1 .taken, h)) }

@@ -3,8 +3,8 @@ use mathlib.Core.Path.{refl}
 use borrow.Author.Needs.{needs}
 use Rattle.ledger.specs.declared.Answer.the-variants.{Bytes, Refused}
 use Rattle.calls.proofs.Meets.{read-refusal, read-part}
-use Rattle.numbered_bytes.proofs.reading.read_part.Statement.{statement}
-use Rattle.numbered_bytes.proofs.reading.read_part.Tie as tie
+use Rattle.numbered_objects.proofs.reading.read_part.Statement.{statement}
+use Rattle.numbered_objects.proofs.reading.read_part.Tie as tie
 
 block-part-requires : tie.Need-block-part-requires
 block-part-requires c κs =

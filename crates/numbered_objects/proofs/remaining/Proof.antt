@@ -2,10 +2,10 @@
 use borrow.Author.Needs.{needs}
 use Rattle.pool.proofs.Sizes.{columns-sized}
 use Rattle.checked.proofs.Tested.{unfit-by-value, columns-fit}
-use Rattle.numbered_bytes.proofs.ByValue.{stays-by-value}
-use Rattle.numbered_bytes.proofs.Promises.{reports, tells-none, no-life, tells-life}
-use Rattle.numbered_bytes.proofs.remaining.Statement.{statement}
-use Rattle.numbered_bytes.proofs.remaining.Tie as tie
+use Rattle.numbered_objects.proofs.ByValue.{stays-by-value}
+use Rattle.numbered_objects.proofs.Promises.{reports, tells-none, no-life, tells-life}
+use Rattle.numbered_objects.proofs.remaining.Statement.{statement}
+use Rattle.numbered_objects.proofs.remaining.Tie as tie
 
 returns : tie.Need-returns
 returns c =

@@ -1,9 +1,9 @@
 -- The write on the columns.
 use borrow.Author.Needs.{needs}
 use Rattle.numbered.proofs.ByValue.{out-sized, out-whole}
-use Rattle.numbered_bytes.proofs.Promises.{writes}
-use Rattle.numbered_bytes.proofs.write.Statement.{statement}
-use Rattle.numbered_bytes.proofs.write.Tie as tie
+use Rattle.numbered_objects.proofs.Promises.{writes}
+use Rattle.numbered_objects.proofs.write.Statement.{statement}
+use Rattle.numbered_objects.proofs.write.Tie as tie
 
 write-requires : tie.Need-write-requires
 write-requires c κs =
