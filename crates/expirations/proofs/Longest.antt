@@ -1,5 +1,5 @@
 -- The most units left on entries, one more entry and group at a time, in bytes; and that they are the units themselves.
-use Prim.Native.Nat.{ℕ, _+_, _*_, _%_, _≤_, _<_}
+use Prim.Native.Nat.{ℕ, max, _+_, _*_, _%_, _≤_, _<_}
 use native.Mathlib.Nat.{add-zero, add-assoc}
 use native.Mathlib.Omega.{arith}
 use mathlib.Core.Bool.{Bool, true, false, cond, _&&_}
@@ -42,14 +42,14 @@ byte-of false by left e = refl
 
 module _ (q : Query) where
   module _ (clock block due : ℕ) where
-    pub counted-local : q .task < taskCount
+    counted-local : q .task < taskCount
         → cond (eqb block (q .block) && eqb clock (localCode + q .task)) (leftAt due (q .local .0) % byteValues) 0 ≡ localOn q (expirationEntry clock block due)
     counted-local known =
         let left = leftAt due (q .local .0) in
         byte-of (eqb block (q .block)) (eqb clock (localCode + q .task)) left
         (by-task-clock (leftLocal (q .task) (q .local)) (λ b. cond b left 0) clock due refl refl refl (q .task) known (λ s. refl) (λ s. refl))
 
-    pub counted-global : cond (eqb block (q .block) && isGlobalClock clock) (leftAt due (q .global .0) % byteValues) 0 ≡ globalOn q (expirationEntry clock block due)
+    counted-global : cond (eqb block (q .block) && isGlobalClock clock) (leftAt due (q .global .0) % byteValues) 0 ≡ globalOn q (expirationEntry clock block due)
     counted-global =
         let left = leftAt due (q .global .0) in
         byte-of (eqb block (q .block)) (isGlobalClock clock) left
@@ -77,15 +77,36 @@ module _ {q : Query} {cs ns ds : List ℕ} (sized : SizedEntries cs ns ds) {from
   pub longest-start : (a : Units) → from + n ≤ expirationEntries → Longest q (entriesOf cs ns ds) from n a 0 a
   longest-start a h = record { so = rw (add-zero from) (scanned-from (λ ys. longest a (unitsIn q ys)) (entriesOf cs ns ds) (from + n) from (omega arith) (omega (arith, size-of sized))) }
 
-  pub longest-turn : {start a b : Units} {i : ℕ} → Longest q (entriesOf cs ns ds) from n start i a → i < n
+  -- one more
+  longest-one : {start a b : Units} {i : ℕ} → Longest q (entriesOf cs ns ds) from n start i a → i < n
       → b ≡ longest a (unitsOf q (expirationEntry (getD cs (from + i) 0) (getD ns (from + i) 0) (getD ds (from + i) 0)))
       → Longest q (entriesOf cs ns ds) from n start (i + 1) b
-  longest-turn {a = a} {i = i} s h e =
+  longest-one {a = a} {i = i} s h e =
       record {
         so =
             rw (← add-assoc from i 1)
             (scanned-turn _ freeEntry (s .so) (omega arith) (λ ys. longest-next q a (getD (entriesOf cs ns ds) (from + i) freeEntry) ys ∙ rw (entry-of sized (from + i), e)));
       }
+
+  -- the same by its numbers: of each figure what is left of the due number, and whether that counts
+  pub longest-turn : {start a : Units} {i : ℕ} → q .task < taskCount → Longest q (entriesOf cs ns ds) from n start i a → i < n
+      → {by : Bool} {left counted local left′ counted′ global : ℕ}
+      → left ≡ leftAt (getD ds (from + i) 0) (q .local .0) % byteValues
+      → counted ≡ cond (eqb (getD ns (from + i) 0) (q .block) && eqb (getD cs (from + i) 0) (localCode + q .task)) left 0
+      → local ≡ max (a .local) counted
+      → left′ ≡ leftAt (getD ds (from + i) 0) (q .global .0) % byteValues
+      → by ≡ isGlobalClock (getD cs (from + i) 0)
+      → counted′ ≡ cond (eqb (getD ns (from + i) 0) (q .block) && by) left′ 0
+      → global ≡ max (a .global) counted′
+      → Longest q (entriesOf cs ns ds) from n start (i + 1) (units local global)
+  longest-turn {a = a} {i = i} known s h l c m l′ g c′ m′ =
+      let clock = getD cs (from + i) 0 in
+      let block = getD ns (from + i) 0 in
+      let due = getD ds (from + i) 0 in
+      longest-one s h
+      (ap₂ units
+      (m ∙ ap (max (a .local)) (c ∙ rw l (counted-local q clock block due known)))
+      (m′ ∙ ap (max (a .global)) (c′ ∙ rw (g, l′) (counted-global q clock block due))))
 
   pub longest-end : {start a : Units} {i : ℕ} → Longest q (entriesOf cs ns ds) from n start i a → n ≤ i
       → a ≡ longest start (unitsIn q (drop from (take (from + n) (entriesOf cs ns ds))))

@@ -1,12 +1,11 @@
 -- Nothing is added where none names the block; else entry by entry.
-use Prim.Native.Nat.{max, _-_, _<_}
+use Prim.Native.Nat.{_-_, _<_}
 use native.Mathlib.Omega.{arith}
-use mathlib.Core.Path.{ap, ap₂, _∙_}
 use borrow.Author.Needs.{needs}
 use borrow.Author.Tests.{not-true}
 use Rattle.record.specs.Tables.{entriesOf}
 use Rattle.expirations.specs.Standing.{groupSize}
-use Rattle.expirations.proofs.Longest.{Longest, units, counted-local, counted-global, longest-start, longest-turn, longest-end, longest-past}
+use Rattle.expirations.proofs.Longest.{Longest, units, longest-start, longest-turn, longest-end, longest-past}
 use Rattle.expirations.proofs.remaining.longest_in.Statement.{statement}
 use Rattle.expirations.proofs.remaining.longest_in.Tie as tie
 
@@ -26,11 +25,9 @@ loop-again c =
     let more : i < groupSize = turn .loop-test .taken in
     let g = l .before in
     let s = g .before .before .before .before .before .before in
-    let a = s .args in
-    longest-turn (s .pre .0) (l .loop .inv) more
-    (ap₂ units
-    (locally .larger .ensures ∙ ap (max (l .loop .local)) (locally .before .counted .ensures ∙ rw (g .before .local-lefts .ensures .so i more) (counted-local (a .q) _ _ _ (s .pre .2))))
-    (c .larger2 .ensures ∙ ap (max (l .loop .global)) (c .before .counted2 .ensures ∙ rw (c .before .before .is-global .ensures, g .global-lefts .ensures .so i more) (counted-global (a .q) _ _ _))))
+    longest-turn (s .pre .0) (s .pre .2) (l .loop .inv) more
+    (g .before .local-lefts .ensures .so i more) (locally .before .counted .ensures) (locally .larger .ensures)
+    (g .global-lefts .ensures .so i more) (c .before .before .is-global .ensures) (c .before .counted2 .ensures) (c .larger2 .ensures)
 
 pub longest-in-spec : {M : Type 1} → statement M
 longest-in-spec =
