@@ -27,7 +27,7 @@ use record::Pool;
 use record::head_of;
 use stores::write_block;
 
-// That part copied out.
+// The part that `read_part` hands back, copied out.
 pub fn read<'a>(
     p: Pool,
     small: &'a [u8],
