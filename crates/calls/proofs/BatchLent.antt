@@ -6,7 +6,7 @@ use mathlib.Core.List.{List, map}
 use mathlib.Core.Path.{_≡_, refl, sym, ap, fun-ext, _∙_}
 use lib.Dec.{leb}
 use lib.ListN.{length, take}
-use Rattle.ledger.specs.Limits.{limits, taskCount, largestBatch}
+use Rattle.ledger.specs.Limits.{isAllowed, taskCount, largestBatch}
 use Rattle.ledger.specs.Objects.{handlesOf}
 use Rattle.ledger.proofs.Figures.{allowed}
 use Rattle.ledger.specs.declared.Answer.the-variants.{Done}
@@ -50,7 +50,7 @@ module _ {h : Head} {hs ls cs ns ds : List ℕ} (types : HeadTyped h) (sized : S
   verdict-of : batchVerdict task kind extension (handlesOf new) (tablesOf (pooled h hs ls cs ns ds)) ≡ plan .verdict
   unfolding batchVerdict tablesOf tablesBy
   verdict-of =
-      ap (λ (gone : ℕ → Bool). batchVerdictBy task kind extension (handlesOf new) (h .tasks) (h .given) gone (standingIn (entriesOf cs ns ds))) missing
+      ap (λ (gone : ℕ → Bool). batchVerdictBy (h .limits) task kind extension (handlesOf new) (h .tasks) (h .given) gone (standingIn (entriesOf cs ns ds))) missing
       ∙ rw (so .verdict, standing-of (sized .entries))
 
   pub batch-kept : isWellFormed (pooled h hs ls cs ns ds) ≡ true → {why : Refusal} → plan .verdict ≡ Refused why
@@ -71,11 +71,11 @@ module _ {h : Head} {hs ls cs ns ds : List ℕ} (types : HeadTyped h) (sized : S
     left sets = rw (batched-set task kind extension (handlesOf new), sets .entries, blocks-of)
 
     -- what the setting asks
-    pub batch-may-set : (plan .count ≤ largestBatch) × (standingOf cs + plan .count ≤ expirationEntries) × (task < taskCount)
+    pub batch-may-set : isAllowed (h .limits) ≡ true → (plan .count ≤ largestBatch) × (standingOf cs + plan .count ≤ expirationEntries) × (task < taskCount)
     unfolding tablesOf tablesBy
-    batch-may-set = (
+    batch-may-set may = (
       rw (so .count) (renewable .few),
-      omega (arith, so .count, renewable .room, standing-of (sized .entries), allowed .most-expirations),
+      omega (arith, so .count, renewable .room, standing-of (sized .entries), allowed (h .limits) may .most-expirations),
       task-known task (h .tasks) (renewable .task-ok),
     )
 

@@ -9,7 +9,9 @@ use Rattle.record.specs.Tables.{SizedBlocks, SizedEntries, blocksOf, entriesOf,
 use Rattle.record.specs.WellFormed as WellFormed
 use Rattle.record.specs.declared.Head.{Head}
 use Rattle.record.proofs.Columns.{length-blocks, length-entries}
+use Rattle.record.proofs.Facts.{fit-parts}
 use Rattle.record.proofs.Types.{typed-by}
+use Rattle.ledger.specs.Limits.{isAllowed}
 
 module _ (h : Head) (handles extents clocks named dues : List ℕ) where
   pub tables-of : tablesOf (pooled h handles extents clocks named dues) ≡ tablesBy h (blocksOf handles extents) (entriesOf clocks named dues)
@@ -21,6 +23,11 @@ module _ (h : Head) (handles extents clocks named dues : List ℕ) where
       → WellFormed.isWellFormed (lent h handles extents clocks named dues) ≡ true
   unfolding tablesOf
   lent-fits w = w
+
+  -- and its figures are then such as a site may choose
+  pub lent-allowed : isWellFormed (pooled h handles extents clocks named dues) ≡ true → isAllowed (h .limits) ≡ true
+  unfolding tablesOf tablesBy
+  lent-allowed w = fit-parts (lent h handles extents clocks named dues) w .allowed
 
   pub lent-typed : HeadTyped h → SizedBlocks handles extents → SizedEntries clocks named dues → Typed (tablesOf (pooled h handles extents clocks named dues))
   lent-typed t b e =

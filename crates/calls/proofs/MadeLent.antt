@@ -14,7 +14,7 @@ use Rattle.calls.specs.Engine.{withGiven}
 
 module _ (h : Head) (hs ls cs ns ds : List ℕ) {cs′ ns′ ds′ : List ℕ} (kind : Kind) (task extension place : ℕ)
     (sets : Sets (newEntry (h .tasks) (h .global) kind task extension place) cs ns ds cs′ ns′ ds′) where
-  pub made-left : (size : ℕ) → size < halfRange → place ≡ freePlace size (blocksOf hs ls)
+  pub made-left : (size : ℕ) → size < halfRange → place ≡ freePlace (h .limits) size (blocksOf hs ls)
       → tablesOf (pooled (withGiven h (h .given + 1)) (set hs place (h .given + 1)) (set ls place (extentOf size 0)) cs′ ns′ ds′)
       ≡ madePool task kind extension size (tablesOf (pooled h hs ls cs ns ds))
   unfolding tablesOf tablesBy madePool entryFor

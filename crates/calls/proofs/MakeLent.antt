@@ -1,13 +1,13 @@
 -- Make on lent tables, refused or carried out.
 use Prim.Native.Nat.{ℕ, _+_, _<_}
 use native.Mathlib.Omega.{arith}
-use mathlib.Core.Bool.{_||_}
+use mathlib.Core.Bool.{true, _||_}
 use mathlib.Core.List.{List}
 use mathlib.Core.Path.{_≡_, sym, ap, _∙_}
 use lib.Dec.{eqb, leb, ltb}
 use lib.ListN.{getD, set, replicate, length-set}
 use lib.Seq.{getD-set-same}
-use Rattle.ledger.specs.Limits.{taskCount, largeSize, lastHandle}
+use Rattle.ledger.specs.Limits.{isAllowed, taskCount, largeSize, lastHandle}
 use Rattle.ledger.specs.declared.Answer.the-variants.{Handle}
 use Rattle.ledger.specs.declared.Answer.the-variants.{Refused as RefusedAnswer}
 use Rattle.ledger.specs.declared.Call.the-variants.{Make}
@@ -21,6 +21,7 @@ use Rattle.record.specs.Reading.{HeadTyped, Typed, sizeOf}
 use Rattle.record.specs.Tables.{BlockEntry, Sized, extentOf, blocksOf, entriesOf, tablesBy, tablesOf, pooled, blockEntries, expirationEntries}
 use Rattle.record.specs.declared.Head.{Head}
 use Rattle.record.proofs.Columns.{block-at}
+use Rattle.record.proofs.Facts.{fit-parts}
 use Rattle.steps.specs.Objects.{endFor, freePlace, freePlaceIn, refuseIf, taskVerdict, extensionVerdict, roomVerdict, makeVerdict}
 use Rattle.steps.proofs.Chosen.{Taken, both-accept, make-takes}
 use Rattle.objects.specs.Outcomes.{makePlan}
@@ -31,7 +32,7 @@ use Rattle.expirations.specs.Setting.{entryFor as newEntry}
 use Rattle.expirations.specs.Standing.{standingOf}
 use Rattle.calls.specs.Contract.{Ready, Makes}
 use Rattle.calls.specs.Engine.{withGiven, outcomeOf}
-use Rattle.calls.proofs.Lent.{tables-of, lent-typed}
+use Rattle.calls.proofs.Lent.{tables-of, lent-allowed, lent-typed}
 use Rattle.expirations.proofs.Counting.{standing-of}
 use Rattle.calls.proofs.MadeLent.{made-left}
 use Rattle.calls.proofs.Meets.{block-in, place-known, make-kept, make-cleared}
@@ -39,13 +40,13 @@ use Rattle.calls.proofs.RefreshLent.{room-left}
 
 module _ {h : Head} (hs ls cs : List ℕ) {ns ds : List ℕ} (types : HeadTyped h) (sized : Sized hs ls cs ns ds) {small large : List ℕ}
     {task : ℕ} {kind : Kind} {extension size : ℕ} (ready : Ready (Use (Make task kind extension size)) (pooled h hs ls cs ns ds) small large)
-    {plan : Plan} (so : plan ≡ makePlan task kind extension size h (freePlaceIn size hs) (standingOf cs)) where
+    {plan : Plan} (so : plan ≡ makePlan task kind extension size h (freePlaceIn (h .limits) size hs) (standingOf cs)) where
   of-entries : Typed (tablesOf (pooled h hs ls cs ns ds))
   of-entries = lent-typed h hs ls cs ns ds types (sized .blocks) (sized .entries)
 
-  planned-place : plan .place ≡ freePlace size (tablesOf (pooled h hs ls cs ns ds) .blocks)
+  planned-place : plan .place ≡ freePlace (h .limits) size (tablesOf (pooled h hs ls cs ns ds) .blocks)
   unfolding makePlan tablesOf tablesBy
-  planned-place = rw so (free-place-of hs ls (sized .blocks .of-handles) (sized .blocks .of-extents) size)
+  planned-place = rw so (free-place-of hs ls (sized .blocks .of-handles) (sized .blocks .of-extents) (h .limits) size)
 
   verdict-of : makeVerdict task kind extension size (tablesOf (pooled h hs ls cs ns ds)) ≡ plan .verdict
   verdict-of =
@@ -58,25 +59,29 @@ module _ {h : Head} (hs ls cs : List ℕ) {ns ds : List ℕ} (types : HeadTyped 
 
   module _ (v : plan .verdict ≡ Accepted) where
     taken : Taken task extension size (tablesOf (pooled h hs ls cs ns ds))
-    taken = make-takes task kind extension size (tablesOf (pooled h hs ls cs ns ds)) of-entries (verdict-of ∙ v)
+    taken = make-takes task kind extension size (tablesOf (pooled h hs ls cs ns ds)) (fit-parts _ (ready .fit)) of-entries (verdict-of ∙ v)
 
-    at-free : plan .place ≡ freePlace size (blocksOf hs ls)
+    at-free : plan .place ≡ freePlace (h .limits) size (blocksOf hs ls)
     unfolding tablesOf tablesBy
     at-free = planned-place
 
-    room : roomVerdict (standingOf cs) ≡ Accepted
+    room : roomVerdict (h .limits) (standingOf cs) ≡ Accepted
     unfolding makePlan
     room =
         let (task-ok, v₁) = both-accept (taskVerdict task (h .tasks)) _ (rw so at v) in
-        let (extension-ok, v₂) = both-accept (extensionVerdict kind extension) _ v₁ in
+        let (extension-ok, v₂) = both-accept (extensionVerdict (h .limits) kind extension) _ v₁ in
         let (size-ok, v₃) = both-accept (refuseIf (eqb size 0 || ltb largeSize size) LengthOutOfRange) _ v₂ in
         let (given-ok, v₄) = both-accept (refuseIf (leb lastHandle (h .given)) HandlesSpent) _ v₃ in
-        both-accept (refuseIf (leb (endFor size) (freePlaceIn size hs)) NoFreeBlock) _ v₄ .1
+        both-accept (refuseIf (leb (endFor (h .limits) size) (freePlaceIn (h .limits) size hs)) NoFreeBlock) _ v₄ .1
+
+    may : isAllowed (h .limits) ≡ true
+    may = lent-allowed h hs ls cs ns ds (ready .fit)
 
     -- what the setting asks
     pub make-may-set : (standingOf cs < expirationEntries) × (task < taskCount) × (plan .place < blockEntries)
+    unfolding tablesOf tablesBy
     make-may-set = (
-      room-left (standingOf cs) room,
+      room-left (h .limits) may (standingOf cs) room,
       taken .may .known,
       rw planned-place (omega (arith, taken .block .listed, of-entries .blocks)),
     )
@@ -93,7 +98,7 @@ module _ {h : Head} (hs ls cs : List ℕ) {ns ds : List ℕ} (types : HeadTyped 
     unfolding tablesOf tablesBy
     free =
         rw planned-place
-        (sym (ap (λ (b : BlockEntry). b .handle) (block-at hs ls (sized .blocks .of-handles) (sized .blocks .of-extents) (freePlace size (blocksOf hs ls))))
+        (sym (ap (λ (b : BlockEntry). b .handle) (block-at hs ls (sized .blocks .of-handles) (sized .blocks .of-extents) (freePlace (h .limits) size (blocksOf hs ls))))
         ∙ taken .block .free)
 
     holds : getD (set hs (plan .place) (h .given + 1)) (plan .place) 0 ≡ h .given + 1

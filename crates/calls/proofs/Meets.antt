@@ -15,11 +15,14 @@ use Rattle.ledger.specs.declared.Refusal.{Refusal}
 use Rattle.ledger.specs.declared.Request.the-variants.{Use}
 use Rattle.ledger.specs.declared.Verdict.{Verdict}
 use Rattle.ledger.specs.declared.Verdict.the-variants.{Accepted, Refused}
-use Rattle.stores.specs.Places.{blockCount, InBlock, smallAfter, largeAfter, sumAt, sumAfter}
-use Rattle.stores.proofs.Places.{all-blocks}
+use Rattle.ledger.specs.declared.Limits.{Limits}
+use Rattle.stores.specs.Places.{InBlock, smallAfter, largeAfter, sumAt, sumAfter}
+use Rattle.stores.proofs.Places.{in-block, whole-block}
 use Rattle.stores.proofs.Changes.{bytes-changed}
 use Rattle.record.specs.Reading.{isWholeSmall, isWholeLarge, blockBytes, Typed, sizeOf}
-use Rattle.record.specs.Tables.{tablesOf}
+use Rattle.record.specs.Tables.{tablesBy, tablesOf}
+use Rattle.record.specs.WellFormed.{isBlock}
+use Rattle.record.proofs.Facts.{fit-parts}
 use Rattle.record.specs.declared.Pool.{Pool}
 use Rattle.steps.specs.Objects.{placeIn, placeOf, freePlace, makeVerdict, readVerdict, writeVerdict, madePool, writtenPool}
 use Rattle.objects.specs.Outcomes.{bytesBy, bytesIn}
@@ -36,8 +39,18 @@ use Rattle.calls.proofs.Promises.{isRefusal}
 use Rattle.calls.proofs.Outcomes.{make-refused, make-done, read-refused, read-done, write-refused, write-done}
 
 -- both stores, each by itself
-pub halves : (small large : List ℕ) → areWhole small large ≡ true → (isWholeSmall small ≡ true) × (isWholeLarge large ≡ true)
-halves small large = and-eq-true-iff (isWholeSmall small) (isWholeLarge large) .0
+pub halves : (limits : Limits) (small large : List ℕ) → areWhole limits small large ≡ true → (isWholeSmall limits small ≡ true) × (isWholeLarge limits large ≡ true)
+halves limits small large = and-eq-true-iff (isWholeSmall limits small) (isWholeLarge limits large) .0
+
+-- the figures of a record by its entries
+pub limits-of : (p : Pool) → tablesOf p .limits ≡ p .limits
+unfolding tablesOf tablesBy
+limits-of p = refl
+
+-- both stores by the record's entries
+pub table-halves : (p : Pool) (small large : List ℕ) → areWhole (p .limits) small large ≡ true
+    → (isWholeSmall (tablesOf p .limits) small ≡ true) × (isWholeLarge (tablesOf p .limits) large ≡ true)
+table-halves p small large whole = rw (limits-of p) (halves (p .limits) small large whole)
 
 -- a make that is refused takes no block
 pub refused-makes : (task : ℕ) (kind : Kind) (extension size : ℕ) (p : Pool) (small large : List ℕ) (r : Refusal)
@@ -73,13 +86,14 @@ module _ {task handle : ℕ} {p : Pool} {small large : List ℕ} {f : FoundBytes
 -- make, refused or carried out
 module _ {task : ℕ} {kind : Kind} {extension size : ℕ} {p : Pool} {small large : List ℕ} (types : Typed (tablesOf p))
     (ready : Ready (Use (Make task kind extension size)) p small large) where
-  pub place-known : makeVerdict task kind extension size (tablesOf p) ≡ Accepted → freePlace size (tablesOf p .blocks) < blockCount
-  place-known v = omega (arith, all-blocks, make-takes task kind extension size (tablesOf p) types v .block .listed, types .blocks)
+  pub place-known : makeVerdict task kind extension size (tablesOf p) ≡ Accepted
+      → isBlock (p .limits) (freePlace (p .limits) size (tablesOf p .blocks)) ≡ true
+  place-known v = rw (limits-of p) at (make-takes task kind extension size (tablesOf p) (fit-parts (tablesOf p) (ready .fit)) types v .block .its)
 
-  pub block-in : (block : ℕ) → block < blockCount → InBlock small large block (sizeOf block)
+  pub block-in : (block : ℕ) → isBlock (p .limits) block ≡ true → InBlock small large block (sizeOf block)
   block-in block known =
-      let (small-whole, large-whole) = halves small large (ready .whole refl) in
-      record { known = known; small-whole = small-whole; large-whole = large-whole; within = omega arith }
+      let (small-whole, large-whole) = halves (p .limits) small large (ready .whole refl) in
+      in-block (p .limits) (rw (limits-of p) at (fit-parts (tablesOf p) (ready .fit) .allowed)) small-whole large-whole known (omega arith)
 
   -- refused: no block is taken
   pub make-kept : (why : Refusal) → makeVerdict task kind extension size (tablesOf p) ≡ Refused why
@@ -88,14 +102,14 @@ module _ {task : ℕ} {kind : Kind} {extension size : ℕ} {p : Pool} {small lar
       refused-makes task kind extension size p small large why (make-refused p types (ready .fit) small large (ready .whole refl) task kind extension size why v)
 
   -- accepted: the block is cleared
-  pub make-cleared : {p′ : Pool} (place : ℕ) → place ≡ freePlace size (tablesOf p .blocks) → getD (p .handles) place 0 ≡ 0 → getD (p′ .handles) place 0 ≡ p .given + 1
+  pub make-cleared : {p′ : Pool} (place : ℕ) → place ≡ freePlace (p .limits) size (tablesOf p .blocks) → getD (p .handles) place 0 ≡ 0 → getD (p′ .handles) place 0 ≡ p .given + 1
       → tablesOf p′ ≡ madePool task kind extension size (tablesOf p)
       → makeVerdict task kind extension size (tablesOf p) ≡ Accepted → {small′ large′ : List ℕ}
       → small′ ≡ smallAfter place 0 (replicate (sizeOf place) 0) small → large′ ≡ largeAfter place 0 (replicate (sizeOf place) 0) large
       → Makes task kind extension size p small large (record { answer = Handle (p .given + 1); pool = p′ }) small′ large′
   make-cleared {p′} place at free holds left v s l =
       record {
-        obeys = rw (s, l, at) (make-done p types (ready .fit) small large (ready .whole refl) task kind extension size left v);
+        obeys = rw (s, l, at) (rw (limits-of p) at (make-done p types (ready .fit) small large (ready .whole refl) task kind extension size left v));
         placed = λ handle h. (
           place,
           record {
@@ -117,7 +131,7 @@ module _ {task handle : ℕ} {p : Pool} {small large : List ℕ} (types : Typed 
         inside = λ block count sum f.
             let b : placeOf handle (tablesOf p .blocks) ≡ block = cc in
             let n : getD (tablesOf p .blocks) (placeOf handle (tablesOf p .blocks)) freeBlock .length ≡ count = cc in
-            let (small-whole, large-whole) = halves small large (ready .whole refl) in
+            let (small-whole, large-whole) = table-halves p small large (ready .whole refl) in
             let (L, reads) = every-fit-record-reads p types (ready .fit) small large in
             rw (← n, ← b) (read-place (ready .fit) types reads small-whole large-whole task handle e);
         summed = λ block count sum f.
@@ -148,7 +162,7 @@ module _ {task handle offset : ℕ} {p : Pool} {small large : List ℕ} (types :
       -- the bytes lie in the object's block, whose sum agrees
       pub write-in : InBlock small large block (offset + length new)
       write-in =
-          let (small-whole, large-whole) = halves small large (ready .whole refl) in
+          let (small-whole, large-whole) = table-halves p small large (ready .whole refl) in
           let (L, reads) = every-fit-record-reads p types (ready .fit) small large in
           rw (← accepted .1) (write-place (ready .fit) types reads small-whole large-whole task handle offset new (accepted .0))
 
@@ -161,7 +175,7 @@ module _ {task handle offset : ℕ} {p : Pool} {small large : List ℕ} (types :
       sum-left : sumAt (smallAfter block offset new small) (largeAfter block offset new large) block ≡ sumAfter small large block offset new
       sum-left =
           let q = write-in in
-          let whole : InBlock small large block (sizeOf block) = record { known = q .known; small-whole = q .small-whole; large-whole = q .large-whole; within = omega arith } in
+          let whole : InBlock small large block (sizeOf block) = whole-block q in
           ap total (bytes-changed offset new q .block-bytes (sizeOf block) whole (q .within))
 
       -- carried out: the record is that with the new sum

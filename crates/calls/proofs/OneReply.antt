@@ -14,13 +14,13 @@ one-reply request new p small large types y y₂ p′ p″ small′ small″ lar
     (λ fit. by-test (isStored request) (by-stores fit) (λ unstored. by-ledger fit (λ stored. absurd (false≢true (sym unstored ∙ stored)))))
     (λ unfit. o .unfit unfit .refused ∙ sym (o₂ .unfit unfit .refused))
   where
-    by-ledger : isWellFormed p ≡ true → (isStored request ≡ true → areWhole small large ≡ true) → y ≡ y₂
+    by-ledger : isWellFormed p ≡ true → (isStored request ≡ true → areWhole (p .limits) small large ≡ true) → y ≡ y₂
     by-ledger fit whole =
         let (L, reads) = every-fit-record-reads p types fit small large in
         o .answers fit whole L reads ∙ sym (o₂ .answers fit whole L reads)
 
     by-stores : isWellFormed p ≡ true → isStored request ≡ true → y ≡ y₂
     by-stores fit stored =
-        by-test (areWhole small large)
+        by-test (areWhole (p .limits) small large)
         (λ whole. by-ledger fit (λ s. whole))
         (λ part. o .wrong fit stored part .refused ∙ sym (o₂ .wrong fit stored part .refused))

@@ -17,7 +17,7 @@ use Rattle.ledger.specs.declared.Request.the-variants.{Use}
 use Rattle.ledger.specs.declared.Verdict.the-variants.{Accepted, Refused}
 use Rattle.stores.specs.Places.{smallAfter, largeAfter}
 use Rattle.record.specs.Reading.{isWholeSmall, isWholeLarge, blockBytes, Typed, sizeOf}
-use Rattle.record.specs.Tables.{tablesBy, tablesOf, blockEntries}
+use Rattle.record.specs.Tables.{tablesBy, tablesOf}
 use Rattle.record.specs.Pools.{isWellFormed, Reads}
 use Rattle.record.specs.declared.Pool.{Pool}
 use Rattle.record.proofs.Facts.{fit-parts}
@@ -93,12 +93,14 @@ module _ (p : Pool) (types : Typed (tablesOf p)) (w : isWellFormed p ≡ true) (
         (rw left (release-fits w types (some .1) task handle v)) (rw left (release-stays handle (tablesOf p))) (refl, refl)
 
   -- the calls that test 14 first
-  module _ (whole : areWhole small large ≡ true) where
-    small-whole : isWholeSmall small ≡ true
-    small-whole = and-eq-true-iff (isWholeSmall small) (isWholeLarge large) .0 whole .0
+  module _ (whole : areWhole (p .limits) small large ≡ true) where
+    small-whole : isWholeSmall (tablesOf p .limits) small ≡ true
+    unfolding tablesOf tablesBy
+    small-whole = and-eq-true-iff (isWholeSmall (p .limits) small) (isWholeLarge (p .limits) large) .0 whole .0
 
-    large-whole : isWholeLarge large ≡ true
-    large-whole = and-eq-true-iff (isWholeSmall small) (isWholeLarge large) .0 whole .1
+    large-whole : isWholeLarge (tablesOf p .limits) large ≡ true
+    unfolding tablesOf tablesBy
+    large-whole = and-eq-true-iff (isWholeSmall (p .limits) small) (isWholeLarge (p .limits) large) .0 whole .1
 
     module _ (task : ℕ) (kind : Kind) (extension size : ℕ) where
       pub make-refused : (r : Refusal) → makeVerdict task kind extension size (tablesOf p) ≡ Refused r
@@ -109,14 +111,14 @@ module _ (p : Pool) (types : Typed (tablesOf p)) (w : isWellFormed p ≡ true) (
 
       pub make-done : {p′ : Pool} → tablesOf p′ ≡ madePool task kind extension size (tablesOf p)
           → makeVerdict task kind extension size (tablesOf p) ≡ Accepted
-          → (let zeros : List ℕ = replicate (sizeOf (freePlace size (tablesOf p .blocks))) 0 in
+          → (let zeros : List ℕ = replicate (sizeOf (freePlace (tablesOf p .limits) size (tablesOf p .blocks))) 0 in
           Obeys (Use (Make task kind extension size)) [] p small large (plain (Handle (p .given + 1))) p′
-          (smallAfter (freePlace size (tablesOf p .blocks)) 0 zeros small) (largeAfter (freePlace size (tablesOf p .blocks)) 0 zeros large))
+          (smallAfter (freePlace (tablesOf p .limits) size (tablesOf p .blocks)) 0 zeros small) (largeAfter (freePlace (tablesOf p .limits) size (tablesOf p .blocks)) 0 zeros large))
       unfolding replyTo tablesOf tablesBy
       make-done {p′} left v =
-          let taken = make-takes task kind extension size (tablesOf p) types v in
-          let listed : freePlace size (tablesOf p .blocks) < blockEntries = omega (arith, taken .block .listed, types .blocks) in
-          let bytes = made-bytes small large small-whole large-whole _ listed in
+          let fit = fit-parts (tablesOf p) w in
+          let taken = make-takes task kind extension size (tablesOf p) fit types v in
+          let bytes = made-bytes (tablesOf p .limits) (fit .allowed) small large small-whole large-whole _ (taken .block .its) in
           carried-obeys _ [] p small large w (λ s. whole) (plain (Handle (p .given + 1))) p′ _ _ refl
           (λ L reads. make-verdict types (fit-parts (tablesOf p) w) reads task kind extension size [] ∙ ap asRefusal v)
           (λ L reads. rw (same-given w types reads))
@@ -139,7 +141,7 @@ module _ (p : Pool) (types : Typed (tablesOf p)) (w : isWellFormed p ≡ true) (
           carried-obeys _ [] p small large w (λ s. whole) _ p small large refl
           (λ L reads. read-verdict types (fit-parts (tablesOf p) w) reads small-whole large-whole task handle [] ∙ ap asRefusal v)
           (λ L reads. rw (read-bytes w types reads small-whole large-whole task handle v))
-          (λ L reads. rw (every-object-stands (fit-parts (tablesOf p) w) reads) reads) w (same-stays refl refl) (refl, refl)
+          (λ L reads. rw (every-object-stands (fit-parts (tablesOf p) w) reads) reads) w (same-stays refl refl refl) (refl, refl)
 
       module _ (offset : ℕ) (new : List ℕ) where
         pub write-refused : (r : Refusal) → writeVerdict task handle offset (length new) small large (tablesOf p) ≡ Refused r

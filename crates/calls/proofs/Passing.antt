@@ -16,6 +16,7 @@ use Rattle.ledger.specs.Limits.{taskCount}
 use Rattle.ledger.specs.Tasks.{isTested, allTicked}
 use Rattle.ledger.specs.declared.Event.{Event}
 use Rattle.ledger.specs.declared.Event.the-variants.{Join, Leave, Block, Resume, Tick}
+use Rattle.ledger.specs.declared.Limits.{Limits}
 use Rattle.record.specs.Codes.{taskOf, dueOf, setterOf, leftAt, absentEntry, freedEntry}
 use Rattle.record.specs.Tables.{BlockEntry, ExpirationEntry}
 use Rattle.record.specs.WellFormed.{isFitDue, isFitEntry}
@@ -114,57 +115,57 @@ module _ (event : Event) (task : ℕ) (tasks : List TaskEntry) (global : GlobalT
         isLasting (leaverOf event task) (getD (plan advanced .tasks) (setterOf due) absentEntry) (plan advanced .global) due
         ≡ not (isEnding (passingOf task (plan advanced)) due)
 
-    lasting-as : (used : Bool) (due : Due) → isFitDue (getD tasks (setterOf due) absentEntry) global used due ≡ true → LastsAs (late due)
-    lasting-as used Free fit = refl
-    lasting-as used (Local s at) fit =
+    lasting-as : (limits : Limits) (used : Bool) (due : Due) → isFitDue limits (getD tasks (setterOf due) absentEntry) global used due ≡ true → LastsAs (late due)
+    lasting-as limits used Free fit = refl
+    lasting-as limits used (Local s at) fit =
         by-test (eqb s task)
         (λ own.
         rw (eqb-true s task own, own-leaver event task known, own-clock, eq-eqb task task refl)
         (lasts-or-ends (isLeave event) (leftAt (at .0) (movedEntry event (getD tasks task absentEntry) .clock .0))))
         (λ other.
-        let f = fit-local (getD tasks s absentEntry) global used s at fit in
+        let f = fit-local limits (getD tasks s absentEntry) global used s at fit in
         let apart = eqb-false s task other in
         rw (other, other-leaver event task s (f .known) apart, other-clock s apart, lt-ltb 0 _ (f .ahead)))
-    lasting-as used (Global s at) fit = global-lasts advanced _ (at .0) global (fit-global (getD tasks s absentEntry) global used s at fit .ahead)
-    lasting-as used (Pinned due) fit = refl
-    lasting-as used Unknown fit = refl
+    lasting-as limits used (Global s at) fit = global-lasts advanced _ (at .0) global (fit-global limits (getD tasks s absentEntry) global used s at fit .ahead)
+    lasting-as limits used (Pinned due) fit = refl
+    lasting-as limits used Unknown fit = refl
 
     -- so the entries after it are those that the record's sweep leaves
-    entry-as : (blocks : List BlockEntry) (e : ExpirationEntry) → isFitEntry tasks global blocks e ≡ true
+    entry-as : (limits : Limits) (blocks : List BlockEntry) (e : ExpirationEntry) → isFitEntry limits tasks global blocks e ≡ true
         → keptEntry (leaverOf event task) (plan advanced .tasks) (plan advanced .global) (lately e) ≡ endedEntry (passingOf task (plan advanced)) (lately e)
-    entry-as blocks e f =
-        let lasts : LastsAs (dueOf (lately e)) = subst LastsAs (sym (late-due (leaverOf event task) advanced (plan advanced .tasks) e)) (lasting-as _ (dueOf e) f) in
+    entry-as limits blocks e f =
+        let lasts : LastsAs (dueOf (lately e)) = subst LastsAs (sym (late-due (leaverOf event task) advanced (plan advanced .tasks) e)) (lasting-as limits _ (dueOf e) f) in
         ap (λ (stands : Bool). cond stands (lately e) (freedEntry (lately e))) lasts
         ∙ cond-not (isEnding (passingOf task (plan advanced)) (dueOf (lately e))) (freedEntry (lately e)) (lately e)
 
-    pub kept-as : (blocks : List BlockEntry) (xs : List ExpirationEntry) → all (isFitEntry tasks global blocks) xs ≡ true
+    pub kept-as : (limits : Limits) (blocks : List BlockEntry) (xs : List ExpirationEntry) → all (isFitEntry limits tasks global blocks) xs ≡ true
         → map (passedEntry (leaverOf event task) advanced (plan advanced .tasks) (plan advanced .global)) xs
         ≡ map (endedEntry (passingOf task (plan advanced))) (map lately xs)
-    kept-as blocks xs fits = map-same _ _ xs (all-imp (entry-as blocks) xs (all-true _ xs fits)) ∙ sym (map-map _ lately xs)
+    kept-as limits blocks xs fits = map-same _ _ xs (all-imp (entry-as limits blocks) xs (all-true _ xs fits)) ∙ sym (map-map _ lately xs)
 
 -- A block that leaves the global time ends nothing.
 module _ (task : ℕ) (tasks : List TaskEntry) (global : GlobalTime) (sixteen : length tasks ≡ taskCount) (known : task < taskCount) where
   abbrev blocked : Planned
   blocked = plan Block task tasks global sixteen known false
 
-  unending : (used : Bool) (due : Due) → isFitDue (getD tasks (setterOf due) absentEntry) global used due ≡ true
+  unending : (limits : Limits) (used : Bool) (due : Due) → isFitDue limits (getD tasks (setterOf due) absentEntry) global used due ≡ true
       → isEnding (passingOf task blocked) due ≡ false
-  unending used Free fit = refl
-  unending used (Local s at) fit =
-      let f = fit-local (getD tasks s absentEntry) global used s at fit in
+  unending limits used Free fit = refl
+  unending limits used (Local s at) fit =
+      let f = fit-local limits (getD tasks s absentEntry) global used s at fit in
       by-test (eqb s task)
       (λ own. rw (own, ← eqb-true s task own, ne-eqb (leftAt (at .0) (getD tasks s absentEntry .clock .0)) 0 (λ z. omega (arith, f .ahead))))
       (λ other. rw other)
-  unending used (Global s at) fit = refl
-  unending used (Pinned due) fit = refl
-  unending used Unknown fit = refl
+  unending limits used (Global s at) fit = refl
+  unending limits used (Pinned due) fit = refl
+  unending limits used Unknown fit = refl
 
-  entry-stays : (blocks : List BlockEntry) (e : ExpirationEntry) → isFitEntry tasks global blocks e ≡ true → endedEntry (passingOf task blocked) e ≡ e
-  entry-stays blocks e f = rw (unending _ (dueOf e) f)
+  entry-stays : (limits : Limits) (blocks : List BlockEntry) (e : ExpirationEntry) → isFitEntry limits tasks global blocks e ≡ true → endedEntry (passingOf task blocked) e ≡ e
+  entry-stays limits blocks e f = rw (unending limits _ (dueOf e) f)
 
-  pub block-keeps : (blocks : List BlockEntry) (xs : List ExpirationEntry) → all (isFitEntry tasks global blocks) xs ≡ true
+  pub block-keeps : (limits : Limits) (blocks : List BlockEntry) (xs : List ExpirationEntry) → all (isFitEntry limits tasks global blocks) xs ≡ true
       → map (passedEntry (leaverOf Block task) false (blocked .tasks) (blocked .global)) xs ≡ xs
-  block-keeps blocks xs fits =
-      kept-as Block task tasks global sixteen known false blocks xs fits
+  block-keeps limits blocks xs fits =
+      kept-as Block task tasks global sixteen known false limits blocks xs fits
       ∙ ap (map (endedEntry (passingOf task blocked))) (map-same _ (λ e. e) xs (all-every _ (late-none (blocked .tasks)) xs) ∙ map-id xs)
-      ∙ map-same _ (λ e. e) xs (all-imp (entry-stays blocks) xs (all-true _ xs fits)) ∙ map-id xs
+      ∙ map-same _ (λ e. e) xs (all-imp (entry-stays limits blocks) xs (all-true _ xs fits)) ∙ map-id xs

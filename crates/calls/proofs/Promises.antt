@@ -46,18 +46,18 @@ module _ (request : Request) (new : List ℕ) (p : Pool) (small large : List ℕ
         leaves = λ w s L reads. absurd (true≢false (sym w ∙ u));
         fits = λ w. w;
         keeps = kept p small large NotWellFormed;
-        stays = same-stays refl refl;
+        stays = same-stays refl refl refl;
         sizes = (refl, refl);
       }
 
 -- the two tests, as the code makes them: of the record, then of stores that the request touches
 module _ {request : Request} {p : Pool} {small large : List ℕ} {fit stored whole : Bool} (f : fit ≡ isWellFormed p) (passed : not fit ≡ false)
-    (s : stored ≡ isStored request) (tells : TellsWhole (length small) (length large) whole) where
+    (s : stored ≡ isStored request) (tells : TellsWhole (p .limits) (length small) (length large) whole) where
   pub wrong-obeys : {new : List ℕ} → stored && not whole ≡ true → Obeys request new p small large (plain (Refused WrongStoreLength)) p small large
   wrong-obeys refused =
       let w : isWellFormed p ≡ true = sym f ∙ not-false fit passed in
       let (touched, wrong) = and-eq-true-iff stored (not whole) .0 refused in
-      let n : areWhole small large ≡ false = sym (tells small large refl refl) ∙ not-true whole wrong in
+      let n : areWhole (p .limits) small large ≡ false = sym (tells small large refl refl) ∙ not-true whole wrong in
       record {
         unfit = λ u. absurd (true≢false (sym w ∙ u));
         wrong = λ v t e. kept p small large WrongStoreLength WrongStoreLength refl;
@@ -65,7 +65,7 @@ module _ {request : Request} {p : Pool} {small large : List ℕ} {fit stored who
         leaves = λ v known L reads. absurd (true≢false (sym (known (sym s ∙ touched)) ∙ n));
         fits = λ v. v;
         keeps = kept p small large WrongStoreLength;
-        stays = same-stays refl refl;
+        stays = same-stays refl refl refl;
         sizes = (refl, refl);
       }
 
@@ -77,7 +77,7 @@ module _ {request : Request} {p : Pool} {small large : List ℕ} {fit stored who
       }
 
 module _ (call : Call) (new : List ℕ) (p : Pool) (small large : List ℕ) (w : isWellFormed p ≡ true)
-    (whole : isStored (Use call) ≡ true → areWhole small large ≡ true) where
+    (whole : isStored (Use call) ≡ true → areWhole (p .limits) small large ≡ true) where
   pub refused-obeys : (r : Refusal) → ((L : Ledger) → Reads p small large L → verdictOn L call new ≡ some r)
       → Obeys (Use call) new p small large (plain (Refused r)) p small large
   unfolding reply next
@@ -89,7 +89,7 @@ module _ (call : Call) (new : List ℕ) (p : Pool) (small large : List ℕ) (w :
         leaves = λ x s L reads. rw (v L reads) reads;
         fits = λ x. w;
         keeps = kept p small large r;
-        stays = same-stays refl refl;
+        stays = same-stays refl refl refl;
         sizes = (refl, refl);
       }
 
@@ -123,6 +123,6 @@ tells-obeys request p w unstored same answer answers small large =
       leaves = λ x s L reads. rw (same L) reads;
       fits = λ x. w;
       keeps = λ why e. record { refused = ap plain e; samePool = refl; sameSmall = refl; sameLarge = refl };
-      stays = same-stays refl refl;
+      stays = same-stays refl refl refl;
       sizes = (refl, refl);
     }

@@ -5,7 +5,7 @@ use mathlib.Core.Bool.{true, false}
 use mathlib.Core.List.{List}
 use mathlib.Core.Path.{_≡_, sym, _∙_}
 use borrow.Author.Tests.{leb-false}
-use Rattle.ledger.specs.Limits.{limits, taskCount}
+use Rattle.ledger.specs.Limits.{isAllowed, taskCount}
 use Rattle.ledger.proofs.Figures.{allowed}
 use Rattle.ledger.specs.declared.Answer.the-variants.{Done}
 use Rattle.ledger.specs.declared.Answer.the-variants.{Refused as RefusedAnswer}
@@ -15,6 +15,7 @@ use Rattle.ledger.specs.declared.Life.{Life}
 use Rattle.ledger.specs.declared.Refusal.{Refusal}
 use Rattle.ledger.specs.declared.Request.the-variants.{Use}
 use Rattle.ledger.specs.declared.Verdict.the-variants.{Accepted}
+use Rattle.ledger.specs.declared.Limits.{Limits}
 use Rattle.record.specs.Pools.{isWellFormed}
 use Rattle.record.specs.Reading.{HeadTyped, Typed}
 use Rattle.record.specs.Tables.{Sized, blocksOf, tablesBy, tablesOf, lent, pooled, blockEntries, expirationEntries}
@@ -36,8 +37,8 @@ use Rattle.calls.proofs.MadeLent.{refreshed-left}
 use Rattle.calls.proofs.Outcomes.{refresh-refused, refresh-done}
 
 -- an entry is free where 10 is not given
-pub room-left : (n : ℕ) → roomVerdict n ≡ Accepted → n < expirationEntries
-room-left n v = omega (arith, leb-false (limits .expirations) n (not-refused _ _ v), allowed .most-expirations)
+pub room-left : (limits : Limits) → isAllowed limits ≡ true → (n : ℕ) → roomVerdict limits n ≡ Accepted → n < expirationEntries
+room-left limits may n v = omega (arith, leb-false (limits .expirations) n (not-refused _ _ v), allowed limits may .most-expirations)
 
 module _ {h : Head} {hs ls cs ns ds : List ℕ} (types : HeadTyped h) (sized : Sized hs ls cs ns ds) (task : ℕ) (kind : Kind) (extension handle : ℕ) (f : Found)
     (so : f ≡ foundIn false (refreshVerdict task kind extension handle) task handle (lent h hs ls cs ns ds)) where
@@ -64,16 +65,16 @@ module _ {h : Head} {hs ls cs ns ds : List ℕ} (types : HeadTyped h) (sized : S
         (rw (tables-of h hs ls cs ns ds) (accepted .0))
 
     -- what the setting asks
-    pub refresh-may-set : (standingOf cs < expirationEntries) × (task < taskCount) × (block < blockEntries)
+    pub refresh-may-set : isAllowed (h .limits) ≡ true → (standingOf cs < expirationEntries) × (task < taskCount) × (block < blockEntries)
     unfolding refreshVerdict tablesBy
-    refresh-may-set =
+    refresh-may-set may =
         let p = lent h hs ls cs ns ds in
         let (v, place) = accepted in
         let (task-ok, v₁) = both-accept (taskVerdict task (h .tasks)) _ v in
         let (kind-ok, v₂) = both-accept (kindVerdict kind) _ v₁ in
-        let (extension-ok, v₃) = both-accept (extensionVerdict kind extension) _ v₂ in
+        let (extension-ok, v₃) = both-accept (extensionVerdict (h .limits) kind extension) _ v₂ in
         let (found, room) = both-accept (handleVerdict handle p) _ v₃ in (
-          rw (standing-of (sized .entries)) (room-left _ room),
+          rw (standing-of (sized .entries)) (room-left (h .limits) may _ room),
           task-known task (h .tasks) task-ok,
           rw (← place) (place-listed handle (h .given) (placeOf handle (blocksOf hs ls)) found),
         )

@@ -12,7 +12,7 @@ use Rattle.lists.specs.Tests.{any}
 use Rattle.lists.proofs.All.{all-imp, none→All, map-same}
 use Rattle.lists.proofs.Cases.{by-test}
 use Rattle.lists.specs.Tables.{allFrom, mapFrom}
-use Rattle.ledger.specs.Limits.{taskCount}
+use Rattle.ledger.specs.Limits.{standard, taskCount}
 use Rattle.ledger.specs.Tasks.{isTested, allTicked}
 use Rattle.ledger.specs.Objects.{Memory, plain, replyTo}
 use Rattle.ledger.specs.Ledger.{verdictOn, replyBy, reply}
@@ -134,7 +134,7 @@ tested-still Leave task p types w known t s = absurd (true≢false s)
 tested-still Block task p types w known t s =
     rw s
     (swept-none (leaverOf Block task) false _ _ p w
-    (block-keeps task (p .tasks) (p .global) (types .tasks) known (p .blocks) (p .expirations) (fit-parts p w .entries)))
+    (block-keeps task (p .tasks) (p .global) (types .tasks) known (p .limits) (p .blocks) (p .expirations) (fit-parts p w .entries)))
 tested-still Resume task p types w known t s = absurd (false≢true t)
 tested-still Tick task p types w known t s = absurd (true≢false s)
 
@@ -177,7 +177,7 @@ unended t e n = rw n
 -- what may end something is an event of a task that exists
 pub ends-known : (event : Event) (task : ℕ) (tasks : List TaskEntry) (global : GlobalTime) {q : Planned} → q ≡ planned event task tasks global → q .ends ≡ true → task < taskCount
 ends-known event task tasks global so s =
-    swept-planned event task (record { tasks = tasks; global = global; given = 0; blocks = []; expirations = [] }) (rw so at s) .known
+    swept-planned event task (record { limits = standard; tasks = tasks; global = global; given = 0; blocks = []; expirations = [] }) (rw so at s) .known
 
 -- the blocks that are left where something ends, and where nothing does
 pub blocks-left : (given : ℕ) (t : Passing) (xs : List ExpirationEntry) (blocks : List BlockEntry) → allFrom 0 (isFitBlock given xs) blocks ≡ true

@@ -29,7 +29,7 @@ use Rattle.calls.proofs.Scheduled.{Swept, advanced, schedule-obeys, pla
 
 -- the head that a plan leaves
 abbrev pub headAfter : Planned → Head → Head
-headAfter q h = record { tasks = q .tasks; global = q .global; given = h .given }
+headAfter q h = record { limits = h .limits; tasks = q .tasks; global = q .global; given = h .given }
 
 module _ {h : Head} {hs cs ns ds : List ℕ} (types : HeadTyped h) (a : length hs ≡ blockEntries) (e : SizedEntries cs ns ds) (event : Event) (task : ℕ)
     {q : Planned} (so : q ≡ planned event task (h .tasks) (h .global)) where
@@ -73,7 +73,7 @@ module _ {h : Head} {hs cs ns ds : List ℕ} (types : HeadTyped h) (a : length h
     unfolding tablesBy
     kept =
         rw (ends .entries, plan .plan, leaver-as event task)
-        (kept-as event task (h .tasks) (h .global) (types .tasks) (plan .known) (advanced event task before) (blocksOf hs ls) (entriesOf cs ns ds) (fit .entries))
+        (kept-as event task (h .tasks) (h .global) (types .tasks) (plan .known) (advanced event task before) (h .limits) (blocksOf hs ls) (entriesOf cs ns ds) (fit .entries))
 
     -- and the blocks
     freed : mapFrom 0 (keptBlock (entriesOf cs′ ns ds′)) (blocksOf hs ls) ≡ blocksOf hs′ ls

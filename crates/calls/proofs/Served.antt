@@ -5,8 +5,6 @@ use mathlib.Core.Bool.{Bool, true, false, true≢false, cond}
 use mathlib.Core.List.{List, []}
 use mathlib.Core.Path.{_≡_, refl, ap, _∙_}
 use borrow.Author.Tests.{lt-ltb}
-use Rattle.ledger.specs.Limits.{limits}
-use Rattle.ledger.proofs.Figures.{allowed}
 use Rattle.ledger.specs.Objects.{Reply, plain, memoryAfter, expirationsAfter}
 use Rattle.ledger.specs.Refusals.{testsOf}
 use Rattle.ledger.specs.Ledger.{Ledger, reply, next, replyToRequest, afterRequest}
@@ -26,13 +24,9 @@ use Rattle.calls.specs.Served.{withoutBytes, Beyond, Serves}
 use Rattle.calls.specs.declared.Outcome.{Outcome}
 use Rattle.calls.proofs.Promises.{isRefusal}
 
-either : (b : Bool) (xs : List ℕ) → cond b xs xs ≡ xs
-either true xs = refl
-either false xs = refl
-
 pub no-bytes : (small large : List ℕ) → blockBytes small large 0 0 ≡ []
 unfolding blockBytes
-no-bytes small large = rw (lt-ltb 0 (limits .smallBlocks) (allowed .some-small)) (either (isWholeSmall small) [])
+no-bytes small large = refl
 
 -- a call with other bytes, which come to the same
 pub whatever-bytes : {request : Request} {old : List ℕ} {p p′ : Pool} {small large small′ large′ : List ℕ} {y : Reply} (new : List ℕ)

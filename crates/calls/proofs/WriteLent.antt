@@ -10,7 +10,6 @@ use Rattle.ledger.specs.declared.Call.the-variants.{Read, Write}
 use Rattle.ledger.specs.declared.Refusal.{Refusal}
 use Rattle.ledger.specs.declared.Request.the-variants.{Use}
 use Rattle.stores.specs.Places.{InBlock, smallAfter, largeAfter, sumAt, sumAfter}
-use Rattle.stores.proofs.Places.{all-blocks}
 use Rattle.record.specs.Reading.{HeadTyped, Typed}
 use Rattle.record.specs.Tables.{BlockEntry, Sized, lengthIn, extentOf, blocksOf, entriesOf, tablesBy, tablesOf, lent, pooled, blockEntries}
 use Rattle.record.proofs.Columns.{block-at, extents-set, entry-of}
@@ -59,7 +58,7 @@ module _ {h : Head} {hs ls cs ns ds : List ℕ} (types : HeadTyped h) (sized : S
 
       -- the block is one that there is,
       pub write-listed : block < blockEntries
-      write-listed = omega (arith, all-blocks, write-in of-entries ready (here handle) new f found at .known)
+      write-listed = write-in of-entries ready (here handle) new f found at .known
 
       -- the bytes lie in it, and its sum agrees
       pub write-within : InBlock small large block (offset + length new)

@@ -15,10 +15,12 @@ use Rattle.ledger.specs.declared.Refusal.{Refusal}
 use Rattle.ledger.specs.declared.Refusal.the-variants.{WrongStoreLength, NotWellFormed}
 use Rattle.ledger.specs.declared.Request.{Request}
 use Rattle.ledger.specs.declared.Request.the-variants.{Use, Report, Remaining}
-use Rattle.stores.specs.Places.{blockCount, InBlock, smallAfter, largeAfter, sumAt}
+use Rattle.ledger.specs.declared.Limits.{Limits}
+use Rattle.stores.specs.Places.{InBlock, smallAfter, largeAfter, sumAt}
 use Rattle.record.specs.Reading.{isWholeSmall, isWholeLarge, blockBytes, Typed, sizeOf}
 use Rattle.record.specs.Tables.{lengthIn, extentOf, tablesOf}
 use Rattle.record.specs.Pools.{isWellFormed, Reads}
+use Rattle.record.specs.WellFormed.{isBlock}
 use Rattle.record.specs.declared.Pool.{Pool}
 use Rattle.steps.specs.Objects.{placeIn}
 use Rattle.steps.specs.Staying.{Stays}
@@ -39,18 +41,18 @@ isStored (Use (Release task handle)) = false
 isStored Report = false
 isStored (Remaining task handle) = false
 
--- both stores have 01's lengths
-abbrev pub areWhole : List ℕ → List ℕ → Bool
-areWhole small large = isWholeSmall small && isWholeLarge large
+-- both stores are as long as the blocks need
+abbrev pub areWhole : Limits → List ℕ → List ℕ → Bool
+areWhole limits small large = isWholeSmall limits small && isWholeLarge limits large
 
 -- the same by the lengths alone
-abbrev pub TellsWhole : ℕ → ℕ → Bool → Type 0
-TellsWhole smallBytes largeBytes b = (small large : List ℕ) → length small ≡ smallBytes → length large ≡ largeBytes → b ≡ areWhole small large
+abbrev pub TellsWhole : Limits → ℕ → ℕ → Bool → Type 0
+TellsWhole limits smallBytes largeBytes b = (small large : List ℕ) → length small ≡ smallBytes → length large ≡ largeBytes → b ≡ areWhole limits small large
 
 -- neither 15 nor 14: a well-formed record, and whole stores where the request touches one
 pub record Ready (request : Request) (p : Pool) (small large : List ℕ) : Type 0 where
   pub fit : isWellFormed p ≡ true
-  pub whole : isStored request ≡ true → areWhole small large ≡ true
+  pub whole : isStored request ≡ true → areWhole (p .limits) small large ≡ true
 
 -- R31: a refusal and nothing more
 pub record Refuses (why : Refusal) (p : Pool) (small large : List ℕ) (y : Reply) (p′ : Pool) (small′ large′ : List ℕ) : Type 0 where
@@ -63,13 +65,13 @@ pub record Refuses (why : Refusal) (p : Pool) (small large : List ℕ) (y : Repl
 pub record Obeys (request : Request) (new : List ℕ) (p : Pool) (small large : List ℕ) (y : Reply) (p′ : Pool) (small′ large′ : List ℕ) : Type 0 where
   -- R34, R35: first 15, then 14
   pub unfit : isWellFormed p ≡ false → Refuses NotWellFormed p small large y p′ small′ large′
-  pub wrong : isWellFormed p ≡ true → isStored request ≡ true → areWhole small large ≡ false
+  pub wrong : isWellFormed p ≡ true → isStored request ≡ true → areWhole (p .limits) small large ≡ false
       → Refuses WrongStoreLength p small large y p′ small′ large′
   -- else whatever ledger record and stores read as, the reply is that ledger's,
-  pub answers : isWellFormed p ≡ true → (isStored request ≡ true → areWhole small large ≡ true) → (L : Ledger) → Reads p small large L
+  pub answers : isWellFormed p ≡ true → (isStored request ≡ true → areWhole (p .limits) small large ≡ true) → (L : Ledger) → Reads p small large L
       → y ≡ replyToRequest L request new
   -- what is left reads as its next,
-  pub leaves : isWellFormed p ≡ true → (isStored request ≡ true → areWhole small large ≡ true) → (L : Ledger) → Reads p small large L
+  pub leaves : isWellFormed p ≡ true → (isStored request ≡ true → areWhole (p .limits) small large ≡ true) → (L : Ledger) → Reads p small large L
       → Reads p′ small′ large′ (afterRequest L request new)
   -- and the record is well-formed (W13)
   pub fits : isWellFormed p ≡ true → isWellFormed p′ ≡ true
@@ -96,7 +98,7 @@ Follows request p answer p′ = FollowsWith request [] p answer p′
 
 -- O10, O11, make: the new object's block is the one part that is left open. It belonged to no standing object, and it is the one that is cleared.
 pub record Placed (p : Pool) (small large : List ℕ) (handle : ℕ) (p′ : Pool) (small′ large′ : List ℕ) (block : ℕ) : Type 0 where
-  pub known : block < blockCount
+  pub known : isBlock (p .limits) block ≡ true
   pub free : getD (p .handles) block 0 ≡ 0
   pub holds : getD (p′ .handles) block 0 ≡ handle
   pub smallCleared : small′ ≡ smallAfter block 0 (replicate (sizeOf block) 0) small
@@ -110,6 +112,7 @@ pub record Makes (task : ℕ) (kind : Kind) (extension size : ℕ) (p : Pool) (s
 abbrev pub summed : ℕ → ℕ → Pool → Pool
 summed block sum p =
     record {
+      limits = p .limits;
       tasks = p .tasks;
       global = p .global;
       given = p .given;

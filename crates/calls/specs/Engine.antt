@@ -29,7 +29,7 @@ lifeFound (RefusedFound why) = RefusedAnswer why
 lifeFound (At block life) = Lasts life
 
 abbrev pub withGiven : Head → ℕ → Head
-withGiven h given = record { tasks = h .tasks; global = h .global; given = given }
+withGiven h given = record { limits = h .limits; tasks = h .tasks; global = h .global; given = given }
 
 -- what a caller by value is given, with the columns that were left
 abbrev pub outcomeOf : Step → List ℕ → List ℕ → List ℕ → List ℕ → List ℕ → Outcome

@@ -39,8 +39,8 @@ use tasks::plan;
 
 // What a call that touches tables gives back: its answer, and the head that it leaves.
 pub struct Step {
-    pub answer: Answer,
     pub head: Head,
+    pub answer: Answer,
 }
 
 // What is given back where the record goes by value: the answer, and the record that is left.
@@ -93,6 +93,7 @@ pub fn schedule(
     requires { ⌜ (length (now handles) ≡ blockEntries) × SizedEntries (now clocks) (now named) (now dues) ⌝ }
     ensures { λ r. ⌜ FollowsBeside (Use (Schedule event task)) h (now (handles .entry)) (now (clocks .entry)) (now (named .entry)) (now (dues .entry)) (r .answer) (r .head) (now (handles .exit)) (now (clocks .exit)) (now (named .entry)) (now (dues .exit)) ⌝ }
 {
+    let limits = h.limits;
     let before = h.tasks;
     let time = h.global;
     let planned = plan(before, time, event, task);
@@ -101,6 +102,7 @@ pub fn schedule(
     let global = planned.global;
     let local = planned.local;
     let head = Head {
+        limits: limits,
         tasks: tasks,
         global: global,
         given: h.given,

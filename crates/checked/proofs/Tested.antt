@@ -69,7 +69,7 @@ module _ {h : Head} {hs ls cs ns ds : List ℕ} (sized : Sized hs ls cs ns ds) {
     )
 
     -- 14, where a store is touched
-    module _ {small large : List ℕ} {whole : Bool} (tells : TellsWhole (length small) (length large) whole) where
+    module _ {small large : List ℕ} {whole : Bool} (tells : TellsWhole (h .limits) (length small) (length large) whole) where
       pub ready-lent : (request : Request) → true ≡ isStored request → not whole ≡ false → Ready request (pooled h hs ls cs ns ds) small large
       ready-lent request stored passed-too = ready (fits-by-value (pooled h hs ls cs ns ds) refl f) passed stored tells passed-too
 

@@ -64,7 +64,7 @@ pub fn make(
             head: h,
         };
     }
-    if !are_whole(small.len(), large.len()) {
+    if !are_whole(h.limits, small.len(), large.len()) {
         return Step {
             answer: Answer::Refused(Refusal::WrongStoreLength),
             head: h,
@@ -198,7 +198,7 @@ pub fn write<'a>(
     if !is_well_formed(h, handles, extents, clocks, named, dues) {
         return Answer::Refused(Refusal::NotWellFormed);
     }
-    if !are_whole(small.len(), large.len()) {
+    if !are_whole(h.limits, small.len(), large.len()) {
         return Answer::Refused(Refusal::WrongStoreLength);
     }
     calls::write(

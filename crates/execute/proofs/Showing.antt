@@ -9,7 +9,7 @@ use lib.ListN.{length, take, drop, length-take, length-drop, length-append, drop
 use lib.Seq.{take-all, drop-drop}
 use Rattle.lists.specs.Blocks.{overwritten}
 use Rattle.lists.proofs.Cases.{by-test}
-use Rattle.ledger.specs.Limits.{limits, smallSize, largeSize}
+use Rattle.ledger.specs.Limits.{capacity, smallSize, largeSize}
 use Rattle.ledger.specs.declared.Answer.{Answer}
 use Rattle.ledger.specs.declared.Request.{Request}
 use Rattle.stores.specs.Places.{InBlock}
@@ -23,9 +23,8 @@ use Rattle.text.specs.Hex.{Puts}
 use Rattle.answers.proofs.AnswerLines.{line-within}
 use Rattle.execute.specs.Execution.{Showable}
 
-at-most : (b : Bool) (n : ℕ) (xs : List ℕ) → length (cond b (take n xs) []) ≤ n
-at-most true n xs = omega (arith, length-take n xs)
-at-most false n xs = omega arith
+at-most : (n : ℕ) (xs : List ℕ) → length (take n xs) ≤ n
+at-most n xs = omega (arith, length-take n xs)
 
 empty : (xs : List ℕ) → length xs ≤ 0 → xs ≡ []
 empty [] h = refl
@@ -35,8 +34,8 @@ pub shown-most : (small large : List ℕ) (block count : ℕ) → length (blockB
 unfolding blockBytes
 shown-most small large block count =
     by-test (isSmallBlock block)
-    (λ e. rw e (at-most (isWholeSmall small) count (drop (block * smallSize) small)))
-    (λ e. rw e (at-most (isWholeLarge large) count (drop ((block - limits .smallBlocks) * largeSize) large)))
+    (λ e. rw e (at-most count (drop (block * smallSize) small)))
+    (λ e. rw e (at-most count (drop ((block - capacity .small) * largeSize) large)))
 
 pub shows-none : (small large : List ℕ) (block : ℕ) {count : ℕ} → count ≡ 0 → blockBytes small large block count ≡ []
 shows-none small large block {count} e = empty (blockBytes small large block count) (omega (arith, e, shown-most small large block count))

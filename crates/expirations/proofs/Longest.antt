@@ -13,7 +13,6 @@ use Rattle.lists.proofs.Loops.{Scanned, scanned-from, scanned-turn, scanned-pas
 use Rattle.lists.proofs.Most.{most-append}
 use Rattle.ledger.specs.Limits.{taskCount}
 use Rattle.ledger.specs.declared.Life.{Life}
-use Rattle.ledger.proofs.Figures.{allowed}
 use Rattle.record.specs.Codes.{isGlobalClock, leftAt, localCode, absentEntry, freeEntry}
 use Rattle.record.specs.Tables.{ExpirationEntry, expirationEntry, entriesOf, SizedEntries, expirationEntries, byteValues}
 use Rattle.record.specs.declared.Head.{Head}
@@ -148,4 +147,4 @@ unfolding lifeIn
 life-end h task block {cs} {ns} {ds} sized within u g all e =
     let xs = entriesOf cs ns ds in
     rw (take-all (g * groupSize) xs (omega (arith, size-of sized))) at (ap (λ (u : Units). life (u .local) (u .global)) e)
-    ∙ ap₂ life (most-byte _ xs (omega (arith, within .local, allowed .most-extension))) (most-byte _ xs (omega (arith, within .global, allowed .most-extension)))
+    ∙ ap₂ life (most-byte _ xs (omega (arith, within .local))) (most-byte _ xs (omega (arith, within .global)))

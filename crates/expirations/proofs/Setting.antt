@@ -112,6 +112,7 @@ set-end {tasks = tasks} {global} {kind} {task} {extension} block {blocks} {n} {i
 pub batched-set : (task : ℕ) (kind : Kind) (extension : ℕ) (handles : List ℕ) (p : Tables)
     → batchedPool task kind extension handles p
     ≡ record {
+      limits = p .limits;
       tasks = p .tasks;
       global = p .global;
       given = p .given;

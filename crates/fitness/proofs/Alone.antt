@@ -21,6 +21,7 @@ use Rattle.record.specs.declared.Due.the-variants.{Free, Local, Global, Pinned,
 use Rattle.record.proofs.Columns.{length-entries, entry-at}
 use Rattle.fitness.specs.Checks.{isCodedBy, isCoded, CodedTimes, isTimely, slotBy, isByte, Flags, Names}
 use Rattle.fitness.proofs.Named.{isFitAlone}
+use Rattle.ledger.specs.declared.Limits.{Limits}
 
 -- a code that there is and that is neither the global time's nor a pinned expiration's
 not-global : (clock : ℕ) → leb clock 49 ≡ true → eqb clock 49 ≡ false → isGlobalClock clock ≡ false → ltb clock 32 ≡ true
@@ -41,18 +42,18 @@ unknown clock block z p g l =
     false≢true (sym l ∙ rw (least, not-global clock most p g)))
 
 -- the test of the block apart from the others
-block-apart : (setter : TaskEntry) (global : GlobalTime) (used : Bool) (due : Due) → isDated due ≡ true
-    → isFitDue setter global used due ≡ (used && isFitDue setter global true due)
+block-apart : (limits : Limits) (setter : TaskEntry) (global : GlobalTime) (used : Bool) (due : Due) → isDated due ≡ true
+    → isFitDue limits setter global used due ≡ (used && isFitDue limits setter global true due)
 unfolding isFitDue
-block-apart setter global true due d = refl
-block-apart setter global false Free d = absurd (false≢true d)
-block-apart setter global false (Local task at) d = refl
-block-apart setter global false (Global task at) d = refl
-block-apart setter global false (Pinned due) d = refl
-block-apart setter global false Unknown d = refl
+block-apart limits setter global true due d = refl
+block-apart limits setter global false Free d = absurd (false≢true d)
+block-apart limits setter global false (Local task at) d = refl
+block-apart limits setter global false (Global task at) d = refl
+block-apart limits setter global false (Pinned due) d = refl
+block-apart limits setter global false Unknown d = refl
 
-module _ (tasks : List TaskEntry) (global : GlobalTime) where
-  alone-parts : (e : ExpirationEntry) → isFitAlone tasks global e ≡ (isCoded e && isTimely tasks global e)
+module _ (limits : Limits) (tasks : List TaskEntry) (global : GlobalTime) where
+  alone-parts : (e : ExpirationEntry) → isFitAlone limits tasks global e ≡ (isCoded e && isTimely limits tasks global e)
   unfolding isFitDue dueBy
   alone-parts e =
       by-test (eqb (e .clock) 0)
@@ -67,17 +68,17 @@ module _ (tasks : List TaskEntry) (global : GlobalTime) where
       let most : leb (e .clock) 49 ≡ true = le-leb (e .clock) 49 (omega (arith, leb-true (e .clock) 48 last)) in
       rw
       (z, g, most, le-leb 16 (e .clock) (omega (arith, leb-true 32 (e .clock) least)))
-      (block-apart (getD tasks (e .clock - 32) absentEntry) global (ltb (e .block) 96) (Global (e .clock - 32) (record { 0 = e .due })) refl))
+      (block-apart limits (getD tasks (e .clock - 32) absentEntry) global (ltb (e .block) 96) (Global (e .clock - 32) (record { 0 = e .due })) refl))
       (λ g.
       by-test (leb 16 (e .clock) && ltb (e .clock) 32)
       (λ l.
       let (least, below) = and-eq-true-iff (leb 16 (e .clock)) (ltb (e .clock) 32) .0 l in
       let most : leb (e .clock) 49 ≡ true = le-leb (e .clock) 49 (omega (arith, ltb-true (e .clock) 32 below)) in
-      rw (z, g, least, below, most) (block-apart (getD tasks (e .clock - 16) absentEntry) global (ltb (e .block) 96) (Local (e .clock - 16) (record { 0 = e .due })) refl))
+      rw (z, g, least, below, most) (block-apart limits (getD tasks (e .clock - 16) absentEntry) global (ltb (e .block) 96) (Local (e .clock - 16) (record { 0 = e .due })) refl))
       (λ l. rw (unknown (e .clock) (e .block) z p g l, z, p, g, l)))))
 
-  pub by-parts : (xs : List ExpirationEntry) → all (isFitAlone tasks global) xs ≡ (all isCoded xs && all (isTimely tasks global) xs)
-  by-parts = all-two isCoded (isTimely tasks global) (isFitAlone tasks global) alone-parts
+  pub by-parts : (xs : List ExpirationEntry) → all (isFitAlone limits tasks global) xs ≡ (all isCoded xs && all (isTimely limits tasks global) xs)
+  by-parts = all-two isCoded (isTimely limits tasks global) (isFitAlone limits tasks global) alone-parts
 
 -- a code that there is
 code-below : (clock block : ℕ) → isCodedBy clock block ≡ true → clock < 50

@@ -4,4 +4,5 @@ pub mod Within
 pub mod Marks
 pub mod Alone
 pub mod Once
+pub mod PastFigures
 pub mod Whole

@@ -22,36 +22,37 @@ use Rattle.record.specs.Tables.{BlockEntry, ExpirationEntry}
 use Rattle.record.specs.declared.GlobalTime.{GlobalTime}
 use Rattle.record.specs.declared.Due.{Due}
 use Rattle.record.specs.declared.Due.the-variants.{Free, Local, Global, Pinned, Unknown}
+use Rattle.ledger.specs.declared.Limits.{Limits}
 
 -- an entry by itself: it names a block that there is
-abbrev pub isFitAlone : List TaskEntry → GlobalTime → ExpirationEntry → Bool
-isFitAlone tasks global e = isFitDue (getD tasks (setterOf (dueOf e)) absentEntry) global (ltb (e .block) 96) (dueOf e)
+abbrev pub isFitAlone : Limits → List TaskEntry → GlobalTime → ExpirationEntry → Bool
+isFitAlone limits tasks global e = isFitDue limits (getD tasks (setterOf (dueOf e)) absentEntry) global (ltb (e .block) 96) (dueOf e)
 
 -- only an expiration in use looks at its block
-fit-by : (setter : TaskEntry) (global : GlobalTime) (before after : Bool) (due : Due) → (isDated due ≡ true → before ≡ true → after ≡ true)
-    → isFitDue setter global before due ≡ true → isFitDue setter global after due ≡ true
+fit-by : (limits : Limits) (setter : TaskEntry) (global : GlobalTime) (before after : Bool) (due : Due) → (isDated due ≡ true → before ≡ true → after ≡ true)
+    → isFitDue limits setter global before due ≡ true → isFitDue limits setter global after due ≡ true
 unfolding isFitDue
-fit-by setter global before after Free f e = refl
-fit-by setter global true after (Local task at) f e = rw (f refl refl) e
-fit-by setter global false after (Local task at) f e = absurd (false≢true e)
-fit-by setter global true after (Global task at) f e = rw (f refl refl) e
-fit-by setter global false after (Global task at) f e = absurd (false≢true e)
-fit-by setter global true after (Pinned due) f e = rw (f refl refl) e
-fit-by setter global false after (Pinned due) f e = absurd (false≢true e)
-fit-by setter global before after Unknown f e = e
+fit-by limits setter global before after Free f e = refl
+fit-by limits setter global true after (Local task at) f e = rw (f refl refl) e
+fit-by limits setter global false after (Local task at) f e = absurd (false≢true e)
+fit-by limits setter global true after (Global task at) f e = rw (f refl refl) e
+fit-by limits setter global false after (Global task at) f e = absurd (false≢true e)
+fit-by limits setter global true after (Pinned due) f e = rw (f refl refl) e
+fit-by limits setter global false after (Pinned due) f e = absurd (false≢true e)
+fit-by limits setter global before after Unknown f e = e
 
 -- and what it says of it holds
-fit-says : (setter : TaskEntry) (global : GlobalTime) (used : Bool) (due : Due) → isFitDue setter global used due ≡ true → isDated due ≡ true
+fit-says : (limits : Limits) (setter : TaskEntry) (global : GlobalTime) (used : Bool) (due : Due) → isFitDue limits setter global used due ≡ true → isDated due ≡ true
     → used ≡ true
 unfolding isFitDue
-fit-says setter global used Free e d = absurd (false≢true d)
-fit-says setter global true (Local task at) e d = refl
-fit-says setter global false (Local task at) e d = e
-fit-says setter global true (Global task at) e d = refl
-fit-says setter global false (Global task at) e d = e
-fit-says setter global true (Pinned due) e d = refl
-fit-says setter global false (Pinned due) e d = e
-fit-says setter global used Unknown e d = absurd (false≢true d)
+fit-says limits setter global used Free e d = absurd (false≢true d)
+fit-says limits setter global true (Local task at) e d = refl
+fit-says limits setter global false (Local task at) e d = e
+fit-says limits setter global true (Global task at) e d = refl
+fit-says limits setter global false (Global task at) e d = e
+fit-says limits setter global true (Pinned due) e d = refl
+fit-says limits setter global false (Pinned due) e d = e
+fit-says limits setter global used Unknown e d = absurd (false≢true d)
 
 -- one block: z is whether it is free, n whether it is named, s whether its length and its handle are fit
 block-by-flag : (z n s g : Bool) → (not (not z) || (n && s && g)) ≡ true → (n ≡ true → not z ≡ true)
@@ -71,7 +72,7 @@ flag-used true true r e h = e
 flag-used true false r e h = h
 flag-used false n r e h = refl
 
-module _ (tasks : List TaskEntry) (global : GlobalTime) (given : ℕ) (blocks : List BlockEntry) (xs : List ExpirationEntry) (size : length blocks ≡ 96)
+module _ (limits : Limits) (tasks : List TaskEntry) (global : GlobalTime) (given : ℕ) (blocks : List BlockEntry) (xs : List ExpirationEntry) (size : length blocks ≡ 96)
   where
     -- what is asked of a block
     abbrev isFree : ℕ → Bool
@@ -91,29 +92,29 @@ module _ (tasks : List TaskEntry) (global : GlobalTime) (given : ℕ) (blocks : 
         (λ t. absurd (false≢true (rw (List·getD-eq-default blocks freeBlock {n = k} (omega (arith, ltb-false k 96 t))) at e)))
 
     -- an entry that is not fit by itself is not fit
-    pub not-alone : all (isFitAlone tasks global) xs ≡ false → all (isFitEntry tasks global blocks) xs ≡ false
+    pub not-alone : all (isFitAlone limits tasks global) xs ≡ false → all (isFitEntry limits tasks global blocks) xs ≡ false
     not-alone e =
         refuted _
         (λ t.
         true≢false
         (sym
         (passes-imp
-        (λ x. fit-by _ global _ _ (dueOf x) (λ dated used. lt-ltb (x .block) 96 (used-within (x .block) used)))
+        (λ x. fit-by limits _ global _ _ (dueOf x) (λ dated used. lt-ltb (x .block) 96 (used-within (x .block) used)))
         xs t)
         ∙ e))
 
     -- where the entries are fit, the blocks that they name are in use
-    naming-used : all (isFitEntry tasks global blocks) xs ≡ true → (k : ℕ) → any (isNaming k) xs ≡ true → isUsed (getD blocks k freeBlock) ≡ true
+    naming-used : all (isFitEntry limits tasks global blocks) xs ≡ true → (k : ℕ) → any (isNaming k) xs ≡ true → isUsed (getD blocks k freeBlock) ≡ true
     naming-used f k e =
         found (isNaming k)
         (λ x n h.
         let (dated, same) = and-eq-true-iff (isDated (dueOf x)) _ .0 n in
-        let used : isUsed (getD blocks (x .block) freeBlock) ≡ true = fit-says _ global _ (dueOf x) h dated in
+        let used : isUsed (getD blocks (x .block) freeBlock) ≡ true = fit-says limits _ global _ (dueOf x) h dated in
         rw (eqb-true (x .block) k same) at used)
         xs e (all-true _ xs f)
 
     module _ {named : List Bool} (names : Names named xs) where
-      to : (all (isFitEntry tasks global blocks) xs && allFrom 0 (isFitBlock given xs) blocks) ≡ true
+      to : (all (isFitEntry limits tasks global blocks) xs && allFrom 0 (isFitBlock given xs) blocks) ≡ true
           → allFrom 0 (isFitBlockIn given named) blocks ≡ true
       unfolding isFitBlock
       to e =
@@ -130,14 +131,14 @@ module _ (tasks : List TaskEntry) (global : GlobalTime) (given : ℕ) (blocks : 
           let fits = allFrom-within (isFitBlockIn given named) freeBlock 0 blocks b k (omega arith) in
           flag-used (isFree k) (getD named k false) _ (rw (zero-add k) at fits) (names .so k l ∙ n)
 
-      from : all (isFitAlone tasks global) xs ≡ true → allFrom 0 (isFitBlockIn given named) blocks ≡ true
-          → (all (isFitEntry tasks global blocks) xs && allFrom 0 (isFitBlock given xs) blocks) ≡ true
+      from : all (isFitAlone limits tasks global) xs ≡ true → allFrom 0 (isFitBlockIn given named) blocks ≡ true
+          → (all (isFitEntry limits tasks global blocks) xs && allFrom 0 (isFitBlock given xs) blocks) ≡ true
       unfolding isFitBlock
       from alone b =
           and-eq-true-iff _ _ .1 (
             passes-found (λ (x y : ExpirationEntry). isNaming (x .block) y) xs
                 (λ x member.
-                fit-by _ global _ _ (dueOf x)
+                fit-by limits _ global _ _ (dueOf x)
                 (λ dated within. flag-means b (x .block) (ltb-true _ _ within) (member (rw (dated, eq-eqb (x .block) (x .block) refl)))))
                 alone,
             allFrom-each (isFitBlock given xs) freeBlock 0 blocks (λ k l.
@@ -145,6 +146,6 @@ module _ (tasks : List TaskEntry) (global : GlobalTime) (given : ℕ) (blocks : 
                 rw (zero-add k) (flag-fits (isFree k) (any (isNaming k) xs) (isSized k) (isGiven k) (rw (zero-add k, names .so k (omega arith)) at fits))),
           )
 
-      pub named-right : all (isFitAlone tasks global) xs ≡ true
-          → (all (isFitEntry tasks global blocks) xs && allFrom 0 (isFitBlock given xs) blocks) ≡ allFrom 0 (isFitBlockIn given named) blocks
+      pub named-right : all (isFitAlone limits tasks global) xs ≡ true
+          → (all (isFitEntry limits tasks global blocks) xs && allFrom 0 (isFitBlock given xs) blocks) ≡ allFrom 0 (isFitBlockIn given named) blocks
       named-right alone = same-test _ _ to (from alone)

@@ -1,5 +1,5 @@
 -- Tables by clock: an entry is within its clock's units exactly where it is due in time and its setter is not absent.
-use Prim.Native.Nat.{ℕ, suc, _+_, _-_, _%_, _≤_, _<_}
+use Prim.Native.Nat.{ℕ, zero, suc, _+_, _-_, _*_, _/_, _%_, _≤_, _<_}
 use native.Mathlib.Omega.{arith}
 use mathlib.Core.Bool.{Bool, true, false, cond, not, _&&_, and-eq-true-iff}
 use mathlib.Core.List.{List, [], _∷_}
@@ -13,13 +13,15 @@ use Rattle.lists.specs.Tests.{all}
 use Rattle.lists.proofs.All.{all-getD}
 use Rattle.lists.proofs.Cases.{by-test, same-test}
 use Rattle.lists.proofs.Filling.{Laid}
-use Rattle.ledger.specs.Limits.{counterRange, limits}
-use Rattle.ledger.proofs.Figures.{allowed, at-capacity}
+use Rattle.lists.proofs.Tests.{passes-at}
+use Rattle.ledger.specs.Limits.{counterRange, isAllowed}
+use Rattle.ledger.proofs.Figures.{allowed}
 use Rattle.ledger.specs.Tasks.{isAbsent}
+use Rattle.ledger.specs.declared.Limits.{Limits}
 use Rattle.record.specs.Codes.{stateOf, isGlobalClock, dueBy, leftAt, absentEntry, freeEntry}
 use Rattle.record.specs.Reading.{HeadTyped}
 use Rattle.record.specs.Tables.{ExpirationEntry, entriesOf}
-use Rattle.record.specs.WellFormed.{isAhead, isFitDue}
+use Rattle.record.specs.WellFormed.{isAhead, isFitTask, isFitDue}
 use Rattle.record.specs.declared.GlobalTime.{GlobalTime}
 use Rattle.record.specs.declared.Head.{Head}
 use Rattle.record.specs.declared.TaskEntry.{TaskEntry}
@@ -48,60 +50,82 @@ firsts-end last e m h =
       by-pinned = m .rest 49 (λ t l e. absurd (omega arith)) ∙ getD-set-same (replicate 50 last) 49 noTime noTime (rw length-replicate (omega arith));
     }
 
+-- the units of a state by a product: a task that there is has one share of them
+pub share : (most state : ℕ) → state < 3 → most * (state - state / 2) ≡ unitsOf most state
+share most zero l = omega arith
+share most (suc zero) l = omega arith
+share most (suc (suc zero)) l = omega arith
+share most (suc (suc (suc state))) l = absurd (omega arith)
+
+pub share-below : (most state : ℕ) → state < 3 → most ≤ 32 → most * (state - state / 2) < 65536
+share-below most zero l m = omega arith
+share-below most (suc zero) l m = omega arith
+share-below most (suc (suc zero)) l m = omega arith
+share-below most (suc (suc (suc state))) l m = absurd (omega arith)
+
+-- a fit task's state
+pub fit-state : (tasks : List TaskEntry) (t : ℕ) → all isFitTask tasks ≡ true → getD tasks t absentEntry .state < 3
+unfolding isFitTask
+fit-state tasks t fits =
+    let (low, clock) = and-eq-true-iff _ _ .0 (passes-at isFitTask tasks t absentEntry fits refl) in
+    let (low, ticked) = and-eq-true-iff _ _ .0 low in
+    let (low, marks) = and-eq-true-iff _ _ .0 low in
+    ltb-true _ _ low
+
 -- the table before the tasks: a free entry's units, those of a departed setter and those of a pinned one
-abbrev unitsStart : List ℕ
-unitsStart = set (set (set (replicate 50 0) 0 4294967296) 48 32) 49 1
+abbrev unitsStart : ℕ → List ℕ
+unitsStart global = set (set (set (replicate 50 0) 0 4294967296) 48 global) 49 1
 
 -- those of the first tasks stand at both their codes, and elsewhere what stood there before
-pub record UnitsTo (tasks : List TaskEntry) (i : ℕ) (out : List ℕ) : Type 0 where
+pub record UnitsTo (local global : ℕ) (tasks : List TaskEntry) (i : ℕ) (out : List ℕ) : Type 0 where
   pub size : length out ≡ 50
-  pub by-task : (t : ℕ) → t < i → getD out (t + 16) 0 ≡ unitsAt tasks 31 t
-  pub by-global : (t : ℕ) → t < i → getD out (t + 32) 0 ≡ unitsAt tasks 32 t
-  pub rest : (k : ℕ) → ((t : ℕ) → t < 32 → k ≢ t + 16) → getD out k 0 ≡ getD unitsStart k 0
+  pub by-task : (t : ℕ) → t < i → getD out (t + 16) 0 ≡ unitsAt tasks local t
+  pub by-global : (t : ℕ) → t < i → getD out (t + 32) 0 ≡ unitsAt tasks global t
+  pub rest : (k : ℕ) → ((t : ℕ) → t < 32 → k ≢ t + 16) → getD out k 0 ≡ getD (unitsStart global) k 0
 
-pub units-start : {tasks : List TaskEntry} → UnitsTo tasks 0 unitsStart
+pub units-start : {local global : ℕ} {tasks : List TaskEntry} → UnitsTo local global tasks 0 (unitsStart global)
 units-start = record { size = refl; by-task = λ t l. absurd (omega arith); by-global = λ t l. absurd (omega arith); rest = λ k o. refl }
 
-module _ {tasks : List TaskEntry} {i : ℕ} {out : List ℕ} (m : UnitsTo tasks i out) where
-  pub units-turn : i < 16 → UnitsTo tasks (i + 1) (set (set out (i + 16) (unitsAt tasks 31 i)) (i + 32) (unitsAt tasks 32 i))
+module _ {local global : ℕ} {tasks : List TaskEntry} {i : ℕ} {out : List ℕ} (m : UnitsTo local global tasks i out) where
+  pub units-turn : i < 16 → UnitsTo local global tasks (i + 1) (set (set out (i + 16) (unitsAt tasks local i)) (i + 32) (unitsAt tasks global i))
   units-turn h =
-      let locals = set out (i + 16) (unitsAt tasks 31 i) in
+      let locals = set out (i + 16) (unitsAt tasks local i) in
       let size : length locals ≡ 50 = simp length-set (m .size) in
       record {
         size = simp length-set (m .size);
         by-task = λ t l.
-            getD-set-other locals (i + 32) (t + 16) (unitsAt tasks 32 i) 0 (λ e. absurd (omega arith))
+            getD-set-other locals (i + 32) (t + 16) (unitsAt tasks global i) 0 (λ e. absurd (omega arith))
             ∙ by-test (eqb t i)
-            (λ s. rw (eqb-true t i s) (getD-set-same out (i + 16) (unitsAt tasks 31 i) 0 (omega (arith, m .size))))
-            (λ s. getD-set-other out (i + 16) (t + 16) (unitsAt tasks 31 i) 0 (λ e. eqb-false t i s (omega arith)) ∙ m .by-task t (omega (arith, eqb-false t i s)));
+            (λ s. rw (eqb-true t i s) (getD-set-same out (i + 16) (unitsAt tasks local i) 0 (omega (arith, m .size))))
+            (λ s. getD-set-other out (i + 16) (t + 16) (unitsAt tasks local i) 0 (λ e. eqb-false t i s (omega arith)) ∙ m .by-task t (omega (arith, eqb-false t i s)));
         by-global = λ t l.
             by-test (eqb t i)
-            (λ s. rw (eqb-true t i s) (getD-set-same locals (i + 32) (unitsAt tasks 32 i) 0 (omega (arith, size))))
+            (λ s. rw (eqb-true t i s) (getD-set-same locals (i + 32) (unitsAt tasks global i) 0 (omega (arith, size))))
             (λ s.
-            getD-set-other locals (i + 32) (t + 32) (unitsAt tasks 32 i) 0 (λ e. eqb-false t i s (omega arith))
-            ∙ getD-set-other out (i + 16) (t + 32) (unitsAt tasks 31 i) 0 (λ e. absurd (omega arith))
+            getD-set-other locals (i + 32) (t + 32) (unitsAt tasks global i) 0 (λ e. eqb-false t i s (omega arith))
+            ∙ getD-set-other out (i + 16) (t + 32) (unitsAt tasks local i) 0 (λ e. absurd (omega arith))
             ∙ m .by-global t (omega (arith, eqb-false t i s)));
         rest = λ k o.
-            getD-set-other locals (i + 32) k (unitsAt tasks 32 i) 0 (λ e. o (i + 16) (omega arith) (omega arith))
-            ∙ getD-set-other out (i + 16) k (unitsAt tasks 31 i) 0 (o i (omega arith))
+            getD-set-other locals (i + 32) k (unitsAt tasks global i) 0 (λ e. o (i + 16) (omega arith) (omega arith))
+            ∙ getD-set-other out (i + 16) k (unitsAt tasks local i) 0 (o i (omega arith))
             ∙ m .rest k o;
       }
 
-  pub units-end : 16 ≤ i → Units tasks out
+  pub units-end : (limits : Limits) → local ≡ limits .extension + 1 → global ≡ limits .extension + 2 → 16 ≤ i → Units limits tasks out
   unfolding counterRange
-  units-end h =
+  units-end limits l g h =
       record {
         size = m .size;
         free = m .rest 0 (λ t l e. absurd (omega arith));
         unknown = λ k a b.
             m .rest k (λ t l e. absurd (omega arith))
-            ∙ getD-set-other (set (set (replicate 50 0) 0 4294967296) 48 32) 49 k 1 0 (λ e. absurd (omega arith))
-            ∙ getD-set-other (set (replicate 50 0) 0 4294967296) 48 k 32 0 (λ e. absurd (omega arith))
+            ∙ getD-set-other (set (set (replicate 50 0) 0 4294967296) 48 global) 49 k 1 0 (λ e. absurd (omega arith))
+            ∙ getD-set-other (set (replicate 50 0) 0 4294967296) 48 k global 0 (λ e. absurd (omega arith))
             ∙ getD-set-other (replicate 50 0) 0 k 4294967296 0 (λ e. absurd (omega arith))
             ∙ getD-replicate 50 k 0 0 (omega arith);
-        by-task = λ t l. rw at-capacity (m .by-task t (omega arith));
-        by-global = λ t l. rw at-capacity (m .by-global t (omega arith));
-        by-departed = rw at-capacity (m .rest 48 (λ t l e. absurd (omega arith)));
+        by-task = λ t b. rw (← l) (m .by-task t (omega arith));
+        by-global = λ t b. rw (← g) (m .by-global t (omega arith));
+        by-departed = rw (← g) (m .rest 48 (λ t l e. absurd (omega arith)));
         by-pinned = m .rest 49 (λ t l e. absurd (omega arith));
       }
 
@@ -140,9 +164,9 @@ none-left due below =
     (λ e. eq-eqb due 0 (omega (arith, ltb-true (leftAt due 0) 1 e)))
     (λ e. lt-ltb (leftAt due 0) 1 (omega (arith, eqb-true due 0 e)))
 
-few : limits .extension + 2 < counterRange
+few : (limits : Limits) → isAllowed limits ≡ true → limits .extension + 2 < counterRange
 unfolding counterRange
-few = omega (arith, allowed .most-extension)
+few limits may = omega (arith, allowed limits may .most-extension)
 
 -- the due numbers of entries are those of their column
 pub dues-below : (clocks named dues : List ℕ) → length clocks ≡ 256 → length named ≡ 256 → length dues ≡ 256
@@ -151,41 +175,42 @@ pub dues-below : (clocks named dues : List ℕ) → length clocks ≡ 256 → le
 dues-below clocks named dues a b d below k l =
     rw (entry-at clocks named dues a b d k) (below k (omega (arith, length-entries clocks named dues a b d)))
 
-module _ {h : Head} (typed : HeadTyped h) {firsts : List Time} {units : List ℕ} (f : Firsts (h .tasks) (h .global) firsts) (u : Units (h .tasks) units) where
+module _ {h : Head} (typed : HeadTyped h) {firsts : List Time} {units : List ℕ} (f : Firsts (h .tasks) (h .global) firsts) (u : Units (h .limits) (h .tasks) units)
+    (may : isAllowed (h .limits) ≡ true) where
   -- the task that an entry's code is of, where the codes of the tasks start at a
   abbrev setter : ExpirationEntry → ℕ → TaskEntry
   setter e a = getD (h .tasks) (e .clock - a) absentEntry
 
   -- by a task's clock
-  local-timely : (e : ExpirationEntry) → 16 ≤ e .clock → e .clock < 32 → isWithin firsts units e ≡ isTimely (h .tasks) (h .global) e
+  local-timely : (e : ExpirationEntry) → 16 ≤ e .clock → e .clock < 32 → isWithin firsts units e ≡ isTimely (h .limits) (h .tasks) (h .global) e
   unfolding isFitDue dueBy
   local-timely e least below =
       let place : e .clock ≡ e .clock - 16 + 16 = omega arith in
       let first : getD firsts (e .clock) noTime ≡ nextLocal (setter e 16 .clock) = ap (λ k. getD firsts k noTime) place ∙ f .by-task (e .clock - 16) (omega arith) in
-      let unit : getD units (e .clock) 0 ≡ unitsOf (limits .extension + 1) (setter e 16 .state) = ap (λ k. getD units k 0) place ∙ u .by-task (e .clock - 16) (omega arith) in
+      let unit : getD units (e .clock) 0 ≡ unitsOf (h .limits .extension + 1) (setter e 16 .state) = ap (λ k. getD units k 0) place ∙ u .by-task (e .clock - 16) (omega arith) in
       let now = all-getD (λ (x : TaskEntry). x .clock .0 < counterRange) absentEntry zero-below (h .tasks) (typed .clocks) (e .clock - 16) in
       rw
       (first, unit, ne-eqb (e .clock) 0 (omega arith), lt-leb 32 (e .clock) below, le-leb 16 (e .clock) least, lt-ltb (e .clock) 32 below, lt-ltb (e .clock - 16) 16 (omega arith))
-      (units-ahead (e .due) (setter e 16 .clock .0) (limits .extension + 1) (isAbsent (stateOf (setter e 16 .state))) now (omega (arith, few)))
+      (units-ahead (e .due) (setter e 16 .clock .0) (h .limits .extension + 1) (isAbsent (stateOf (setter e 16 .state))) now (omega (arith, few (h .limits) may)))
 
   -- by the global time, of a task
-  global-timely : (e : ExpirationEntry) → 32 ≤ e .clock → e .clock < 48 → isWithin firsts units e ≡ isTimely (h .tasks) (h .global) e
+  global-timely : (e : ExpirationEntry) → 32 ≤ e .clock → e .clock < 48 → isWithin firsts units e ≡ isTimely (h .limits) (h .tasks) (h .global) e
   unfolding isFitDue dueBy
   global-timely e least below =
       let place : e .clock ≡ e .clock - 32 + 32 = omega arith in
-      let unit : getD units (e .clock) 0 ≡ unitsOf (limits .extension + 2) (setter e 32 .state) = ap (λ k. getD units k 0) place ∙ u .by-global (e .clock - 32) (omega arith) in
+      let unit : getD units (e .clock) 0 ≡ unitsOf (h .limits .extension + 2) (setter e 32 .state) = ap (λ k. getD units k 0) place ∙ u .by-global (e .clock - 32) (omega arith) in
       rw
       (f .by-global (e .clock) least (omega arith), unit, ne-eqb (e .clock) 0 (omega arith), le-leb 32 (e .clock) least, le-leb (e .clock) 48 (omega arith), ne-eqb (e .clock - 32) 16 (omega arith))
-      (units-ahead (e .due) (h .global .0) (limits .extension + 2) (isAbsent (stateOf (setter e 32 .state))) (typed .global) few)
+      (units-ahead (e .due) (h .global .0) (h .limits .extension + 2) (isAbsent (stateOf (setter e 32 .state))) (typed .global) (few (h .limits) may))
 
   -- and of a departed setter
-  departed-timely : (e : ExpirationEntry) → e .clock ≡ 48 → isWithin firsts units e ≡ isTimely (h .tasks) (h .global) e
+  departed-timely : (e : ExpirationEntry) → e .clock ≡ 48 → isWithin firsts units e ≡ isTimely (h .limits) (h .tasks) (h .global) e
   unfolding isFitDue dueBy
   departed-timely e d =
-      rw (d, u .by-departed, f .by-global 48 (omega arith) (omega arith)) (ahead-next (e .due) (h .global .0) (limits .extension + 2) (typed .global) few)
+      rw (d, u .by-departed, f .by-global 48 (omega arith) (omega arith)) (ahead-next (e .due) (h .global .0) (h .limits .extension + 2) (typed .global) (few (h .limits) may))
 
   -- a pinned one has the number 0
-  pinned-timely : (e : ExpirationEntry) → e .due < counterRange → e .clock ≡ 49 → isWithin firsts units e ≡ isTimely (h .tasks) (h .global) e
+  pinned-timely : (e : ExpirationEntry) → e .due < counterRange → e .clock ≡ 49 → isWithin firsts units e ≡ isTimely (h .limits) (h .tasks) (h .global) e
   unfolding isFitDue dueBy
   pinned-timely e below p = rw (p, u .by-pinned, f .by-pinned) (none-left (e .due) below)
 
@@ -198,7 +223,7 @@ module _ {h : Head} (typed : HeadTyped h) {firsts : List Time} {units : List ℕ
       let not-local : 32 ≤ k = ltb-false k 32 (rw (le-leb 16 k (ltb-false k 16 t)) at l) in
       List·getD-eq-default units 0 {n = k} (omega (arith, u .size, eqb-false k 49 p, leb-false k 48 (rw (le-leb 32 k not-local) at g))))
 
-  timely : (e : ExpirationEntry) → e .due < counterRange → isWithin firsts units e ≡ isTimely (h .tasks) (h .global) e
+  timely : (e : ExpirationEntry) → e .due < counterRange → isWithin firsts units e ≡ isTimely (h .limits) (h .tasks) (h .global) e
   unfolding isFitDue dueBy
   timely e below =
       by-test (eqb (e .clock) 0)
@@ -221,6 +246,6 @@ module _ {h : Head} (typed : HeadTyped h) {firsts : List Time} {units : List ℕ
       (λ l. rw (no-units (e .clock) z p g l, z, p, g, l) (le-ltb (leftFrom (e .due) (getD firsts (e .clock) noTime)) 0 (omega arith))))))
 
   pub all-timely : (xs : List ExpirationEntry) → ((k : ℕ) → k < length xs → getD xs k freeEntry .due < counterRange)
-      → all (isWithin firsts units) xs ≡ all (isTimely (h .tasks) (h .global)) xs
+      → all (isWithin firsts units) xs ≡ all (isTimely (h .limits) (h .tasks) (h .global)) xs
   all-timely [] below = refl
   all-timely (x ∷ xs) below = rw (timely x (below 0 (omega arith)), all-timely xs (λ k l. below (suc k) (omega arith)))

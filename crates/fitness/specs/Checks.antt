@@ -7,11 +7,12 @@ use lib.Dec.{eqb, leb, ltb}
 use lib.ListN.{length, getD, take}
 use Rattle.lists.specs.Tests.{any, all}
 use Rattle.lists.specs.Filled.{Filled}
-use Rattle.ledger.specs.Limits.{counterRange, limits, taskCount}
+use Rattle.ledger.specs.Limits.{counterRange, taskCount}
 use Rattle.ledger.specs.Tasks.{isAbsent}
+use Rattle.ledger.specs.declared.Limits.{Limits}
 use Rattle.record.specs.Codes.{stateOf, dueOf, setterOf, leftAt, absentEntry, localCode, globalCode, departedCode, pinnedCode}
-use Rattle.record.specs.WellFormed.{isFitDue, isNaming, isSizedFor}
-use Rattle.record.specs.Tables.{BlockEntry, ExpirationEntry, entriesOf, blockEntries, expirationEntries, byteValues, lengthIn}
+use Rattle.record.specs.WellFormed.{isFitDue, isNaming, isSizedFor, isBounded}
+use Rattle.record.specs.Tables.{BlockEntry, ExpirationEntry, blocksOf, entriesOf, blockEntries, expirationEntries, byteValues, lengthIn}
 use Rattle.record.specs.declared.GlobalTime.{GlobalTime}
 use Rattle.record.specs.declared.Head.{Head}
 use Rattle.record.specs.declared.LocalTime.{LocalTime}
@@ -121,7 +122,7 @@ pub record Firsts (tasks : List TaskEntry) (global : GlobalTime) (r : List Time)
 abbrev pub unitsOf : ℕ → ℕ → ℕ
 unitsOf most state = cond (isAbsent (stateOf state)) 0 most
 
-pub record Units (tasks : List TaskEntry) (r : List ℕ) : Type 0 where
+pub record Units (limits : Limits) (tasks : List TaskEntry) (r : List ℕ) : Type 0 where
   pub size : length r ≡ codeCount
   pub free : getD r 0 0 ≡ counterRange
   pub unknown : (k : ℕ) → 0 < k → k < localCode → getD r k 0 ≡ 0
@@ -140,11 +141,11 @@ pub record AllWithin (firsts : List Time) (units clocks dues : List ℕ) (r : Bo
   pub below : (k : ℕ) → k < expirationEntries → getD dues k 0 < counterRange
 
 -- an entry by W6 to W8 and W14, which say when it is due and who set it, apart from the block that it names
-abbrev pub isTimely : List TaskEntry → GlobalTime → ExpirationEntry → Bool
-isTimely tasks global e = isFitDue (getD tasks (setterOf (dueOf e)) absentEntry) global true (dueOf e)
+abbrev pub isTimely : Limits → List TaskEntry → GlobalTime → ExpirationEntry → Bool
+isTimely limits tasks global e = isFitDue limits (getD tasks (setterOf (dueOf e)) absentEntry) global true (dueOf e)
 
 pub record AllTimely (h : Head) (clocks dues : List ℕ) (r : Bool) : Type 0 where
-  pub so : (named : List ℕ) → length named ≡ expirationEntries → r ≡ all (isTimely (h .tasks) (h .global)) (entriesOf clocks named dues)
+  pub so : (named : List ℕ) → length named ≡ expirationEntries → r ≡ all (isTimely (h .limits) (h .tasks) (h .global)) (entriesOf clocks named dues)
 
 -- of the first i blocks, whether they have a length of their store's range
 abbrev pub SizedTo : List ℕ → ℕ → List Bool → Type 0
@@ -165,3 +166,12 @@ isFitBlockBy given block named handle size =
 -- the same, by the flags of all blocks
 abbrev pub isFitBlockIn : ℕ → List Bool → ℕ → BlockEntry → Bool
 isFitBlockIn given named block b = isFitBlockBy given block (getD named block false) (b .handle) (b .length)
+
+-- a handle of no object, and the clock of no expiration
+abbrev pub isNone : ℕ → Bool
+isNone number = eqb number 0
+
+-- W18 and W19, of what the columns of handles and clocks have: whatever else is in the entries
+pub record Bounds (limits : Limits) (handles clocks : List ℕ) (r : Bool) : Type 0 where
+  pub so : (extents named dues : List ℕ) → length extents ≡ blockEntries → length named ≡ expirationEntries → length dues ≡ expirationEntries
+      → r ≡ isBounded limits (blocksOf handles extents) (entriesOf clocks named dues)

@@ -8,14 +8,11 @@ ghost use Rattle.record.specs.WellFormed.{isSizedFor};
 ghost use Rattle.handles.specs.Handles.{Used};
 ghost use Rattle.fitness.specs.Checks.{isGivenAt, SizedTo, isNamedIn, isFitBlockIn};
 use ledger::LARGE_SIZE;
-use ledger::LIMITS;
 use ledger::SMALL_SIZE;
 use record::BLOCK_COUNT;
 use record::BYTE_VALUES;
+use record::SMALL_COUNT;
 use record::codes::length_in;
-
-// The small store's blocks; the large one's follow.
-const SMALL_COUNT: usize = LIMITS.small_blocks;
 
 fn is_sized_for(block: usize, length: u16) -> bool
     ensures { λ r. ⌜ r ≡ isSizedFor block length ⌝ }
@@ -31,7 +28,7 @@ fn is_sized_for(block: usize, length: u16) -> bool
 // Which blocks have a length of their store's range: those of the small store,
 fn small_sized(extents: &[u32; BLOCK_COUNT]) -> [bool; BLOCK_COUNT]
     requires { ⌜ length (now extents) ≡ blockEntries ⌝ }
-    ensures { λ r. ⌜ SizedTo (now (extents .entry)) (capacity .smallBlocks) r ⌝ }
+    ensures { λ r. ⌜ SizedTo (now (extents .entry)) (capacity .small) r ⌝ }
 {
     let mut out = [false; BLOCK_COUNT];
     for i in 0..SMALL_COUNT {

@@ -1,8 +1,13 @@
 // When expirations may be due: by each clock, so many units from a first time on. A due number becomes a LocalTime where that is a task's, and a GlobalTime where it is the global one.
+ghost use Prim.Native.Nat.{_+_, _≤_, _<_};
+ghost use mathlib.Core.Bool.{true};
 ghost use mathlib.Core.Path.{_≡_};
+ghost use Rattle.lists.specs.Tests.{all};
+ghost use Rattle.ledger.specs.Limits.{capacity, isAllowed};
+ghost use Rattle.record.specs.WellFormed.{isFitTask};
 ghost use Rattle.fitness.specs.Checks.{leftFrom, WithinBy, nextLocal, nextGlobal, Firsts, unitsOf, Units, CodedTimes, AllWithin, AllTimely};
 use super::codes::code_at;
-use ledger::LIMITS;
+use ledger::Limits;
 use ledger::TASK_COUNT;
 use record::EXPIRATION_COUNT;
 use record::GlobalTime;
@@ -16,7 +21,6 @@ use record::codes::LOCAL;
 use record::codes::PINNED;
 use record::codes::global_left;
 use record::codes::local_left;
-use record::running::is_absent;
 
 // The codes of clocks, as indices: those of tasks are from LOCAL on, those of the global time from GLOBAL on by the task that set it, to DEPARTED; PINNED, which is no clock's, is the last that there is.
 const NO_CLOCK: usize = FREE as usize;
@@ -33,11 +37,6 @@ pub const CODES: usize = OF_PINNED + 1;
 
 // All units that a counter has: a free entry is due whenever it likes.
 const ALL_UNITS: u64 = 4294967296;
-
-// The most that an expiration by a task's clock may have, and one by the global time.
-const LOCAL_UNITS: u64 = (LIMITS.extension + 1) as u64;
-
-const GLOBAL_UNITS: u64 = (LIMITS.extension + 2) as u64;
 
 // A pinned one has no time: its number is 0 and no other.
 const PINNED_UNITS: u64 = 1;
@@ -92,25 +91,29 @@ fn firsts(tasks: [TaskEntry; TASK_COUNT], global: GlobalTime) -> [Time; CODES]
     out
 }
 
-// Of an absent task there are none.
-fn units_of(state: u16, most: u64) -> u64
+// Of an absent task there are none, and of one that runs or waits so many: by a product, since of a choice between numbers that are no constants the compiler makes no vector code.
+fn units_of(state: u16, most: u16) -> u64
+    requires { ⌜ (state < 3) × (most ≤ capacity .extension + 2) ⌝ }
     ensures { λ r. ⌜ r ≡ unitsOf most state ⌝ }
 {
-    if is_absent(state) { 0 } else { most }
+    (most * (state - state / 2)) as u64
 }
 
 // By each code the units in which its expirations may be due: none of an absent task, nor by a code that there is not.
-fn units(tasks: [TaskEntry; TASK_COUNT]) -> [u64; CODES]
-    ensures { λ r. ⌜ Units tasks r ⌝ }
+fn units(limits: Limits, tasks: [TaskEntry; TASK_COUNT]) -> [u64; CODES]
+    requires { ⌜ (isAllowed limits ≡ true) × (all isFitTask tasks ≡ true) ⌝ }
+    ensures { λ r. ⌜ Units limits tasks r ⌝ }
 {
+    let local = limits.extension as u16 + 1;
+    let global = limits.extension as u16 + 2;
     let mut out = [0; CODES];
     out[NO_CLOCK] = ALL_UNITS;
-    out[OF_DEPARTED] = GLOBAL_UNITS;
+    out[OF_DEPARTED] = global as u64;
     out[OF_PINNED] = PINNED_UNITS;
     for i in 0..TASK_COUNT {
         let e = tasks[i];
-        out[i + FIRST_LOCAL] = units_of(e.state, LOCAL_UNITS);
-        out[i + FIRST_GLOBAL] = units_of(e.state, GLOBAL_UNITS);
+        out[i + FIRST_LOCAL] = units_of(e.state, local);
+        out[i + FIRST_GLOBAL] = units_of(e.state, global);
     }
     out
 }
@@ -139,11 +142,11 @@ pub fn all_timely<'a>(
     clocks: &'a [u8; EXPIRATION_COUNT],
     dues: &'a [u32; EXPIRATION_COUNT],
 ) -> bool
-    requires { ⌜ CodedTimes (now clocks) (now dues) ⌝ }
+    requires { ⌜ CodedTimes (now clocks) (now dues) × (isAllowed (h .limits) ≡ true) × (all isFitTask (h .tasks) ≡ true) ⌝ }
     ensures { λ r. ⌜ AllTimely h (now (clocks .entry)) (now (dues .entry)) r ⌝ }
 {
     let tasks = h.tasks;
     let firsts = firsts(tasks, h.global);
-    let units = units(tasks);
+    let units = units(h.limits, tasks);
     all_within(firsts, units, clocks, dues)
 }

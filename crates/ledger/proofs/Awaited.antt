@@ -64,4 +64,4 @@ every L [] = omega arith
 every L (s ∷ ss) = rw (every (afterRequest L (s .request) (s .bytes)) ss, one L (s .request) (s .bytes)) (omega arith)
 
 pub awaited : Awaited
-awaited = record { test = tested; one = one; every = every; between = λ ss. sym (ticked-awaited _) ∙ kept-all ss .clocks .unticked }
+awaited = record { test = tested; one = one; every = every; between = λ limits ss. sym (ticked-awaited _) ∙ kept-all limits ss .clocks .unticked }

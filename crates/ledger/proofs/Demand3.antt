@@ -22,6 +22,7 @@ use Rattle.ledger.specs.Objects.{Object, Memory, Reply, freshMemory, obj
 use Rattle.ledger.specs.Refusals.{testsOf}
 use Rattle.ledger.specs.Ledger.{settled, fresh, verdictOn, replyBy, afterBy, reply, next, replies}
 use Rattle.ledger.specs.Heap.{heapVerdictOn, heapReply, heapNext, heapReplies, bookNext, isInTimeAndBounds, isLeftAside, allInTimeAndBounds, Used, sent, Demand3}
+use Rattle.ledger.specs.declared.Limits.{Limits}
 use Rattle.ledger.specs.declared.Refusal.{Refusal}
 use Rattle.ledger.specs.declared.Call.{Call}
 use Rattle.ledger.specs.declared.Call.the-variants.{Schedule, Make, Refresh, Read, Write, Batch, Release}
@@ -245,16 +246,17 @@ module _ {A X : Type 0} (used : A → Used) (tell : A → Reply → X) (isOwnTol
       by (together f r n) rest = rw f (rest (rw n at (ap tail e)))
       by (parted f o) rest = absurd (told-apart (tell a) isOwnTold (shows a) m xs (used a .call) (used a .bytes) k o (cc))
 
-  pub demand3-told : (bs : List A)
-      → ((map tell bs ⊛ replies fresh (map sent (map used bs))) ≡ (map tell bs ⊛ heapReplies freshMemory (map used bs)))
-      ↔ (allInTimeAndBounds freshMemory [] (map used bs) ≡ true)
+  pub demand3-told : (limits : Limits) (bs : List A)
+      → ((map tell bs ⊛ replies (fresh limits) (map sent (map used bs))) ≡ (map tell bs ⊛ heapReplies (freshMemory limits) (map used bs)))
+      ↔ (allInTimeAndBounds (freshMemory limits) [] (map used bs) ≡ true)
   unfolding fresh freshMemory HeapKept
-  demand3-told bs = (told-from bs freshMemory [] tt, λ a. ap (λ ys. map tell bs ⊛ ys) (alike-from (map used bs) freshMemory [] tt a))
+  demand3-told limits bs =
+      (told-from bs (freshMemory limits) [] tt, λ a. ap (λ ys. map tell bs ⊛ ys) (alike-from (map used bs) (freshMemory limits) [] tt a))
 
 -- of the replies themselves
 pub demand3 : Demand3
 unfolding fresh freshMemory HeapKept
-demand3 us =
+demand3 limits us =
     let tell : Used → Reply → Reply = λ u y. y in
-    let told = rw map-id at (demand3-told (λ (u : Used). u) tell (λ (y : Reply). isOwnVerdict (refusalIn (y .answer))) (λ u v call m. ap isOwnVerdict (refusal-told v call m)) us) in
-    (λ e. told .0 (ap (λ ys. map tell us ⊛ ys) e), alike-from us freshMemory [] tt)
+    let told = rw map-id at (demand3-told (λ (u : Used). u) tell (λ (y : Reply). isOwnVerdict (refusalIn (y .answer))) (λ u v call m. ap isOwnVerdict (refusal-told v call m)) limits us) in
+    (λ e. told .0 (ap (λ ys. map tell us ⊛ ys) e), alike-from us (freshMemory limits) [] tt)

@@ -6,7 +6,7 @@ use Rattle.lists.specs.Sums.{total}
 use Rattle.lists.specs.Blocks.{overwritten}
 use Rattle.lists.specs.Tests.{all, All}
 use Rattle.lists.proofs.Tests.{both, sameBy, sameBy→eq, all→All}
-use Rattle.ledger.specs.Limits.{counterRange, limits, lastHandle}
+use Rattle.ledger.specs.Limits.{counterRange, standard, lastHandle}
 use Rattle.ledger.specs.Tasks.{freshClocks, moved, allTicked, tasksAfter, advances, clocksAfter}
 use Rattle.ledger.specs.Expirations.{dueAfter, remaining, putOff, deserted, lasting, released, setOnEach}
 use Rattle.ledger.specs.Objects.{freshMemory, objectAt, written, replyTo, memoryAfter, expirationsAfter, handlesOf, usage}
@@ -37,7 +37,7 @@ all-pass : T (all passes edges) × T (all passes moreEdges) × T (all passes wai
 unfolding passes edges moreEdges waitingEdges pinnedEdges fresh reply next replies afterAll testsOf verdict
     freshMemory objectAt written overwritten total replyTo memoryAfter expirationsAfter handlesOf setOnEach usage dueAfter remaining remainingLife putOff deserted lasting released
     freshClocks moved allTicked tasksAfter advances clocksAfter
-    limits lastHandle counterRange
+    standard lastHandle counterRange
 all-pass = (tt, tt, tt, tt)
 
 pub edges-hold : EdgesHold

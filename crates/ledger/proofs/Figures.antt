@@ -1,32 +1,40 @@
--- What a proof may know of 01's figures: that they are in the ranges a site may choose from, and where it must, that they are the largest.
+-- What a proof may know of the figures: that they are in the ranges a site may choose from. 01's are.
 use Prim.Native.Nat.{_≤_}
 use native.Mathlib.Omega.{arith}
+use mathlib.Core.Bool.{true, and-eq-true-iff}
 use mathlib.Core.Path.{_≡_, refl}
-use Rattle.ledger.specs.Limits.{Limits, capacity, limits}
+use borrow.Author.Tests.{leb-true}
+use Rattle.ledger.specs.Limits.{capacity, standard, isAllowed}
+use Rattle.ledger.specs.declared.Limits.{Limits}
 
-pub record Allowed (figures : Limits) : Type 0 where
-  pub some-small : 1 ≤ figures .smallBlocks
-  pub some-large : 1 ≤ figures .largeBlocks
-  pub some-expirations : 1 ≤ figures .expirations
-  pub most-small : figures .smallBlocks ≤ capacity .smallBlocks
-  pub most-large : figures .largeBlocks ≤ capacity .largeBlocks
-  pub most-expirations : figures .expirations ≤ capacity .expirations
-  pub most-extension : figures .extension ≤ capacity .extension
+pub record Allowed (limits : Limits) : Type 0 where
+  pub some-small : 1 ≤ limits .small
+  pub some-large : 1 ≤ limits .large
+  pub some-expirations : 1 ≤ limits .expirations
+  pub most-small : limits .small ≤ capacity .small
+  pub most-large : limits .large ≤ capacity .large
+  pub most-expirations : limits .expirations ≤ capacity .expirations
+  pub most-extension : limits .extension ≤ capacity .extension
 
-pub allowed : Allowed limits
-unfolding limits
-allowed =
+pub allowed : (limits : Limits) → isAllowed limits ≡ true → Allowed limits
+unfolding isAllowed
+allowed limits e =
+    let (e, extension) = and-eq-true-iff _ _ .0 e in
+    let (e, expirations) = and-eq-true-iff _ _ .0 e in
+    let (small, large) = and-eq-true-iff _ _ .0 e in
+    let (some-small, most-small) = and-eq-true-iff _ _ .0 small in
+    let (some-large, most-large) = and-eq-true-iff _ _ .0 large in
+    let (some-expirations, most-expirations) = and-eq-true-iff _ _ .0 expirations in
     record {
-      some-small = omega arith;
-      some-large = omega arith;
-      some-expirations = omega arith;
-      most-small = omega arith;
-      most-large = omega arith;
-      most-expirations = omega arith;
-      most-extension = omega arith;
+      some-small = leb-true _ _ some-small;
+      some-large = leb-true _ _ some-large;
+      some-expirations = leb-true _ _ some-expirations;
+      most-small = leb-true _ _ most-small;
+      most-large = leb-true _ _ most-large;
+      most-expirations = leb-true _ _ most-expirations;
+      most-extension = leb-true _ _ extension;
     }
 
--- cited where the code compares with its constant, and where the entries of a table are counted as those that may be used
-pub at-capacity : limits ≡ capacity
-unfolding limits
-at-capacity = refl
+pub standard-allowed : isAllowed standard ≡ true
+unfolding isAllowed standard
+standard-allowed = refl

@@ -20,6 +20,7 @@ use Rattle.ledger.specs.declared.Event.the-variants.{Join, Leave, Block,
 use Rattle.ledger.specs.declared.Refusal.{Refusal}
 use Rattle.ledger.specs.declared.Request.{Request}
 use Rattle.ledger.specs.declared.Request.the-variants.{Use, Report, Remaining}
+use Rattle.ledger.specs.declared.Limits.{Limits}
 use Rattle.ledger.proofs.Passed.{Passed, passed}
 use Rattle.ledger.proofs.Kept.{kept-all}
 
@@ -94,10 +95,10 @@ apart L [] xs ys = refl
 apart L (s ∷ ss) xs ys = ap (followed (afterSent L s) ss) (left-append (L .memory .clocks) (moveIn L (s .request) (s .bytes)) xs ys) ∙ apart (afterSent L s) ss _ _
 
 -- there are sixteen tasks, and so none has the number of who is departed
-gone : (ss : List Sent) → taskAt (afterAll fresh ss .memory .clocks) departed ≡ absentTask
-gone ss =
-    let ts = afterAll fresh ss .memory .clocks .tasks in
-    let past : length ts ≤ departed = omega (arith, kept-all ss .clocks .sixteen) in
+gone : (limits : Limits) (ss : List Sent) → taskAt (afterAll (fresh limits) ss .memory .clocks) departed ≡ absentTask
+gone limits ss =
+    let ts = afterAll (fresh limits) ss .memory .clocks .tasks in
+    let past : length ts ≤ departed = omega (arith, kept-all limits ss .clocks .sixteen) in
     List·getD-eq-default ts absentTask past
 
 pub following : Following

@@ -36,7 +36,7 @@ hidden handle o =
 
 abbrev pub hiddenMemory : ℕ → Memory → Memory
 hiddenMemory handle m =
-    record { clocks = m .clocks; given = m .given; objects = map (hidden handle) (m .objects); pinned = m .pinned }
+    record { limits = m .limits; clocks = m .clocks; given = m .given; objects = map (hidden handle) (m .objects); pinned = m .pinned }
 
 abbrev pub hiddenIn : ℕ → Ledger → Ledger
 hiddenIn handle L = record { memory = hiddenMemory handle (L .memory); expirations = L .expirations }

@@ -18,6 +18,7 @@ use Rattle.ledger.specs.Ledger.{Ledger, Sent, fresh, settled, afterBy, v
 use Rattle.ledger.specs.Kept.{TaskKept, ClocksKept, ObjectsKept, ExpirationKept, ExpirationsKept, PinsKept, PinnedOnceKept, Kept}
 use Rattle.ledger.specs.declared.Call.{Call}
 use Rattle.ledger.specs.declared.Call.the-variants.{Schedule, Make, Refresh, Read, Write, Batch, Release}
+use Rattle.ledger.specs.declared.Limits.{Limits}
 use Rattle.ledger.specs.declared.Refusal.{Refusal}
 use Rattle.ledger.specs.declared.Request.{Request}
 use Rattle.ledger.specs.declared.Request.the-variants.{Use, Report, Remaining}
@@ -27,9 +28,9 @@ use Rattle.ledger.proofs.KeptTasks.{absent-kept, clocks-after}
 use Rattle.ledger.proofs.KeptObjects.{objects-settled, objects-made, objects-written}
 use Rattle.ledger.proofs.KeptExpirations.{isListed, expirations-after, reowned, expirations-settled, expirations-released, expirations-set, expirations-set-each}
 
-pub kept-fresh : Kept fresh
+pub kept-fresh : (limits : Limits) → Kept (fresh limits)
 unfolding fresh freshMemory freshClocks allTicked
-kept-fresh =
+kept-fresh limits =
     record {
       clocks = record { sixteen = refl; tasks = all-replicate TaskKept taskCount absent-kept; unticked = refl };
       objects = record { each = tt; ascending = tt; numbers = zero-le; small = zero-le; large = zero-le };
@@ -40,8 +41,8 @@ kept-fresh =
     }
 
 -- what is kept but for objects without an expiration is kept whole once these are gone
-kept-settled : {m : Memory} {xs : List Expiration} → ClocksKept (m .clocks) → ObjectsKept (m .given) (m .objects)
-    → ExpirationsKept (m .clocks) (m .objects) xs → PinsKept (m .pinned) xs × PinnedOnceKept xs → Kept (settled m xs)
+kept-settled : {m : Memory} {xs : List Expiration} → ClocksKept (m .clocks) → ObjectsKept (m .limits) (m .given) (m .objects)
+    → ExpirationsKept (m .limits) (m .clocks) (m .objects) xs → PinsKept (m .pinned) xs × PinnedOnceKept xs → Kept (settled m xs)
 kept-settled {m} {xs} c o x (p, once) =
     record {
       clocks = c;
@@ -63,7 +64,7 @@ next-unpinned m xs k =
     count-none _ xs
     (all-imp (λ x h. rw (ne-eqb (x .handle) (m .given + 1) (λ q. omega (arith, q, owner x h)))) xs (k .expirations .each))
   where
-    owner : (x : Expiration) → ExpirationKept (m .clocks) (m .objects) x → x .handle ≤ m .given
+    owner : (x : Expiration) → ExpirationKept (m .limits) (m .clocks) (m .objects) x → x .handle ≤ m .given
     owner x h = found (λ (o : Object). isOf (o .handle) x) (λ o e n. rw (eqb-true (x .handle) (o .handle) e) (n .numbered .1)) (m .objects) (h .owned) (k .objects .each)
 
 -- what is pinned after a call, and that it is once
@@ -123,5 +124,5 @@ unfolding afterAll
 kept-after [] L k = k
 kept-after (s ∷ ss) L k = kept-after ss (afterRequest L (s .request) (s .bytes)) (kept-request L k (s .request) (s .bytes))
 
-pub kept-all : (ss : List Sent) → Kept (afterAll fresh ss)
-kept-all ss = kept-after ss fresh kept-fresh
+pub kept-all : (limits : Limits) (ss : List Sent) → Kept (afterAll (fresh limits) ss)
+kept-all limits ss = kept-after ss (fresh limits) (kept-fresh limits)

@@ -12,7 +12,7 @@ use Rattle.lists.specs.Tests.{any, filter, All}
 use Rattle.lists.proofs.Cases.{by-test}
 use Rattle.lists.proofs.All.{all-imp, all-both, all-filter, all-any, all-map, at-set}
 use Rattle.lists.proofs.Counts.{any-left, length-filter}
-use Rattle.ledger.specs.Limits.{limits, taskCount}
+use Rattle.ledger.specs.Limits.{taskCount}
 use Rattle.ledger.specs.Tasks.{Task, Clocks, taskAt, absentTask, isAbsent, isWaiting, isTested, moved, unticked, tasksAfter, advances, clocksAfter}
 use Rattle.ledger.specs.Expirations.{DueTime, byLocal, byGlobal, pinned, departed, Expiration, dueAfter, remaining, isPinned, isLive, isSetBy, isOf, isPinOf, putOff, deserted, eachDue, stillLive, lasting, released, setOnEach}
 use Rattle.ledger.specs.Objects.{Object, Memory, stands, standing}
@@ -23,12 +23,13 @@ use Rattle.ledger.specs.declared.Kind.the-variants.{Local, Global, Pinne
 use Rattle.ledger.specs.declared.Event.{Event}
 use Rattle.ledger.specs.declared.Event.the-variants.{Join, Leave, Block, Resume, Tick}
 use Rattle.ledger.specs.declared.Call.the-variants.{Schedule}
+use Rattle.ledger.specs.declared.Limits.{Limits}
 use Rattle.ledger.proofs.Passed.{Passed}
 use Rattle.ledger.proofs.KeptTasks.{tasks-after}
 
 -- a local expiration is within bounds by its setter's entry
-abbrev LocalWithin : Task → ℕ → Type 0
-LocalWithin setter at = (at - setter .clock ≤ limits .extension + 1) × (isAbsent (setter .state) ≡ false)
+abbrev LocalWithin : Limits → Task → ℕ → Type 0
+LocalWithin limits setter at = (at - setter .clock ≤ limits .extension + 1) × (isAbsent (setter .state) ≡ false)
 
 -- no advance leaves more units, whether it puts off or not
 put-within : (advanced waits : Bool) (at now most : ℕ) → at - now ≤ most → at + cond (advanced && waits) 1 0 - cond advanced (now + 1) now ≤ most
@@ -56,7 +57,7 @@ module _ (m : Memory) (xs : List Expiration) (new : List ℕ) (task : ℕ) where
 
   -- what is kept of an expiration after the event
   abbrev Lasts : Event → Expiration → Type 0
-  Lasts event = ExpirationKept (after event) (m .objects)
+  Lasts event = ExpirationKept (m .limits) (after event) (m .objects)
 
   -- whether the event advances the global time, and what that makes of a due
   abbrev put : Event → DueTime → DueTime
@@ -64,10 +65,10 @@ module _ (m : Memory) (xs : List Expiration) (new : List ℕ) (task : ℕ) where
 
   -- the event leaves an expiration that its own task set within bounds
   abbrev Spares : Event → DueTime → Type 0
-  Spares event due = setterOf due ≡ task → (at : ℕ) → LocalWithin before at → LocalWithin (moved event before) at
+  Spares event due = setterOf due ≡ task → (at : ℕ) → LocalWithin (m .limits) before at → LocalWithin (m .limits) (moved event before) at
 
   -- then it leaves the setter of any there, who is no departed one
-  there-after : (event : Event) (setter : ℕ) → (setter ≡ task → (at : ℕ) → LocalWithin before at → LocalWithin (moved event before) at)
+  there-after : (event : Event) (setter : ℕ) → (setter ≡ task → (at : ℕ) → LocalWithin (m .limits) before at → LocalWithin (m .limits) (moved event before) at)
       → not (isAbsent (taskAt (m .clocks) setter .state)) ≡ true → not (isAbsent (taskAt (after event) setter .state)) ≡ true
   unfolding clocksAfter
   there-after event setter f h =
@@ -77,12 +78,12 @@ module _ (m : Memory) (xs : List Expiration) (new : List ℕ) (task : ℕ) where
       (λ e. rw (f e 0 (omega arith, not-true _ (rw e at h)) .1)) h)
 
   -- and all within bounds: no clock goes back
-  within-after : (event : Event) (due : DueTime) → Spares event due → Within (m .clocks) due → Within (after event) (put event due)
+  within-after : (event : Event) (due : DueTime) → Spares event due → Within (m .limits) (m .clocks) due → Within (m .limits) (after event) (put event due)
   unfolding clocksAfter remaining putOff
   within-after event (byLocal setter at) f h =
-      tasks-after (λ ts. LocalWithin (getD ts setter absentTask) at) (λ ts h. rw (List·getD-map unticked ts setter absentTask) h)
+      tasks-after (λ ts. LocalWithin (m .limits) (getD ts setter absentTask) at) (λ ts h. rw (List·getD-map unticked ts setter absentTask) h)
       event task (m .clocks)
-      (at-set (λ t. LocalWithin t at) (m .clocks .tasks) task setter absentTask (λ e. f e at (rw e at h)) h)
+      (at-set (λ t. LocalWithin (m .limits) t at) (m .clocks .tasks) task setter absentTask (λ e. f e at (rw e at h)) h)
   within-after event (byGlobal setter at) f (most, there) = (
     put-within (advances event task (m .clocks)) (isWaiting (taskAt (after event) setter .state)) at (m .clocks .global) _ most,
     by-test (eqb setter departed) (λ d. rw d) (λ d. rw d (there-after event setter f (rw d at there))),
@@ -90,14 +91,14 @@ module _ (m : Memory) (xs : List Expiration) (new : List ℕ) (task : ℕ) where
   within-after event pinned f h = tt
 
   -- an expiration that is still ahead after the event
-  lasts : (event : Event) (x : Expiration) → Spares event (x .due) → ExpirationKept (m .clocks) (m .objects) x
+  lasts : (event : Event) (x : Expiration) → Spares event (x .due) → ExpirationKept (m .limits) (m .clocks) (m .objects) x
       → isAhead (after event) (put event (x .due)) ≡ true → Lasts event (record { handle = x .handle; due = put event (x .due) })
   lasts event x f k h = record { owned = k .owned; ahead = h; within = within-after event (x .due) f (k .within) }
 
   -- an event with an advance test leaves only those
-  live : (event : Event) (ys : List Expiration) → length ys ≤ limits .expirations
+  live : (event : Event) (ys : List Expiration) → length ys ≤ m .limits .expirations
       → All (λ (x : Expiration). isAhead (after event) (put event (x .due)) ≡ true → Lasts event (record { handle = x .handle; due = put event (x .due) })) ys
-      → ExpirationsKept (after event) (m .objects) (stillLive (advances event task (m .clocks)) (after event) ys)
+      → ExpirationsKept (m .limits) (after event) (m .objects) (stillLive (advances event task (m .clocks)) (after event) ys)
   live event ys r ks =
       let zs = eachDue (put event) ys in
       record {
@@ -110,9 +111,9 @@ module _ (m : Memory) (xs : List Expiration) (new : List ℕ) (task : ℕ) where
   -- one without moves no clock by which an expiration is due, so all are still ahead
   abbrev Still : Event → Type 0
   Still event =
-      (at : ℕ) → LocalWithin before at → (moved event before .clock ≡ before .clock) × (isAbsent (moved event before .state) ≡ false)
+      (at : ℕ) → LocalWithin (m .limits) before at → (moved event before .clock ≡ before .clock) × (isAbsent (moved event before .state) ≡ false)
 
-  ahead-still : (event : Event) → isTested event ≡ false → Still event → (due : DueTime) → Within (m .clocks) due
+  ahead-still : (event : Event) → isTested event ≡ false → Still event → (due : DueTime) → Within (m .limits) (m .clocks) due
       → isAhead (m .clocks) due ≡ true → isAhead (after event) due ≡ true
   unfolding remaining clocksAfter tasksAfter advances
   ahead-still event e f (byLocal setter at) w h =
@@ -127,8 +128,8 @@ module _ (m : Memory) (xs : List Expiration) (new : List ℕ) (task : ℕ) where
   put-still event e (byGlobal setter at) = rw e (ap (byGlobal setter) (omega arith))
   put-still event e pinned = refl
 
-  still : (event : Event) → isTested event ≡ false → Still event → ExpirationsKept (m .clocks) (m .objects) xs
-      → ExpirationsKept (after event) (m .objects) xs
+  still : (event : Event) → isTested event ≡ false → Still event → ExpirationsKept (m .limits) (m .clocks) (m .objects) xs
+      → ExpirationsKept (m .limits) (after event) (m .objects) xs
   still event e f k =
       let spared : (due : DueTime) → Spares event due = λ due own at h. (rw (f at h .0) (h .0), f at h .1) in
       record {
@@ -156,7 +157,7 @@ module _ (m : Memory) (xs : List Expiration) (new : List ℕ) (task : ℕ) where
   left-others known pinned others own = omega (arith, own, known)
 
   -- and all within bounds
-  left-within : task < departed → (due : DueTime) → Within (m .clocks) due → Within (m .clocks) (deserted task due)
+  left-within : task < departed → (due : DueTime) → Within (m .limits) (m .clocks) due → Within (m .limits) (m .clocks) (deserted task due)
   unfolding deserted remaining
   left-within known (byLocal setter at) h = h
   left-within known (byGlobal setter at) (most, there) = by-test (eqb setter task) (λ e. rw e (most, refl)) (λ e. rw e (most, there))
@@ -168,14 +169,14 @@ module _ (m : Memory) (xs : List Expiration) (new : List ℕ) (task : ℕ) where
   left-ahead (byGlobal setter at) h = h
   left-ahead pinned h = refl
 
-  left-kept : task < departed → (x : Expiration) → ExpirationKept (m .clocks) (m .objects) x
-      → ExpirationKept (m .clocks) (m .objects) (record { handle = x .handle; due = deserted task (x .due) })
+  left-kept : task < departed → (x : Expiration) → ExpirationKept (m .limits) (m .clocks) (m .objects) x
+      → ExpirationKept (m .limits) (m .clocks) (m .objects) (record { handle = x .handle; due = deserted task (x .due) })
   left-kept known x k =
       record { owned = k .owned; ahead = left-ahead (x .due) (k .ahead); within = left-within known (x .due) (k .within) }
 
   -- the five events
-  pub expirations-after : (event : Event) → Passed m xs (Schedule event task) new → ExpirationsKept (m .clocks) (m .objects) xs
-      → ExpirationsKept (after event) (m .objects) (lasting event task (advances event task (m .clocks)) (after event) xs)
+  pub expirations-after : (event : Event) → Passed m xs (Schedule event task) new → ExpirationsKept (m .limits) (m .clocks) (m .objects) xs
+      → ExpirationsKept (m .limits) (after event) (m .objects) (lasting event task (advances event task (m .clocks)) (after event) xs)
   unfolding testsOf lasting moved
   expirations-after Join (exists, (absent, end)) k = still Join refl (λ at h. absurd (true≢false (sym (not-false _ absent) ∙ h .1))) k
   expirations-after Resume c k = still Resume refl (λ at h. (refl, refl)) k
@@ -189,9 +190,9 @@ module _ (m : Memory) (xs : List Expiration) (new : List ℕ) (task : ℕ) where
       (all-filter isOthers (λ x e h. lasts Leave _ (λ own. absurd (left-others known (x .due) e own)) (left-kept known x h)) xs (k .each)))
 
 -- the same expirations with other objects
-pub reowned : {clocks : Clocks} {os ps : List Object} {xs : List Expiration}
+pub reowned : {limits : Limits} {clocks : Clocks} {os ps : List Object} {xs : List Expiration}
     → ((x : Expiration) → stands xs (x .handle) ≡ true → isOwned os x ≡ true → isOwned ps x ≡ true)
-    → ExpirationsKept clocks os xs → ExpirationsKept clocks ps xs
+    → ExpirationsKept limits clocks os xs → ExpirationsKept limits clocks ps xs
 reowned {xs} f k =
     record {
       each =
@@ -201,27 +202,27 @@ reowned {xs} f k =
     }
 
 -- with those that stand: the object of an expiration does
-pub expirations-settled : {clocks : Clocks} {os : List Object} {xs : List Expiration} → ExpirationsKept clocks os xs
-    → ExpirationsKept clocks (standing xs os) xs
+pub expirations-settled : {limits : Limits} {clocks : Clocks} {os : List Object} {xs : List Expiration} → ExpirationsKept limits clocks os xs
+    → ExpirationsKept limits clocks (standing xs os) xs
 expirations-settled {os = os} =
     reowned (λ x e o. any-left _ _ (λ (o : Object) d. rw (eqb-true (x .handle) (o .handle) d) at e) os ∙ o)
 
 -- a due that a call sets is ahead and within bounds
-new-due : (clocks : Clocks) (task extension : ℕ) (kind : Kind) → isAbsent (taskAt clocks task .state) ≡ false
-    → extension ≤ mostExtension kind
-    → (isAhead clocks (dueAfter clocks task kind extension) ≡ true) × Within clocks (dueAfter clocks task kind extension)
+new-due : (limits : Limits) (clocks : Clocks) (task extension : ℕ) (kind : Kind) → isAbsent (taskAt clocks task .state) ≡ false
+    → extension ≤ mostExtension limits kind
+    → (isAhead clocks (dueAfter clocks task kind extension) ≡ true) × Within limits clocks (dueAfter clocks task kind extension)
 unfolding dueAfter remaining
-new-due clocks task extension Local present h = (lt-ltb 0 (taskAt clocks task .clock + extension + 1 - taskAt clocks task .clock) (omega arith), (omega (arith, h), present))
-new-due clocks task extension Global present h = (lt-ltb 0 (clocks .global + extension + 2 - clocks .global) (omega arith), (omega (arith, h), rw (present, or-true)))
-new-due clocks task extension Pinned present h = (refl, tt)
+new-due limits clocks task extension Local present h = (lt-ltb 0 (taskAt clocks task .clock + extension + 1 - taskAt clocks task .clock) (omega arith), (omega (arith, h), present))
+new-due limits clocks task extension Global present h = (lt-ltb 0 (clocks .global + extension + 2 - clocks .global) (omega arith), (omega (arith, h), rw (present, or-true)))
+new-due limits clocks task extension Pinned present h = (refl, tt)
 
-pub expirations-set : {clocks : Clocks} {os : List Object} {xs : List Expiration} (task : ℕ) (kind : Kind) (extension handle : ℕ)
-    → isAbsent (taskAt clocks task .state) ≡ false → ltb (mostExtension kind) extension ≡ false
+pub expirations-set : {limits : Limits} {clocks : Clocks} {os : List Object} {xs : List Expiration} (task : ℕ) (kind : Kind) (extension handle : ℕ)
+    → isAbsent (taskAt clocks task .state) ≡ false → ltb (mostExtension limits kind) extension ≡ false
     → length xs < limits .expirations
-    → isOwned os (record { handle = handle; due = dueAfter clocks task kind extension }) ≡ true → ExpirationsKept clocks os xs
-    → ExpirationsKept clocks os (record { handle = handle; due = dueAfter clocks task kind extension } ∷ xs)
-expirations-set {clocks} task kind extension handle present short room owned k =
-    let (ahead, within) = new-due clocks task extension kind present (ltb-false _ _ short) in
+    → isOwned os (record { handle = handle; due = dueAfter clocks task kind extension }) ≡ true → ExpirationsKept limits clocks os xs
+    → ExpirationsKept limits clocks os (record { handle = handle; due = dueAfter clocks task kind extension } ∷ xs)
+expirations-set {limits} {clocks} task kind extension handle present short room owned k =
+    let (ahead, within) = new-due limits clocks task extension kind present (ltb-false _ _ short) in
     record { each = (record { owned = owned; ahead = ahead; within = within }, k .each); room = room }
 
 -- an object of the list has this handle: it owns what is set on the handle
@@ -229,11 +230,11 @@ abbrev pub isListed : ℕ → List Object → Bool
 isListed handle os = any (λ (o : Object). eqb handle (o .handle)) os
 
 -- and on each object of a batch, where there is room for all
-pub expirations-set-each : {clocks : Clocks} {os : List Object} (task : ℕ) (kind : Kind) (extension : ℕ)
-    → isAbsent (taskAt clocks task .state) ≡ false → ltb (mostExtension kind) extension ≡ false
+pub expirations-set-each : {limits : Limits} {clocks : Clocks} {os : List Object} (task : ℕ) (kind : Kind) (extension : ℕ)
+    → isAbsent (taskAt clocks task .state) ≡ false → ltb (mostExtension limits kind) extension ≡ false
     → (handles : List ℕ) (xs : List Expiration) → length xs + length handles ≤ limits .expirations
     → All (λ (handle : ℕ). isListed handle os ≡ true) handles
-    → ExpirationsKept clocks os xs → ExpirationsKept clocks os (setOnEach (dueAfter clocks task kind extension) handles xs)
+    → ExpirationsKept limits clocks os xs → ExpirationsKept limits clocks os (setOnEach (dueAfter clocks task kind extension) handles xs)
 unfolding setOnEach
 expirations-set-each task kind extension present short [] xs room owned k = k
 expirations-set-each task kind extension present short (h ∷ hs) xs room (owned, rest) k =
@@ -241,8 +242,8 @@ expirations-set-each task kind extension present short (h ∷ hs) xs room (owned
     (expirations-set task kind extension h present short (omega (arith, room)) owned k)
 
 -- a release ends the pinned one
-pub expirations-released : {clocks : Clocks} {os : List Object} {xs : List Expiration} (handle : ℕ) → ExpirationsKept clocks os xs
-    → ExpirationsKept clocks os (released handle xs)
+pub expirations-released : {limits : Limits} {clocks : Clocks} {os : List Object} {xs : List Expiration} (handle : ℕ) → ExpirationsKept limits clocks os xs
+    → ExpirationsKept limits clocks os (released handle xs)
 unfolding released
 expirations-released {xs = xs} handle k =
     let others : Expiration → Bool = λ x. not (isPinOf handle x) in

@@ -20,6 +20,7 @@ use Rattle.ledger.specs.Limits.{smallSize, largeSize, lastHandle, isSmal
 use Rattle.ledger.specs.Expirations.{Expiration}
 use Rattle.ledger.specs.Objects.{Object, zeroed, isIntact, objectAt, written, stands, standing, inStoreOf}
 use Rattle.ledger.specs.Kept.{ObjectKept, Ascending, ObjectsKept}
+use Rattle.ledger.specs.declared.Limits.{Limits}
 
 -- the order of handles stays when some go
 ascending-filter : (p : Object → Bool) (os : List Object) → Ascending os → Ascending (filter p os)
@@ -47,8 +48,8 @@ only Q handle (o ∷ os) (l, a) h =
     (λ e. (λ d. absurd (true≢false (sym d ∙ e)), only Q handle os a (rw e at h)))
 
 -- objects without an expiration go
-pub objects-settled : {given : ℕ} {os : List Object} (xs : List Expiration) → ObjectsKept given os
-    → ObjectsKept given (standing xs os)
+pub objects-settled : {limits : Limits} {given : ℕ} {os : List Object} (xs : List Expiration) → ObjectsKept limits given os
+    → ObjectsKept limits given (standing xs os)
 objects-settled {os = os} xs k =
     record {
       each = all-filter (λ (o : Object). stands xs (o .handle)) (λ o e h. h) os (k .each);
@@ -76,10 +77,10 @@ stored true s l small large h g e = omega (arith, leb-false small s e)
 stored false s l small large h g e = omega (arith, leb-false large l e)
 
 -- one is made
-pub objects-made : {given : ℕ} {os : List Object} (size : ℕ) → (eqb size 0 || ltb largeSize size) ≡ false
-    → leb lastHandle given ≡ false → leb (blocksFor size) (inStoreOf size os) ≡ false → ObjectsKept given os
-    → ObjectsKept (given + 1) (os ++ (zeroed (given + 1) size ∷ []))
-objects-made {given} {os} size range spent full k =
+pub objects-made : {limits : Limits} {given : ℕ} {os : List Object} (size : ℕ) → (eqb size 0 || ltb largeSize size) ≡ false
+    → leb lastHandle given ≡ false → leb (blocksFor limits size) (inStoreOf size os) ≡ false → ObjectsKept limits given os
+    → ObjectsKept limits (given + 1) (os ++ (zeroed (given + 1) size ∷ []))
+objects-made {given = given} {os = os} size range spent full k =
     let room = stored (isSmall size) _ _ _ _ (k .small) (k .large) full in
     record {
       each =
@@ -128,10 +129,10 @@ module _ (handle offset : ℕ) (new : List ℕ) where
   ascending-written [] a = tt
   ascending-written (o ∷ os) (l, a) = (all-map _ (written handle offset new) os l, ascending-written os a)
 
-  pub objects-written : {given : ℕ} {os : List Object} → ltb (objectAt handle os .size) (offset + length new) ≡ false
-      → ObjectsKept given os → ObjectsKept given (map (written handle offset new) os)
+  pub objects-written : {limits : Limits} {given : ℕ} {os : List Object} → ltb (objectAt handle os .size) (offset + length new) ≡ false
+      → ObjectsKept limits given os → ObjectsKept limits given (map (written handle offset new) os)
   unfolding written
-  objects-written {given} {os} e k =
+  objects-written {given = given} {os = os} e k =
       let fits = only (λ o. offset + length new ≤ o .size) handle os (k .ascending) (ltb-false _ _ e) in
       record {
         each = all-map (ObjectKept given) (written handle offset new) os (all-both (written-kept given) os (k .each) fits);

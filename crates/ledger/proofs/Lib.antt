@@ -4,6 +4,7 @@ pub mod Standing
 pub mod Verdicts
 pub mod Demand3
 pub mod Edges
+pub mod Chosen
 pub mod PutOff
 pub mod KeptTasks
 pub mod KeptObjects

@@ -136,6 +136,6 @@ notices =
       others = λ c ss s u.
           let k = beside-all (c .handle) ss (c .before) (changed c) (start c) in
           rw (answered (c .handle) _ _ k s, u);
-      never = λ ss. never-from ss fresh kept-fresh;
-      neverHeap = λ us. heap-never us freshMemory tt;
+      never = λ limits ss. never-from ss (fresh limits) (kept-fresh limits);
+      neverHeap = λ limits us. heap-never us (freshMemory limits) tt;
     }

@@ -6,7 +6,7 @@ use Rattle.lists.specs.Sums.{total}
 use Rattle.lists.specs.Blocks.{overwritten}
 use Rattle.lists.specs.Tests.{all}
 use Rattle.lists.proofs.Tests.{all→All}
-use Rattle.ledger.specs.Limits.{counterRange, limits, lastHandle}
+use Rattle.ledger.specs.Limits.{counterRange, standard, lastHandle}
 use Rattle.ledger.specs.Tasks.{freshClocks, moved, allTicked, tasksAfter, advances, clocksAfter}
 use Rattle.ledger.specs.Expirations.{dueAfter, remaining, putOff, lasting, released, setOnEach}
 use Rattle.ledger.specs.Objects.{freshMemory, objectAt, written, replyTo, memoryAfter, expirationsAfter, handlesOf, usage}
@@ -21,7 +21,7 @@ all-pass : T (all passes noticedEdges)
 unfolding passes noticedEdges threeObjects disturbed fresh reply next replies afterAll testsOf verdict
     freshMemory objectAt written overwritten total replyTo memoryAfter expirationsAfter handlesOf setOnEach usage dueAfter remaining remainingLife putOff lasting released
     freshClocks moved allTicked tasksAfter advances clocksAfter
-    limits lastHandle counterRange
+    standard lastHandle counterRange
 all-pass = tt
 
 -- the first of them is such a change
@@ -29,7 +29,7 @@ one : Change
 unfolding threeObjects fresh next afterAll testsOf verdict
     freshMemory objectAt written overwritten total memoryAfter expirationsAfter handlesOf setOnEach dueAfter lasting released
     freshClocks moved allTicked tasksAfter advances clocksAfter
-    limits lastHandle
+    standard lastHandle
 one =
     record {
       before = threeObjects;

@@ -8,7 +8,7 @@ use Rattle.lists.specs.Sums.{total}
 use Rattle.lists.specs.Blocks.{overwritten}
 use Rattle.lists.specs.Tests.{all}
 use Rattle.lists.proofs.Tests.{both, sameBy, sameBy→eq, all→All}
-use Rattle.ledger.specs.Limits.{limits, lastHandle}
+use Rattle.ledger.specs.Limits.{standard, lastHandle}
 use Rattle.ledger.specs.Tasks.{freshClocks, moved, allTicked, tasksAfter, advances, clocksAfter}
 use Rattle.ledger.specs.Expirations.{byGlobal, dueAfter, remaining, putOff, deserted, lasting, released, setOnEach}
 use Rattle.ledger.specs.Objects.{freshMemory, objectAt, written, memoryAfter, expirationsAfter, handlesOf}
@@ -38,7 +38,7 @@ all-pass : T (all passes trials)
 unfolding passes trials fresh next afterAll testsOf verdict moveOf moveIn setIn followed countOf isRound isFree
     freshMemory objectAt written overwritten total memoryAfter expirationsAfter handlesOf setOnEach dueAfter remaining putOff deserted lasting released
     freshClocks moved allTicked tasksAfter advances clocksAfter
-    limits lastHandle
+    standard lastHandle
 all-pass = tt
 
 pub trials-hold : TrialsHold
@@ -47,9 +47,10 @@ trials-hold = record { twelve = refl; each = all→All passes passing-holds tria
 
 -- task 0 makes an object with a global expiration of extension 1, two tasks being there
 setting : Setting
-unfolding fresh next afterAll testsOf verdict setIn freshMemory memoryAfter expirationsAfter dueAfter freshClocks moved allTicked tasksAfter advances clocksAfter limits lastHandle lasting
+unfolding fresh next afterAll testsOf verdict setIn freshMemory memoryAfter expirationsAfter dueAfter freshClocks moved allTicked tasksAfter advances clocksAfter standard lastHandle lasting
 setting =
     record {
+      limits = standard;
       earlier = join 0 ∷ join 1 ∷ [];
       call = make 0 Global 1 4;
       setter = 0;
@@ -65,7 +66,7 @@ pub claims-apply : ClaimsApply
 unfolding setting fresh next afterAll testsOf verdict moveOf moveIn setIn followed countOf isRound isFree areRounds
     freshMemory memoryAfter expirationsAfter dueAfter remaining putOff lasting
     freshClocks moved allTicked tasksAfter advances clocksAfter
-    limits lastHandle
+    standard lastHandle
 claims-apply =
     let round : Stretch = record { between = []; round = tick 0 ∷ tick 1 ∷ [] } in
     record {

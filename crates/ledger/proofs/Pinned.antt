@@ -105,7 +105,7 @@ unfolding reply next replyTo memoryAfter
 made p = by (verdictOn L call (p .bytes)) (p .answered)
   where
     L : Ledger
-    L = afterAll fresh (p .earlier)
+    L = afterAll (fresh (p .limits)) (p .earlier)
 
     call : Call
     call = Make (p .task) Pinned (p .extension) (p .size)
@@ -118,7 +118,7 @@ made p = by (verdictOn L call (p .bytes)) (p .answered)
 pub stands-until : StandsUntilReleased
 stands-until p ss e =
     let M = whenMade p in
-    let k = kept-after ss M (kept-request (afterAll fresh (p .earlier)) (kept-all (p .earlier)) (madeBy p .request) (p .bytes)) in
+    let k = kept-after ss M (kept-request (afterAll (fresh (p .limits)) (p .earlier)) (kept-all (p .limits) (p .earlier)) (madeBy p .request) (p .bytes)) in
     let here = pinned-stands (p .object) (afterAll M ss) k (pinned-all (p .object) ss M e (made p)) in
     (here, λ task. read-stands (afterAll M ss) task (p .object) here)
 

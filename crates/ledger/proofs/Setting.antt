@@ -76,12 +76,12 @@ all-middle P (y ∷ ys) x back (h, hs) = all-middle P ys x back hs
 pub set-now : (d : Setting) → (isAbsent (taskAt (whenSet d .memory .clocks) (d .setter) .state) ≡ false)
     × (d .date .due ≡ dueAfter (whenSet d .memory .clocks) (d .setter) Global (d .extension))
 set-now d =
-    let L = afterAll fresh (d .earlier) in
+    let L = afterAll (fresh (d .limits)) (d .earlier) in
     let (there, still) = all-middle _ (d .front) (d .date) (d .back) (rw (d .among) at (new-in L (d .call .request) (d .call .bytes))) (d .setter) (d .extension) (d .due) in
     rw (clocks-moved L (d .call .request) (d .call .bytes), still) (there, d .due)
 
 pub kept-set : (d : Setting) → Kept (whenSet d)
-kept-set d = kept-request (afterAll fresh (d .earlier)) (kept-all (d .earlier)) (d .call .request) (d .call .bytes)
+kept-set d = kept-request (afterAll (fresh (d .limits)) (d .earlier)) (kept-all (d .limits) (d .earlier)) (d .call .request) (d .call .bytes)
 
 module _ (p : Expiration → Bool) where
   -- what is found in what is left of the ledger's expirations is found in the ledger
@@ -104,7 +104,7 @@ module _ (p : Expiration → Bool) where
 pub object-stands : (d : Setting) (ss : List Sent) → stands (followed (whenSet d) ss (d .date ∷ [])) (d .date .handle) ≡ true
     → isOwned (afterAll (whenSet d) ss .memory .objects) (d .date) ≡ true
 object-stands d ss e =
-    let L = afterAll fresh (d .earlier) in
+    let L = afterAll (fresh (d .limits)) (d .earlier) in
     let M = whenSet d in
     let N = afterAll M ss in
     let h : any (isOf (d .date .handle)) (N .expirations) ≡ true =

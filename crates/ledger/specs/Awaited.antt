@@ -12,6 +12,7 @@ use Rattle.ledger.specs.Ledger.{Ledger, Sent, fresh, verdictOn, afterReq
 use Rattle.ledger.specs.declared.Call.{Call}
 use Rattle.ledger.specs.declared.Call.the-variants.{Schedule, Make, Refresh, Read, Write, Batch, Release}
 use Rattle.ledger.specs.declared.Event.{Event}
+use Rattle.ledger.specs.declared.Limits.{Limits}
 use Rattle.ledger.specs.declared.Refusal.{Refusal}
 use Rattle.ledger.specs.declared.Request.{Request}
 use Rattle.ledger.specs.declared.Request.the-variants.{Use, Report, Remaining}
@@ -67,4 +68,4 @@ pub record Awaited : Type 0 where
   -- so over any list of calls it grows by as many as these are;
   pub every : (L : Ledger) (ss : List Sent) → globalOf (afterAll L ss) ≡ globalOf L + advancesIn L ss
   -- and from fresh on, between two calls, somebody is awaited wherever some task runs: such a call empties a set that was not empty
-  pub between : (ss : List Sent) → isNobodyAwaited (afterAll fresh ss .memory .clocks .tasks) ≡ false
+  pub between : (limits : Limits) (ss : List Sent) → isNobodyAwaited (afterAll (fresh limits) ss .memory .clocks .tasks) ≡ false

@@ -8,6 +8,7 @@ use Rattle.ledger.specs.Tasks.{Task, Clocks}
 use Rattle.ledger.specs.Expirations.{DueTime, byLocal, byGlobal, pinned, Expiration, remaining}
 use Rattle.ledger.specs.Objects.{Object}
 use Rattle.ledger.specs.Ledger.{Ledger}
+use Rattle.ledger.specs.declared.Limits.{Limits}
 
 -- L5: a time by its remainder
 abbrev pub wrapped : ℕ → ℕ
@@ -39,6 +40,7 @@ abbrev pub shownObject : (ℕ → Bool) → Object → Object
 shownObject isWhole o = record { handle = o .handle; size = o .size; bytes = cond (isWhole (o .size)) (o .bytes) []; sum = o .sum }
 
 pub record View : Type 0 where
+  pub limits : Limits
   pub tasks : List Task
   pub global : ℕ
   pub given : ℕ
@@ -49,6 +51,7 @@ unfoldable pub viewOf : (ℕ → Bool) → Ledger → View
 viewOf isWhole L =
     let m = L .memory in
     record {
+      limits = m .limits;
       tasks = map wrappedTask (m .clocks .tasks);
       global = wrapped (m .clocks .global);
       given = m .given;
@@ -56,8 +59,9 @@ viewOf isWhole L =
       expirations = map (shown (m .clocks)) (L .expirations);
     }
 
--- L8: places are free, and so is the order of expirations
+-- L8: the figures are compared as they are; places are free, and so is the order of expirations
 pub record Alike (v w : View) : Type 0 where
+  pub limits : v .limits ≡ w .limits
   pub tasks : v .tasks ≡ w .tasks
   pub global : v .global ≡ w .global
   pub given : v .given ≡ w .given

@@ -3,6 +3,7 @@ use mathlib.Core.List.{List, [], _∷_}
 use mathlib.Core.Path.{_≡_}
 use lib.ListN.{length}
 use Rattle.lists.specs.Tests.{All}
+use Rattle.ledger.specs.Limits.{standard}
 use Rattle.ledger.specs.Ledger.{fresh}
 use Rattle.ledger.specs.Rows.{join, leave, block, tick, make, refresh, read, write, report, refused, done, standsStill, advanced, handle, zeros, figures, _⇒_, _⨾_, _times_, makeSmall, Row, _runs_clockReads_, RowHolds, lateStart}
 use Rattle.ledger.specs.declared.Kind.the-variants.{Local, Global}
@@ -10,7 +11,7 @@ use Rattle.ledger.specs.declared.Kind.the-variants.{Local, Global}
 unfoldable pub edges : List Row
 edges =
     -- 1. A local expiration of extension 0 ends with the next tick of its setter (E4, E8). Another's tick does not end it.
-    fresh runs
+    fresh standard runs
     join 0 ⇒ done ⨾
     join 1 ⇒ done ⨾
     make 0 Local 0 4 ⇒ handle 1 ⨾
@@ -20,7 +21,7 @@ edges =
     read 0 1 ⇒ refused 12
     clockReads 1 ∷
     -- 2. One of extension 30 outlasts 30 ticks, and not 31 (E4).
-    fresh runs
+    fresh standard runs
     join 0 ⇒ done ⨾
     make 0 Local 30 4 ⇒ handle 1 ⨾
     read 0 1 ⇒ zeros 4 ⨾
@@ -30,7 +31,7 @@ edges =
     read 0 1 ⇒ refused 12
     clockReads 31 ∷
     -- 3. A global one of extension 0 outlasts one advance, and not two (E5, E11).
-    fresh runs
+    fresh standard runs
     join 0 ⇒ done ⨾
     make 0 Global 0 4 ⇒ handle 1 ⨾
     read 0 1 ⇒ zeros 4 ⨾
@@ -40,7 +41,7 @@ edges =
     read 0 1 ⇒ refused 12
     clockReads 2 ∷
     -- 4. Of two tasks both must have ticked for an advance (T16). The next tick of 0 makes none: no task is ticked after it (T18).
-    fresh runs
+    fresh standard runs
     join 0 ⇒ done ⨾
     join 1 ⇒ done ⨾
     2 times tick 0 ⇒ standsStill ⨾
@@ -48,7 +49,7 @@ edges =
     tick 0 ⇒ standsStill
     clockReads 3 ∷
     -- 5. A block advances where all that still run have ticked (T14, T15). So does a leave, and either ends the global ones that are due (E11).
-    fresh runs
+    fresh standard runs
     join 0 ⇒ done ⨾
     make 0 Global 0 4 ⇒ handle 1 ⨾
     tick 0 ⇒ advanced ⨾
@@ -66,7 +67,7 @@ edges =
     read 0 2 ⇒ refused 12
     clockReads 3 ∷
     -- 6. A block after which no task runs does not advance (T16). Task 1 waits and is not counted.
-    fresh runs
+    fresh standard runs
     join 0 ⇒ done ⨾
     join 1 ⇒ done ⨾
     block 1 ⇒ standsStill ⨾
@@ -74,7 +75,7 @@ edges =
     block 0 ⇒ standsStill
     clockReads 1 ∷
     -- 7. Where small ends and large begins (O7), and which lengths there are (R7).
-    fresh runs
+    fresh standard runs
     join 0 ⇒ done ⨾
     make 0 Local 30 32 ⇒ handle 1 ⨾
     report ⇒ figures 1 0 1 1 ⨾
@@ -85,7 +86,7 @@ edges =
     clockReads 0 ∷
     -- 8. A full small store gives 9, and the large one still has room (O8, R9). With that 256 expirations stand, and 9 is seen to come before 10 (R40).
     -- (The refreshes come early: with 65 objects standing they would take the check past its step limit.)
-    fresh runs
+    fresh standard runs
     join 0 ⇒ done ⨾
     makeSmall 1 1 ⨾
     191 times refresh 0 1 Local 30 ⇒ done ⨾
@@ -97,7 +98,7 @@ edges =
     make 0 Local 30 33 ⇒ refused 10
     clockReads 0 ∷
     -- 9. Expirations have room for 256 (R10), and for one more as soon as one has ended (E14).
-    fresh runs
+    fresh standard runs
     join 0 ⇒ done ⨾
     make 0 Local 0 4 ⇒ handle 1 ⨾
     255 times refresh 0 1 Global 30 ⇒ done ⨾
@@ -108,7 +109,7 @@ edges =
     refresh 0 1 Global 30 ⇒ done
     clockReads 1 ∷
     -- 10. At the very end of an object a write of nothing is accepted, and one of a byte is not (O22, R13).
-    fresh runs
+    fresh standard runs
     join 0 ⇒ done ⨾
     make 0 Local 0 4 ⇒ handle 1 ⨾
     write 0 1 4 [] ⇒ done ⨾
@@ -116,7 +117,7 @@ edges =
     read 0 1 ⇒ zeros 4
     clockReads 0 ∷
     -- 11. A leaver's local expirations end (E9); an object that has another's as well stands on (O2).
-    fresh runs
+    fresh standard runs
     join 0 ⇒ done ⨾
     join 1 ⇒ done ⨾
     make 1 Local 30 4 ⇒ handle 1 ⨾
@@ -128,7 +129,7 @@ edges =
     report ⇒ figures 1 0 1 2
     clockReads 0 ∷
     -- 12. 12 is tested before 13, and 11 before both (R43).
-    fresh runs
+    fresh standard runs
     join 0 ⇒ done ⨾
     make 0 Local 0 4 ⇒ handle 1 ⨾
     tick 0 ⇒ advanced ⨾

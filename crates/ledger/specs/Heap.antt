@@ -9,7 +9,7 @@ use lib.Dec.{eqb, leb, ltb}
 use lib.ListN.{length}
 use Rattle.lists.specs.Tests.{all}
 use Rattle.ledger.specs.Numbers.{numberOf}
-use Rattle.ledger.specs.Limits.{limits, blocksFor}
+use Rattle.ledger.specs.Limits.{blocksFor}
 use Rattle.ledger.specs.Expirations.{Expiration}
 use Rattle.ledger.specs.Objects.{Memory, Reply, freshMemory, stands, standing, inStoreOf, replyTo, memoryAfter, expirationsAfter, handlesOf}
 use Rattle.ledger.specs.Refusals.{testsOf, heapVerdict}
@@ -18,6 +18,7 @@ use Rattle.ledger.specs.declared.Request.the-variants.{Use}
 use Rattle.ledger.specs.declared.Call.{Call}
 use Rattle.ledger.specs.declared.Call.the-variants.{Schedule, Make, Refresh, Read, Write, Batch, Release}
 use Rattle.ledger.specs.declared.Refusal.{Refusal}
+use Rattle.ledger.specs.declared.Limits.{Limits}
 
 -- H3: the heap is a memory that never takes an object back.
 abbrev pub heapVerdictOn : Memory → Call → List ℕ → Option Refusal
@@ -38,6 +39,10 @@ unfoldable pub heapReplies : Memory → List Used → List Reply
 heapReplies m [] = []
 heapReplies m (u ∷ us) = heapReply m (u .call) (u .bytes) ∷ heapReplies (heapNext m (u .call) (u .bytes)) us
 
+unfoldable pub heapAfterAll : Memory → List Used → Memory
+heapAfterAll m [] = m
+heapAfterAll m (u ∷ us) = heapAfterAll (heapNext m (u .call) (u .bytes)) us
+
 -- H7: the book is the expirations standing by the heap's clocks; the lengths and sums that it has are the heap's.
 -- H6: what the heap refuses leaves the book as it is
 unfoldable pub bookNext : Memory → List Expiration → Call → List ℕ → List Expiration
@@ -47,14 +52,14 @@ bookNext m book call new = afterBy (heapVerdictOn m call new) (expirationsAfter 
 unfoldable pub isInTimeAndBounds : Memory → List Expiration → Call → List ℕ → Bool
 isInTimeAndBounds m book (Schedule event task) new = true
 isInTimeAndBounds m book (Make task kind extension size) new =
-    ltb (inStoreOf size (standing book (m .objects))) (blocksFor size) && ltb (length book) (limits .expirations)
+    ltb (inStoreOf size (standing book (m .objects))) (blocksFor (m .limits) size) && ltb (length book) (m .limits .expirations)
 isInTimeAndBounds m book (Refresh task kind extension handle) new =
-    stands book handle && ltb (length book) (limits .expirations)
+    stands book handle && ltb (length book) (m .limits .expirations)
 isInTimeAndBounds m book (Read task handle) new = stands book handle
 isInTimeAndBounds m book (Write task handle offset) new = stands book handle
 isInTimeAndBounds m book (Batch task kind extension) new =
     let handles = handlesOf new in
-    all (stands book) handles && leb (length book + length handles) (limits .expirations)
+    all (stands book) handles && leb (length book + length handles) (m .limits .expirations)
 isInTimeAndBounds m book (Release task handle) new = stands book handle
 
 -- H14, H15, H24: a call that the heap refuses is left aside, but not a write that runs past its object nor a release of what is not pinned
@@ -73,7 +78,8 @@ allInTimeAndBounds m book (u ∷ us) =
 abbrev pub sent : Used → Sent
 sent u = record { request = Use (u .call); bytes = u .bytes }
 
--- Demand 3: for every list of the eleven calls, ledger and heap answer alike exactly when all use was in time and in bounds.
+-- Demand 3: whatever the figures, for every list of the eleven calls, ledger and heap answer alike exactly when all use was in time and in bounds.
 abbrev pub Demand3 : Type 0
 Demand3 =
-    (us : List Used) → (replies fresh (map sent us) ≡ heapReplies freshMemory us) ↔ (allInTimeAndBounds freshMemory [] us ≡ true)
+    (limits : Limits) (us : List Used)
+    → (replies (fresh limits) (map sent us) ≡ heapReplies (freshMemory limits) us) ↔ (allInTimeAndBounds (freshMemory limits) [] us ≡ true)

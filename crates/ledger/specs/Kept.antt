@@ -6,11 +6,12 @@ use mathlib.Core.Path.{_≡_}
 use lib.Dec.{eqb}
 use lib.ListN.{length}
 use Rattle.lists.specs.Tests.{any, count, All}
-use Rattle.ledger.specs.Limits.{limits, taskCount, largeSize, lastHandle, blockSize}
+use Rattle.ledger.specs.Limits.{taskCount, largeSize, lastHandle, blockSize}
 use Rattle.ledger.specs.Tasks.{Task, Clocks, taskAt, isAbsent, isRunning, allTicked}
 use Rattle.ledger.specs.Expirations.{DueTime, byLocal, byGlobal, pinned, departed, Expiration, remaining, isLive, isOf, isPinOf}
 use Rattle.ledger.specs.Objects.{Object, isIntact, stands, smallOnes, largeOnes}
 use Rattle.ledger.specs.Ledger.{Ledger}
+use Rattle.ledger.specs.declared.Limits.{Limits}
 
 -- W9, W11: who is ticked runs, and an absent task has local time 0
 pub record TaskKept (t : Task) : Type 0 where
@@ -38,35 +39,35 @@ abbrev pub Ascending : List Object → Type 0
 Ascending [] = Unit
 Ascending (o ∷ os) = All (λ (p : Object). o .handle < p .handle) os × Ascending os
 
-pub record ObjectsKept (given : ℕ) (os : List Object) : Type 0 where
+pub record ObjectsKept (limits : Limits) (given : ℕ) (os : List Object) : Type 0 where
   pub each : All (ObjectKept given) os
   pub ascending : Ascending os
   -- O15: no more handles than there are; O5, O6: and no more blocks
   pub numbers : given ≤ lastHandle
-  pub small : smallOnes os ≤ limits .smallBlocks
-  pub large : largeOnes os ≤ limits .largeBlocks
+  pub small : smallOnes os ≤ limits .small
+  pub large : largeOnes os ≤ limits .large
 
 -- W6 to W8, W14: no more remains than the largest extension gives, and the setter is there; that of a global one may have departed
-abbrev pub Within : Clocks → DueTime → Type 0
-Within clocks (byLocal setter at) =
+abbrev pub Within : Limits → Clocks → DueTime → Type 0
+Within limits clocks (byLocal setter at) =
     (remaining clocks (byLocal setter at) ≤ limits .extension + 1) × (isAbsent (taskAt clocks setter .state) ≡ false)
-Within clocks (byGlobal setter at) =
+Within limits clocks (byGlobal setter at) =
     (remaining clocks (byGlobal setter at) ≤ limits .extension + 2)
     × ((eqb setter departed || not (isAbsent (taskAt clocks setter .state))) ≡ true)
-Within clocks pinned = Unit
+Within limits clocks pinned = Unit
 
 -- the expiration is one of an object of the list
 abbrev pub isOwned : List Object → Expiration → Bool
 isOwned os x = any (λ (o : Object). isOf (o .handle) x) os
 
 -- W1: it is of an object that stands; W6, W8: something remains of it, where it is not pinned
-pub record ExpirationKept (clocks : Clocks) (os : List Object) (x : Expiration) : Type 0 where
+pub record ExpirationKept (limits : Limits) (clocks : Clocks) (os : List Object) (x : Expiration) : Type 0 where
   pub owned : isOwned os x ≡ true
   pub ahead : isLive clocks x ≡ true
-  pub within : Within clocks (x .due)
+  pub within : Within limits clocks (x .due)
 
-pub record ExpirationsKept (clocks : Clocks) (os : List Object) (xs : List Expiration) : Type 0 where
-  pub each : All (ExpirationKept clocks os) xs
+pub record ExpirationsKept (limits : Limits) (clocks : Clocks) (os : List Object) (xs : List Expiration) : Type 0 where
+  pub each : All (ExpirationKept limits clocks os) xs
   -- E14: they have room
   pub room : length xs ≤ limits .expirations
 
@@ -80,8 +81,8 @@ PinnedOnceKept xs = (handle : ℕ) → count (isPinOf handle) xs ≤ 1
 
 pub record Kept (L : Ledger) : Type 0 where
   pub clocks : ClocksKept (L .memory .clocks)
-  pub objects : ObjectsKept (L .memory .given) (L .memory .objects)
-  pub expirations : ExpirationsKept (L .memory .clocks) (L .memory .objects) (L .expirations)
+  pub objects : ObjectsKept (L .memory .limits) (L .memory .given) (L .memory .objects)
+  pub expirations : ExpirationsKept (L .memory .limits) (L .memory .clocks) (L .memory .objects) (L .expirations)
   pub pins : PinsKept (L .memory .pinned) (L .expirations)
   pub once : PinnedOnceKept (L .expirations)
   -- W2: each object has an expiration

@@ -11,8 +11,9 @@ use Rattle.ledger.specs.declared.Call.{Call}
 use Rattle.ledger.specs.declared.Refusal.{Refusal}
 use Rattle.ledger.specs.declared.Request.{Request}
 use Rattle.ledger.specs.declared.Request.the-variants.{Use, Report, Remaining}
+use Rattle.ledger.specs.declared.Limits.{Limits}
 
--- L1: tasks, times, handles given, objects and what is pinned are its memory; the expirations stand beside it
+-- L1: figures, tasks, times, handles given, objects and what is pinned are its memory; the expirations stand beside it
 pub record Ledger : Type 0 where
   pub memory : Memory
   pub expirations : List Expiration
@@ -21,12 +22,12 @@ pub record Ledger : Type 0 where
 abbrev pub settled : Memory → List Expiration → Ledger
 settled m xs =
     record {
-      memory = record { clocks = m .clocks; given = m .given; objects = standing xs (m .objects); pinned = m .pinned };
+      memory = record { limits = m .limits; clocks = m .clocks; given = m .given; objects = standing xs (m .objects); pinned = m .pinned };
       expirations = xs;
     }
 
-unfoldable pub fresh : Ledger
-fresh = record { memory = freshMemory; expirations = [] }
+unfoldable pub fresh : Limits → Ledger
+fresh limits = record { memory = freshMemory limits; expirations = [] }
 
 -- a refused call is answered with its refusal
 abbrev pub replyBy : Option Refusal → Reply → Reply

@@ -14,6 +14,7 @@ pub mod Outlives
 pub mod Rows
 pub mod Edges
 pub mod MoreEdges
+pub mod Chosen
 pub mod PutOff
 pub mod OutlivesRows
 pub mod Pinned

@@ -1,22 +1,29 @@
 -- Document 01's figures, each written once.
 use Prim.Native.Nat.{ℕ}
-use mathlib.Core.Bool.{Bool, cond}
+use mathlib.Core.Bool.{Bool, cond, _&&_}
 use lib.Dec.{leb}
+use Rattle.ledger.specs.declared.Limits.{Limits}
 
--- the four that a site may come to choose
-pub record Limits : Type 0 where
-  pub smallBlocks : ℕ
-  pub largeBlocks : ℕ
-  pub expirations : ℕ
-  pub extension : ℕ
+-- C1: the four that a site chooses
+abbrev pub chosen : (small large expirations extension : ℕ) → Limits
+chosen small large expirations extension = record { small = small; large = large; expirations = expirations; extension = extension }
 
--- the largest of each; the record's tables have room for as many
+-- C3: the largest of each; the record's tables have room for as many
 abbrev pub capacity : Limits
-capacity = record { smallBlocks = 64; largeBlocks = 32; expirations = 256; extension = 30 }
+capacity = chosen 64 32 256 30
 
--- 01's: the two agree
-unfoldable pub limits : Limits
-limits = capacity
+-- C4: 01's, which the programs and the worked cases have: the largest of each
+unfoldable pub standard : Limits
+standard = capacity
+
+-- C3: a figure from least to most, and the four that a site may choose
+abbrev pub isWithin : ℕ → ℕ → ℕ → Bool
+isWithin least most figure = leb least figure && leb figure most
+
+unfoldable pub isAllowed : Limits → Bool
+isAllowed limits =
+    isWithin 1 (capacity .small) (limits .small) && isWithin 1 (capacity .large) (limits .large)
+    && isWithin 1 (capacity .expirations) (limits .expirations) && leb (limits .extension) (capacity .extension)
 
 -- T1: how many tasks there are
 abbrev pub taskCount : ℕ
@@ -50,5 +57,5 @@ abbrev pub blockSize : ℕ → ℕ
 blockSize length = cond (isSmall length) smallSize largeSize
 
 -- the blocks of the store to which a length goes
-abbrev pub blocksFor : ℕ → ℕ
-blocksFor length = cond (isSmall length) (limits .smallBlocks) (limits .largeBlocks)
+abbrev pub blocksFor : Limits → ℕ → ℕ
+blocksFor limits length = cond (isSmall length) (limits .small) (limits .large)

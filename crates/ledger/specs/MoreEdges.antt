@@ -2,6 +2,7 @@
 use mathlib.Core.List.{List, [], _∷_}
 use lib.ListN.{replicate}
 use Rattle.lists.specs.Tests.{All}
+use Rattle.ledger.specs.Limits.{standard}
 use Rattle.ledger.specs.Ledger.{fresh}
 use Rattle.ledger.specs.Rows.{join, leave, block, resume, tick, make, refresh, read, write, batch, report, remaining, refused, done, standsStill, advanced, handle, contents, zeros, figures, lasts, _⇒_, _⨾_, Row, _runs_clockReads_, RowHolds, lateStart}
 use Rattle.ledger.specs.declared.Kind.the-variants.{Local, Global}
@@ -9,7 +10,7 @@ use Rattle.ledger.specs.declared.Kind.the-variants.{Local, Global}
 unfoldable pub moreEdges : List Row
 moreEdges =
     -- A byte written at offset 1 is read back there; the bytes beside it and another object stay.
-    fresh runs
+    fresh standard runs
     join 0 ⇒ done ⨾
     make 0 Local 0 4 ⇒ handle 1 ⨾
     make 0 Local 0 4 ⇒ handle 2 ⨾
@@ -18,7 +19,7 @@ moreEdges =
     read 0 2 ⇒ zeros 4
     clockReads 0 ∷
     -- A leaver's common date counts on.
-    fresh runs
+    fresh standard runs
     join 0 ⇒ done ⨾
     join 1 ⇒ done ⨾
     make 1 Global 0 4 ⇒ handle 1 ⨾
@@ -29,7 +30,7 @@ moreEdges =
     read 0 1 ⇒ refused 12
     clockReads 2 ∷
     -- A task that waits keeps its clock and its dates. Resumed it has no mark: the tick of 1 alone makes no advance.
-    fresh runs
+    fresh standard runs
     join 0 ⇒ done ⨾
     join 1 ⇒ done ⨾
     make 0 Local 1 4 ⇒ handle 1 ⨾
@@ -42,7 +43,7 @@ moreEdges =
     read 1 1 ⇒ refused 12
     clockReads 2 ∷
     -- A task that waits may leave: its own dates go, no advance follows, and when it joins again its clock is 0.
-    fresh runs
+    fresh standard runs
     join 0 ⇒ done ⨾
     join 1 ⇒ done ⨾
     make 0 Local 30 4 ⇒ handle 1 ⨾
@@ -54,7 +55,7 @@ moreEdges =
     clockReads 0 ∷
     -- Remaining life: the longest date of either kind counts, an own one for its setter alone and a common one for all. Straight after it is set e + 1 ticks or e + 2
     -- advances are left, and each goes by its own time.
-    fresh runs
+    fresh standard runs
     join 0 ⇒ done ⨾
     join 1 ⇒ done ⨾
     make 0 Local 30 4 ⇒ handle 1 ⨾
@@ -72,7 +73,7 @@ moreEdges =
     remaining 1 1 ⇒ lasts 2 31
     clockReads 1 ∷
     -- It makes the tests of a read: 1, 3, 4, 11, 12.
-    fresh runs
+    fresh standard runs
     remaining 16 0 ⇒ refused 1 ⨾
     remaining 0 0 ⇒ refused 3 ⨾
     join 0 ⇒ done ⨾
@@ -87,7 +88,7 @@ moreEdges =
     clockReads 1 ∷
     -- A batch: each object gets its date, one that is named twice gets two. 20 comes before 6; one object that was never made gives 11 before another that is gone gives 12; and
     -- then no object gets any.
-    fresh runs
+    fresh standard runs
     join 0 ⇒ done ⨾
     make 0 Local 0 4 ⇒ handle 1 ⨾
     make 0 Local 30 4 ⇒ handle 2 ⨾
@@ -103,7 +104,7 @@ moreEdges =
     report ⇒ figures 1 0 1 2
     clockReads 2 ∷
     -- At most 32 objects, and room for all of them together.
-    fresh runs
+    fresh standard runs
     join 0 ⇒ done ⨾
     make 0 Local 30 4 ⇒ handle 1 ⨾
     batch 0 Local 0 (replicate 33 1) ⇒ refused 20 ⨾
@@ -127,7 +128,7 @@ moreEdges =
     report ⇒ figures 1 0 1 4294967295
     clockReads 0 ∷
     -- 1: there is no task 16.
-    fresh runs
+    fresh standard runs
     join 15 ⇒ done ⨾
     join 16 ⇒ refused 1 ⨾
     leave 16 ⇒ refused 1 ⨾
@@ -137,14 +138,14 @@ moreEdges =
     make 16 Local 0 4 ⇒ refused 1
     clockReads 0 ∷
     -- 2: a task that runs or waits does not join.
-    fresh runs
+    fresh standard runs
     join 0 ⇒ done ⨾
     join 0 ⇒ refused 2 ⨾
     block 0 ⇒ standsStill ⨾
     join 0 ⇒ refused 2
     clockReads 0 ∷
     -- 3: an absent task only joins.
-    fresh runs
+    fresh standard runs
     leave 0 ⇒ refused 3 ⨾
     block 0 ⇒ refused 3 ⨾
     resume 0 ⇒ refused 3 ⨾
@@ -153,7 +154,7 @@ moreEdges =
     read 0 1 ⇒ refused 3
     clockReads 0 ∷
     -- 4: a task that waits neither ticks nor uses an object; 5: one that runs is not resumed.
-    fresh runs
+    fresh standard runs
     join 0 ⇒ done ⨾
     resume 0 ⇒ refused 5 ⨾
     make 0 Local 0 4 ⇒ handle 1 ⨾
@@ -166,7 +167,7 @@ moreEdges =
     write 0 1 0 [] ⇒ refused 4
     clockReads 0 ∷
     -- 6: extension 31, tested before the length and before the object. A refused make spends no handle.
-    fresh runs
+    fresh standard runs
     join 0 ⇒ done ⨾
     make 0 Local 31 0 ⇒ refused 6 ⨾
     make 0 Global 31 4 ⇒ refused 6 ⨾
@@ -174,7 +175,7 @@ moreEdges =
     refresh 0 2 Local 31 ⇒ refused 6
     clockReads 0 ∷
     -- 11: no object has handle 0.
-    fresh runs
+    fresh standard runs
     join 0 ⇒ done ⨾
     make 0 Local 0 4 ⇒ handle 1 ⨾
     refresh 0 0 Local 0 ⇒ refused 11 ⨾

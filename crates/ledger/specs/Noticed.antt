@@ -15,6 +15,7 @@ use Rattle.ledger.specs.Heap.{Used, heapReplies}
 use Rattle.ledger.specs.declared.Answer.{Answer}
 use Rattle.ledger.specs.declared.Answer.the-variants.{Refused, Done, Advanced, Handle, Bytes, Counted, Lasts}
 use Rattle.ledger.specs.declared.Call.the-variants.{Schedule, Make, Refresh, Read, Write, Batch, Release}
+use Rattle.ledger.specs.declared.Limits.{Limits}
 use Rattle.ledger.specs.declared.Refusal.the-variants.{SumDiffers}
 use Rattle.ledger.specs.declared.Request.{Request}
 use Rattle.ledger.specs.declared.Request.the-variants.{Use, Report, Remaining}
@@ -33,7 +34,7 @@ abbrev pub disturbedIn : ℕ → ℕ → ℕ → Ledger → Ledger
 disturbedIn handle at value L =
     let m = L .memory in
     record {
-      memory = record { clocks = m .clocks; given = m .given; objects = map (disturbed handle at value) (m .objects); pinned = m .pinned };
+      memory = record { limits = m .limits; clocks = m .clocks; given = m .given; objects = map (disturbed handle at value) (m .objects); pinned = m .pinned };
       expirations = L .expirations;
     }
 
@@ -109,5 +110,5 @@ pub record Notices : Type 0 where
   pub others : (c : Change) (ss : List Sent) (s : Sent) → isUseOf (c .handle) (s .request) ≡ false
       → replyToRequest (afterAll (changed c) ss) (s .request) (s .bytes) ≡ replyToRequest (afterAll (c .before) ss) (s .request) (s .bytes)
   -- N6: with no change from outside no call is ever answered 23, and the heap never gives it
-  pub never : (ss : List Sent) → All (λ (y : Reply). y .answer ≢ Refused SumDiffers) (replies fresh ss)
-  pub neverHeap : (us : List Used) → All (λ (y : Reply). y .answer ≢ Refused SumDiffers) (heapReplies freshMemory us)
+  pub never : (limits : Limits) (ss : List Sent) → All (λ (y : Reply). y .answer ≢ Refused SumDiffers) (replies (fresh limits) ss)
+  pub neverHeap : (limits : Limits) (us : List Used) → All (λ (y : Reply). y .answer ≢ Refused SumDiffers) (heapReplies (freshMemory limits) us)

@@ -3,6 +3,7 @@ use mathlib.Core.List.{List, [], _∷_}
 use lib.ListN.{length}
 use mathlib.Core.Path.{_≡_}
 use Rattle.lists.specs.Tests.{All}
+use Rattle.ledger.specs.Limits.{standard}
 use Rattle.ledger.specs.Ledger.{Ledger, fresh, afterAll}
 use Rattle.ledger.specs.Noticed.{disturbedIn, Change}
 use Rattle.ledger.specs.Rows.{join, block, tick, make, refresh, read, write, batch, release, report, remaining, refused, done, standsStill, advanced, contents, zeros, figures, lasts, _⇒_, _⨾_, Row, _runs_clockReads_, RowHolds}
@@ -11,7 +12,7 @@ use Rattle.ledger.specs.declared.Kind.the-variants.{Local, Pinned}
 -- two objects of four bytes, the first with 1 2 3 4, and a pinned one of 33
 unfoldable pub threeObjects : Ledger
 threeObjects =
-    afterAll fresh
+    afterAll (fresh standard)
     (join 0 ∷ make 0 Local 0 4 ∷ write 0 1 0 (1 ∷ 2 ∷ 3 ∷ 4 ∷ []) ∷ make 0 Local 2 4 ∷ make 0 Pinned 0 33 ∷ [])
 
 unfoldable pub noticedEdges : List Row

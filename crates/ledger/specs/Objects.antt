@@ -17,6 +17,7 @@ use Rattle.ledger.specs.declared.Answer.{Answer}
 use Rattle.ledger.specs.declared.Answer.the-variants.{Done, Advanced, Handle, Bytes}
 use Rattle.ledger.specs.declared.Call.{Call}
 use Rattle.ledger.specs.declared.Call.the-variants.{Schedule, Make, Refresh, Read, Write, Batch, Release}
+use Rattle.ledger.specs.declared.Limits.{Limits}
 
 -- O1: an object; its handle is 01's number. O33: `bytes` are those of its whole block, and `sum` is what they are to add up to
 pub record Object : Type 0 where
@@ -25,16 +26,17 @@ pub record Object : Type 0 where
   pub bytes : List ℕ
   pub sum : ℕ
 
--- what the ledger and the unbounded heap both keep; E23: `pinned` has the handles of the objects whose pinned expiration is left
+-- what the ledger and the unbounded heap both keep. C2: `limits` are the figures of the pool, which no call changes. E23: `pinned` has the handles of the objects whose pinned expiration is left
 pub record Memory : Type 0 where
+  pub limits : Limits
   pub clocks : Clocks
   pub given : ℕ
   pub objects : List Object
   pub pinned : List ℕ
 
 -- O9: of a fresh pool
-unfoldable pub freshMemory : Memory
-freshMemory = record { clocks = freshClocks; given = 0; objects = []; pinned = [] }
+unfoldable pub freshMemory : Limits → Memory
+freshMemory limits = record { limits = limits; clocks = freshClocks; given = 0; objects = []; pinned = [] }
 
 -- 01: an answer, with the bytes that a read hands back
 pub record Reply : Type 0 where
@@ -121,9 +123,10 @@ unpinned handle handles = filter (λ (h : ℕ). not (eqb handle h)) handles
 -- O14, O20, O25, O35, E23, E24: what it makes of tasks, times, handles given, bytes, sums and of what is pinned; the list is that of a write or a batch
 unfoldable pub memoryAfter : Call → List ℕ → Memory → Memory
 memoryAfter (Schedule event task) new m =
-    record { clocks = clocksAfter event task (m .clocks); given = m .given; objects = m .objects; pinned = m .pinned }
+    record { limits = m .limits; clocks = clocksAfter event task (m .clocks); given = m .given; objects = m .objects; pinned = m .pinned }
 memoryAfter (Make task kind extension size) new m =
     record {
+      limits = m .limits;
       clocks = m .clocks;
       given = m .given + 1;
       objects = m .objects ++ (zeroed (m .given + 1) size ∷ []);
@@ -132,10 +135,10 @@ memoryAfter (Make task kind extension size) new m =
 memoryAfter (Refresh task kind extension handle) new m = m
 memoryAfter (Read task handle) new m = m
 memoryAfter (Write task handle offset) new m =
-    record { clocks = m .clocks; given = m .given; objects = map (written handle offset new) (m .objects); pinned = m .pinned }
+    record { limits = m .limits; clocks = m .clocks; given = m .given; objects = map (written handle offset new) (m .objects); pinned = m .pinned }
 memoryAfter (Batch task kind extension) new m = m
 memoryAfter (Release task handle) new m =
-    record { clocks = m .clocks; given = m .given; objects = m .objects; pinned = unpinned handle (m .pinned) }
+    record { limits = m .limits; clocks = m .clocks; given = m .given; objects = m .objects; pinned = unpinned handle (m .pinned) }
 
 -- E12, O13, O17, O32, E24: and what it makes of the expirations: make and refresh set one, a batch one for each handle; only events and a release end any
 unfoldable pub expirationsAfter : Call → List ℕ → Memory → List Expiration → List Expiration

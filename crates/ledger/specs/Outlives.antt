@@ -17,6 +17,7 @@ use Rattle.ledger.specs.declared.Event.{Event}
 use Rattle.ledger.specs.declared.Event.the-variants.{Join, Leave, Block, Resume, Tick}
 use Rattle.ledger.specs.declared.Call.{Call}
 use Rattle.ledger.specs.declared.Call.the-variants.{Schedule, Make, Refresh, Read, Write, Batch, Release}
+use Rattle.ledger.specs.declared.Limits.{Limits}
 use Rattle.ledger.specs.declared.Request.{Request}
 use Rattle.ledger.specs.declared.Request.the-variants.{Use, Report, Remaining}
 
@@ -67,7 +68,7 @@ pub record Following : Type 0 where
   -- and what is left of a list is what is left of each of its parts.
   pub apart : (L : Ledger) (ss : List Sent) (xs ys : List Expiration) → followed L ss (xs ++ ys) ≡ followed L ss xs ++ followed L ss ys
   -- From fresh on, who is departed is absent.
-  pub gone : (ss : List Sent) → taskAt (afterAll fresh ss .memory .clocks) departed ≡ absentTask
+  pub gone : (limits : Limits) (ss : List Sent) → taskAt (afterAll (fresh limits) ss .memory .clocks) departed ≡ absentTask
 
 -- U4: how many accepted events of a list are of some sort: the ticks of one task, its leaves, and the joins and resumes of all, which no advance test follows (T14)
 abbrev pub isTickOf : ℕ → Event → ℕ → Bool
@@ -96,20 +97,21 @@ unfoldable pub countOf : (Event → ℕ → Bool) → Ledger → List Sent → �
 countOf sort L [] = 0
 countOf sort L (s ∷ ss) = cond (isOne sort (moveIn L (s .request) (s .bytes))) 1 0 + countOf sort (afterSent L s) ss
 
--- U5: A make, refresh or batch sets a global expiration with an extension e, after any calls from fresh on; it is one of those that the call sets.
+-- U5: A make, refresh or batch sets a global expiration with an extension e, after any calls from fresh on, whatever the figures; it is one of those that the call sets.
 pub record Setting : Type 0 where
+  pub limits : Limits
   pub earlier : List Sent
   pub call : Sent
   pub setter : ℕ
   pub extension : ℕ
   pub date : Expiration
-  pub due : date .due ≡ dueAfter (afterAll fresh earlier .memory .clocks) setter Global extension
+  pub due : date .due ≡ dueAfter (afterAll (fresh limits) earlier .memory .clocks) setter Global extension
   pub front : List Expiration
   pub back : List Expiration
-  pub among : setIn (afterAll fresh earlier) (call .request) (call .bytes) ≡ front ++ (date ∷ back)
+  pub among : setIn (afterAll (fresh limits) earlier) (call .request) (call .bytes) ≡ front ++ (date ∷ back)
 
 abbrev pub whenSet : Setting → Ledger
-whenSet d = afterSent (afterAll fresh (d .earlier)) (d .call)
+whenSet d = afterSent (afterAll (fresh (d .limits)) (d .earlier)) (d .call)
 
 -- U6, the first claim: whatever is called then, while the setter has not left and has made at most e ticks since, this expiration stands, and its object with it.
 abbrev pub OutlivesTicks : Type 0

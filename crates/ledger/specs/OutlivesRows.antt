@@ -6,6 +6,7 @@ use mathlib.Core.Path.{_≡_}
 use lib.ListN.{length}
 use Rattle.lists.specs.Tests.{All}
 use Rattle.lists.specs.Tables.{readBy}
+use Rattle.ledger.specs.Limits.{standard}
 use Rattle.ledger.specs.Expirations.{Expiration}
 use Rattle.ledger.specs.Ledger.{Ledger, Sent, fresh, afterSent, afterAll}
 use Rattle.ledger.specs.Outlives.{setIn, followed, isTickOf, isLeaveOf, countOf, Setting, whenSet, isRound, isFree, Stretch, areRounds}
@@ -86,10 +87,10 @@ abbrev pub allCalls : Trial → List Sent
 allCalls t = readBy (λ (r : Part). r .calls) (t .parts)
 
 abbrev pub datesOf : Trial → List Expiration
-datesOf t = setIn (afterAll fresh (t .earlier)) (t .call .request) (t .call .bytes)
+datesOf t = setIn (afterAll (fresh standard) (t .earlier)) (t .call .request) (t .call .bytes)
 
 abbrev pub ledgerOf : Trial → Ledger
-ledgerOf t = afterSent (afterAll fresh (t .earlier)) (t .call)
+ledgerOf t = afterSent (afterAll (fresh standard) (t .earlier)) (t .call)
 
 pub record TrialHolds (t : Trial) : Type 0 where
   pub set : length (datesOf t) ≡ t .set

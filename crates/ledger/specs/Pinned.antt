@@ -6,6 +6,7 @@ use mathlib.Core.Path.{_≡_}
 use lib.Dec.{eqb}
 use lib.ListN.{length}
 use Rattle.lists.specs.Tests.{All}
+use Rattle.ledger.specs.Limits.{standard}
 use Rattle.ledger.specs.Objects.{stands}
 use Rattle.ledger.specs.Ledger.{Ledger, Sent, fresh, reply, afterSent, afterAll}
 use Rattle.ledger.specs.Outlives.{Move, neither, happens, releases, moveIn}
@@ -13,23 +14,25 @@ use Rattle.ledger.specs.Rows.{send, join, leave, block, resume, tick, ma
 use Rattle.ledger.specs.declared.Kind.the-variants.{Local, Global, Pinned}
 use Rattle.ledger.specs.declared.Answer.the-variants.{Refused, Handle}
 use Rattle.ledger.specs.declared.Call.the-variants.{Make, Read}
+use Rattle.ledger.specs.declared.Limits.{Limits}
 use Rattle.ledger.specs.declared.Refusal.the-variants.{ObjectGone}
 
--- A make of kind pinned, after any calls from fresh on, that is answered with the object's handle
+-- A make of kind pinned, after any calls from fresh on, whatever the figures, that is answered with the object's handle
 pub record PinnedMake : Type 0 where
+  pub limits : Limits
   pub earlier : List Sent
   pub task : ℕ
   pub extension : ℕ
   pub size : ℕ
   pub bytes : List ℕ
   pub object : ℕ
-  pub answered : reply (afterAll fresh earlier) (Make task Pinned extension size) bytes .answer ≡ Handle object
+  pub answered : reply (afterAll (fresh limits) earlier) (Make task Pinned extension size) bytes .answer ≡ Handle object
 
 abbrev pub madeBy : PinnedMake → Sent
 madeBy p = send (Make (p .task) Pinned (p .extension) (p .size)) (p .bytes)
 
 abbrev pub whenMade : PinnedMake → Ledger
-whenMade p = afterSent (afterAll fresh (p .earlier)) (madeBy p)
+whenMade p = afterSent (afterAll (fresh (p .limits)) (p .earlier)) (madeBy p)
 
 -- some call of a list is a release of this object, and accepted
 abbrev pub isReleaseOf : ℕ → Move → Bool
@@ -52,7 +55,7 @@ unfoldable pub pinnedEdges : List Row
 pinnedEdges =
     -- 1. A pinned object outlasts more ticks and advances than any extension gives, and the leave of its maker. Another task releases it: its block and its expiration are
     -- free in the same call, and a second release finds it gone.
-    fresh runs
+    fresh standard runs
     join 0 ⇒ done ⨾
     join 1 ⇒ done ⨾
     make 0 Pinned 0 4 ⇒ handle 1 ⨾
@@ -67,7 +70,7 @@ pinnedEdges =
     read 1 1 ⇒ refused 12
     clockReads 0 ∷
     -- 2. With another expiration beside the pinned one the object stands on after its release, and is no longer pinned.
-    fresh runs
+    fresh standard runs
     join 0 ⇒ done ⨾
     make 0 Pinned 0 4 ⇒ handle 1 ⨾
     make 0 Pinned 0 4 ⇒ handle 2 ⨾
@@ -83,7 +86,7 @@ pinnedEdges =
     report ⇒ figures 0 0 0 2
     clockReads 2 ∷
     -- 3. It has no extension: else 6, tested before the length. Only a make sets one: 21 comes before 6, and in a batch after 20.
-    fresh runs
+    fresh standard runs
     join 0 ⇒ done ⨾
     make 0 Pinned 1 0 ⇒ refused 6 ⨾
     make 0 Pinned 0 0 ⇒ refused 7 ⨾
@@ -96,7 +99,7 @@ pinnedEdges =
     report ⇒ figures 0 1 1 1
     clockReads 0 ∷
     -- 4. A release makes the tests 1, 3, 4, 11, 12, 22.
-    fresh runs
+    fresh standard runs
     release 16 0 ⇒ refused 1 ⨾
     release 0 0 ⇒ refused 3 ⨾
     join 0 ⇒ done ⨾
@@ -111,7 +114,7 @@ pinnedEdges =
     release 0 1 ⇒ refused 12
     clockReads 1 ∷
     -- 5. It adds nothing to remaining life.
-    fresh runs
+    fresh standard runs
     join 0 ⇒ done ⨾
     make 0 Pinned 0 4 ⇒ handle 1 ⨾
     remaining 0 1 ⇒ lasts 0 0 ⨾

@@ -8,6 +8,7 @@ use Rattle.lists.specs.Tests.{All}
 use Rattle.ledger.specs.Tasks.{Clocks, taskAt, isWaiting, advances, clocksAfter}
 use Rattle.ledger.specs.Expirations.{byGlobal, departed, Expiration, remaining, lasting}
 use Rattle.ledger.specs.Kept.{ClocksKept}
+use Rattle.ledger.specs.Limits.{standard}
 use Rattle.ledger.specs.Ledger.{fresh}
 use Rattle.ledger.specs.Rows.{join, leave, block, resume, tick, make, read, remaining as left, refused, done, standsStill, advanced, handle, zeros, lasts, _⇒_, _⨾_, Row, _runs_clockReads_, RowHolds}
 use Rattle.ledger.specs.declared.Event.{Event}
@@ -17,7 +18,7 @@ unfoldable pub waitingEdges : List Row
 waitingEdges =
     -- 1. The setter waits through two advances, of which a tick brings one and the leave of another task the other: its global expiration has what it had, and then
     -- counts on. Its local one is not put off.
-    fresh runs
+    fresh standard runs
     join 0 ⇒ done ⨾
     join 1 ⇒ done ⨾
     join 2 ⇒ done ⨾
@@ -38,7 +39,7 @@ waitingEdges =
     left 0 2 ⇒ refused 12
     clockReads 1 ∷
     -- 2. The setter's own block makes the advance at which its expiration would be due: it is put off first.
-    fresh runs
+    fresh standard runs
     join 0 ⇒ done ⨾
     join 1 ⇒ done ⨾
     make 0 Global 0 4 ⇒ handle 1 ⨾
@@ -50,7 +51,7 @@ waitingEdges =
     left 1 1 ⇒ lasts 0 1
     clockReads 1 ∷
     -- 3. The setter leaves while it waits: from then on its expiration counts.
-    fresh runs
+    fresh standard runs
     join 0 ⇒ done ⨾
     join 1 ⇒ done ⨾
     make 0 Global 0 4 ⇒ handle 1 ⨾
@@ -64,7 +65,7 @@ waitingEdges =
     read 1 1 ⇒ refused 12
     clockReads 0 ∷
     -- 4. The setter leaves, and another of its number joins and waits: that is not the setter.
-    fresh runs
+    fresh standard runs
     join 0 ⇒ done ⨾
     join 1 ⇒ done ⨾
     make 0 Global 0 4 ⇒ handle 1 ⨾

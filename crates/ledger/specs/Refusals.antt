@@ -6,7 +6,7 @@ use mathlib.Core.Option.{Option, none, some}
 use lib.Dec.{eqb, leb, ltb}
 use lib.ListN.{length}
 use Rattle.lists.specs.Tests.{any}
-use Rattle.ledger.specs.Limits.{limits, taskCount, largeSize, largestBatch, lastHandle, blocksFor}
+use Rattle.ledger.specs.Limits.{taskCount, largeSize, largestBatch, lastHandle, blocksFor}
 use Rattle.ledger.specs.Tasks.{taskAt, isAbsent, isRunning, isWaiting}
 use Rattle.ledger.specs.Expirations.{Expiration}
 use Rattle.ledger.specs.Objects.{Memory, objectAt, isIntact, stands, inStoreOf, handlesOf}
@@ -19,6 +19,7 @@ use Rattle.ledger.specs.declared.Verdict.{Verdict}
 use Rattle.ledger.specs.declared.Verdict.the-variants.{Accepted, Refused}
 use Rattle.ledger.specs.declared.Refusal.{Refusal}
 use Rattle.ledger.specs.declared.Refusal.the-variants.{NoSuchTask, TaskPresent, TaskAbsent, TaskWaiting, TaskRunning, ExtensionTooLong, LengthOutOfRange, HandlesSpent, NoFreeBlock, NoFreeExpiration, HandleNotGiven, ObjectGone, OutsideObject, BatchOutOfRange, OnlyMakePins, NotPinned, SumDiffers}
+use Rattle.ledger.specs.declared.Limits.{Limits}
 
 -- A test refuses a call where it holds. The unbounded heap makes those that look at the memory alone; the others are the pool's own.
 pub data Test : Type 0 where
@@ -46,13 +47,13 @@ abbrev pub taskRunning : ℕ → Test
 taskRunning task = shared TaskRunning (λ (m : Memory). isRunning (taskAt (m .clocks) task .state))
 
 -- R6: the extension is too long; E22: a pinned expiration has none
-abbrev pub mostExtension : Kind → ℕ
-mostExtension Local = limits .extension
-mostExtension Global = limits .extension
-mostExtension Pinned = 0
+abbrev pub mostExtension : Limits → Kind → ℕ
+mostExtension limits Local = limits .extension
+mostExtension limits Global = limits .extension
+mostExtension limits Pinned = 0
 
 abbrev pub extensionTooLong : Kind → ℕ → Test
-extensionTooLong kind extension = shared ExtensionTooLong (λ (m : Memory). ltb (mostExtension kind) extension)
+extensionTooLong kind extension = shared ExtensionTooLong (λ (m : Memory). ltb (mostExtension (m .limits) kind) extension)
 
 -- R7: no object has that length
 abbrev pub lengthOutOfRange : ℕ → Test
@@ -64,11 +65,11 @@ handlesSpent = shared HandlesSpent (λ (m : Memory). leb lastHandle (m .given))
 
 -- R9: its store is full
 abbrev pub noFreeBlock : ℕ → Test
-noFreeBlock size = own NoFreeBlock (λ (m : Memory) (xs : List Expiration). leb (blocksFor size) (inStoreOf size (m .objects)))
+noFreeBlock size = own NoFreeBlock (λ (m : Memory) (xs : List Expiration). leb (blocksFor (m .limits) size) (inStoreOf size (m .objects)))
 
 -- R10: there is no room for one expiration more
 abbrev pub noFreeExpiration : Test
-noFreeExpiration = own NoFreeExpiration (λ (m : Memory) (xs : List Expiration). leb (limits .expirations) (length xs))
+noFreeExpiration = own NoFreeExpiration (λ (m : Memory) (xs : List Expiration). leb (m .limits .expirations) (length xs))
 
 -- R11: the handle was not given
 abbrev pub isNotGiven : Memory → ℕ → Bool
@@ -116,7 +117,7 @@ someGone handles = own ObjectGone (λ (m : Memory) (xs : List Expiration). any (
 
 -- R10 for a batch: there is no room for so many expirations more
 abbrev pub noRoomFor : ℕ → Test
-noRoomFor count = own NoFreeExpiration (λ (m : Memory) (xs : List Expiration). ltb (limits .expirations) (length xs + count))
+noRoomFor count = own NoFreeExpiration (λ (m : Memory) (xs : List Expiration). ltb (m .limits .expirations) (length xs + count))
 
 -- R46: the task runs and the object stands, which remaining life asks
 abbrev pub standingTests : ℕ → ℕ → List Test

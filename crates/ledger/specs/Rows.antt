@@ -4,6 +4,7 @@ use mathlib.Core.Bool.{false}
 use mathlib.Core.List.{List, [], _∷_, _++_, map}
 use mathlib.Core.Path.{_≡_}
 use lib.ListN.{set, replicate}
+use Rattle.ledger.specs.Limits.{standard}
 use Rattle.ledger.specs.Numbers.{answerNumber, answerValues}
 use Rattle.ledger.specs.Tasks.{freshClocks, taskAt}
 use Rattle.ledger.specs.Objects.{Reply}
@@ -147,11 +148,11 @@ pub record RowHolds (row : Row) : Type 0 where
   pub answers : answered row ≡ expected row
   pub clock : clockAfter row ≡ row .clock
 
--- A ledger that only a very long list of calls comes to: task 0 runs with this clock, and so many handles are given; all else is fresh.
+-- A ledger of 01's figures that only a very long list of calls comes to: task 0 runs with this clock, and so many handles are given; all else is fresh.
 abbrev pub lateStart : (clock given : ℕ) → Ledger
 lateStart clock given =
     let tasks = set (freshClocks .tasks) 0 (record { state = Running; ticked = false; clock = clock }) in
     record {
-      memory = record { clocks = record { tasks = tasks; global = 0 }; given = given; objects = []; pinned = [] };
+      memory = record { limits = standard; clocks = record { tasks = tasks; global = 0 }; given = given; objects = []; pinned = [] };
       expirations = [];
     }

@@ -1,25 +1,37 @@
 // What code and specifications share: document 01's figures, its calls, their answers, and the refusals with their numbers.
 ghost use mathlib.Core.Path.{_≡_};
-ghost use Rattle.ledger.specs.Numbers.{numberOf, answerNumber};
+ghost use Rattle.ledger.specs.Limits.{isAllowed};
+ghost use Rattle.ledger.specs.Numbers.{numberOf, numberAt, answerNumber};
 
-// 01's four figures that a site may come to choose.
+// C1: the four figures that a site chooses for the life of a pool: blocks of the small store and of the large one, expirations (01: dates), largest extension.
+#[repr(C)]
 pub struct Limits {
-    pub small_blocks: usize,
-    pub large_blocks: usize,
-    pub expirations: usize,
+    pub small: u32,
+    pub large: u32,
+    pub expirations: u32,
     pub extension: u32,
 }
 
-// The largest of each; the record's tables have room for as many.
+// C3: the largest of each; the record's tables have room for as many.
 pub const CAPACITY: Limits = Limits {
-    small_blocks: 64,
-    large_blocks: 32,
+    small: 64,
+    large: 32,
     expirations: 256,
     extension: 30,
 };
 
-// 01's: the two agree.
-pub const LIMITS: Limits = CAPACITY;
+// C4: 01's, which the programs have: the largest of each.
+pub const STANDARD: Limits = CAPACITY;
+
+// C3: figures that a site may choose.
+pub fn is_allowed(limits: Limits) -> bool
+    ensures { λ r. ⌜ r ≡ isAllowed limits ⌝ }
+{
+    ((1 <= limits.small) & (limits.small <= CAPACITY.small))
+        & ((1 <= limits.large) & (limits.large <= CAPACITY.large))
+        & ((1 <= limits.expirations) & (limits.expirations <= CAPACITY.expirations))
+        & (limits.extension <= CAPACITY.extension)
+}
 
 // T1: how many tasks there are.
 pub const TASK_COUNT: usize = 16;
@@ -114,7 +126,7 @@ pub struct Life {
     pub global: u8,
 }
 
-// R1 to R23, in the order of their numbers: 16 to 19 are of a frame, the others of a call.
+// R1 to R23 and R29, in the order of their numbers: 16 to 19 are of a frame, 29 of a pool that is made, the others of a call.
 pub enum Refusal {
     NoSuchTask,
     TaskPresent,
@@ -139,6 +151,7 @@ pub enum Refusal {
     OnlyMakePins,
     NotPinned,
     SumDiffers,
+    LimitsOutOfRange,
 }
 
 // Whether a call is carried out.
@@ -158,9 +171,10 @@ pub enum Answer {
     Lasts(Life),
 }
 
-// R45: the number of a refusal.
-pub fn number_of(refusal: Refusal) -> u8
-    ensures { λ r. ⌜ r ≡ numberOf refusal ⌝ }
+// The place of a refusal in the list above, from 1 on, which is its number but for the last. Of numbers with a gap the compiler makes no sum: it keeps a branch for each, and a call that changes the
+// record then copies columns once more.
+fn place_of(refusal: Refusal) -> u8
+    ensures { λ r. ⌜ numberAt r ≡ numberOf refusal ⌝ }
 {
     match refusal {
         Refusal::NoSuchTask => 1,
@@ -186,7 +200,16 @@ pub fn number_of(refusal: Refusal) -> u8
         Refusal::OnlyMakePins => 21,
         Refusal::NotPinned => 22,
         Refusal::SumDiffers => 23,
+        Refusal::LimitsOutOfRange => 24,
     }
+}
+
+// R45: the number of a refusal.
+pub fn number_of(refusal: Refusal) -> u8
+    ensures { λ r. ⌜ r ≡ numberOf refusal ⌝ }
+{
+    let place = place_of(refusal);
+    if place < 24 { place } else { 29 }
 }
 
 // The number of an answer: 0 where the call was carried out.

@@ -44,7 +44,7 @@ by-verdict (some why) refused carried e = refused why e
 
 module _ {C : Type 0} {p : Pool} {vs : List Val} (is : Is the-row p vs) {new small large : List ℕ} {y : Reply} {p′ : Pool} {small′ large′ : List ℕ} where
   by-ledger : (request : Request) → ((why : Refusal) → y ≡ plain (Refused why) → C) → ((L : Ledger) → y ≡ carriedOut request L → C)
-      → isWellFormed p ≡ true → (isStored request ≡ true → areWhole small large ≡ true) → Obeys request new p small large y p′ small′ large′ → C
+      → isWellFormed p ≡ true → (isStored request ≡ true → areWhole (p .limits) small large ≡ true) → Obeys request new p small large y p′ small′ large′ → C
   unfolding reply
   by-ledger Report refused carried w whole o =
       let (L, reads) = every-fit-record-reads p (typed p vs is) w small large in carried L (o .answers w whole L reads)
@@ -59,7 +59,7 @@ module _ {C : Type 0} {p : Pool} {vs : List Val} (is : Is the-row p vs) {new sma
   by-reply {request} o refused carried =
       by-test (isWellFormed p)
       (λ w.
-      by-test (areWhole small large) (λ whole. by-ledger request refused carried w (λ s. whole) o)
+      by-test (areWhole (p .limits) small large) (λ whole. by-ledger request refused carried w (λ s. whole) o)
       (λ part.
       by-test (isStored request) (λ s. refused _ (o .wrong w s part .refused))
       (λ s. by-ledger request refused carried w (λ t. absurd (true≢false (sym t ∙ s))) o)))

@@ -1,20 +1,23 @@
 -- What the entries promise: record and stores as the call leaves them, and the call's reply told.
 use Prim.Native.Nat.{ℕ, _≤_, _<_}
-use mathlib.Core.Bool.{true, false}
+use mathlib.Core.Bool.{true, false, cond}
 use mathlib.Core.List.{List, []}
 use mathlib.Core.Path.{_≡_}
 use lib.ListN.{length}
 use Rattle.ledger.specs.Awaited.{awaitedBits}
+use Rattle.ledger.specs.Limits.{isAllowed}
 use Rattle.ledger.specs.Ledger.{Ledger}
 use Rattle.ledger.specs.Numbers.{numberOf}
 use Rattle.ledger.specs.Objects.{plain}
 use Rattle.ledger.specs.declared.Answer.{Answer}
 use Rattle.ledger.specs.declared.Call.the-variants.{Refresh, Batch}
 use Rattle.ledger.specs.declared.Kind.{Kind}
-use Rattle.ledger.specs.declared.Refusal.the-variants.{NotWellFormed, UnknownKind}
+use Rattle.ledger.specs.declared.Refusal.the-variants.{NotWellFormed, UnknownKind, LimitsOutOfRange}
+use Rattle.ledger.specs.declared.Limits.{Limits}
 use Rattle.ledger.specs.declared.Request.{Request}
 use Rattle.ledger.specs.declared.Request.the-variants.{Use}
 use Rattle.record.specs.Pools.{isWellFormed, Reads}
+use Rattle.record.specs.Reading.{freshPool}
 use Rattle.record.specs.declared.Pool.{Pool}
 use Rattle.calls.specs.Contract as Contract
 use Rattle.answers.specs.Answers.{longestAnswer}
@@ -80,3 +83,9 @@ RefreshesAllBy Unknown task extension handles p number p′ = (number ≡ number
 pub record Carries (line : List ℕ) (p : Pool) (small large out : List ℕ) (old : ℕ) (number : ℕ) (p′ : Pool) (small′ large′ out′ : List ℕ) (new : ℕ) : Type 0 where
   pub short : length out < longestAnswer → (number ≡ tooShort) × (p′ ≡ p) × (small′ ≡ small) × (large′ ≡ large) × (out′ ≡ out) × (new ≡ old)
   pub roomy : longestAnswer ≤ length out → Executes line p small large out (record { pool = p′; number = number; length = new }) small′ large′ out′
+
+-- R29: a pool is made, of these figures: 0 where a site may choose them, and a fresh record; else 29, and the record that is left is not well-formed, by its figures.
+pub record Renews (limits : Limits) (number : ℕ) (p : Pool) : Type 0 where
+  pub told : number ≡ cond (isAllowed limits) 0 (numberOf LimitsOutOfRange)
+  pub left : p ≡ freshPool limits
+  pub fit : isWellFormed p ≡ isAllowed limits

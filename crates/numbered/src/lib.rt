@@ -22,10 +22,10 @@ use record::Pool;
 // A buffer too short: a number that is none of 01's.
 pub const TOO_SHORT: u8 = 255;
 
-// The number of an answer, and the record that the call leaves.
+// The number of an answer, and the record that the call leaves: that stands first, at the boundary of a word, and is copied as such.
 pub struct Numbered {
-    pub number: u8,
     pub pool: Pool,
+    pub number: u8,
 }
 
 // A call that is refused leaves the record.

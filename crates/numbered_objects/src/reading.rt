@@ -19,7 +19,7 @@ fn locate<'a>(p: Pool, small: &'a [u8], large: &'a [u8], task: u8, handle: u32) 
     if !is_well_formed(h, &p.handles, &p.extents, &p.clocks, &p.named, &p.dues) {
         return FoundBytes::Refused(Refusal::NotWellFormed);
     }
-    if !are_whole(small.len(), large.len()) {
+    if !are_whole(p.limits, small.len(), large.len()) {
         return FoundBytes::Refused(Refusal::WrongStoreLength);
     }
     find_for_read(

@@ -1,11 +1,11 @@
-// The calls on a record by value that concern tasks and times: renew, join, leave, block, resume, tick and awaited.
+// The calls on a record by value that concern tasks and times: renew and renew_sized, join, leave, block, resume, tick and awaited.
 ghost use mathlib.Core.List.{[], _∷_};
 ghost use mathlib.Core.Path.{_≡_};
 ghost use Rattle.ledger.specs.declared.Call.the-variants.{Schedule};
 ghost use Rattle.ledger.specs.declared.Event.the-variants.{Join, Leave, Block, Resume, Tick};
 ghost use Rattle.ledger.specs.declared.Request.the-variants.{Use};
-ghost use Rattle.record.specs.Reading.{freshPool};
-ghost use Rattle.numbered.specs.Entries.{Does, TellsAwaited};
+ghost use Rattle.ledger.specs.Limits.{chosen, standard};
+ghost use Rattle.numbered.specs.Entries.{Does, Renews, TellsAwaited};
 
 mod advancing;
 
@@ -13,8 +13,11 @@ use advancing::advance_or;
 use checked::schedule;
 use fitness::is_well_formed;
 use ledger::Event;
+use ledger::Limits;
 use ledger::Refusal;
+use ledger::STANDARD;
 use ledger::answer_number;
+use ledger::is_allowed;
 use ledger::number_of;
 use numbered::Numbered;
 use numbered::taking::clocks_of;
@@ -26,13 +29,35 @@ use record::fresh;
 use record::head_of;
 use record::running;
 
-// The record as on the first day, whatever it was.
+// T5, O9: the record as on the first day, with 01's figures, whatever it was.
 pub fn renew(p: Pool) -> Numbered
-    ensures { λ r. ⌜ (r .number ≡ 0) × (r .pool ≡ freshPool) ⌝ }
+    ensures { λ r. ⌜ Renews standard (r .number) (r .pool) ⌝ }
 {
     Numbered {
         number: 0,
-        pool: fresh(),
+        pool: fresh(STANDARD),
+    }
+}
+
+// R29: the same with the figures of a site. Of figures that a site may not choose the record that is left is not well-formed.
+pub fn renew_sized(p: Pool, small: u32, large: u32, expirations: u32, extension: u32) -> Numbered
+    ensures { λ r. ⌜ Renews (chosen small large expirations extension) (r .number) (r .pool) ⌝ }
+{
+    let limits = Limits {
+        small: small,
+        large: large,
+        expirations: expirations,
+        extension: extension,
+    };
+    if is_allowed(limits) {
+        return Numbered {
+            number: 0,
+            pool: fresh(limits),
+        };
+    }
+    Numbered {
+        number: number_of(Refusal::LimitsOutOfRange),
+        pool: fresh(limits),
     }
 }
 

@@ -6,6 +6,7 @@ use lib.ListN.{length, take, drop}
 use Rattle.lists.proofs.Counts.{count-map}
 use Rattle.lists.proofs.First.{first-map}
 use Rattle.ledger.specs.declared.Kind.{Kind}
+use Rattle.ledger.specs.declared.Limits.{Limits}
 use Rattle.record.specs.Tables.{BlockEntry, ExpirationEntry, blocksOf, tablesBy, blockEntries}
 use Rattle.record.specs.declared.Head.{Head}
 use Rattle.record.proofs.Columns.{handles-of}
@@ -29,9 +30,9 @@ abbrev handlesIn : List BlockEntry → List ℕ
 handlesIn blocks = map (λ (b : BlockEntry). b .handle) blocks
 
 -- by the handles of entries
-free-place-in : (size : ℕ) (blocks : List BlockEntry) → freePlaceIn size (handlesIn blocks) ≡ freePlace size blocks
+free-place-in : (limits : Limits) (size : ℕ) (blocks : List BlockEntry) → freePlaceIn limits size (handlesIn blocks) ≡ freePlace limits size blocks
 unfolding freePlaceIn freePlace
-free-place-in size blocks = simp (take-map, drop-map, first-map)
+free-place-in limits size blocks = simp (take-map, drop-map, first-map)
 
 usage-in : (h : Head) (blocks : List BlockEntry) (xs : List ExpirationEntry)
     → usageIn (h .given) (handlesIn blocks) (standingIn xs) ≡ usageOf (tablesBy h blocks xs)
@@ -43,14 +44,14 @@ module _ (hs ls : List ℕ) (a : length hs ≡ blockEntries) (b : length ls ≡ 
   pub place-of : (handle : ℕ) → placeIn handle hs ≡ placeOf handle (blocksOf hs ls)
   place-of handle = ap (placeIn handle) (sym (handles-of hs ls a b)) ∙ first-map _ _ 0 (blocksOf hs ls)
 
-  pub free-place-of : (size : ℕ) → freePlaceIn size hs ≡ freePlace size (blocksOf hs ls)
-  free-place-of size = ap (freePlaceIn size) (sym (handles-of hs ls a b)) ∙ free-place-in size (blocksOf hs ls)
+  pub free-place-of : (limits : Limits) (size : ℕ) → freePlaceIn limits size hs ≡ freePlace limits size (blocksOf hs ls)
+  free-place-of limits size = ap (freePlaceIn limits size) (sym (handles-of hs ls a b)) ∙ free-place-in limits size (blocksOf hs ls)
 
   module _ (h : Head) (xs : List ExpirationEntry) where
     pub usage-of : usageIn (h .given) hs (standingIn xs) ≡ usageOf (tablesBy h (blocksOf hs ls) xs)
     usage-of = ap (λ hs′. usageIn (h .given) hs′ (standingIn xs)) (sym (handles-of hs ls a b)) ∙ usage-in h (blocksOf hs ls) xs
 
     pub make-planned : (task : ℕ) (kind : Kind) (extension size : ℕ)
-        → makePlan task kind extension size h (freePlaceIn size hs) (standingIn xs) .verdict ≡ makeVerdict task kind extension size (tablesBy h (blocksOf hs ls) xs)
+        → makePlan task kind extension size h (freePlaceIn (h .limits) size hs) (standingIn xs) .verdict ≡ makeVerdict task kind extension size (tablesBy h (blocksOf hs ls) xs)
     unfolding makePlan makeVerdict tablesBy
-    make-planned task kind extension size = rw (free-place-of size)
+    make-planned task kind extension size = rw (free-place-of (h .limits) size)

@@ -1,9 +1,14 @@
 -- Laws of the one finding: what a test before it or after it makes of it, and what the columns give.
 use Prim.Native.Nat.{ℕ, _<_}
+use native.Mathlib.Nat.{zero-add}
+use native.Mathlib.Omega.{arith}
 use mathlib.Core.Bool.{Bool, true, false}
 use mathlib.Core.List.{List}
 use mathlib.Core.Path.{_≡_, refl, _∙_}
-use lib.ListN.{getD}
+use borrow.Author.Tests.{eqb-true}
+use lib.Dec.{eqb}
+use lib.ListN.{length, getD}
+use Rattle.lists.proofs.First.{first-at}
 use Rattle.ledger.specs.declared.Kind.{Kind}
 use Rattle.ledger.specs.declared.Life.{Life}
 use Rattle.ledger.specs.declared.Refusal.{Refusal}
@@ -12,12 +17,15 @@ use Rattle.ledger.specs.declared.Verdict.the-variants.{Accepted, Refused}
 use Rattle.record.specs.Codes.{freeBlock}
 use Rattle.record.specs.Tables.{Tables, Sized, SizedEntries, blockEntry, entriesOf, tablesBy, lent, blockEntries}
 use Rattle.record.specs.WellFormed.{isWellFormed}
+use Rattle.record.specs.Reading.{isWholeSmall, isWholeLarge, sizeOf}
 use Rattle.record.specs.declared.Head.{Head}
-use Rattle.record.proofs.Columns.{block-at}
-use Rattle.record.proofs.Facts.{fit-parts}
-use Rattle.steps.specs.Objects.{placeOf, placeIn, andThen, taskVerdict, kindVerdict, foundVerdict, handleVerdict, roomVerdict, refreshVerdict, standingVerdict}
+use Rattle.record.proofs.Columns.{block-at, length-blocks}
+use Rattle.record.proofs.Facts.{fit-parts, fit-used}
+use Rattle.stores.specs.Places.{InBlock}
+use Rattle.stores.proofs.Places.{in-block}
+use Rattle.steps.specs.Objects.{isBlockOf, placeOf, placeIn, andThen, taskVerdict, kindVerdict, foundVerdict, handleVerdict, roomVerdict, refreshVerdict, standingVerdict}
 use Rattle.steps.specs.Remaining.{lifeIn, LifeWithin}
-use Rattle.steps.proofs.Chosen.{both-accept, place-listed}
+use Rattle.steps.proofs.Chosen.{both-accept, handle-found, place-listed}
 use Rattle.steps.proofs.Remaining.{life-within}
 use Rattle.steps.proofs.Verdicts.{then-assoc}
 use Rattle.expirations.specs.Standing.{standingOf}
@@ -72,9 +80,30 @@ pub standing-listed : (task handle : ℕ) (p : Tables) → standingVerdict task 
 unfolding standingVerdict
 standing-listed task handle p v = place-listed handle (p .given) _ (both-accept (taskVerdict task (p .tasks)) _ v .1)
 
+-- and in use
+pub standing-used : (task handle : ℕ) (p : Tables) → length (p .blocks) ≡ blockEntries → standingVerdict task handle p ≡ Accepted
+    → eqb (getD (p .blocks) (placeOf handle (p .blocks)) freeBlock .handle) 0 ≡ false
+unfolding standingVerdict
+standing-used task handle p size v =
+    let (nonzero, place) = handle-found handle (p .given) (placeOf handle (p .blocks)) (both-accept (taskVerdict task (p .tasks)) _ v .1) in
+    let (k, listed, at, its) = first-at (isBlockOf handle) freeBlock 0 (p .blocks) (rw (zero-add, size) place) in
+    let here : placeOf handle (p .blocks) ≡ k = omega (arith, at) in
+    rw (here, eqb-true _ handle its) nonzero
+
+-- so its bytes lie in stores that are as long as the figures need
+pub standing-block : (h : Head) {hs ls cs ns ds small large : List ℕ} → Sized hs ls cs ns ds → (task handle : ℕ)
+    → (let p = lent h hs ls cs ns ds in isWellFormed p ≡ true → isWholeSmall (h .limits) small ≡ true → isWholeLarge (h .limits) large ≡ true
+    → standingVerdict task handle p ≡ Accepted → InBlock small large (placeOf handle (p .blocks)) (sizeOf (placeOf handle (p .blocks))))
+unfolding tablesBy
+standing-block h {hs} {ls} {cs} {ns} {ds} sized task handle w s l v =
+    let p = lent h hs ls cs ns ds in
+    let fit = fit-parts p w in
+    let size = length-blocks hs ls (sized .blocks .of-handles) (sized .blocks .of-extents) in
+    in-block (h .limits) (fit .allowed) s l (fit-used fit _ (standing-used task handle p size v) .listed) (omega arith)
+
 -- the tests of a refresh, before it and after it
 abbrev pub firstVerdict : ℕ → Kind → ℕ → Head → Verdict
-firstVerdict task kind extension h = andThen (taskVerdict task (h .tasks)) (setVerdict kind extension)
+firstVerdict task kind extension h = andThen (taskVerdict task (h .tasks)) (setVerdict (h .limits) kind extension)
 
 module _ (task : ℕ) (kind : Kind) (extension handle : ℕ) (h : Head) (hs ls cs ns ds : List ℕ) where
   pub refresh-refused : {why : Refusal} → firstVerdict task kind extension h ≡ Refused why
@@ -83,7 +112,7 @@ module _ (task : ℕ) (kind : Kind) (extension handle : ℕ) (h : Head) (hs ls c
   refresh-refused e = rw (← then-assoc (kindVerdict kind), ← then-assoc (taskVerdict task (h .tasks))) (refused-before false task handle (lent h hs ls cs ns ds) (firstVerdict task kind extension h) _ e)
 
   pub refresh-found : SizedEntries cs ns ds → firstVerdict task kind extension h ≡ Accepted
-      → foundIf (foundBy false (handleVerdict handle (lent h hs ls cs ns ds)) task handle (lent h hs ls cs ns ds)) (roomVerdict (standingOf cs))
+      → foundIf (foundBy false (handleVerdict handle (lent h hs ls cs ns ds)) task handle (lent h hs ls cs ns ds)) (roomVerdict (h .limits) (standingOf cs))
       ≡ foundBy false (refreshVerdict task kind extension handle (lent h hs ls cs ns ds)) task handle (lent h hs ls cs ns ds)
   unfolding refreshVerdict tablesBy
   refresh-found sized e =

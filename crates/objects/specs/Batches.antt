@@ -13,7 +13,7 @@ use Rattle.objects.specs.declared.BatchPlan.{BatchPlan}
 
 -- R47: the verdict on a batch, and where it accepts, the blocks of its objects
 pub record PlansBatch (task : ℕ) (kind : Kind) (extension : ℕ) (named : List ℕ) (h : Head) (handles : List ℕ) (standing : ℕ) (r : BatchPlan) : Type 0 where
-  pub verdict : r .verdict ≡ batchVerdictBy task kind extension named (h .tasks) (h .given) (isMissingIn handles) standing
+  pub verdict : r .verdict ≡ batchVerdictBy (h .limits) task kind extension named (h .tasks) (h .given) (isMissingIn handles) standing
   pub count : r .count ≡ length named
   pub sized : r .verdict ≡ Accepted → length (r .blocks) ≡ largestBatch
   pub blocks : r .verdict ≡ Accepted → take (length named) (r .blocks) ≡ placesIn handles named

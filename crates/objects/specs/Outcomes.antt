@@ -56,4 +56,4 @@ bytesIn verdict handle p = bytesBy (verdict p) handle p
 -- the verdict of a make, by the block that was found and how many expirations stand; and that block
 unfoldable pub makePlan : ℕ → Kind → ℕ → ℕ → Head → ℕ → ℕ → Plan
 makePlan task kind extension size h place standing =
-    record { verdict = makeVerdictBy task kind extension size (h .tasks) (h .given) place standing; place = place }
+    record { verdict = makeVerdictBy (h .limits) task kind extension size (h .tasks) (h .given) place standing; place = place }

@@ -5,7 +5,7 @@ use mathlib.Core.List.{List}
 use lib.Dec.{eqb}
 use lib.ListN.{take, drop}
 use Rattle.lists.specs.Tests.{count}
-use Rattle.ledger.specs.Limits.{limits}
+use Rattle.ledger.specs.Limits.{capacity}
 use Rattle.ledger.specs.declared.Usage.{Usage}
 
 -- the handle of a block in use
@@ -15,8 +15,8 @@ isGiven handle = not (eqb handle 0)
 unfoldable pub usageIn : ℕ → List ℕ → ℕ → Usage
 usageIn given handles standing =
     record {
-      small = count isGiven (take (limits .smallBlocks) handles);
-      large = count isGiven (drop (limits .smallBlocks) handles);
+      small = count isGiven (take (capacity .small) handles);
+      large = count isGiven (drop (capacity .small) handles);
       expirations = standing;
       given = given;
     }

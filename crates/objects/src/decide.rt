@@ -1,5 +1,7 @@
 // What a make and a batch decide, on the tables that they read: nothing is changed here. A batch's objects are sought where no test before that refuses.
+ghost use mathlib.Core.Bool.{true};
 ghost use mathlib.Core.Path.{_≡_};
+ghost use Rattle.ledger.specs.Limits.{isAllowed};
 ghost use lib.ListN.{length};
 ghost use Rattle.ledger.specs.Objects.{handlesOf};
 ghost use Rattle.record.specs.Tables.{blockEntries};
@@ -29,14 +31,25 @@ pub fn plan_make(
     extension: u8,
     size: u16,
 ) -> Plan
-    requires { ⌜ length (now handles) ≡ blockEntries ⌝ }
-    ensures { λ r. ⌜ r ≡ makePlan task kind extension size h (freePlaceIn size (now (handles .entry))) standing ⌝ }
+    requires { ⌜ (length (now handles) ≡ blockEntries) × (isAllowed (h .limits) ≡ true) ⌝ }
+    ensures { λ r. ⌜ r ≡ makePlan task kind extension size h (freePlaceIn (h .limits) size (now (handles .entry))) standing ⌝ }
 {
     let size = size as u32;
-    let place = free_place(handles, size);
+    let limits = h.limits;
+    let place = free_place(limits, handles, size);
     let count = standing as usize;
     let tasks = h.tasks;
-    let verdict = make_verdict(task, kind, extension, size, tasks, h.given, place, count);
+    let verdict = make_verdict(
+        limits,
+        task,
+        kind,
+        extension,
+        size,
+        tasks,
+        h.given,
+        place,
+        count,
+    );
     Plan {
         verdict: verdict,
         place: place,
@@ -58,7 +71,7 @@ pub fn plan_batch(
 {
     let count = bytes.len() / 4;
     let tasks = h.tasks;
-    match batch_call_verdict(task, kind, extension, tasks, count) {
+    match batch_call_verdict(h.limits, task, kind, extension, tasks, count) {
         Verdict::Refused(why) => BatchPlan {
             verdict: Verdict::Refused(why),
             blocks: [0u8; LARGEST_BATCH],
@@ -68,7 +81,7 @@ pub fn plan_batch(
             let found = find_batch(h.given, handles, bytes);
             let blocks = found.blocks;
             let after = standing as usize + count;
-            let verdict = batch_objects_verdict(found.ungiven, found.gone, after);
+            let verdict = batch_objects_verdict(h.limits, found.ungiven, found.gone, after);
             BatchPlan {
                 verdict: verdict,
                 blocks: blocks,

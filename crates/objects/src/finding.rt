@@ -128,7 +128,7 @@ pub fn find_for_read<'a>(
     task: u8,
     handle: u32,
 ) -> FoundBytes
-    requires { ⌜ Sized (now handles) (now extents) (now clocks) (now named) (now dues) × (isWellFormed (lent h (now handles) (now extents) (now clocks) (now named) (now dues)) ≡ true) × (isWholeSmall (now small) ≡ true) × (isWholeLarge (now large) ≡ true) ⌝ }
+    requires { ⌜ Sized (now handles) (now extents) (now clocks) (now named) (now dues) × (isWellFormed (lent h (now handles) (now extents) (now clocks) (now named) (now dues)) ≡ true) × (isWholeSmall (h .limits) (now small) ≡ true) × (isWholeLarge (h .limits) (now large) ≡ true) ⌝ }
     ensures { λ r. ⌜ r ≡ bytesIn (readVerdict task handle (now (small .entry)) (now (large .entry))) handle (lent h (now (handles .entry)) (now (extents .entry)) (now (clocks .entry)) (now (named .entry)) (now (dues .entry))) ⌝ }
 {
     match find_standing(
@@ -173,7 +173,7 @@ pub fn find_for_write<'a>(
     offset: u8,
     count: usize,
 ) -> FoundBytes
-    requires { ⌜ Sized (now handles) (now extents) (now clocks) (now named) (now dues) × (isWellFormed (lent h (now handles) (now extents) (now clocks) (now named) (now dues)) ≡ true) × (isWholeSmall (now small) ≡ true) × (isWholeLarge (now large) ≡ true) ⌝ }
+    requires { ⌜ Sized (now handles) (now extents) (now clocks) (now named) (now dues) × (isWellFormed (lent h (now handles) (now extents) (now clocks) (now named) (now dues)) ≡ true) × (isWholeSmall (h .limits) (now small) ≡ true) × (isWholeLarge (h .limits) (now large) ≡ true) ⌝ }
     ensures { λ r. ⌜ r ≡ bytesIn (writeVerdict task handle offset count (now (small .entry)) (now (large .entry))) handle (lent h (now (handles .entry)) (now (extents .entry)) (now (clocks .entry)) (now (named .entry)) (now (dues .entry))) ⌝ }
 {
     match find_for_read(
@@ -216,7 +216,10 @@ pub fn find_for_refresh<'a>(
     ensures { λ r. ⌜ r ≡ foundIn false (refreshVerdict task kind extension handle) task handle (lent h (now (handles .entry)) (now (extents .entry)) (now (clocks .entry)) (now (named .entry)) (now (dues .entry))) ⌝ }
 {
     let tasks = h.tasks;
-    match and_then(task_verdict(task, tasks), set_verdict(kind, extension)) {
+    match and_then(
+        task_verdict(task, tasks),
+        set_verdict(h.limits, kind, extension),
+    ) {
         Verdict::Refused(why) => Found::Refused(why),
         Verdict::Accepted => found_if(
             find(
@@ -230,7 +233,7 @@ pub fn find_for_refresh<'a>(
                 handle,
                 false,
             ),
-            room_verdict(standing(clocks) as usize),
+            room_verdict(h.limits, standing(clocks) as usize),
         ),
     }
 }

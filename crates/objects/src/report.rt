@@ -5,9 +5,9 @@ ghost use lib.ListN.{length, take, drop};
 ghost use Rattle.lists.specs.Tests.{count};
 ghost use Rattle.record.specs.Tables.{blockEntries};
 ghost use Rattle.objects.specs.Usage.{isGiven, usageIn};
-use ledger::LIMITS;
 use ledger::Usage;
 use record::BLOCK_COUNT;
+use record::SMALL_COUNT;
 
 // The blocks in use from one place to before another.
 fn used_blocks(handles: &[u32; BLOCK_COUNT], start: usize, end: usize) -> u8
@@ -27,8 +27,8 @@ pub fn usage(given: u32, handles: &[u32; BLOCK_COUNT], standing: u16) -> Usage
     ensures { λ r. ⌜ r ≡ usageIn given (now (handles .entry)) standing ⌝ }
 {
     Usage {
-        small: used_blocks(handles, 0, LIMITS.small_blocks),
-        large: used_blocks(handles, LIMITS.small_blocks, BLOCK_COUNT),
+        small: used_blocks(handles, 0, SMALL_COUNT),
+        large: used_blocks(handles, SMALL_COUNT, BLOCK_COUNT),
         expirations: standing,
         given: given,
     }

@@ -12,27 +12,36 @@ use Rattle.record.specs.Pools.{isWellFormed, Reads}
 use Rattle.record.specs.declared.Pool.{Pool}
 use Rattle.record.proofs.FreshReads.{fresh-reads, fresh-well-formed}
 use Rattle.steps.proofs.Staying.{same-stays, stays-on}
+use Rattle.record.specs.Reading.{freshPool}
+use Rattle.record.specs.Tables.{tablesBy, tablesOf}
+use Rattle.steps.specs.Staying.{Stays}
 use Rattle.calls.specs.Contract.{areWhole}
 use Rattle.pool.specs.Demands.{Runs, done, call, Demand2, PoolDemand3, ObjectsStay}
 
+-- no call changes the figures
+pub limits-stay : (p p′ : Pool) → Stays (tablesOf p) (tablesOf p′) → p′ .limits ≡ p .limits
+unfolding tablesOf tablesBy
+limits-stay p p′ s = s .limits
+
 -- from any well-formed record that reads as a ledger, with whole stores
 pub runs-follow : {p p′ : Pool} {small small′ large large′ : List ℕ} {ss : List Sent} {ys : List Reply} → Runs p small large ss ys p′ small′ large′
-    → isWellFormed p ≡ true → areWhole small large ≡ true → (L : Ledger) → Reads p small large L
+    → isWellFormed p ≡ true → areWhole (p .limits) small large ≡ true → (L : Ledger) → Reads p small large L
     → (ys ≡ replies L ss) × Reads p′ small′ large′ (afterAll L ss) × (isWellFormed p′ ≡ true)
 unfolding replies afterAll
 runs-follow done w whole L reads = (refl, reads, w)
 runs-follow (call {s = s} o rest) w whole L reads =
-    let (same, left, fit) = runs-follow rest (o .fits w) (rw (o .sizes .0, o .sizes .1) whole) (afterRequest L (s .request) (s .bytes)) (o .leaves w (λ e. whole) L reads) in
+    let (same, left, fit) = runs-follow rest (o .fits w) (rw (o .sizes .0, o .sizes .1, limits-stay _ _ (o .stays)) whole) (afterRequest L (s .request) (s .bytes)) (o .leaves w (λ e. whole) L reads) in
     (ap₂ _∷_ (o .answers w (λ e. whole) L reads) same, left, fit)
 
 pub demand2 : Demand2
-demand2 small large a b ss ys p′ small′ large′ runs =
-    runs-follow runs fresh-well-formed (rw (eq-eqb _ _ a, eq-eqb _ _ b)) fresh (fresh-reads small large)
+unfolding freshPool
+demand2 limits may small large a b ss ys p′ small′ large′ runs =
+    runs-follow runs (fresh-well-formed limits may) (rw (eq-eqb _ _ a, eq-eqb _ _ b)) (fresh limits) (fresh-reads limits small large)
 
 pub pool-demand3 : PoolDemand3
-pool-demand3 small large a b us ys p′ small′ large′ runs =
-    rw (demand2 small large a b (map sent us) ys p′ small′ large′ runs .0) (demand3 us)
+pool-demand3 limits may small large a b us ys p′ small′ large′ runs =
+    rw (demand2 limits may small large a b (map sent us) ys p′ small′ large′ runs .0) (demand3 limits us)
 
 pub objects-stay : ObjectsStay
-objects-stay p p′ small large small′ large′ ss ys done = same-stays refl refl
+objects-stay p p′ small large small′ large′ ss ys done = same-stays refl refl refl
 objects-stay p p′ small large small′ large′ ss ys (call o rest) = stays-on (o .stays) (objects-stay _ p′ _ _ small′ large′ _ _ rest)

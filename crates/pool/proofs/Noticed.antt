@@ -51,10 +51,12 @@ module _ (p : Pool) (small large : List ℕ) (c : StoreChange p small large) (L 
   fit : Fit (tablesOf p)
   fit = fit-parts (tablesOf p) (c .fit)
 
-  small-whole : isWholeSmall small ≡ true
+  small-whole : isWholeSmall (tablesOf p .limits) small ≡ true
+  unfolding tablesOf tablesBy
   small-whole = eq-eqb _ _ (c .smallWhole)
 
-  large-whole : isWholeLarge large ≡ true
+  large-whole : isWholeLarge (tablesOf p .limits) large ≡ true
+  unfolding tablesOf tablesBy
   large-whole = eq-eqb _ _ (c .largeWhole)
 
   -- the block's entry is in use, and its sum agrees
@@ -70,13 +72,15 @@ module _ (p : Pool) (small large : List ℕ) (c : StoreChange p small large) (L 
 
   -- the ledger's object is the one in the block, with all of its bytes
   object-here : objectAt (handleAt blocks block) objects ≡ objectOf small large blocks block
-  object-here = sym (shown-whole small large small-whole large-whole _) ∙ used-object fit reads block used
+  object-here =
+      sym (shown-whole (tablesOf p .limits) small large small-whole large-whole _) ∙ used-object fit reads block used
+      ∙ shown-whole (tablesOf p .limits) small large small-whole large-whole _
 
   within : c .at + 1 ≤ sizeOf block
   within = omega (arith, c .inside)
 
   byte-here : InBlock small large block (c .at + 1)
-  byte-here = in-place (tablesOf p) small large (c .typed) small-whole large-whole block (c .at) (c .value ∷ []) used within
+  byte-here = in-place (tablesOf p) small large fit small-whole large-whole block (c .at) (c .value ∷ []) used within
 
   -- so that the change is one of the ledger
   change : Change
@@ -97,9 +101,10 @@ module _ (p : Pool) (small large : List ℕ) (c : StoreChange p small large) (L 
       }
 
   -- the stores keep their lengths, and with them the record reads as the ledger with that change
-  still-whole : areWhole small′ large′ ≡ true
+  still-whole : areWhole (p .limits) small′ large′ ≡ true
+  unfolding tablesOf tablesBy
   still-whole =
-      let sizes = changed-sizes (tablesOf p) small large (c .typed) small-whole large-whole block (c .at) (c .value ∷ []) used within in
+      let sizes = changed-sizes (tablesOf p) small large fit small-whole large-whole block (c .at) (c .value ∷ []) used within in
       rw (sizes .0, sizes .1, small-whole, large-whole)
 
   reads-changed : Reads p small′ large′ (changed change)
@@ -118,4 +123,4 @@ pub pool-notices : PoolNotices
 pool-notices p small large c L reads ss ys p′ small′ large′ runs = noticed-here p small large c L reads runs
 
 pub pool-never : PoolNever
-pool-never small large a b ss ys p′ small′ large′ runs = rw (demand2 small large a b ss ys p′ small′ large′ runs .0) (notices .never ss)
+pool-never limits may small large a b ss ys p′ small′ large′ runs = rw (demand2 limits may small large a b ss ys p′ small′ large′ runs .0) (notices .never limits ss)

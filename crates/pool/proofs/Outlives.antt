@@ -15,12 +15,14 @@ use Rattle.ledger.specs.Compared.{viewOf, shown, shownObject}
 use Rattle.ledger.specs.Outlives.{setIn, leftIn, followed, Setting, whenSet, callsOf}
 use Rattle.ledger.specs.declared.Answer.the-variants.{Refused}
 use Rattle.ledger.specs.declared.Refusal.the-variants.{ObjectGone, WrongStoreLength}
+use Rattle.ledger.specs.declared.Limits.{Limits}
 use Rattle.ledger.proofs.Kept.{owned-by, kept-all}
 use Rattle.ledger.proofs.Following.{following}
 use Rattle.ledger.proofs.OutlivesTicks.{outlives-ticks}
 use Rattle.ledger.proofs.GoneAfterRounds.{gone-after-rounds}
 use Rattle.ledger.proofs.Pinned.{read-stands}
 use Rattle.record.specs.Reading.{isWhole}
+use Rattle.record.specs.Tables.{tablesOf}
 use Rattle.record.specs.Pools.{Reads}
 use Rattle.record.specs.declared.Pool.{Pool}
 use Rattle.calls.specs.Contract.{areWhole}
@@ -37,27 +39,27 @@ wrong-store : Refused WrongStoreLength ≡ Refused ObjectGone → ⊥
 wrong-store e = let z : _≡_ {A = ℕ} 0 1 = cc in omega arith
 
 -- after a list of calls an object that stands in the ledger stands in the pool
-pub stands-in : (ss : List Sent) (p′ : Pool) (small′ large′ : List ℕ) → FreshRun ss p′ small′ large′
-    → (handle : ℕ) → stands (afterAll fresh ss .expirations) handle ≡ true → StandsIn handle p′ small′ large′
+pub stands-in : (limits : Limits) (ss : List Sent) (p′ : Pool) (small′ large′ : List ℕ) → FreshRun limits ss p′ small′ large′
+    → (handle : ℕ) → stands (afterAll (fresh limits) ss .expirations) handle ≡ true → StandsIn handle p′ small′ large′
 unfolding viewOf
-stands-in ss p′ small′ large′ r handle here =
-    let (same, reads, fit) = demand2 (r .small) (r .large) (r .smallWhole) (r .largeWhole) ss (r .replies) p′ small′ large′ (r .runs) in
-    let N = afterAll fresh ss in
+stands-in limits ss p′ small′ large′ r handle here =
+    let (same, reads, fit) = demand2 limits (r .allowed) (r .small) (r .large) (r .smallWhole) (r .largeWhole) ss (r .replies) p′ small′ large′ (r .runs) in
+    let N = afterAll (fresh limits) ss in
     record {
       has =
           any-perm _ (reads .alike .objects)
-          ∙ any-map (λ (o : Object). eqb handle (o .handle)) (shownObject (isWhole small′ large′)) (N .memory .objects)
-          ∙ owned-by (N .memory) (N .expirations) (kept-all ss) handle here;
+          ∙ any-map (λ (o : Object). eqb handle (o .handle)) (shownObject (isWhole (tablesOf p′ .limits) small′ large′)) (N .memory .objects)
+          ∙ owned-by (N .memory) (N .expirations) (kept-all limits ss) handle here;
       reads = λ task y p″ small″ large″ o e.
-          by-test (areWhole small′ large′)
+          by-test (areWhole (p′ .limits) small′ large′)
           (λ w. read-stands N task handle here (ap (λ (y : Reply). y .answer) (sym (o .answers fit (λ u. w) N reads)) ∙ e))
           (λ w. wrong-store (sym (ap (λ (y : Reply). y .answer) (o .wrong fit refl w .refused)) ∙ e));
     }
 
 -- the ledger after the whole list
-after-set : (d : Setting) (ss : List Sent) → afterAll fresh (d .earlier ++ (d .call ∷ ss)) ≡ afterAll (whenSet d) ss
+after-set : (d : Setting) (ss : List Sent) → afterAll (fresh (d .limits)) (d .earlier ++ (d .call ∷ ss)) ≡ afterAll (whenSet d) ss
 unfolding afterAll
-after-set d ss = after-append (d .earlier) (d .call ∷ ss) fresh
+after-set d ss = after-append (d .earlier) (d .call ∷ ss) (fresh (d .limits))
 
 -- one part comes to the front
 arranged : (new front one rest : List Expiration) → List·Permᴰ (new ++ (front ++ (one ++ rest))) (one ++ (new ++ (front ++ rest)))
@@ -79,7 +81,7 @@ whole (s ∷ ss) L =
 with-others : (d : Setting) (ss : List Sent)
     → List·Permᴰ (afterAll (whenSet d) ss .expirations) (followed (whenSet d) ss (d .date ∷ []) ++ othersOf d ss)
 with-others d ss =
-    let L = afterAll fresh (d .earlier) in
+    let L = afterAll (fresh (d .limits)) (d .earlier) in
     let M = whenSet d in
     let F : List Expiration → List Expiration = followed M ss in
     let new = followedNew M ss in
@@ -96,7 +98,7 @@ with-others d ss =
 pub pool-follows : PoolFollows
 unfolding viewOf
 pool-follows d ss p′ small′ large′ r =
-    let reads = demand2 (r .small) (r .large) (r .smallWhole) (r .largeWhole) (d .earlier ++ (d .call ∷ ss)) (r .replies) p′ small′ large′ (r .runs) .1 in
+    let reads = demand2 (d .limits) (r .allowed) (r .small) (r .large) (r .smallWhole) (r .largeWhole) (d .earlier ++ (d .call ∷ ss)) (r .replies) p′ small′ large′ (r .runs) .1 in
     let N = afterAll (whenSet d) ss in
     let at-end : Reads p′ small′ large′ N = subst (λ (L : Ledger). Reads p′ small′ large′ L) (after-set d ss) reads in
     List·Permᴰ·trans (at-end .alike .expirations) (map-perm (shown (N .memory .clocks)) (with-others d ss))
@@ -111,7 +113,7 @@ pool-outlives-ticks d ss p′ small′ large′ r stays few =
       left = left;
       shows = pool-follows d ss p′ small′ large′ r;
       object =
-          stands-in (d .earlier ++ (d .call ∷ ss)) p′ small′ large′ r handle
+          stands-in (d .limits) (d .earlier ++ (d .call ∷ ss)) p′ small′ large′ r handle
           (subst (λ (L : Ledger). stands (L .expirations) handle ≡ true) (sym (after-set d ss)) here);
     }
 

@@ -13,6 +13,6 @@ pub pool-stands-until : PoolStandsUntilReleased
 unfolding afterAll
 pool-stands-until m ss p′ small′ large′ r e =
     let all = m .earlier ++ (madeBy m ∷ ss) in
-    let same : afterAll fresh all ≡ afterAll (whenMade m) ss = after-append (m .earlier) (madeBy m ∷ ss) fresh in
-    stands-in all p′ small′ large′ r (m .object)
+    let same : afterAll (fresh (m .limits)) all ≡ afterAll (whenMade m) ss = after-append (m .earlier) (madeBy m ∷ ss) (fresh (m .limits)) in
+    stands-in (m .limits) all p′ small′ large′ r (m .object)
     (subst (λ (L : Ledger). stands (L .expirations) (m .object) ≡ true) (sym same) (stands-until m ss e .0))

@@ -39,14 +39,14 @@ module _ (a : AtAdvance) where
   abbrev it : Expiration
   it = globalOne (a .handle) (a .setter) (a .at)
 
-  after-call : afterAll fresh (a .earlier ++ (a .call ∷ [])) ≡ M
+  after-call : afterAll (fresh (a .limits)) (a .earlier ++ (a .call ∷ [])) ≡ M
   unfolding afterAll
-  after-call = after-append (a .earlier) (a .call ∷ []) fresh
+  after-call = after-append (a .earlier) (a .call ∷ []) (fresh (a .limits))
 
   -- it had units left, and nobody who is departed waits afterwards
   some-left : 1 ≤ unitsBefore a
   some-left =
-      let k = middle (ExpirationKept (clocksBefore a) (L .memory .objects)) (a .front) it (a .back) (rw (a .among) at (kept-all (a .earlier) .expirations .each)) in
+      let k = middle (ExpirationKept (L .memory .limits) (clocksBefore a) (L .memory .objects)) (a .front) it (a .back) (rw (a .among) at (kept-all (a .limits) (a .earlier) .expirations .each)) in
       ltb-true 0 _ (k .ahead)
 
   clocks-after : M .memory .clocks ≡ clocksAfter (a .event) (a .task) (clocksBefore a)
@@ -55,7 +55,7 @@ module _ (a : AtAdvance) where
   none-departed : waitsAfter (a .event) (a .task) (clocksBefore a) departed ≡ false
   none-departed =
       subst (λ (c : Clocks). isWaiting (taskAt c departed .state) ≡ false) (ap (λ (N : Ledger). N .memory .clocks) after-call ∙ clocks-after)
-      (waiting-eats-nothing .gone _ (kept-all (a .earlier ++ (a .call ∷ [])) .clocks))
+      (waiting-eats-nothing .gone _ (kept-all (a .limits) (a .earlier ++ (a .call ∷ [])) .clocks))
 
   -- what the call leaves of it is by the event
   left-one : leftAt a (it ∷ []) ≡ leftOfOne (a .event) (a .task) (clocksBefore a) it
@@ -71,11 +71,11 @@ module _ (a : AtAdvance) where
       ∙ ap (λ (xs : List Expiration). leftAt a (a .front) ++ xs) (following .apart L (a .call ∷ []) (it ∷ []) (a .back)))
 
   -- so the record has it with the units that it is left
-  shown-with : (p′ : Pool) (small′ large′ : List ℕ) → FreshRun (a .earlier ++ (a .call ∷ [])) p′ small′ large′ → (count : ℕ)
+  shown-with : (p′ : Pool) (small′ large′ : List ℕ) → FreshRun (a .limits) (a .earlier ++ (a .call ∷ [])) p′ small′ large′ → (count : ℕ)
       → LeftWith (a .event) (a .task) (clocksBefore a) it count → ShownWith a p′ small′ large′ count
   unfolding viewOf
   shown-with p′ small′ large′ r count l =
-      let reads = demand2 (r .small) (r .large) (r .smallWhole) (r .largeWhole) (a .earlier ++ (a .call ∷ [])) (r .replies) p′ small′ large′ (r .runs) .1 in
+      let reads = demand2 (a .limits) (r .allowed) (r .small) (r .large) (r .smallWhole) (r .largeWhole) (a .earlier ++ (a .call ∷ [])) (r .replies) p′ small′ large′ (r .runs) .1 in
       let at-end : Reads p′ small′ large′ M = subst (λ (N : Ledger). Reads p′ small′ large′ N) after-call reads in
       let new = setIn L (a .call .request) (a .call .bytes) in
       let front = leftAt a (a .front) in

@@ -25,7 +25,7 @@ head-typed p vs t =
 
 pub columns-sized : (p : Pool) (vs : List Val) → Is the-row p vs → Sized (p .handles) (p .extents) (p .clocks) (p .named) (p .dues)
 columns-sized p vs t =
-    let (tasks, (global, (given, (handles, (extents, (clocks, (named, (dues, end)))))))) = t .1 .1 in
+    let (tasks, (global, (given, (limits, (handles, (extents, (clocks, (named, (dues, end))))))))) = t .1 .1 in
     record {
       blocks = record { of-handles = sym (length-map (p .handles) _) ∙ handles .1 .0 .1; of-extents = sym (length-map (p .extents) _) ∙ extents .1 .0 .1 };
       entries =

@@ -7,7 +7,9 @@ use mathlib.Core.Path.{_≡_}
 use lib.ListN.{length}
 use Rattle.ledger.specs.Objects.{Reply, freshMemory}
 use Rattle.ledger.specs.Ledger.{Sent, fresh, replies, afterAll}
+use Rattle.ledger.specs.Limits.{isAllowed}
 use Rattle.ledger.specs.Heap.{Used, sent, heapReplies, allInTimeAndBounds}
+use Rattle.ledger.specs.declared.Limits.{Limits}
 use Rattle.record.specs.Reading.{freshPool, wholeSmall, wholeLarge}
 use Rattle.record.specs.Pools.{isWellFormed, Reads}
 use Rattle.record.specs.Tables.{tablesOf}
@@ -22,20 +24,20 @@ pub data Runs : Pool → List ℕ → List ℕ → List Sent → List Reply → 
       → Obeys (s .request) (s .bytes) p small large y p′ small′ large′ → Runs p′ small′ large′ ss ys p″ small″ large″
       → Runs p small large (s ∷ ss) (y ∷ ys) p″ small″ large″
 
--- Demand 2: for every list of all calls from a fresh pool, with stores of 01's lengths and any bytes in them, each answer is the ledger's, record and
+-- Demand 2: for all figures that a site may choose and for every list of all calls from a fresh pool, with stores as long as the blocks need and any bytes in them, each answer is the ledger's, record and
 -- stores then read as the ledger, and the record is fit. (Every beginning of a list is a list: so it is after each call.)
 abbrev pub Demand2 : Type 0
 Demand2 =
-    (small large : List ℕ) → length small ≡ wholeSmall → length large ≡ wholeLarge
-    → (ss : List Sent) (ys : List Reply) (p′ : Pool) (small′ large′ : List ℕ) → Runs freshPool small large ss ys p′ small′ large′
-    → (ys ≡ replies fresh ss) × Reads p′ small′ large′ (afterAll fresh ss) × (isWellFormed p′ ≡ true)
+    (limits : Limits) → isAllowed limits ≡ true → (small large : List ℕ) → length small ≡ wholeSmall limits → length large ≡ wholeLarge limits
+    → (ss : List Sent) (ys : List Reply) (p′ : Pool) (small′ large′ : List ℕ) → Runs (freshPool limits) small large ss ys p′ small′ large′
+    → (ys ≡ replies (fresh limits) ss) × Reads p′ small′ large′ (afterAll (fresh limits) ss) × (isWellFormed p′ ≡ true)
 
 -- Demand 3: for every such list of the eleven calls the answers equal the unbounded heap's exactly when all use was in time and in bounds.
 abbrev pub PoolDemand3 : Type 0
 PoolDemand3 =
-    (small large : List ℕ) → length small ≡ wholeSmall → length large ≡ wholeLarge
-    → (us : List Used) (ys : List Reply) (p′ : Pool) (small′ large′ : List ℕ) → Runs freshPool small large (map sent us) ys p′ small′ large′
-    → (ys ≡ heapReplies freshMemory us) ↔ (allInTimeAndBounds freshMemory [] us ≡ true)
+    (limits : Limits) → isAllowed limits ≡ true → (small large : List ℕ) → length small ≡ wholeSmall limits → length large ≡ wholeLarge limits
+    → (us : List Used) (ys : List Reply) (p′ : Pool) (small′ large′ : List ℕ) → Runs (freshPool limits) small large (map sent us) ys p′ small′ large′
+    → (ys ≡ heapReplies (freshMemory limits) us) ↔ (allInTimeAndBounds (freshMemory limits) [] us ≡ true)
 
 -- O29: over every list of calls, from any record, objects that stand on stay in their blocks.
 abbrev pub ObjectsStay : Type 0

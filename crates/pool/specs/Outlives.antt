@@ -9,30 +9,33 @@ use Rattle.lists.specs.Tests.{any}
 use Rattle.ledger.specs.Expirations.{Expiration}
 use Rattle.ledger.specs.Objects.{Object, Reply, stands}
 use Rattle.ledger.specs.Ledger.{Ledger, Sent, fresh, afterSent, afterAll}
+use Rattle.ledger.specs.Limits.{isAllowed}
 use Rattle.ledger.specs.Compared.{shown}
 use Rattle.ledger.specs.Outlives.{setIn, leftIn, followed, isTickOf, isLeaveOf, countOf, Setting, whenSet, Stretch, callsOf, areRounds}
 use Rattle.ledger.specs.declared.Answer.the-variants.{Refused}
 use Rattle.ledger.specs.declared.Call.the-variants.{Read}
 use Rattle.ledger.specs.declared.Refusal.the-variants.{ObjectGone}
 use Rattle.ledger.specs.declared.Request.the-variants.{Use}
+use Rattle.ledger.specs.declared.Limits.{Limits}
 use Rattle.record.specs.Reading.{freshPool, wholeSmall, wholeLarge, recordView}
 use Rattle.record.specs.Tables.{tablesOf}
 use Rattle.record.specs.declared.Pool.{Pool}
 use Rattle.calls.specs.Contract.{Obeys}
 use Rattle.pool.specs.Demands.{Runs}
 
--- A list of calls from a fresh pool, with stores of 01's lengths
-pub record FreshRun (ss : List Sent) (p′ : Pool) (small′ large′ : List ℕ) : Type 0 where
+-- A list of calls from a fresh pool of allowed figures, with stores as long as the blocks need
+pub record FreshRun (limits : Limits) (ss : List Sent) (p′ : Pool) (small′ large′ : List ℕ) : Type 0 where
+  pub allowed : isAllowed limits ≡ true
   pub small : List ℕ
   pub large : List ℕ
-  pub smallWhole : length small ≡ wholeSmall
-  pub largeWhole : length large ≡ wholeLarge
+  pub smallWhole : length small ≡ wholeSmall limits
+  pub largeWhole : length large ≡ wholeLarge limits
   pub replies : List Reply
-  pub runs : Runs freshPool small large ss replies p′ small′ large′
+  pub runs : Runs (freshPool limits) small large ss replies p′ small′ large′
 
 -- one of them sets a global expiration, and more follow
 abbrev pub SetRun : Setting → List Sent → Pool → List ℕ → List ℕ → Type 0
-SetRun d ss p′ small′ large′ = FreshRun (d .earlier ++ (d .call ∷ ss)) p′ small′ large′
+SetRun d ss p′ small′ large′ = FreshRun (d .limits) (d .earlier ++ (d .call ∷ ss)) p′ small′ large′
 
 -- An object stands in the pool:
 pub record StandsIn (handle : ℕ) (p : Pool) (small large : List ℕ) : Type 0 where
@@ -50,7 +53,7 @@ followedNew L (s ∷ ss) = followedNew (afterSent L s) ss ++ followed (afterSent
 -- all the others: what is left of those that stood beside the one that was set, and of those set since
 abbrev pub beside : Setting → List Expiration
 beside d =
-    let L = afterAll fresh (d .earlier) in
+    let L = afterAll (fresh (d .limits)) (d .earlier) in
     d .back ++ leftIn L (d .call .request) (d .call .bytes) (L .expirations)
 
 abbrev pub othersOf : Setting → List Sent → List Expiration

@@ -10,5 +10,5 @@ use Rattle.pool.specs.Outlives.{FreshRun, StandsIn}
 
 abbrev pub PoolStandsUntilReleased : Type 0
 PoolStandsUntilReleased =
-    (m : PinnedMake) (ss : List Sent) (p′ : Pool) (small′ large′ : List ℕ) → FreshRun (m .earlier ++ (madeBy m ∷ ss)) p′ small′ large′
+    (m : PinnedMake) (ss : List Sent) (p′ : Pool) (small′ large′ : List ℕ) → FreshRun (m .limits) (m .earlier ++ (madeBy m ∷ ss)) p′ small′ large′
     → isReleased (m .object) (whenMade m) ss ≡ false → StandsIn (m .object) p′ small′ large′

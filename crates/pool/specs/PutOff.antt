@@ -9,26 +9,28 @@ use Rattle.ledger.specs.Ledger.{Ledger, Sent, fresh, afterSent, afterAll}
 use Rattle.ledger.specs.Outlives.{happens, moveIn, setIn, leftIn}
 use Rattle.ledger.specs.PutOff.{globalOne, LeftWith, waitsAfter}
 use Rattle.ledger.specs.declared.Event.{Event}
+use Rattle.ledger.specs.declared.Limits.{Limits}
 use Rattle.record.specs.declared.Pool.{Pool}
 use Rattle.pool.specs.Outlives.{FreshRun, Shows}
 
 -- Calls from fresh on, and then an accepted event that makes the global time advance; before it a global expiration stood, between these others.
 pub record AtAdvance : Type 0 where
+  pub limits : Limits
   pub earlier : List Sent
   pub call : Sent
   pub event : Event
   pub task : ℕ
-  pub happened : moveIn (afterAll fresh earlier) (call .request) (call .bytes) ≡ happens event task
-  pub advanced : advances event task (afterAll fresh earlier .memory .clocks) ≡ true
+  pub happened : moveIn (afterAll (fresh limits) earlier) (call .request) (call .bytes) ≡ happens event task
+  pub advanced : advances event task (afterAll (fresh limits) earlier .memory .clocks) ≡ true
   pub handle : ℕ
   pub setter : ℕ
   pub at : ℕ
   pub front : List Expiration
   pub back : List Expiration
-  pub among : afterAll fresh earlier .expirations ≡ front ++ (globalOne handle setter at ∷ back)
+  pub among : afterAll (fresh limits) earlier .expirations ≡ front ++ (globalOne handle setter at ∷ back)
 
 abbrev pub before : AtAdvance → Ledger
-before a = afterAll fresh (a .earlier)
+before a = afterAll (fresh (a .limits)) (a .earlier)
 
 abbrev pub clocksBefore : AtAdvance → Clocks
 clocksBefore a = before a .memory .clocks
@@ -50,8 +52,8 @@ pub record ShownWith (a : AtAdvance) (p′ : Pool) (small′ large′ : List ℕ
 
 pub record PoolWaitingEatsNothing : Type 0 where
   -- where its setter waits after the event it has all the units that it had,
-  pub waits : (a : AtAdvance) (p′ : Pool) (small′ large′ : List ℕ) → FreshRun (a .earlier ++ (a .call ∷ [])) p′ small′ large′
+  pub waits : (a : AtAdvance) (p′ : Pool) (small′ large′ : List ℕ) → FreshRun (a .limits) (a .earlier ++ (a .call ∷ [])) p′ small′ large′
       → waitsAfter (a .event) (a .task) (clocksBefore a) (a .setter) ≡ true → ShownWith a p′ small′ large′ (unitsBefore a)
   -- and else one less
-  pub counts : (a : AtAdvance) (p′ : Pool) (small′ large′ : List ℕ) → FreshRun (a .earlier ++ (a .call ∷ [])) p′ small′ large′
+  pub counts : (a : AtAdvance) (p′ : Pool) (small′ large′ : List ℕ) → FreshRun (a .limits) (a .earlier ++ (a .call ∷ [])) p′ small′ large′
       → waitsAfter (a .event) (a .task) (clocksBefore a) (a .setter) ≡ false → 2 ≤ unitsBefore a → ShownWith a p′ small′ large′ (unitsBefore a - 1)

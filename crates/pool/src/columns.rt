@@ -32,9 +32,11 @@ pub fn put_together(
 ) -> Pool
     ensures { λ r. ⌜ r ≡ pooled head handles extents clocks named dues ⌝ }
 {
+    let limits = head.limits;
     let tasks = head.tasks;
     let global = head.global;
     Pool {
+        limits: limits,
         tasks: tasks,
         global: global,
         given: head.given,

@@ -1,4 +1,5 @@
 // The program: a script on standard input, one answer a line on standard output.
+use ledger::STANDARD;
 use libc::STDIN_FILENO;
 use libc::STDOUT_FILENO;
 use pool::LARGE_BYTES;
@@ -14,7 +15,7 @@ fn answer(script: &[u8]) {
     let mut small = [0u8; SMALL_BYTES];
     let mut large = [0u8; LARGE_BYTES];
     let mut out = io::large_buffer();
-    let mut p = fresh();
+    let mut p = fresh(STANDARD);
     let mut at = 0;
     while at < script.len() {
         let ran = run_on(p, &mut small, &mut large, script, at, &mut out);

@@ -23,7 +23,9 @@ use Rattle.ledger.proofs.Demand3.{demand3-told}
 use Rattle.record.specs.Pools.{isWellFormed, Reads}
 use Rattle.record.specs.declared.Pool.{Pool}
 use Rattle.record.proofs.FreshReads.{fresh-reads, fresh-well-formed}
+use Rattle.record.specs.Reading.{freshPool}
 use Rattle.calls.specs.Contract.{areWhole}
+use Rattle.pool.proofs.Demands.{limits-stay}
 use Rattle.frames.specs.declared.Frame.{Frame}
 use Rattle.execute.specs.Execution.{IsReplyTo, replyToFrame, afterFrame}
 use Rattle.numbered.specs.Told.{Loans, Told, toldBy}
@@ -33,7 +35,7 @@ use Rattle.ramsummer.specs.Demands.{Action, HostRuns, toldOf, afterActio
 -- A well-formed record with whole stores that reads as a ledger.
 record Beside (p : Pool) (small large : List ℕ) (L : Ledger) : Type 0 where
   fit : isWellFormed p ≡ true
-  whole : areWhole small large ≡ true
+  whole : areWhole (p .limits) small large ≡ true
   reads : Reads p small large L
 
 -- what a frame makes of it
@@ -43,7 +45,7 @@ framed (Frame.Request request count) bytes {L = L} b o = (
   o .answers (b .fit) (λ s. b .whole) L (b .reads),
   record {
     fit = o .fits (b .fit);
-    whole = rw (o .sizes .0, o .sizes .1) (b .whole);
+    whole = rw (o .sizes .0, o .sizes .1, limits-stay _ _ (o .stays)) (b .whole);
     reads = o .leaves (b .fit) (λ s. b .whole) L (b .reads);
   },
 )
@@ -71,8 +73,9 @@ runs-follow (HostRuns.step {d = d} g rest) b =
     let (others, left, fit) = runs-follow rest after in (ap₂ _∷_ told others, left, fit)
 
 pub host-demand2 : HostDemand2
-host-demand2 small large s l ds ts p′ small′ large′ runs =
-    runs-follow runs (record { fit = fresh-well-formed; whole = rw (eq-eqb _ _ s, eq-eqb _ _ l); reads = fresh-reads small large })
+unfolding freshPool
+host-demand2 limits may small large s l ds ts p′ small′ large′ runs =
+    runs-follow runs (record { fit = fresh-well-formed limits may; whole = rw (eq-eqb _ _ s, eq-eqb _ _ l); reads = fresh-reads limits small large })
 
 -- what the ledger tells of the eleven calls is its replies told
 told-replies : (us : List Using) (L : Ledger) → toldOfAll L (map actionOf us) ≡ (map toldIn us ⊛ replies L (map sent (map usedIn us)))
@@ -104,5 +107,5 @@ shows u none call m = not-own (replyTo call m) (u .loans) (accepted call m)
 shows u (some r) call m = rw (le-ltb (length (u .loans .buffer)) 0 (omega arith))
 
 pub host-demand3 : HostDemand3
-host-demand3 small large s l us ts p′ small′ large′ runs =
-    rw (host-demand2 small large s l (map actionOf us) ts p′ small′ large′ runs .0, told-replies us fresh) (demand3-told usedIn toldIn isOwnTold shows us)
+host-demand3 limits may small large s l us ts p′ small′ large′ runs =
+    rw (host-demand2 limits may small large s l (map actionOf us) ts p′ small′ large′ runs .0, told-replies us (fresh limits)) (demand3-told usedIn toldIn isOwnTold shows limits us)

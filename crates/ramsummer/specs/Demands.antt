@@ -10,8 +10,10 @@ use lib.ListN.{length}
 use Rattle.lists.specs.Columns.{_⊛_}
 use Rattle.ledger.specs.Objects.{Reply, freshMemory}
 use Rattle.ledger.specs.Ledger.{Ledger, fresh}
+use Rattle.ledger.specs.Limits.{isAllowed}
 use Rattle.ledger.specs.Heap.{Used, heapReplies, allInTimeAndBounds}
 use Rattle.ledger.specs.declared.Request.the-variants.{Use}
+use Rattle.ledger.specs.declared.Limits.{Limits}
 use Rattle.record.specs.Reading.{freshPool, wholeSmall, wholeLarge}
 use Rattle.record.specs.Pools.{isWellFormed, Reads}
 use Rattle.record.specs.declared.Pool.{Pool}
@@ -49,12 +51,12 @@ unfoldable pub afterActions : Ledger → List Action → Ledger
 afterActions L [] = L
 afterActions L (d ∷ ds) = afterActions (afterAction L d) ds
 
--- D4, demand 2 for a host: from a fresh record, with stores of 01's lengths and any bytes in them.
+-- D4, demand 2 for a host: from a fresh record of allowed figures, with stores as long as the blocks need and any bytes in them.
 abbrev pub HostDemand2 : Type 0
 HostDemand2 =
-    (small large : List ℕ) → length small ≡ wholeSmall → length large ≡ wholeLarge
-    → (ds : List Action) (ts : List Told) (p′ : Pool) (small′ large′ : List ℕ) → HostRuns freshPool small large ds ts p′ small′ large′
-    → (ts ≡ toldOfAll fresh ds) × Reads p′ small′ large′ (afterActions fresh ds) × (isWellFormed p′ ≡ true)
+    (limits : Limits) → isAllowed limits ≡ true → (small large : List ℕ) → length small ≡ wholeSmall limits → length large ≡ wholeLarge limits
+    → (ds : List Action) (ts : List Told) (p′ : Pool) (small′ large′ : List ℕ) → HostRuns (freshPool limits) small large ds ts p′ small′ large′
+    → (ts ≡ toldOfAll (fresh limits) ds) × Reads p′ small′ large′ (afterActions (fresh limits) ds) × (isWellFormed p′ ≡ true)
 
 -- one of the eleven calls by its own entry
 pub record Using : Type 0 where
@@ -73,6 +75,6 @@ toldIn u y = toldBy y (u .loans)
 -- Demand 3 for a host: whatever it lends, a buffer too short for a read too.
 abbrev pub HostDemand3 : Type 0
 HostDemand3 =
-    (small large : List ℕ) → length small ≡ wholeSmall → length large ≡ wholeLarge
-    → (us : List Using) (ts : List Told) (p′ : Pool) (small′ large′ : List ℕ) → HostRuns freshPool small large (map actionOf us) ts p′ small′ large′
-    → (ts ≡ (map toldIn us ⊛ heapReplies freshMemory (map usedIn us))) ↔ (allInTimeAndBounds freshMemory [] (map usedIn us) ≡ true)
+    (limits : Limits) → isAllowed limits ≡ true → (small large : List ℕ) → length small ≡ wholeSmall limits → length large ≡ wholeLarge limits
+    → (us : List Using) (ts : List Told) (p′ : Pool) (small′ large′ : List ℕ) → HostRuns (freshPool limits) small large (map actionOf us) ts p′ small′ large′
+    → (ts ≡ (map toldIn us ⊛ heapReplies (freshMemory limits) (map usedIn us))) ↔ (allInTimeAndBounds (freshMemory limits) [] (map usedIn us) ≡ true)

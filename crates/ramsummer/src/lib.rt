@@ -5,17 +5,32 @@ ghost use mathlib.Core.Path.{_≡_};
 ghost use Rattle.ledger.specs.declared.Call.the-variants.{Schedule, Release};
 ghost use Rattle.ledger.specs.declared.Event.the-variants.{Join, Leave, Block, Resume, Tick};
 ghost use Rattle.ledger.specs.declared.Request.the-variants.{Use, Report, Remaining};
-ghost use Rattle.record.specs.Reading.{freshPool};
+ghost use Rattle.ledger.specs.Limits.{chosen, standard};
 ghost use Rattle.frames.specs.Frames.{kindOf};
 ghost use Rattle.numbered.specs.Told.{buffered};
-ghost use Rattle.numbered.specs.Entries.{Does, MakesBy, RefreshesBy, RefreshesAllBy, WritesTo, CopiesOut, TellsAwaited, Carries};
+ghost use Rattle.numbered.specs.Entries.{Does, Renews, MakesBy, RefreshesBy, RefreshesAllBy, WritesTo, CopiesOut, TellsAwaited, Carries};
 use record::Pool;
 
 #[no_mangle]
 pub extern "C" fn ramsummer_fresh(p: &mut Pool) -> u8
-    ensures { λ r. ⌜ (r ≡ 0) × (now (p .exit) ≡ freshPool) ⌝ }
+    ensures { λ r. ⌜ Renews standard r (now (p .exit)) ⌝ }
 {
     let r = numbered_tasks::renew(*p);
+    *p = r.pool;
+    r.number
+}
+
+#[no_mangle]
+pub extern "C" fn ramsummer_fresh_sized(
+    p: &mut Pool,
+    small: u32,
+    large: u32,
+    expirations: u32,
+    extension: u32,
+) -> u8
+    ensures { λ r. ⌜ Renews (chosen small large expirations extension) r (now (p .exit)) ⌝ }
+{
+    let r = numbered_tasks::renew_sized(*p, small, large, expirations, extension);
     *p = r.pool;
     r.number
 }

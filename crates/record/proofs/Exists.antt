@@ -11,7 +11,7 @@ use lib.Dec.{eqb, leb}
 use Rattle.lists.specs.Tests.{any, All}
 use Rattle.lists.specs.Tables.{readFrom}
 use Rattle.lists.proofs.Cases.{by-test, and₃, cond-twice}
-use Rattle.lists.proofs.All.{all-imp, map-same}
+use Rattle.lists.proofs.All.{all-imp, all-map, map-same}
 use Rattle.lists.proofs.Pairwise.{Pairwise}
 use Rattle.lists.proofs.Permutations.{map-perm}
 use Rattle.lists.proofs.Tables.{all-readFrom}
@@ -80,7 +80,7 @@ ledgerOf : View → Ledger
 ledgerOf v =
     let clocks : Clocks = record { tasks = v .tasks; global = v .global } in
     record {
-      memory = record { clocks = clocks; given = v .given; objects = sortBy handleOfObject (v .objects); pinned = pinnedIn (v .expirations) };
+      memory = record { limits = v .limits; clocks = clocks; given = v .given; objects = sortBy handleOfObject (v .objects); pinned = pinnedIn (v .expirations) };
       expirations = map (expirationIn clocks) (v .expirations);
     }
 
@@ -90,6 +90,7 @@ ledger-alike : (isWhole : ℕ → Bool) (v : View) → map wrappedTask (v .tasks
 unfolding ledgerOf viewOf
 ledger-alike isWhole v tasks global objects =
     record {
+      limits = refl;
       tasks = sym tasks;
       global = sym global;
       given = refl;
@@ -111,27 +112,6 @@ sized-small block size e =
     rw s (lt-leb size smallSize (omega (arith, leb-true (smallSize + 1) size above))))
 
 module _ (small large : List ℕ) where
-  -- a store that is not whole has no bytes to leave out
-  bytes-shown : (block size count : ℕ) → isSmall size ≡ isSmallBlock block
-      → cond (isWhole small large size) (blockBytes small large block count) [] ≡ blockBytes small large block count
-  unfolding blockBytes
-  bytes-shown block size count e =
-      rw e
-      (by-test (isSmallBlock block)
-      (λ s. rw s (cond-twice (isWholeSmall small) _ []))
-      (λ s. rw s (cond-twice (isWholeLarge large) _ [])))
-
-  -- the object in a well-formed block shows as it is
-  object-shown : (given : ℕ) (xs : List ExpirationEntry) (block : ℕ) (b : BlockEntry) → isFitBlock given xs block b ≡ true
-      → All (λ (o : Object). shownObject (isWhole small large) o ≡ o) (objectIn small large block b)
-  unfolding objectIn isFitBlock
-  object-shown given xs block b e =
-      by-test (eqb (b .handle) 0)
-      (λ z. rw z tt)
-      (λ z.
-      let (_, sized, _) = and₃ (any (isNaming block) xs) (isSizedFor block (b .length)) (leb (b .handle) given) (rw z at e) in
-      rw z (rw (bytes-shown block (b .length) (sizeOf block) (sized-small block (b .length) sized)), tt))
-
   -- what holds of the blocks' handles holds of the objects'
   pub handles-read : (P : ℕ → Type 0) (i : ℕ) (bs : List BlockEntry) → All (λ (b : BlockEntry). P (b .handle)) bs
       → All (λ (o : Object). P (o .handle)) (readFrom i (objectIn small large) bs)
@@ -152,18 +132,28 @@ module _ (small large : List ℕ) where
       let others = all-imp (λ c a. a (eqb-false (b .handle) 0 z)) bs d in
       rw z (handles-read (λ (h : ℕ). b .handle ≢ h) (suc i) bs others, objects-apart (suc i) bs ds))
 
+-- what is shown shows as it is
+shown-twice : (isWhole : ℕ → Bool) (os : List Object) → map (shownObject isWhole) (map (shownObject isWhole) os) ≡ map (shownObject isWhole) os
+shown-twice isWhole [] = refl
+shown-twice isWhole (o ∷ os) = rw (cond-twice (isWhole (o .size)) (o .bytes) [], shown-twice isWhole os)
+
+-- and has the handles that it had
+apart-shown : (isWhole : ℕ → Bool) (os : List Object) → Pairwise (λ (o p : Object). o .handle ≢ p .handle) os
+    → Pairwise (λ (o p : Object). o .handle ≢ p .handle) (map (shownObject isWhole) os)
+apart-shown isWhole [] d = tt
+apart-shown isWhole (o ∷ os) (d, ds) = (all-map _ (shownObject isWhole) os d, apart-shown isWhole os ds)
+
 fit-tables-read : (p : Tables) → Typed p → isWellFormed p ≡ true → (small large : List ℕ) → (L : Ledger) × Reads p small large L
 unfolding recordView ledgerOf
 fit-tables-read p range e small large =
     let fit = fit-parts p e in
     let v = recordView p small large in
     let tasks = map-map wrappedTask taskOf (p .tasks) ∙ map-same _ _ (p .tasks) (all-imp task-shown (p .tasks) (range .clocks)) in
-    let shows = object-shown small large (p .given) (p .expirations) in
-    let objects = map-same _ _ (v .objects) (all-readFrom _ (objectIn small large) _ shows 0 (p .blocks) (fit .blocks)) ∙ map-id (v .objects) in
-    let apart = objects-apart small large 0 (p .blocks) (apart-blocks (p .blocks) (fit .distinct)) in (
+    let objects = shown-twice (isWhole (p .limits) small large) (readFrom 0 (objectIn small large) (p .blocks)) in
+    let apart = apart-shown (isWhole (p .limits) small large) (readFrom 0 (objectIn small large) (p .blocks)) (objects-apart small large 0 (p .blocks) (apart-blocks (p .blocks) (fit .distinct))) in (
       ledgerOf v,
       record {
-        alike = ledger-alike (isWhole small large) v tasks (mod-eq-of-lt (range .global)) objects;
+        alike = ledger-alike (isWhole (p .limits) small large) v tasks (mod-eq-of-lt (range .global)) objects;
         ascending = sort-ascending handleOfObject (v .objects) apart;
         pins = pins-in _ (v .expirations);
       },

@@ -11,11 +11,12 @@ use Rattle.lists.specs.Tests.{any, all}
 use Rattle.lists.specs.Tables.{allFrom}
 use Rattle.lists.proofs.Cases.{and₃}
 use Rattle.lists.proofs.Tables.{allFrom-at}
-use Rattle.ledger.specs.Limits.{limits, taskCount}
+use Rattle.ledger.specs.Limits.{isAllowed, taskCount}
 use Rattle.ledger.specs.Tasks.{isAbsent, allTicked}
 use Rattle.ledger.specs.Expirations.{departed}
+use Rattle.ledger.specs.declared.Limits.{Limits}
 use Rattle.record.specs.Codes.{stateOf, taskOf, leftAt, freeBlock}
-use Rattle.record.specs.WellFormed.{isFitTask, isFitDue, isFitEntry, isNaming, isSizedFor, isFitBlock, isDistinct, isPinnedOnce, handleOf, isWellFormed}
+use Rattle.record.specs.WellFormed.{isFitTask, isFitDue, isFitEntry, isNaming, isSizedFor, isFitBlock, isDistinct, isPinnedOnce, handleOf, isBlock, isBlockAt, isEntryAt, isBounded, isConsistent, isWellFormed}
 use Rattle.record.specs.declared.TaskEntry.{TaskEntry}
 use Rattle.record.specs.declared.LocalTime.{LocalTime}
 use Rattle.record.specs.declared.GlobalTime.{GlobalTime}
@@ -25,37 +26,53 @@ use Rattle.record.specs.Tables.{Tables}
 pub record Fit (p : Tables) : Type 0 where
   pub tasks : all isFitTask (p .tasks) ≡ true
   pub unticked : allTicked (map taskOf (p .tasks)) ≡ false
-  pub entries : all (isFitEntry (p .tasks) (p .global) (p .blocks)) (p .expirations) ≡ true
+  pub entries : all (isFitEntry (p .limits) (p .tasks) (p .global) (p .blocks)) (p .expirations) ≡ true
   pub blocks : allFrom 0 (isFitBlock (p .given) (p .expirations)) (p .blocks) ≡ true
   pub distinct : isDistinct (map handleOf (p .blocks)) ≡ true
   pub once : isPinnedOnce (p .expirations) ≡ true
+  pub allowed : isAllowed (p .limits) ≡ true
+  pub listed : allFrom 0 (isBlockAt (p .limits)) (p .blocks) ≡ true
+  pub counted : allFrom 0 (isEntryAt (p .limits)) (p .expirations) ≡ true
 
 pub fit-parts : (p : Tables) → isWellFormed p ≡ true → Fit p
-unfolding isWellFormed
+unfolding isWellFormed isConsistent isBounded
 fit-parts p e =
-    let (abcde, once) = and-eq-true-iff _ _ .0 e in
+    let (rest, bounded) = and-eq-true-iff _ _ .0 e in
+    let (listed, counted) = and-eq-true-iff _ _ .0 bounded in
+    let (rest, allowed) = and-eq-true-iff _ _ .0 rest in
+    let (abcde, once) = and-eq-true-iff _ _ .0 rest in
     let (abcd, distinct) = and-eq-true-iff _ _ .0 abcde in
     let (abc, blocks) = and-eq-true-iff _ _ .0 abcd in
     let (ab, entries) = and-eq-true-iff _ _ .0 abc in
     let (tasks, unticked) = and-eq-true-iff _ _ .0 ab in
-    record { tasks = tasks; unticked = not-true _ unticked; entries = entries; blocks = blocks; distinct = distinct; once = once }
+    record {
+      tasks = tasks;
+      unticked = not-true _ unticked;
+      entries = entries;
+      blocks = blocks;
+      distinct = distinct;
+      once = once;
+      allowed = allowed;
+      listed = listed;
+      counted = counted;
+    }
 
 pub fit-whole : (p : Tables) → Fit p → isWellFormed p ≡ true
-unfolding isWellFormed
-fit-whole p f = rw (f .tasks, f .unticked, f .entries, f .blocks, f .distinct, f .once)
+unfolding isWellFormed isConsistent isBounded
+fit-whole p f = rw (f .tasks, f .unticked, f .entries, f .blocks, f .distinct, f .once, f .allowed, f .listed, f .counted)
 
 -- what a fit local expiration has, by its setter's entry and whether it names a block in use
-pub record FitLocal (setter : TaskEntry) (used : Bool) (task left : ℕ) : Type 0 where
+pub record FitLocal (limits : Limits) (setter : TaskEntry) (used : Bool) (task left : ℕ) : Type 0 where
   pub naming : used ≡ true
   pub known : task < taskCount
   pub present : isAbsent (stateOf (setter .state)) ≡ false
   pub ahead : 1 ≤ left
   pub within : left ≤ limits .extension + 1
 
-pub fit-local : (setter : TaskEntry) (global : GlobalTime) (used : Bool) (task : ℕ) (at : LocalTime)
-    → isFitDue setter global used (Local task at) ≡ true → FitLocal setter used task (leftAt (at .0) (setter .clock .0))
+pub fit-local : (limits : Limits) (setter : TaskEntry) (global : GlobalTime) (used : Bool) (task : ℕ) (at : LocalTime)
+    → isFitDue limits setter global used (Local task at) ≡ true → FitLocal limits setter used task (leftAt (at .0) (setter .clock .0))
 unfolding isFitDue
-fit-local setter global used task at e =
+fit-local limits setter global used task at e =
     let (abc, d) = and-eq-true-iff _ _ .0 e in
     let (ab, present) = and-eq-true-iff _ _ .0 abc in
     let (naming, known) = and-eq-true-iff _ _ .0 ab in
@@ -69,16 +86,16 @@ fit-local setter global used task at e =
     }
 
 -- and a fit global one
-pub record FitGlobal (setter : TaskEntry) (used : Bool) (task left : ℕ) : Type 0 where
+pub record FitGlobal (limits : Limits) (setter : TaskEntry) (used : Bool) (task left : ℕ) : Type 0 where
   pub naming : used ≡ true
   pub there : (eqb task departed || not (isAbsent (stateOf (setter .state)))) ≡ true
   pub ahead : 1 ≤ left
   pub within : left ≤ limits .extension + 2
 
-pub fit-global : (setter : TaskEntry) (global : GlobalTime) (used : Bool) (task : ℕ) (at : GlobalTime)
-    → isFitDue setter global used (Global task at) ≡ true → FitGlobal setter used task (leftAt (at .0) (global .0))
+pub fit-global : (limits : Limits) (setter : TaskEntry) (global : GlobalTime) (used : Bool) (task : ℕ) (at : GlobalTime)
+    → isFitDue limits setter global used (Global task at) ≡ true → FitGlobal limits setter used task (leftAt (at .0) (global .0))
 unfolding isFitDue
-fit-global setter global used task at e =
+fit-global limits setter global used task at e =
     let (naming, there, d) = and₃ used _ _ e in
     let (ahead, within) = and-eq-true-iff _ _ .0 d in
     record { naming = naming; there = there; ahead = leb-true _ _ ahead; within = leb-true _ _ within }
@@ -89,10 +106,11 @@ pub record FitUsed (p : Tables) (block : ℕ) : Type 0 where
   pub named : any (isNaming block) (p .expirations) ≡ true
   pub sized : isSizedFor block (getD (p .blocks) block freeBlock .length) ≡ true
   pub numbered : getD (p .blocks) block freeBlock .handle ≤ p .given
+  pub listed : isBlock (p .limits) block ≡ true
 
 pub fit-used : {p : Tables} → Fit p → (block : ℕ) → eqb (getD (p .blocks) block freeBlock .handle) 0 ≡ false → FitUsed p block
 unfolding isFitBlock
 fit-used {p} f block used =
     let fits = allFrom-at (isFitBlock (p .given) (p .expirations)) freeBlock (λ i. refl) (p .blocks) (f .blocks) block in
     let (named, sized, numbered) = and₃ (any (isNaming block) (p .expirations)) _ _ (rw used at fits) in
-    record { used = eqb-false _ 0 used; named = named; sized = sized; numbered = leb-true _ _ numbered }
+    record { used = eqb-false _ 0 used; named = named; sized = sized; numbered = leb-true _ _ numbered; listed = rw used at (allFrom-at (isBlockAt (p .limits)) freeBlock (λ i. refl) (p .blocks) (f .listed) block) }

@@ -25,7 +25,7 @@ each-all f g P h (x ∷ xs) (u ∷ us) s = (h x (u ∷ []) (s .0), each-all f g 
 pub head-typed : (h : Head) (vs : List Val) → Is the-head h vs → HeadTyped h
 unfolding counterRange
 head-typed h vs t =
-    let (tasks, (global, (given, end))) = t .1 .1 in
+    let (tasks, (global, (given, (limits, end)))) = t .1 .1 in
     record {
       tasks = sym (length-map (h .tasks) _) ∙ tasks .1 .0 .1;
       clocks = each-all _ _ _ (λ x us s. omega arith) (h .tasks) _ (tasks .1 .1);

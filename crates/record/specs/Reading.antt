@@ -7,11 +7,12 @@ use lib.Dec.{eqb, ltb}
 use lib.ListN.{length, getD, take, drop, replicate}
 use Rattle.lists.specs.Tests.{All}
 use Rattle.lists.specs.Tables.{readBy, readFrom}
-use Rattle.ledger.specs.Limits.{limits, taskCount, counterRange, smallSize, largeSize, isSmall}
+use Rattle.ledger.specs.Limits.{capacity, taskCount, counterRange, smallSize, largeSize, isSmall}
 use Rattle.ledger.specs.Objects.{Object}
-use Rattle.ledger.specs.Compared.{Shown, localLeft, globalLeft, pinnedLeft, View, viewOf, Alike}
+use Rattle.ledger.specs.Compared.{Shown, localLeft, globalLeft, pinnedLeft, shownObject, View, viewOf, Alike}
 use Rattle.ledger.specs.Kept.{Ascending, PinsKept}
 use Rattle.ledger.specs.Ledger.{Ledger}
+use Rattle.ledger.specs.declared.Limits.{Limits}
 use Rattle.record.specs.Codes.{taskOf, dueOf, leftAt, absentEntry, freeBlock, freeEntry}
 use Rattle.record.specs.declared.TaskEntry.{TaskEntry}
 use Rattle.record.specs.Tables.{blockEntries, expirationEntries, BlockEntry, ExpirationEntry, Tables}
@@ -21,9 +22,9 @@ use Rattle.record.specs.declared.Pool.{Pool}
 use Rattle.record.specs.declared.Due.{Due}
 use Rattle.record.specs.declared.Due.the-variants.{Free, Local, Global, Pinned, Unknown}
 
--- the small store's blocks come first, then the large one's
+-- the entries of the small store's blocks come first, then those of the large one's, as many of either as there can be
 abbrev pub isSmallBlock : ℕ → Bool
-isSmallBlock block = ltb block (limits .smallBlocks)
+isSmallBlock block = ltb block (capacity .small)
 
 -- what an entry shows: the handle of the block that it names, and the units left by its own clock
 unfoldable pub shownDue : List TaskEntry → GlobalTime → ℕ → Due → List Shown
@@ -37,28 +38,27 @@ shownDue tasks global handle Unknown = []
 abbrev pub shownEntry : List TaskEntry → GlobalTime → List BlockEntry → ExpirationEntry → List Shown
 shownEntry tasks global blocks e = shownDue tasks global (getD blocks (e .block) freeBlock .handle) (dueOf e)
 
--- the bytes of either store
-abbrev pub wholeSmall : ℕ
-wholeSmall = limits .smallBlocks * smallSize
+-- the bytes of either store: as many as its blocks need
+abbrev pub wholeSmall : Limits → ℕ
+wholeSmall limits = limits .small * smallSize
 
-abbrev pub wholeLarge : ℕ
-wholeLarge = limits .largeBlocks * largeSize
+abbrev pub wholeLarge : Limits → ℕ
+wholeLarge limits = limits .large * largeSize
 
--- L7: whether a store has 01's length
-abbrev pub isWholeSmall : List ℕ → Bool
-isWholeSmall small = eqb (length small) wholeSmall
+-- L7: whether a store has the length that its blocks need
+abbrev pub isWholeSmall : Limits → List ℕ → Bool
+isWholeSmall limits small = eqb (length small) (wholeSmall limits)
 
-abbrev pub isWholeLarge : List ℕ → Bool
-isWholeLarge large = eqb (length large) wholeLarge
+abbrev pub isWholeLarge : Limits → List ℕ → Bool
+isWholeLarge limits large = eqb (length large) (wholeLarge limits)
 
-abbrev pub isWhole : List ℕ → List ℕ → ℕ → Bool
-isWhole small large size = cond (isSmall size) (isWholeSmall small) (isWholeLarge large)
+abbrev pub isWhole : Limits → List ℕ → List ℕ → ℕ → Bool
+isWhole limits small large size = cond (isSmall size) (isWholeSmall limits small) (isWholeLarge limits large)
 
--- the first bytes of a block, where its store has 01's length
+-- the first bytes of a block
 unfoldable pub blockBytes : List ℕ → List ℕ → ℕ → ℕ → List ℕ
 blockBytes small large block size =
-    cond (isSmallBlock block) (cond (isWholeSmall small) (take size (drop (block * smallSize) small)) [])
-    (cond (isWholeLarge large) (take size (drop ((block - limits .smallBlocks) * largeSize) large)) [])
+    cond (isSmallBlock block) (take size (drop (block * smallSize) small)) (take size (drop ((block - capacity .small) * largeSize) large))
 
 -- how many bytes a block has
 unfoldable pub sizeOf : ℕ → ℕ
@@ -73,10 +73,11 @@ objectIn small large block b =
 unfoldable pub recordView : Tables → List ℕ → List ℕ → View
 recordView p small large =
     record {
+      limits = p .limits;
       tasks = map taskOf (p .tasks);
       global = p .global .0;
       given = p .given;
-      objects = readFrom 0 (objectIn small large) (p .blocks);
+      objects = map (shownObject (isWhole (p .limits) small large)) (readFrom 0 (objectIn small large) (p .blocks));
       expirations = readBy (shownEntry (p .tasks) (p .global) (p .blocks)) (p .expirations);
     }
 
@@ -98,16 +99,17 @@ pub record HeadTyped (h : Head) : Type 0 where
 
 -- The record with these stores reads as this ledger.
 pub record Reads (p : Tables) (small large : List ℕ) (L : Ledger) : Type 0 where
-  pub alike : Alike (recordView p small large) (viewOf (isWhole small large) L)
+  pub alike : Alike (recordView p small large) (viewOf (isWhole (p .limits) small large) L)
   -- L2: in the order of their handles
   pub ascending : Ascending (L .memory .objects)
   -- E23: and what is pinned has a pinned expiration
   pub pins : PinsKept (L .memory .pinned) (L .expirations)
 
 -- T5, O9: a fresh pool
-unfoldable pub freshPool : Pool
-freshPool =
+unfoldable pub freshPool : Limits → Pool
+freshPool limits =
     record {
+      limits = limits;
       tasks = replicate taskCount absentEntry;
       global = record { 0 = 0 };
       given = 0;

@@ -6,6 +6,7 @@ use lib.ListN.{length}
 use Rattle.lists.specs.Columns.{_⊛_}
 use Rattle.ledger.specs.Limits.{capacity}
 use Rattle.ledger.specs.declared.Answer.{Answer}
+use Rattle.ledger.specs.declared.Limits.{Limits}
 use Rattle.record.specs.declared.TaskEntry.{TaskEntry}
 use Rattle.record.specs.declared.GlobalTime.{GlobalTime}
 use Rattle.record.specs.declared.Head.{Head}
@@ -13,7 +14,7 @@ use Rattle.record.specs.declared.Pool.{Pool}
 
 -- the entries of the record's two tables: those of the small store's blocks, then those of the large one's; and those of expirations
 abbrev pub blockEntries : ℕ
-blockEntries = capacity .smallBlocks + capacity .largeBlocks
+blockEntries = capacity .small + capacity .large
 
 abbrev pub expirationEntries : ℕ
 expirationEntries = capacity .expirations
@@ -62,6 +63,7 @@ entriesOf clocks named dues = map expirationEntry clocks ⊛ named ⊛ dues
 
 -- a record by its entries
 pub record Tables : Type 0 where
+  pub limits : Limits
   pub tasks : List TaskEntry
   pub global : GlobalTime
   pub given : ℕ
@@ -69,10 +71,10 @@ pub record Tables : Type 0 where
   pub expirations : List ExpirationEntry
 
 unfoldable pub tablesBy : Head → List BlockEntry → List ExpirationEntry → Tables
-tablesBy h blocks xs = record { tasks = h .tasks; global = h .global; given = h .given; blocks = blocks; expirations = xs }
+tablesBy h blocks xs = record { limits = h .limits; tasks = h .tasks; global = h .global; given = h .given; blocks = blocks; expirations = xs }
 
 abbrev pub headOf : Pool → Head
-headOf p = record { tasks = p .tasks; global = p .global; given = p .given }
+headOf p = record { limits = p .limits; tasks = p .tasks; global = p .global; given = p .given }
 
 unfoldable pub tablesOf : Pool → Tables
 tablesOf p = tablesBy (headOf p) (blocksOf (p .handles) (p .extents)) (entriesOf (p .clocks) (p .named) (p .dues))
@@ -104,6 +106,7 @@ pub record Outcome : Type 0 where
 abbrev pub pooled : Head → List ℕ → List ℕ → List ℕ → List ℕ → List ℕ → Pool
 pooled h handles extents clocks named dues =
     record {
+      limits = h .limits;
       tasks = h .tasks;
       global = h .global;
       given = h .given;

@@ -6,9 +6,10 @@ use lib.Dec.{eqb, leb, ltb}
 use lib.ListN.{getD}
 use Rattle.lists.specs.Tests.{any, all}
 use Rattle.lists.specs.Tables.{allFrom}
-use Rattle.ledger.specs.Limits.{limits, taskCount, smallSize, largeSize}
+use Rattle.ledger.specs.Limits.{capacity, isAllowed, taskCount, smallSize, largeSize}
 use Rattle.ledger.specs.Tasks.{isAbsent, isRunning, allTicked}
 use Rattle.ledger.specs.Expirations.{departed}
+use Rattle.ledger.specs.declared.Limits.{Limits}
 use Rattle.record.specs.Codes.{stateOf, taskOf, dueOf, isDated, isPinnedDue, setterOf, leftAt, absentEntry, freeBlock}
 use Rattle.record.specs.Reading.{isSmallBlock}
 use Rattle.record.specs.declared.TaskEntry.{TaskEntry}
@@ -34,19 +35,19 @@ isAhead most left = leb 1 left && leb left most
 -- An expiration, with the entry of its setter and whether it names a block in use, as it must (W1). W6, W8: something remains, and no more than the largest
 -- extension gives; W7, W14: the setter is there, or has departed where it is a global one; W12: a code that means nothing is not fit; W15: a
 -- pinned one has no time.
-unfoldable pub isFitDue : TaskEntry → GlobalTime → Bool → Due → Bool
-isFitDue setter global used Free = true
-isFitDue setter global used (Local task at) =
+unfoldable pub isFitDue : Limits → TaskEntry → GlobalTime → Bool → Due → Bool
+isFitDue limits setter global used Free = true
+isFitDue limits setter global used (Local task at) =
     used && ltb task taskCount && not (isAbsent (stateOf (setter .state)))
     && isAhead (limits .extension + 1) (leftAt (at .0) (setter .clock .0))
-isFitDue setter global used (Global task at) =
+isFitDue limits setter global used (Global task at) =
     used && (eqb task departed || not (isAbsent (stateOf (setter .state)))) && isAhead (limits .extension + 2) (leftAt (at .0) (global .0))
-isFitDue setter global used (Pinned due) = used && eqb due 0
-isFitDue setter global used Unknown = false
+isFitDue limits setter global used (Pinned due) = used && eqb due 0
+isFitDue limits setter global used Unknown = false
 
-abbrev pub isFitEntry : List TaskEntry → GlobalTime → List BlockEntry → ExpirationEntry → Bool
-isFitEntry tasks global blocks e =
-    isFitDue (getD tasks (setterOf (dueOf e)) absentEntry) global (isUsed (getD blocks (e .block) freeBlock)) (dueOf e)
+abbrev pub isFitEntry : Limits → List TaskEntry → GlobalTime → List BlockEntry → ExpirationEntry → Bool
+isFitEntry limits tasks global blocks e =
+    isFitDue limits (getD tasks (setterOf (dueOf e)) absentEntry) global (isUsed (getD blocks (e .block) freeBlock)) (dueOf e)
 
 -- W2: some expiration names the block
 abbrev pub isNaming : ℕ → ExpirationEntry → Bool
@@ -78,10 +79,28 @@ isPinnedOnce (e ∷ es) = (not (isPinnedDue (dueOf e)) || not (any (isPinning (e
 abbrev pub handleOf : BlockEntry → ℕ
 handleOf b = b .handle
 
--- all of them, and W10: not all that run are ticked
-unfoldable pub isWellFormed : Tables → Bool
-isWellFormed p =
+-- W18: a block of the figures, and none beyond them is in use (so that by W1 none is named)
+abbrev pub isBlock : Limits → ℕ → Bool
+isBlock limits block = cond (isSmallBlock block) (ltb block (limits .small)) (ltb block (capacity .small + limits .large))
+
+abbrev pub isBlockAt : Limits → ℕ → BlockEntry → Bool
+isBlockAt limits block b = eqb (b .handle) 0 || isBlock limits block
+
+-- W19: no entry beyond as many expirations as the figures allow is in use
+abbrev pub isEntryAt : Limits → ℕ → ExpirationEntry → Bool
+isEntryAt limits place e = eqb (e .clock) 0 || ltb place (limits .expirations)
+
+unfoldable pub isBounded : Limits → List BlockEntry → List ExpirationEntry → Bool
+isBounded limits blocks xs = allFrom 0 (isBlockAt limits) blocks && allFrom 0 (isEntryAt limits) xs
+
+-- what 01 asks of a fit record, W10 among it: not all that run are ticked
+unfoldable pub isConsistent : Tables → Bool
+isConsistent p =
     all isFitTask (p .tasks) && not (allTicked (map taskOf (p .tasks)))
-    && all (isFitEntry (p .tasks) (p .global) (p .blocks)) (p .expirations)
+    && all (isFitEntry (p .limits) (p .tasks) (p .global) (p .blocks)) (p .expirations)
     && allFrom 0 (isFitBlock (p .given) (p .expirations)) (p .blocks) && isDistinct (map handleOf (p .blocks))
     && isPinnedOnce (p .expirations)
+
+-- and what 02 asks of its figures: W17, that a site may choose them, W18 and W19
+unfoldable pub isWellFormed : Tables → Bool
+isWellFormed p = isConsistent p && isAllowed (p .limits) && isBounded (p .limits) (p .blocks) (p .expirations)

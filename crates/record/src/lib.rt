@@ -1,4 +1,4 @@
-// The pool's record: sixteen task entries, two counters, and the tables of blocks and of expirations, one array for each field. It holds nothing but numbers
+// The pool's record: sixteen task entries, two counters, its figures, and the tables of blocks and of expirations, one array for each field. It holds nothing but numbers
 // and no padding, so every bit pattern of it is a value, which the test of well-formedness (01: a fit record) judges, and equal values are equal bytes.
 ghost use mathlib.Core.Path.{_≡_};
 ghost use Rattle.record.specs.Reading.{freshPool};
@@ -10,13 +10,16 @@ pub mod running;
 use codes::ABSENT;
 use codes::FREE;
 use ledger::CAPACITY;
+use ledger::Limits;
 use ledger::TASK_COUNT;
 
-// The entries of the block table: those of the small store's blocks, then those of the large one's.
-pub const BLOCK_COUNT: usize = CAPACITY.small_blocks + CAPACITY.large_blocks;
+// The entries of the block table: those of the small store's blocks, then, from SMALL_COUNT on, those of the large one's.
+pub const SMALL_COUNT: usize = CAPACITY.small as usize;
+
+pub const BLOCK_COUNT: usize = SMALL_COUNT + CAPACITY.large as usize;
 
 // The entries of the expiration table.
-pub const EXPIRATION_COUNT: usize = CAPACITY.expirations;
+pub const EXPIRATION_COUNT: usize = CAPACITY.expirations as usize;
 
 // The numbers that a byte can be: a table by clocks or blocks as they come has a place for each.
 pub const BYTE_VALUES: usize = 256;
@@ -41,11 +44,13 @@ pub struct TaskEntry {
 // the high one. The small store's blocks come first, then the large one's.
 // Expiration i (01: date) goes by the clock `clocks[i]`, a code of codes.rt in which 0 is a free entry, belongs to the object in the block `named[i]`, and is due
 // when that clock reads `dues[i]`.
+// The figures stand behind the counters, here and in a head: in front of the tasks they would make one piece of 144 bytes with them, and the compiler, which moves 128 in place, would call a copy.
 #[repr(C)]
 pub struct Pool {
     pub tasks: [TaskEntry; TASK_COUNT],
     pub global: GlobalTime,
     pub given: u32,
+    pub limits: Limits,
     pub handles: [u32; BLOCK_COUNT],
     pub extents: [u32; BLOCK_COUNT],
     pub clocks: [u8; EXPIRATION_COUNT],
@@ -58,6 +63,7 @@ pub struct Head {
     pub tasks: [TaskEntry; TASK_COUNT],
     pub global: GlobalTime,
     pub given: u32,
+    pub limits: Limits,
 }
 
 // T6, E19, E22: when an expiration is due, and who set it; a time by one clock cannot be tested against the other. The number of a pinned one is no time.
@@ -79,20 +85,23 @@ pub const ABSENT_TASK: TaskEntry = TaskEntry {
 pub fn head_of(p: Pool) -> Head
     ensures { λ r. ⌜ r ≡ headOf p ⌝ }
 {
+    let limits = p.limits;
     let tasks = p.tasks;
     let global = p.global;
     Head {
+        limits: limits,
         tasks: tasks,
         global: global,
         given: p.given,
     }
 }
 
-// T5, O9: a fresh pool.
-pub fn fresh() -> Pool
-    ensures { λ r. ⌜ r ≡ freshPool ⌝ }
+// T5, O9: a fresh pool of these figures.
+pub fn fresh(limits: Limits) -> Pool
+    ensures { λ r. ⌜ r ≡ freshPool limits ⌝ }
 {
     Pool {
+        limits: limits,
         tasks: [ABSENT_TASK; TASK_COUNT],
         global: GlobalTime(0),
         given: 0,

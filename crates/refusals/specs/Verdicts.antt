@@ -3,25 +3,26 @@ use Prim.Native.Nat.{ℕ}
 use mathlib.Core.Bool.{Bool, _||_}
 use mathlib.Core.List.{List}
 use lib.Dec.{eqb, ltb}
-use Rattle.ledger.specs.Limits.{limits, largestBatch}
+use Rattle.ledger.specs.Limits.{largestBatch}
 use Rattle.ledger.specs.declared.Kind.{Kind}
 use Rattle.ledger.specs.declared.Refusal.the-variants.{BatchOutOfRange, HandleNotGiven, ObjectGone, NoFreeExpiration}
 use Rattle.ledger.specs.declared.Verdict.{Verdict}
+use Rattle.ledger.specs.declared.Limits.{Limits}
 use Rattle.record.specs.declared.TaskEntry.{TaskEntry}
 use Rattle.steps.specs.Objects.{andThen, refuseIf, taskVerdict, kindVerdict, extensionVerdict}
 
 -- 21, 6: of one expiration more on an object that stands
-abbrev pub setVerdict : Kind → ℕ → Verdict
-setVerdict kind extension = andThen (kindVerdict kind) (extensionVerdict kind extension)
+abbrev pub setVerdict : Limits → Kind → ℕ → Verdict
+setVerdict limits kind extension = andThen (kindVerdict kind) (extensionVerdict limits kind extension)
 
 -- R47, the tests that look at no object: 1, 3, 4, 20, 21, 6
-abbrev pub batchCallVerdict : ℕ → Kind → ℕ → List TaskEntry → ℕ → Verdict
-batchCallVerdict task kind extension tasks count =
+abbrev pub batchCallVerdict : Limits → ℕ → Kind → ℕ → List TaskEntry → ℕ → Verdict
+batchCallVerdict limits task kind extension tasks count =
     andThen (taskVerdict task tasks)
-    (andThen (refuseIf (eqb count 0 || ltb largestBatch count) BatchOutOfRange) (setVerdict kind extension))
+    (andThen (refuseIf (eqb count 0 || ltb largestBatch count) BatchOutOfRange) (setVerdict limits kind extension))
 
 -- and those after them: 11, 12, 10, by whether some handle was not given, whether some object is gone, and how many expirations would stand
-abbrev pub batchObjectsVerdict : Bool → Bool → ℕ → Verdict
-batchObjectsVerdict ungiven gone after =
+abbrev pub batchObjectsVerdict : Limits → Bool → Bool → ℕ → Verdict
+batchObjectsVerdict limits ungiven gone after =
     andThen (refuseIf ungiven HandleNotGiven)
     (andThen (refuseIf gone ObjectGone) (refuseIf (ltb (limits .expirations) after) NoFreeExpiration))

@@ -15,7 +15,7 @@ pub use batch::find_batch;
 use ledger::Kind;
 use ledger::LARGE_SIZE;
 use ledger::LARGEST_BATCH;
-use ledger::LIMITS;
+use ledger::Limits;
 use ledger::Refusal;
 use ledger::State;
 use ledger::TASK_COUNT;
@@ -70,22 +70,22 @@ pub fn task_verdict(task: u8, tasks: [TaskEntry; TASK_COUNT]) -> Verdict
 }
 
 // The longest extension of a kind.
-fn most_extension(kind: Kind) -> u32
-    ensures { λ r. ⌜ r ≡ mostExtension kind ⌝ }
+fn most_extension(limits: Limits, kind: Kind) -> u32
+    ensures { λ r. ⌜ r ≡ mostExtension limits kind ⌝ }
 {
     match kind {
-        Kind::Local => LIMITS.extension,
-        Kind::Global => LIMITS.extension,
+        Kind::Local => limits.extension,
+        Kind::Global => limits.extension,
         Kind::Pinned => 0,
     }
 }
 
 // 6
-fn extension_verdict(kind: Kind, extension: u8) -> Verdict
-    ensures { λ r. ⌜ r ≡ extensionVerdict kind extension ⌝ }
+fn extension_verdict(limits: Limits, kind: Kind, extension: u8) -> Verdict
+    ensures { λ r. ⌜ r ≡ extensionVerdict limits kind extension ⌝ }
 {
     refuse_if(
-        most_extension(kind) < extension as u32,
+        most_extension(limits, kind) < extension as u32,
         Refusal::ExtensionTooLong,
     )
 }
@@ -102,12 +102,12 @@ fn is_pinning(kind: Kind) -> bool
 }
 
 // 21, 6: of one expiration more on an object that stands
-pub fn set_verdict(kind: Kind, extension: u8) -> Verdict
-    ensures { λ r. ⌜ r ≡ setVerdict kind extension ⌝ }
+pub fn set_verdict(limits: Limits, kind: Kind, extension: u8) -> Verdict
+    ensures { λ r. ⌜ r ≡ setVerdict limits kind extension ⌝ }
 {
     and_then(
         refuse_if(is_pinning(kind), Refusal::OnlyMakePins),
-        extension_verdict(kind, extension),
+        extension_verdict(limits, kind, extension),
     )
 }
 
@@ -129,14 +129,18 @@ pub fn found_verdict(handle: u32, given: u32, place: usize) -> Verdict
 }
 
 // 10
-pub fn room_verdict(standing: usize) -> Verdict
-    ensures { λ r. ⌜ r ≡ roomVerdict standing ⌝ }
+pub fn room_verdict(limits: Limits, standing: usize) -> Verdict
+    ensures { λ r. ⌜ r ≡ roomVerdict limits standing ⌝ }
 {
-    refuse_if(LIMITS.expirations <= standing, Refusal::NoFreeExpiration)
+    refuse_if(
+        limits.expirations as usize <= standing,
+        Refusal::NoFreeExpiration,
+    )
 }
 
 // R40: 7, 8, 9 between the others
 pub fn make_verdict(
+    limits: Limits,
     task: u8,
     kind: Kind,
     extension: u8,
@@ -146,12 +150,12 @@ pub fn make_verdict(
     place: usize,
     standing: usize,
 ) -> Verdict
-    ensures { λ r. ⌜ r ≡ makeVerdictBy task kind extension length tasks given place standing ⌝ }
+    ensures { λ r. ⌜ r ≡ makeVerdictBy limits task kind extension length tasks given place standing ⌝ }
 {
     and_then(
         task_verdict(task, tasks),
         and_then(
-            extension_verdict(kind, extension),
+            extension_verdict(limits, kind, extension),
             and_then(
                 refuse_if(
                     (length == 0) | (LARGE_SIZE < length),
@@ -160,8 +164,8 @@ pub fn make_verdict(
                 and_then(
                     refuse_if(u32::MAX <= given, Refusal::HandlesSpent),
                     and_then(
-                        refuse_if(end_for(length) <= place, Refusal::NoFreeBlock),
-                        room_verdict(standing),
+                        refuse_if(end_for(limits, length) <= place, Refusal::NoFreeBlock),
+                        room_verdict(limits, standing),
                     ),
                 ),
             ),
@@ -171,13 +175,14 @@ pub fn make_verdict(
 
 // R47, the tests that look at no object: 1, 3, 4, 20, 21, 6
 pub fn batch_call_verdict(
+    limits: Limits,
     task: u8,
     kind: Kind,
     extension: u8,
     tasks: [TaskEntry; TASK_COUNT],
     count: usize,
 ) -> Verdict
-    ensures { λ r. ⌜ r ≡ batchCallVerdict task kind extension tasks count ⌝ }
+    ensures { λ r. ⌜ r ≡ batchCallVerdict limits task kind extension tasks count ⌝ }
 {
     and_then(
         task_verdict(task, tasks),
@@ -186,20 +191,23 @@ pub fn batch_call_verdict(
                 (count == 0) | (LARGEST_BATCH < count),
                 Refusal::BatchOutOfRange,
             ),
-            set_verdict(kind, extension),
+            set_verdict(limits, kind, extension),
         ),
     )
 }
 
 // and those after them: 11, 12, 10, where so many expirations would stand
-pub fn batch_objects_verdict(ungiven: bool, gone: bool, after: usize) -> Verdict
-    ensures { λ r. ⌜ r ≡ batchObjectsVerdict ungiven gone after ⌝ }
+pub fn batch_objects_verdict(limits: Limits, ungiven: bool, gone: bool, after: usize) -> Verdict
+    ensures { λ r. ⌜ r ≡ batchObjectsVerdict limits ungiven gone after ⌝ }
 {
     and_then(
         refuse_if(ungiven, Refusal::HandleNotGiven),
         and_then(
             refuse_if(gone, Refusal::ObjectGone),
-            refuse_if(LIMITS.expirations < after, Refusal::NoFreeExpiration),
+            refuse_if(
+                (limits.expirations as usize) < after,
+                Refusal::NoFreeExpiration,
+            ),
         ),
     )
 }

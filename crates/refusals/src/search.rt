@@ -1,15 +1,18 @@
 // Searches of the blocks. Each gives a place past the last where it finds none.
 ghost use Prim.Native.Nat.{ℕ, _≤_};
+ghost use mathlib.Core.Bool.{true};
 ghost use mathlib.Core.Path.{_≡_};
+ghost use Rattle.ledger.specs.Limits.{isAllowed};
 ghost use lib.Dec.{eqb};
 ghost use lib.ListN.{length, take, drop};
 ghost use Rattle.lists.specs.Tests.{any};
 ghost use Rattle.lists.specs.Tables.{firstFrom};
 ghost use Rattle.record.specs.Tables.{blockEntries};
 ghost use Rattle.steps.specs.Objects.{placeIn, freePlaceIn, endFor};
-use ledger::LIMITS;
+use ledger::Limits;
 use ledger::SMALL_SIZE;
 use record::BLOCK_COUNT;
+use record::SMALL_COUNT;
 
 // How many blocks are asked at once.
 const GROUP: usize = 8;
@@ -55,24 +58,25 @@ pub fn locate(handles: &[u32; BLOCK_COUNT], handle: u32) -> usize
 }
 
 // Where the blocks of a size's store end.
-pub fn end_for(size: u32) -> usize
-    ensures { λ r. ⌜ r ≡ endFor size ⌝ }
+pub fn end_for(limits: Limits, size: u32) -> usize
+    ensures { λ r. ⌜ r ≡ endFor limits size ⌝ }
 {
     if size <= SMALL_SIZE {
-        LIMITS.small_blocks
+        limits.small as usize
     } else {
-        BLOCK_COUNT
+        SMALL_COUNT + limits.large as usize
     }
 }
 
 // The first free block of a size's store, and of no other (O8).
-pub fn free_place(handles: &[u32; BLOCK_COUNT], size: u32) -> usize
-    requires { ⌜ length (now handles) ≡ blockEntries ⌝ }
-    ensures { λ r. ⌜ r ≡ freePlaceIn size (now (handles .entry)) ⌝ }
+pub fn free_place(limits: Limits, handles: &[u32; BLOCK_COUNT], size: u32) -> usize
+    requires { ⌜ (length (now handles) ≡ blockEntries) × (isAllowed limits ≡ true) ⌝ }
+    ensures { λ r. ⌜ r ≡ freePlaceIn limits size (now (handles .entry)) ⌝ }
 {
+    let end = end_for(limits, size);
     if size <= SMALL_SIZE {
-        first_with(handles, 0, 0, LIMITS.small_blocks)
+        first_with(handles, 0, 0, end)
     } else {
-        first_with(handles, 0, LIMITS.small_blocks, BLOCK_COUNT)
+        first_with(handles, 0, SMALL_COUNT, end)
     }
 }

@@ -25,7 +25,7 @@ module _ {h : Head} {hs ls cs ns ds : List ℕ} (sized : Sized hs ls cs ns ds) {
       × Serves request new (pooled h hs ls cs ns ds) small large (withPool (Refused NotWellFormed) (pooled h hs ls cs ns ds)) small large
   unfit-served refused = (sized, refused-serves (unfit-obeys _ _ _ _ _ (sym (fits-by-value (pooled h hs ls cs ns ds) refl f) ∙ not-true fit refused)))
 
-  module _ (passed : not fit ≡ false) {stored whole : Bool} (s : stored ≡ isStored request) (tells : TellsWhole (length small) (length large) whole) where
+  module _ (passed : not fit ≡ false) {stored whole : Bool} (s : stored ≡ isStored request) (tells : TellsWhole (h .limits) (length small) (length large) whole) where
     pub wrong-served : {new : List ℕ} → stored && not whole ≡ true
         → Sized hs ls cs ns ds
         × Serves request new (pooled h hs ls cs ns ds) small large (withPool (Refused WrongStoreLength) (pooled h hs ls cs ns ds)) small large

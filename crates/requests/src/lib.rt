@@ -85,7 +85,7 @@ pub fn call(
     if !is_well_formed(h, handles, extents, clocks, named, dues) {
         return refused(Refusal::NotWellFormed, h);
     }
-    if is_stored(request) & !are_whole(small.len(), large.len()) {
+    if is_stored(request) & !are_whole(h.limits, small.len(), large.len()) {
         return refused(Refusal::WrongStoreLength, h);
     }
     dispatch::call(

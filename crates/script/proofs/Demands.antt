@@ -19,4 +19,4 @@ whole-from {script} {at = at} (ended e) L reads = rw (lines-end script at e)
 whole-from (part c rest) L reads = let (L′, reads′, so) = c .answers L reads in rw (whole-from rest L′ reads′) (sym so)
 
 pub whole-output : WholeOutput
-whole-output script small large whole w = whole-from w fresh (fresh-reads small large)
+whole-output limits script small large whole w = whole-from w (fresh limits) (fresh-reads limits small large)

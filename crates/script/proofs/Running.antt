@@ -22,6 +22,7 @@ use Rattle.record.specs.Tables.{headOf, pooled}
 use Rattle.record.specs.declared.Head.{Head}
 use Rattle.record.specs.declared.Pool.{Pool}
 use Rattle.calls.specs.Contract.{areWhole, Ready}
+use Rattle.pool.proofs.Demands.{limits-stay}
 use Rattle.calls.specs.Served.{Serves}
 use Rattle.calls.specs.declared.Called.{Called}
 use Rattle.answers.specs.Answers.{answerLine, longestAnswer}
@@ -35,7 +36,7 @@ use Rattle.text.proofs.Scripts.{lines-on, next-within}
 use Rattle.script.specs.Output.{answerTo, afterLine, answersTo, lineIn, Runnable, Continues}
 
 -- the stores have 01's lengths
-stores-whole : {p : Pool} {small large script : List ℕ} {at : ℕ} → Runnable p small large script at → areWhole small large ≡ true
+stores-whole : {p : Pool} {small large script : List ℕ} {at : ℕ} → Runnable p small large script at → areWhole (p .limits) small large ≡ true
 stores-whole r = rw (eq-eqb _ _ (r .smallWhole), eq-eqb _ _ (r .largeWhole))
 
 pub ready : {p : Pool} {small large script : List ℕ} {at : ℕ} (request : Request) → Runnable p small large script at → Ready request p small large
@@ -48,6 +49,7 @@ goesOn at script written out = ltb at (length script) && leb longestAnswer (leng
 -- What a line makes of a record with its stores, and the line of its answer.
 pub record Turn (line : List ℕ) (p : Pool) (small large : List ℕ) (p′ : Pool) (small′ large′ answer : List ℕ) : Type 0 where
   pub fit : isWellFormed p ≡ true → isWellFormed p′ ≡ true
+  pub limits : p′ .limits ≡ p .limits
   pub sizes : (length small′ ≡ length small) × (length large′ ≡ length large)
   pub leaves : (L : Ledger) → Reads p small large L → Reads p′ small′ large′ (afterLine L line)
   pub answers : (L : Ledger) → Reads p small large L → answer ≡ answerTo L line
@@ -59,6 +61,7 @@ module _ {line old new : List ℕ} {frame : Frame} (d : Decodes line old frame n
       let f = sym (d .frame) ∙ e in
       record {
         fit = λ w. w;
+        limits = refl;
         sizes = (refl, refl);
         leaves = λ L reads. rw f reads;
         answers = λ L reads. rw (z, f);
@@ -72,6 +75,7 @@ module _ {line old new : List ℕ} {frame : Frame} (d : Decodes line old frame n
       let o = rw (payload-front (rw e at d)) at (s .obeys) in
       record {
         fit = o .fits;
+        limits = limits-stay _ _ (o .stays);
         sizes = o .sizes;
         leaves = λ L reads. rw f (o .leaves (run .fit) (λ x. stores-whole run) L reads);
         answers = λ L reads. rw f (ap (λ (y : Reply). answerLine (y .answer) (y .bytes)) (o .answers (run .fit) (λ x. stores-whole run) L reads));
@@ -83,6 +87,8 @@ pub record Running (p₀ : Pool) (small₀ large₀ script : List ℕ) (start : 
   pub done : List ℕ
   pub put : Puts 0 done out₀ out written
   pub size : length out ≡ length out₀
+  pub limits : p .limits ≡ p₀ .limits
+  pub stores : (length small ≡ length small₀) × (length large ≡ length large₀)
   pub fits : written ≤ length out
   pub answers : (L : Ledger) → Reads p₀ small₀ large₀ L → (L′ : Ledger) × Reads p small large L′
       × (answersTo L (linesOf (drop start script)) ≡ done ++ answersTo L′ (linesOf (drop at script)))
@@ -99,6 +105,8 @@ run-starts out bytes r b =
       done = [];
       put = record { bytes = refl; next = refl };
       size = refl;
+      limits = refl;
+      stores = (refl, refl);
       fits = omega arith;
       answers = λ L reads. (L, reads, refl);
       from = omega arith;
@@ -141,13 +149,15 @@ module _ {p₀ : Pool} {small₀ large₀ script : List ℕ} {start : ℕ} {out�
         runnable =
             record {
               fit = turn .fit (run .runnable .fit);
-              smallWhole = turn .sizes .0 ∙ run .runnable .smallWhole;
-              largeWhole = turn .sizes .1 ∙ run .runnable .largeWhole;
+              smallWhole = rw (turn .limits) (turn .sizes .0 ∙ run .runnable .smallWhole);
+              largeWhole = rw (turn .limits) (turn .sizes .1 ∙ run .runnable .largeWhole);
               within = rw e (on .1);
             };
         done = run .done ++ answer;
         put = puts-on (run .put) put (omega (arith, far, run .size));
         size = same ∙ run .size;
+        limits = turn .limits ∙ run .limits;
+        stores = (turn .sizes .0 ∙ run .stores .0, turn .sizes .1 ∙ run .stores .1);
         fits = omega (arith, put .next, same);
         answers = λ L reads.
             let (L′, reads′, so) = run .answers L reads in
@@ -162,6 +172,7 @@ module _ {p₀ : Pool} {small₀ large₀ script : List ℕ} {start : ℕ} {out�
   run-ends stop =
       record {
         runnable = run .runnable;
+        limits = run .limits;
         written = run .done;
         put = run .put;
         answers = run .answers;

@@ -7,6 +7,7 @@ use lib.ListN.{length, take, drop}
 use Rattle.ledger.specs.Objects.{Reply}
 use Rattle.ledger.specs.Ledger.{Ledger, fresh}
 use Rattle.ledger.specs.Limits.{largeSize}
+use Rattle.ledger.specs.declared.Limits.{Limits}
 use Rattle.answers.specs.Answers.{answerLine, longestAnswer}
 use Rattle.frames.specs.Frames.{frameOf, payloadOf, Decodes}
 use Rattle.text.specs.Lines.{linesOf, lineEnd, lineAt}
@@ -33,9 +34,9 @@ unfoldable pub answersTo : Ledger → List (List ℕ) → List ℕ
 answersTo L [] = []
 answersTo L (line ∷ lines) = answerTo L line ++ answersTo (afterLine L line) lines
 
--- P3: from a fresh pool on
-abbrev pub outputOf : List ℕ → List ℕ
-outputOf script = answersTo fresh (linesOf script)
+-- P3: from a fresh pool of these figures on
+abbrev pub outputOf : Limits → List ℕ → List ℕ
+outputOf limits script = answersTo (fresh limits) (linesOf script)
 
 -- the line that starts at a place of a script
 abbrev pub lineIn : List ℕ → ℕ → List ℕ
@@ -52,16 +53,17 @@ pub record Steps (script : List ℕ) (at : ℕ) (old : List ℕ) (r : Step) (new
   pub next : r .next ≡ lineAt script at .next
   pub size : length new ≡ length old
 
--- A run can go on: the record is well-formed, the stores have 01's lengths, and the next line starts in the script or at its end.
+-- A run can go on: the record is well-formed, the stores are as long as its blocks need, and the next line starts in the script or at its end.
 pub record Runnable (p : Pool) (small large script : List ℕ) (at : ℕ) : Type 0 where
   pub fit : isWellFormed p ≡ true
-  pub smallWhole : length small ≡ wholeSmall
-  pub largeWhole : length large ≡ wholeLarge
+  pub smallWhole : length small ≡ wholeSmall (p .limits)
+  pub largeWhole : length large ≡ wholeLarge (p .limits)
   pub within : at ≤ length script
 
 -- A run goes on from a place: what was to be written is what is written now and what is to be written from the next place on.
 pub record Continues (p : Pool) (small large script : List ℕ) (at : ℕ) (r : Ran) (small′ large′ out out′ : List ℕ) : Type 0 where
   pub runnable : Runnable (r .pool) small′ large′ script (r .next)
+  pub limits : r .pool .limits ≡ p .limits
   pub written : List ℕ
   pub put : Puts 0 written out out′ (r .written)
   pub answers : (L : Ledger) → Reads p small large L → (L′ : Ledger) × Reads (r .pool) small′ large′ L′
@@ -76,7 +78,7 @@ pub data Written (script : List ℕ) : Pool → List ℕ → List ℕ → ℕ �
       → (c : Continues p small large script at r small′ large′ out out′) → Written script (r .pool) small′ large′ (r .next) rest
       → Written script p small large at (c .written ++ rest)
 
--- D5: the whole output of a run from fresh, with stores of 01's lengths and any bytes in them, is this function of the script.
+-- D5: the whole output of a run from fresh, with any bytes in the stores, is this function of the figures and the script.
 abbrev pub WholeOutput : Type 0
 WholeOutput =
-    (script small large whole : List ℕ) → Written script freshPool small large 0 whole → whole ≡ outputOf script
+    (limits : Limits) (script small large whole : List ℕ) → Written script (freshPool limits) small large 0 whole → whole ≡ outputOf limits script

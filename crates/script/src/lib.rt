@@ -97,8 +97,10 @@ pub fn run_on(
     p.clocks = clocks;
     p.named = named;
     p.dues = dues;
+    let limits = head.limits;
     let tasks = head.tasks;
     let global = head.global;
+    p.limits = limits;
     p.tasks = tasks;
     p.global = global;
     p.given = head.given;

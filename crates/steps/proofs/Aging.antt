@@ -20,6 +20,7 @@ use Rattle.ledger.specs.Expirations.{DueTime, byLocal, byGlobal, pinned}
 use Rattle.ledger.specs.Compared.{wrapped, Left, localLeft, globalLeft, pinnedLeft, Shown, leftOf, shown}
 use Rattle.ledger.specs.declared.Event.{Event}
 use Rattle.ledger.specs.declared.Event.the-variants.{Join, Leave, Block, Resume, Tick}
+use Rattle.ledger.specs.declared.Limits.{Limits}
 use Rattle.record.specs.Codes.{dueBy, dueOf, setterOf, leftAt, absentEntry, freeBlock}
 use Rattle.record.specs.Reading.{shownDue, shownEntry}
 use Rattle.record.specs.WellFormed.{isFitDue, isFitEntry}
@@ -252,24 +253,24 @@ shown-kept leaver tasks global blocks e =
 -- the record's side
 module _ (event : Event) (task : ℕ) {tasks entries : List TaskEntry} {global time : GlobalTime} {c : Clocks}
     (same : ClocksAlike tasks global c) (after : ClocksAlike entries time (clocksAfter event task c))
-    (tested : isTested event ≡ true) (listed : task < length (c .tasks)) where
+    (tested : isTested event ≡ true) (listed : task < length (c .tasks)) (limits : Limits) where
   -- a due of the record, before it is judged
   abbrev late : Due → Due
   late d = lateDue (leaverOf event task) (advances event task c) entries d
 
-  record-due : (used : Bool) (handle : ℕ) (d : Due) → isFitDue (getD tasks (setterOf d) absentEntry) global used d ≡ true
+  record-due : (used : Bool) (handle : ℕ) (d : Due) → isFitDue limits (getD tasks (setterOf d) absentEntry) global used d ≡ true
       → cond (isLasting (leaverOf event task) (getD entries (setterOf (late d)) absentEntry) time (late d)) (shownDue entries time handle (late d)) []
       ≡ readBy (aged event task c) (shownDue tasks global handle d)
   unfolding shownDue
   record-due used handle Free fit = refl
   record-due used handle (Local setter at) fit =
-      let f = fit-local (getD tasks setter absentEntry) global used setter at fit in
+      let f = fit-local limits (getD tasks setter absentEntry) global used setter at fit in
       let now = clock-alike tasks c (same .tasks) setter in
       let ahead = left-steps (at .0) (taskAt c setter .clock) (rw now at (f .ahead)) in
       rw (leaver-ends event task setter (f .known), clock-alike entries (clocksAfter event task c) (after .tasks) setter, now, append-nil)
       (local-ages event task c tested listed (λ n. leftAt (at .0) (wrapped n)) setter handle ahead)
   record-due used handle (Global setter at) fit =
-      let ahead = left-steps (at .0) (c .global) (rw (same .global) at (fit-global (getD tasks setter absentEntry) global used setter at fit .ahead)) in
+      let ahead = left-steps (at .0) (c .global) (rw (same .global) at (fit-global limits (getD tasks setter absentEntry) global used setter at fit .ahead)) in
       let left = setterAfter event task setter in
       rw (leaver-left event task setter, state-alike entries (clocksAfter event task c) (after .tasks) left, after .global, same .global, append-nil)
       (global-ages event task c tested listed (λ put n. leftAt (cond put (nextTime (at .0)) (at .0)) (wrapped n)) setter handle ahead (stays (at .0) (c .global)))
@@ -286,10 +287,10 @@ module _ (event : Event) (task : ℕ) {tasks entries : List TaskEntry} {global t
       ∙ ap (λ d. cond (isLasting (leaverOf event task) (getD entries (setterOf d) absentEntry) time d)
       (shownDue entries time (getD blocks (e .block) freeBlock .handle) d) []) (late-due (leaverOf event task) (advances event task c) entries e)
 
-  pub record-ages : (blocks : List BlockEntry) (xs : List ExpirationEntry) → all (isFitEntry tasks global blocks) xs ≡ true
+  pub record-ages : (blocks : List BlockEntry) (xs : List ExpirationEntry) → all (isFitEntry limits tasks global blocks) xs ≡ true
       → readBy (shownEntry entries time blocks) (map (passedEntry (leaverOf event task) (advances event task c) entries time) xs)
       ≡ readBy (aged event task c) (readBy (shownEntry tasks global blocks) xs)
   record-ages blocks xs fit =
       rw (readBy-map, readBy-readBy)
       (readBy-same _ _ xs
-      (all-imp (λ e f. shown-late blocks e ∙ record-due _ _ (dueOf e) f) xs (all-true (isFitEntry tasks global blocks) xs fit)))
+      (all-imp (λ e f. shown-late blocks e ∙ record-due _ _ (dueOf e) f) xs (all-true (isFitEntry limits tasks global blocks) xs fit)))

@@ -10,7 +10,7 @@ use lib.ListN.{length}
 use Rattle.lists.specs.Tests.{All}
 use Rattle.lists.proofs.All.{all-both, none→All}
 use Rattle.lists.proofs.Cases.{or-false-parts}
-use Rattle.ledger.specs.Limits.{limits, largestBatch}
+use Rattle.ledger.specs.Limits.{largestBatch}
 use Rattle.ledger.specs.Expirations.{Expiration, dueAfter, setOnEach}
 use Rattle.ledger.specs.Objects.{Memory, memoryAfter, expirationsAfter, handlesOf}
 use Rattle.ledger.specs.Ledger.{Ledger, settled}
@@ -36,10 +36,10 @@ use Rattle.steps.proofs.Staying.{same-stays, stays-on, refresh-stays}
 pub record Renewable (task : ℕ) (kind : Kind) (extension : ℕ) (handles : List ℕ) (p : Tables) : Type 0 where
   pub task-ok : taskVerdict task (p .tasks) ≡ Accepted
   pub kind-ok : kindVerdict kind ≡ Accepted
-  pub extension-ok : extensionVerdict kind extension ≡ Accepted
+  pub extension-ok : extensionVerdict (p .limits) kind extension ≡ Accepted
   pub found : All (λ (handle : ℕ). handleVerdict handle p ≡ Accepted) handles
   pub few : length handles ≤ largestBatch
-  pub room : standingIn (p .expirations) + length handles ≤ limits .expirations
+  pub room : standingIn (p .expirations) + length handles ≤ p .limits .expirations
 
 -- 11 and 12 of one handle
 handle-ok : (p : Tables) (handle : ℕ) → isUngiven (p .given) handle ≡ false → isMissing (p .blocks) handle ≡ false → handleVerdict handle p ≡ Accepted
@@ -74,7 +74,7 @@ first-accepted : (task : ℕ) (kind : Kind) (extension handle : ℕ) (handles : 
     → refreshVerdict task kind extension handle p ≡ Accepted
 unfolding refreshVerdict
 first-accepted task kind extension handle handles p r =
-    rw (r .task-ok, r .kind-ok, r .extension-ok, r .found .0, lt-leb (limits .expirations) (standingIn (p .expirations)) (omega (arith, r .room)))
+    rw (r .task-ok, r .kind-ok, r .extension-ok, r .found .0, lt-leb (p .limits .expirations) (standingIn (p .expirations)) (omega (arith, r .room)))
 
 abbrev onEach : ℕ → Kind → ℕ → Memory → List ℕ → List Expiration → List Expiration
 onEach task kind extension m handles xs = setOnEach (dueAfter (m .clocks) task kind extension) handles xs
@@ -134,6 +134,6 @@ module _ {p : Tables} {small large : List ℕ} {L : Ledger} (w : isWellFormed p 
 
 pub batch-stays : (task : ℕ) (kind : Kind) (extension : ℕ) (handles : List ℕ) (p : Tables) → Stays p (batchedPool task kind extension handles p)
 unfolding batchedPool
-batch-stays task kind extension [] p = same-stays refl refl
+batch-stays task kind extension [] p = same-stays refl refl refl
 batch-stays task kind extension (handle ∷ handles) p =
     stays-on (refresh-stays task kind extension handle p) (batch-stays task kind extension handles (refreshedPool task kind extension handle p))

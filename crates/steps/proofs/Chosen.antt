@@ -12,8 +12,9 @@ use lib.ListN.{length, getD, take, drop, length-take, length-drop}
 use lib.Seq.{getD-take, getD-drop}
 use Rattle.lists.specs.Tables.{firstFrom}
 use Rattle.lists.proofs.Cases.{by-test, or-false-parts}
-use Rattle.lists.proofs.First.{first-at, first-full}
-use Rattle.ledger.specs.Limits.{limits, taskCount, largeSize, lastHandle, isSmall}
+use Rattle.lists.proofs.First.{first-at, first-full, count-before, first-before}
+use Rattle.lists.proofs.Tables.{allFrom-at}
+use Rattle.ledger.specs.Limits.{capacity, taskCount, largeSize, lastHandle, isSmall}
 use Rattle.ledger.proofs.Figures.{allowed}
 use Rattle.ledger.specs.Tasks.{isAbsent}
 use Rattle.ledger.specs.Refusals.{mostExtension, isPinning as isPinningKind}
@@ -25,10 +26,12 @@ use Rattle.ledger.specs.declared.Refusal.{Refusal}
 use Rattle.ledger.specs.declared.Refusal.the-variants.{NoSuchTask, LengthOutOfRange, HandlesSpent, NoFreeBlock, OnlyMakePins, OutsideObject, SumDiffers}
 use Rattle.ledger.specs.declared.Verdict.{Verdict}
 use Rattle.ledger.specs.declared.Verdict.the-variants.{Accepted, Refused}
-use Rattle.stores.specs.Places.{blockCount, sumAt}
-use Rattle.stores.proofs.Places.{blocks-listed}
+use Rattle.ledger.specs.declared.Limits.{Limits}
+use Rattle.stores.specs.Places.{sumAt}
 use Rattle.record.specs.Codes.{stateOf, absentEntry, freeBlock, freeEntry}
 use Rattle.record.specs.Reading.{isSmallBlock, Typed}
+use Rattle.record.specs.WellFormed.{isBlock, isEntryAt}
+use Rattle.record.proofs.Facts.{Fit}
 use Rattle.record.specs.Tables.{Tables, blockEntries}
 use Rattle.record.specs.declared.TaskEntry.{TaskEntry}
 use Rattle.steps.specs.Objects.{placeOf, isFreeBlock, endFor, freePlace, isFreeEntry, standingIn, freeSlot, andThen, refuseIf, byState, taskVerdict, kindVerdict, extensionVerdict, foundVerdict, handleVerdict, roomVerdict, makeVerdict, refreshVerdict, standingVerdict, readVerdict, writeVerdict}
@@ -49,91 +52,118 @@ running Running e = refl
 running Waiting e = cc
 
 -- no kind has more than the largest extension
-most-within : (kind : Kind) → mostExtension kind ≤ limits .extension
-most-within Local = omega arith
-most-within Global = omega arith
-most-within Pinned = omega arith
+most-within : (limits : Limits) (kind : Kind) → mostExtension limits kind ≤ limits .extension
+most-within limits Local = omega arith
+most-within limits Global = omega arith
+most-within limits Pinned = omega arith
 
-may-set : (task : ℕ) (kind : Kind) (extension : ℕ) (p : Tables) → taskVerdict task (p .tasks) ≡ Accepted → extensionVerdict kind extension ≡ Accepted
+may-set : (task : ℕ) (kind : Kind) (extension : ℕ) (p : Tables) → Fit p → taskVerdict task (p .tasks) ≡ Accepted → extensionVerdict (p .limits) kind extension ≡ Accepted
     → MaySet task extension p
-may-set task kind extension p t x =
+may-set task kind extension p fit t x =
     let (known, state) = both-accept _ _ t in
+    let short = le-trans (ltb-false (mostExtension (p .limits) kind) extension (not-refused _ _ x)) (most-within (p .limits) kind) in
     record {
       known = leb-false taskCount task (not-refused _ _ known);
       present = running (stateOf (getD (p .tasks) task absentEntry .state)) state;
-      short = le-trans (ltb-false (mostExtension kind) extension (not-refused _ _ x)) (most-within kind);
+      short = short;
+      most = le-trans short (allowed (p .limits) (fit .allowed) .most-extension);
     }
 
+or-false-left : (a : Bool) {b : Bool} → b ≡ false → (a || b) ≡ true → a ≡ true
+or-false-left true e h = refl
+or-false-left false e h = sym e ∙ h
+
 -- the first free entry, where there is one
-slot-free : (p : Tables) → Typed p → roomVerdict (standingIn (p .expirations)) ≡ Accepted → SlotFree (freeSlot (p .expirations)) (p .expirations)
-slot-free p types v =
+slot-free : (p : Tables) → Fit p → Typed p → roomVerdict (p .limits) (standingIn (p .expirations)) ≡ Accepted
+    → SlotFree (p .limits) (freeSlot (p .expirations)) (p .expirations)
+slot-free p fit types v =
     let xs = p .expirations in
-    let few = leb-false (limits .expirations) (standingIn xs) (not-refused _ _ v) in
-    let room : standingIn xs < length xs = omega (arith, few, types .expirations, allowed .most-expirations) in
+    let n = p .limits .expirations in
+    let few = leb-false n (standingIn xs) (not-refused _ _ v) in
+    let fits : n ≤ length xs = omega (arith, types .expirations, allowed (p .limits) (fit .allowed) .most-expirations) in
+    let past : (k : ℕ) → n ≤ k → isFreeEntry (getD xs k freeEntry) ≡ true = λ k h. or-false-left (eqb (getD xs k freeEntry .clock) 0) (le-ltb k n h) (allFrom-at (isEntryAt (p .limits)) freeEntry (λ i. refl) xs (fit .counted) k) in
+    let below = first-before isFreeEntry n xs fits (omega (arith, few, count-before isFreeEntry freeEntry n xs past)) in
+    let room : standingIn xs < length xs = omega (arith, few, fits) in
     let full : leb (0 + length xs) (freeSlot xs) ≡ false = sym (first-full isFreeEntry 0 xs) ∙ lt-leb (length xs) (standingIn xs) room in
     let (k, listed, at, free) = first-at isFreeEntry freeEntry 0 xs full in
     let place : freeSlot xs ≡ k = omega (arith, at) in
-    rw place (record { listed = listed; free = eqb-true _ 0 free })
+    rw place (record { listed = listed; free = eqb-true _ 0 free; below = omega (arith, place, below) })
 
 -- the first free block of a size's store, where there is one
-module _ (p : Tables) (types : Typed p) (size : ℕ) (range : (eqb size 0 || ltb largeSize size) ≡ false) where
-  place-at : (place : ℕ) → place < blockEntries → isFreeBlock (getD (p .blocks) place freeBlock) ≡ true → isSmallBlock place ≡ isSmall size
-      → PlaceFree place size (p .blocks)
-  place-at place listed free store =
+module _ (p : Tables) (fit : Fit p) (types : Typed p) (size : ℕ) (range : (eqb size 0 || ltb largeSize size) ≡ false) where
+  place-at : (place : ℕ) → place < blockEntries → isFreeBlock (getD (p .blocks) place freeBlock) ≡ true → isSmallBlock place ≡ isSmall size → isBlock (p .limits) place ≡ true
+      → PlaceFree (p .limits) place size (p .blocks)
+  place-at place listed free store its =
       let (least, most) = or-false-parts (eqb size 0) (ltb largeSize size) range in
       record {
         listed = omega (arith, types .blocks);
         free = eqb-true _ 0 free;
         store = store;
+        its = its;
         least = omega (arith, eqb-false size 0 least);
         most = ltb-false largeSize size most;
       }
 
-  place-free : leb (endFor size) (freePlace size (p .blocks)) ≡ false → PlaceFree (freePlace size (p .blocks)) size (p .blocks)
+  place-free : leb (endFor (p .limits) size) (freePlace (p .limits) size (p .blocks)) ≡ false
+      → PlaceFree (p .limits) (freePlace (p .limits) size (p .blocks)) size (p .blocks)
   unfolding freePlace
   place-free room =
-      let n = limits .smallBlocks in
+      let may = allowed (p .limits) (fit .allowed) in
       by-test (isSmall size)
       (λ s.
+      let n = p .limits .small in
       let part = take n (p .blocks) in
-      let count : length part ≡ n = simp length-take (omega (arith, types .blocks, allowed .most-small)) in
+      let count : length part ≡ n = simp length-take (omega (arith, types .blocks, may .most-small)) in
       let full : leb (0 + length part) (firstFrom 0 isFreeBlock part) ≡ false = rw (zero-add, count) (rw s at room) in
       let (k, listed, at, free) = first-at isFreeBlock freeBlock 0 part full in
       let below : k < n = omega (arith, count) in
+      let small = lt-ltb k (capacity .small) (omega (arith, may .most-small)) in
       let here : firstFrom 0 isFreeBlock part ≡ k = omega (arith, at) in
       rw (s, here)
-      (place-at k (omega (arith, allowed .most-small)) (rw (getD-take n (p .blocks) k freeBlock below) at free) (lt-ltb k n below ∙ sym s)))
+      (place-at k (omega (arith, may .most-small)) (rw (getD-take n (p .blocks) k freeBlock below) at free) (small ∙ sym s) (rw small (lt-ltb k n below))))
       (λ s.
-      let part = drop n (p .blocks) in
-      let count : n + length part ≡ blockEntries = simp length-drop (omega (arith, types .blocks, allowed .most-small)) in
-      let first = firstFrom n isFreeBlock part in
-      let below : first < blockCount = leb-false blockCount first (rw s at room) in
-      let full : leb (n + length part) first ≡ false = lt-leb (n + length part) first (omega (arith, blocks-listed)) in
+      let n = capacity .small in
+      let end = n + p .limits .large in
+      let part = drop n (take end (p .blocks)) in
+      let count : n + length part ≡ end = simp (length-drop, length-take) (omega (arith, types .blocks, may .most-large)) in
+      let full : leb (n + length part) (firstFrom n isFreeBlock part) ≡ false = rw count (rw s at room) in
       let (k, listed, at, free) = first-at isFreeBlock freeBlock n part full in
+      let below : n + k < end = omega (arith, count) in
+      let large = le-ltb (n + k) n (omega arith) in
       rw (s, at)
-      (place-at (n + k) (omega (arith, count)) (rw (getD-drop n (p .blocks) k freeBlock) at free) (le-ltb (n + k) n (omega arith) ∙ sym s)))
+      (place-at (n + k) (omega (arith, may .most-large)) (rw (getD-drop n (take end (p .blocks)) k freeBlock, getD-take end (p .blocks) (n + k) freeBlock below) at free)
+      (large ∙ sym s) (rw large (lt-ltb (n + k) end below))))
 
 -- what a make that is accepted takes
 pub record Taken (task extension size : ℕ) (p : Tables) : Type 0 where
   pub may : MaySet task extension p
   pub unspent : p .given < lastHandle
-  pub block : PlaceFree (freePlace size (p .blocks)) size (p .blocks)
-  pub entry : SlotFree (freeSlot (p .expirations)) (p .expirations)
+  pub block : PlaceFree (p .limits) (freePlace (p .limits) size (p .blocks)) size (p .blocks)
+  pub entry : SlotFree (p .limits) (freeSlot (p .expirations)) (p .expirations)
 
-pub make-takes : (task : ℕ) (kind : Kind) (extension size : ℕ) (p : Tables) → Typed p → makeVerdict task kind extension size p ≡ Accepted
+pub make-unspent : (task : ℕ) (kind : Kind) (extension size : ℕ) (p : Tables) → makeVerdict task kind extension size p ≡ Accepted → p .given < lastHandle
+unfolding makeVerdict
+make-unspent task kind extension size p v =
+    let v₁ = both-accept (taskVerdict task (p .tasks)) _ v .1 in
+    let v₂ = both-accept (extensionVerdict (p .limits) kind extension) _ v₁ .1 in
+    let v₃ = both-accept (refuseIf (eqb size 0 || ltb largeSize size) LengthOutOfRange) _ v₂ .1 in
+    let (given-ok, _) = both-accept (refuseIf (leb lastHandle (p .given)) HandlesSpent) _ v₃ in
+    leb-false lastHandle (p .given) (not-refused _ HandlesSpent given-ok)
+
+pub make-takes : (task : ℕ) (kind : Kind) (extension size : ℕ) (p : Tables) → Fit p → Typed p → makeVerdict task kind extension size p ≡ Accepted
     → Taken task extension size p
 unfolding makeVerdict
-make-takes task kind extension size p types v =
+make-takes task kind extension size p fit types v =
     let (task-ok, v₁) = both-accept _ _ v in
     let (extension-ok, v₂) = both-accept _ _ v₁ in
     let (size-ok, v₃) = both-accept _ _ v₂ in
-    let (given-ok, v₄) = both-accept (refuseIf (leb lastHandle (p .given)) HandlesSpent) _ v₃ in
+    let (_, v₄) = both-accept (refuseIf (leb lastHandle (p .given)) HandlesSpent) _ v₃ in
     let (block-ok, slot-ok) = both-accept _ _ v₄ in
     record {
-      may = may-set task kind extension p task-ok extension-ok;
-      unspent = leb-false lastHandle (p .given) (not-refused _ HandlesSpent given-ok);
-      block = place-free p types size (not-refused _ LengthOutOfRange size-ok) (not-refused _ NoFreeBlock block-ok);
-      entry = slot-free p types slot-ok;
+      may = may-set task kind extension p fit task-ok extension-ok;
+      unspent = make-unspent task kind extension size p v;
+      block = place-free p fit types size (not-refused _ LengthOutOfRange size-ok) (not-refused _ NoFreeBlock block-ok);
+      entry = slot-free p fit types slot-ok;
     }
 
 -- what a refresh that is accepted has: an object that stands, and a free entry
@@ -141,21 +171,21 @@ pub record Renewed (task : ℕ) (kind : Kind) (extension handle : ℕ) (p : Tabl
   pub may : MaySet task extension p
   pub plain : isPinningKind kind ≡ false
   pub found : handleVerdict handle p ≡ Accepted
-  pub entry : SlotFree (freeSlot (p .expirations)) (p .expirations)
+  pub entry : SlotFree (p .limits) (freeSlot (p .expirations)) (p .expirations)
 
-pub refresh-takes : (task : ℕ) (kind : Kind) (extension handle : ℕ) (p : Tables) → Typed p → refreshVerdict task kind extension handle p ≡ Accepted
+pub refresh-takes : (task : ℕ) (kind : Kind) (extension handle : ℕ) (p : Tables) → Fit p → Typed p → refreshVerdict task kind extension handle p ≡ Accepted
     → Renewed task kind extension handle p
 unfolding refreshVerdict
-refresh-takes task kind extension handle p types v =
+refresh-takes task kind extension handle p fit types v =
     let (task-ok, v₁) = both-accept _ _ v in
     let (kind-ok, v₂) = both-accept (kindVerdict kind) _ v₁ in
     let (extension-ok, v₃) = both-accept _ _ v₂ in
     let (found, slot-ok) = both-accept _ _ v₃ in
     record {
-      may = may-set task kind extension p task-ok extension-ok;
+      may = may-set task kind extension p fit task-ok extension-ok;
       plain = not-refused _ OnlyMakePins kind-ok;
       found = found;
-      entry = slot-free p types slot-ok;
+      entry = slot-free p fit types slot-ok;
     }
 
 -- a handle that is found is not 0, and its place is that of an entry

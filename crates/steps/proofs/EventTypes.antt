@@ -61,7 +61,7 @@ advanced-global false global h = h
 -- The record with these tasks and this time, before and after a sweep
 module _ (tasks : List TaskEntry) (global : GlobalTime) (p : Tables) (types : Typed p) (sixteen : length tasks ≡ taskCount) (clocks : All InRange tasks)
     (range : global .0 < counterRange) where
-  pub typed-put : Typed (record { tasks = tasks; global = global; given = p .given; blocks = p .blocks; expirations = p .expirations })
+  pub typed-put : Typed (record { limits = p .limits; tasks = tasks; global = global; given = p .given; blocks = p .blocks; expirations = p .expirations })
   typed-put =
       record {
         tasks = sixteen;

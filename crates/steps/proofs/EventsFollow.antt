@@ -42,19 +42,20 @@ pub reads-with : (p : Tables) (small large : List ℕ) (L : Ledger) → Fit p �
     → List·Permᴰ (readBy (shownEntry entries time (p .blocks)) xs) (map (shown clocks) ys)
     → readFrom 0 (objectIn small large) blocks ≡ readFrom 0 (objectIn small large) (mapFrom 0 (keptBlock xs) (p .blocks))
     → readBy (shownEntry entries time blocks) xs ≡ readBy (shownEntry entries time (p .blocks)) xs
-    → Reads (record { tasks = entries; global = time; given = p .given; blocks = blocks; expirations = xs }) small large
-    (settled (record { clocks = clocks; given = L .memory .given; objects = L .memory .objects; pinned = handles }) ys)
+    → Reads (record { limits = p .limits; tasks = entries; global = time; given = p .given; blocks = blocks; expirations = xs }) small large
+    (settled (record { limits = L .memory .limits; clocks = clocks; given = L .memory .given; objects = L .memory .objects; pinned = handles }) ys)
 unfolding recordView viewOf
 reads-with p small large L fit reads entries time blocks xs clocks ys handles pins same alike freed shows =
     record {
       alike =
           record {
+            limits = reads .alike .limits;
             tasks = same .tasks;
             global = same .global;
             given = reads .alike .given;
             objects =
                 rw freed
-                (objects-alike entries time (p .blocks) xs (fit .distinct) clocks ys alike small large (isWhole small large) (L .memory .objects)
+                (objects-alike entries time (p .blocks) xs (fit .distinct) clocks ys alike small large (isWhole (p .limits) small large) (L .memory .objects)
                 (reads .alike .objects));
             expirations = rw shows alike;
           };
@@ -89,12 +90,12 @@ module _ (event : Event) (task : ℕ) (p : Tables) (small large : List ℕ) (L :
       (λ e. rw e
       (reads-with p small large L fit reads _ _ _ _ _ _ _ pinned (clocks-alike event task clocks e)
       (rw (advances-alike event task (p .tasks) (L .memory .clocks) (clocks .tasks) e)
-      (expirations-alike event task clocks (rw (advances-alike event task (p .tasks) (L .memory .clocks) (clocks .tasks) e) at (clocks-alike event task clocks e)) accepted (p .blocks) (p .expirations) (fit .entries) (L .expirations)
+      (expirations-alike event task clocks (rw (advances-alike event task (p .tasks) (L .memory .clocks) (clocks .tasks) e) at (clocks-alike event task clocks e)) accepted (p .limits) (p .blocks) (p .expirations) (fit .entries) (L .expirations)
       (reads .alike .expirations) e))
       refl (freed-shown entries time (p .blocks) (map (passedEntry (leaverOf event task) advanced entries time) (p .expirations)))))
       (λ e. rw e
       (reads-with p small large L fit reads _ _ _ _ _ _ _ pinned (untested-clocks-alike event task clocks e)
-      (untested-expirations-alike event task clocks (untested-clocks-alike event task clocks e) accepted (p .blocks) (p .expirations) (fit .entries)
+      (untested-expirations-alike event task clocks (untested-clocks-alike event task clocks e) accepted (p .limits) (p .blocks) (p .expirations) (fit .entries)
       (L .expirations) (reads .alike .expirations) e)
       (ap (readFrom 0 (objectIn small large)) (sym (none-freed (p .given) (p .expirations) (p .blocks) (fit .blocks)))) refl))
 

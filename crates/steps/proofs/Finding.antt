@@ -11,7 +11,8 @@ use lib.Dec.{eqb, leb}
 use lib.ListN.{length, getD}
 use Rattle.lists.specs.Tests.{any, All}
 use Rattle.lists.proofs.Cases.{by-test, same-test}
-use Rattle.lists.proofs.All.{map-all}
+use Rattle.lists.specs.Tables.{readFrom}
+use Rattle.lists.proofs.All.{map-all, all-map}
 use Rattle.lists.proofs.Counts.{any-map, any-at, any-shows}
 use Rattle.lists.proofs.Filters.{filter-all}
 use Rattle.lists.proofs.First.{first-none, first-within, first-passes}
@@ -20,6 +21,7 @@ use Rattle.lists.proofs.Tables.{all-places, any-readFrom}
 use Rattle.ledger.specs.Objects.{Object, objectAt, stands, standing}
 use Rattle.ledger.specs.Compared.{shownObject, viewOf}
 use Rattle.ledger.specs.Ledger.{Ledger}
+use Rattle.ledger.specs.declared.Limits.{Limits}
 use Rattle.record.specs.Codes.{dueOf, isDated, freeBlock}
 use Rattle.record.specs.Reading.{isWhole, blockBytes, sizeOf, objectIn, recordView, Typed, Reads}
 use Rattle.record.specs.WellFormed.{isUsed}
@@ -50,13 +52,13 @@ at-handle P handle [] e h = absurd (false≢true e)
 at-handle P handle (o ∷ os) e (h, hs) = by-test (isObjectOf handle o) (λ d. rw d (h d)) (λ d. rw d (at-handle P handle os (rw d at e) hs))
 
 -- Where a handle is found: the block of the object, with its size and its sum, and with its bytes.
-pub record Found (small large : List ℕ) (blocks : List BlockEntry) (handle : ℕ) (o : Object) : Type 0 where
+pub record Found (limits : Limits) (small large : List ℕ) (blocks : List BlockEntry) (handle : ℕ) (o : Object) : Type 0 where
   pub within : placeOf handle blocks < length blocks
   pub its : blockOf handle blocks .handle ≡ handle
   pub used : isUsed (blockOf handle blocks) ≡ true
   pub size : o .size ≡ blockOf handle blocks .length
   pub sum : o .sum ≡ blockOf handle blocks .sum
-  pub bytes : isWhole small large (blockOf handle blocks .length) ≡ true
+  pub bytes : isWhole limits small large (blockOf handle blocks .length) ≡ true
       → o .bytes ≡ blockBytes small large (placeOf handle blocks) (sizeOf (placeOf handle blocks))
 
 -- what a block in use shows of its object
@@ -68,13 +70,14 @@ each-used {p} fit small large P i shows =
 
 module _ {p : Tables} {small large : List ℕ} {L : Ledger} (fit : Fit p) (reads : Reads p small large L) where
   -- what all blocks in use show holds of the ledger's objects as they are shown
-  each-object : (P : Object → Type 0) → ((i : ℕ) → FitUsed p i → P (objectOf small large (p .blocks) i))
-      → All (λ (o : Object). P (shownObject (isWhole small large) o)) (L .memory .objects)
+  each-object : (P : Object → Type 0) → ((i : ℕ) → FitUsed p i → P (shownObject (isWhole (p .limits) small large) (objectOf small large (p .blocks) i)))
+      → All (λ (o : Object). P (shownObject (isWhole (p .limits) small large) o)) (L .memory .objects)
   unfolding recordView viewOf
   each-object P shows =
       map-all P _ (L .memory .objects)
       (all-perm P (reads .alike .objects)
-      (all-places P freeBlock (objectIn small large) 0 (p .blocks) (λ i h. rw zero-add (each-used fit small large P i (shows i)))))
+      (all-map P _ (readFrom 0 (objectIn small large) (p .blocks))
+      (all-places _ freeBlock (objectIn small large) 0 (p .blocks) (λ i h. rw zero-add (each-used fit small large _ i (shows i))))))
 
   -- the object in a block in use stands
   used-stands : (i : ℕ) → FitUsed p i → stands (L .expirations) (handleAt (p .blocks) i) ≡ true
@@ -122,19 +125,21 @@ module _ {p : Tables} {small large : List ℕ} {L : Ledger} (fit : Fit p) (reads
     object-held : any (isObjectOf handle) (L .memory .objects) ≡ any (isBlockOf handle) (p .blocks)
     unfolding recordView viewOf objectIn
     object-held =
-        sym (any-map (isObjectOf handle) (shownObject (isWhole small large)) (L .memory .objects))
+        sym (any-map (isObjectOf handle) (shownObject (isWhole (p .limits) small large)) (L .memory .objects))
         ∙ sym (any-perm (isObjectOf handle) (reads .alike .objects))
+        ∙ any-map (isObjectOf handle) (shownObject (isWhole (p .limits) small large)) (readFrom 0 (objectIn small large) (p .blocks))
         ∙ any-readFrom _ (isBlockOf handle) (objectIn small large)
         (λ i b. by-test (isFreeBlock b) (λ z. rw (z, eqb-true (b .handle) 0 z, free-fails)) (λ z. rw z (or-false _))) 0 (p .blocks)
 
     -- that object is the one in the block, as far as it is shown
     object-found : any (isBlockOf handle) (p .blocks) ≡ true
-        → shownObject (isWhole small large) (objectAt handle (L .memory .objects)) ≡ objectOf small large (p .blocks) (placeOf handle (p .blocks))
+        → shownObject (isWhole (p .limits) small large) (objectAt handle (L .memory .objects))
+        ≡ shownObject (isWhole (p .limits) small large) (objectOf small large (p .blocks) (placeOf handle (p .blocks)))
     object-found some =
         let place = placeOf handle (p .blocks) in
-        let here = objectOf small large (p .blocks) in
+        let here : ℕ → Object = λ i. shownObject (isWhole (p .limits) small large) (objectOf small large (p .blocks) i) in
         let its = its-handle some in
-        at-handle (λ (o : Object). shownObject (isWhole small large) o ≡ here place) handle (L .memory .objects) (object-held ∙ some)
+        at-handle (λ (o : Object). shownObject (isWhole (p .limits) small large) o ≡ here place) handle (L .memory .objects) (object-held ∙ some)
         (each-object (λ (o : Object). isObjectOf handle o ≡ true → o ≡ here place)
         (λ i f e.
         let same = same-handle (p .blocks) (fit .distinct) place i (rw its (eqb-false handle 0 nonzero)) in
@@ -144,7 +149,7 @@ module _ {p : Tables} {small large : List ℕ} {L : Ledger} (fit : Fit p) (reads
     pub gone-alike : Typed p → leb blockEntries (placeOf handle (p .blocks)) ≡ not (stands (L .expirations) handle)
     gone-alike typed = rw (← block-stands, ← first-none (isBlockOf handle) 0 (p .blocks), zero-add, typed .blocks)
 
-    pub found : stands (L .expirations) handle ≡ true → Found small large (p .blocks) handle (objectAt handle (L .memory .objects))
+    pub found : stands (L .expirations) handle ≡ true → Found (p .limits) small large (p .blocks) handle (objectAt handle (L .memory .objects))
     found s =
         let some = block-stands ∙ s in
         let same = object-found some in
@@ -172,9 +177,10 @@ module _ {p : Tables} {small large : List ℕ} {L : Ledger} (fit : Fit p) (reads
     used-listed = object-held its named ∙ some-block
 
     -- and the one in the block, as far as it is shown
-    pub used-object : shownObject (isWhole small large) (objectAt (handleAt (p .blocks) i) (L .memory .objects)) ≡ objectOf small large (p .blocks) i
+    pub used-object : shownObject (isWhole (p .limits) small large) (objectAt (handleAt (p .blocks) i) (L .memory .objects))
+        ≡ shownObject (isWhole (p .limits) small large) (objectOf small large (p .blocks) i)
     used-object =
         let place = placeOf its (p .blocks) in
         let same = same-handle (p .blocks) (fit .distinct) i place used in
         object-found its named some-block
-        ∙ ap (objectOf small large (p .blocks)) (eqb-true place i (sym same ∙ eq-eqb _ its (its-handle its named some-block)))
+        ∙ ap (λ (j : ℕ). shownObject (isWhole (p .limits) small large) (objectOf small large (p .blocks) j)) (eqb-true place i (sym same ∙ eq-eqb _ its (its-handle its named some-block)))

@@ -28,22 +28,23 @@ use Rattle.record.specs.declared.Due.the-variants.{Free, Local, Global, Pinned,
 use Rattle.record.proofs.Facts.{Fit, fit-parts, fit-whole}
 use Rattle.steps.specs.Events.{verdictOf, untickedEntry, advancedTasks, advancedTime, swept, withTimes, poolAfter}
 use Rattle.ledger.specs.declared.Verdict.the-variants.{Accepted}
+use Rattle.ledger.specs.declared.Limits.{Limits}
 use Rattle.steps.proofs.FitTasks.{Later, later-same, later-next, StaysPresent, OthersStayPresent, set-stays-present, join-absent, tick-running, ticked-fits, unticked-fits, advanced-unticked, running-unticked}
 use Rattle.steps.proofs.FitSwept.{local-fits, fit-swept}
 
 -- an expiration stays fit while its task stays present with the same clock
-same-fits : (before after : TaskEntry) (global : GlobalTime) (used : Bool) (due : Due) → StaysPresent _≡_ before after
-    → isFitDue before global used due ≡ true → isFitDue after global used due ≡ true
+same-fits : (limits : Limits) (before after : TaskEntry) (global : GlobalTime) (used : Bool) (due : Due) → StaysPresent _≡_ before after
+    → isFitDue limits before global used due ≡ true → isFitDue limits after global used due ≡ true
 unfolding isFitDue
-same-fits before after global used Free f e = refl
-same-fits before after global used (Local setter at) f e =
-    local-fits before after global global used setter at
+same-fits limits before after global used Free f e = refl
+same-fits limits before after global used (Local setter at) f e =
+    local-fits limits before after global global used setter at
     (λ present. let (stays, same) = f present in (stays, λ left. rw (← same) left)) e
-same-fits before after global used (Global setter at) f e =
+same-fits limits before after global used (Global setter at) f e =
     let (named, there, ahead) = and₃ used _ _ e in
     rw (named, or-map (eqb setter departed) {c = not (isAbsent (stateOf (after .state)))} (λ here. rw (f (not-true _ here) .0)) there, ahead)
-same-fits before after global used (Pinned due) f e = e
-same-fits before after global used Unknown f e = e
+same-fits limits before after global used (Pinned due) f e = e
+same-fits limits before after global used Unknown f e = e
 
 -- the record after the advance test
 fit-advanced : (advanced : Bool) (leaver : ℕ) (tasks : List TaskEntry) (p : Tables) → Fit p → p .global .0 < counterRange
@@ -80,11 +81,14 @@ module _ (p : Tables) (f : Fit p) (task : ℕ) (e : TaskEntry) (fits : isFitTask
         unticked = running-unticked (p .tasks) task e running unticked (f .unticked);
         entries =
             passes-imp
-            (λ x. same-fits _ _ _ _ (dueOf x) (set-stays-present _≡_ (λ now. refl) (p .tasks) task e _ (λ at. follows)))
+            (λ x. same-fits (p .limits) _ _ _ _ (dueOf x) (set-stays-present _≡_ (λ now. refl) (p .tasks) task e _ (λ at. follows)))
             (p .expirations) (f .entries);
         blocks = f .blocks;
         distinct = f .distinct;
         once = f .once;
+        allowed = f .allowed;
+        listed = f .listed;
+        counted = f .counted;
       }
 
 -- the five events

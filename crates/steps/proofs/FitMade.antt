@@ -15,13 +15,14 @@ use Rattle.lists.proofs.All.{all-imp, All→none, none-set}
 use Rattle.lists.proofs.Counts.{any-map, any-set-kept, any-set-new}
 use Rattle.lists.proofs.Tests.{passes-imp, passes-set}
 use Rattle.lists.proofs.Tables.{map-set, allFrom-imp, allFrom-set}
-use Rattle.ledger.specs.Limits.{limits, taskCount, smallSize, largeSize, isSmall}
+use Rattle.ledger.specs.Limits.{taskCount, smallSize, largeSize, isSmall}
 use Rattle.ledger.specs.Refusals.{isPinning as isPinningKind}
 use Rattle.ledger.specs.declared.Kind.{Kind}
 use Rattle.ledger.specs.declared.Kind.the-variants.{Local, Global, Pinned}
+use Rattle.ledger.specs.declared.Limits.{Limits}
 use Rattle.record.specs.Codes.{dueBy, dueOf, isPinnedDue, freeBlock, freeEntry}
 use Rattle.record.specs.Reading.{Typed}
-use Rattle.record.specs.WellFormed.{isUsed, isFitDue, isFitEntry, isNaming, isSizedFor, isFitBlock, isDistinct, handleOf}
+use Rattle.record.specs.WellFormed.{isUsed, isFitDue, isFitEntry, isNaming, isSizedFor, isFitBlock, isDistinct, isBlockAt, isEntryAt, handleOf}
 use Rattle.record.specs.Tables.{BlockEntry, ExpirationEntry, Tables}
 use Rattle.record.proofs.Facts.{Fit}
 use Rattle.steps.proofs.FitSwept.{used-fits}
@@ -30,12 +31,12 @@ use Rattle.steps.proofs.PinnedOnce.{once-set, none-pinned}
 use Rattle.steps.proofs.Taken.{MaySet, SlotFree, PlaceFree, newBlock, slot-due, local-due, global-due, units-set, clock-range, block-stays, blocks-given}
 
 -- a block that is named is named still when a free entry is set
-named-still : (slot block : ℕ) (e : ExpirationEntry) (xs : List ExpirationEntry) → SlotFree slot xs
+named-still : {limits : Limits} (slot block : ℕ) (e : ExpirationEntry) (xs : List ExpirationEntry) → SlotFree limits slot xs
     → any (isNaming block) xs ≡ true → any (isNaming block) (set xs slot e) ≡ true
 named-still slot block e xs entry = any-set-kept (isNaming block) xs slot e freeEntry (rw (slot-due slot xs entry))
 
 -- so fit blocks stay fit, also as more handles are given
-blocks-still : (given after slot : ℕ) (e : ExpirationEntry) (xs : List ExpirationEntry) (blocks : List BlockEntry) → given ≤ after → SlotFree slot xs
+blocks-still : {limits : Limits} (given after slot : ℕ) (e : ExpirationEntry) (xs : List ExpirationEntry) (blocks : List BlockEntry) → given ≤ after → SlotFree limits slot xs
     → allFrom 0 (isFitBlock given xs) blocks ≡ true → allFrom 0 (isFitBlock after (set xs slot e)) blocks ≡ true
 unfolding isFitBlock
 blocks-still given after slot e xs blocks more entry =
@@ -45,9 +46,15 @@ blocks-still given after slot e xs blocks more entry =
     rw (named-still slot i e xs entry named, sized, le-leb (b .handle) after (omega (arith, leb-true (b .handle) given numbered)))))
     0 blocks
 
+-- an entry of the figures comes into use
+counted-set : (p : Tables) (slot : ℕ) (e : ExpirationEntry) → SlotFree (p .limits) slot (p .expirations) → Fit p
+    → allFrom 0 (isEntryAt (p .limits)) (set (p .expirations) slot e) ≡ true
+counted-set p slot e entry fit =
+    allFrom-set (isEntryAt (p .limits)) (p .expirations) slot e (rw (lt-ltb slot (p .limits .expirations) (entry .below), or-true)) (fit .counted)
+
 -- a free entry set to a fit one
-pub fit-entry-set : (p : Tables) → Fit p → (slot : ℕ) (e : ExpirationEntry) → SlotFree slot (p .expirations)
-    → isFitEntry (p .tasks) (p .global) (p .blocks) e ≡ true → isPinnedDue (dueOf e) ≡ false → Fit (withEntry slot e p)
+pub fit-entry-set : (p : Tables) → Fit p → (slot : ℕ) (e : ExpirationEntry) → SlotFree (p .limits) slot (p .expirations)
+    → isFitEntry (p .limits) (p .tasks) (p .global) (p .blocks) e ≡ true → isPinnedDue (dueOf e) ≡ false → Fit (withEntry slot e p)
 fit-entry-set p fit slot e entry new plain =
     record {
       tasks = fit .tasks;
@@ -56,12 +63,15 @@ fit-entry-set p fit slot e entry new plain =
       blocks = blocks-still (p .given) (p .given) slot e (p .expirations) (p .blocks) (omega arith) entry (fit .blocks);
       distinct = fit .distinct;
       once = once-set (p .expirations) slot e (λ pinned. absurd (false≢true (sym plain ∙ pinned))) (fit .once);
+      allowed = fit .allowed;
+      listed = fit .listed;
+      counted = counted-set p slot e entry fit;
     }
 
 -- the new entry is fit by any blocks of which its own is used
 pub entry-fits : (p : Tables) → Typed p → (kind : Kind) (task extension place : ℕ) → MaySet task extension p
     → (blocks : List BlockEntry) → isUsed (getD blocks place freeBlock) ≡ true
-    → isFitEntry (p .tasks) (p .global) blocks (entryFor kind task extension place p) ≡ true
+    → isFitEntry (p .limits) (p .tasks) (p .global) blocks (entryFor kind task extension place p) ≡ true
 unfolding entryFor dueBy isFitDue
 entry-fits p types Local task extension place may blocks used =
     rw (
@@ -69,9 +79,9 @@ entry-fits p types Local task extension place may blocks used =
       used,
       lt-ltb task taskCount (may .known),
       may .present,
-      units-set _ (extension + 1) (clock-range p types task) (omega (arith, may .short)),
+      units-set _ (extension + 1) (clock-range p types task) (omega (arith, may .most)),
       le-leb 1 (extension + 1) (omega arith),
-      le-leb (extension + 1) (limits .extension + 1) (omega (arith, may .short)),
+      le-leb (extension + 1) (p .limits .extension + 1) (omega (arith, may .short)),
     )
 entry-fits p types Global task extension place may blocks used =
     rw (
@@ -79,9 +89,9 @@ entry-fits p types Global task extension place may blocks used =
       used,
       may .present,
       or-true,
-      units-set (p .global .0) (extension + 2) (types .global) (omega (arith, may .short)),
+      units-set (p .global .0) (extension + 2) (types .global) (omega (arith, may .most)),
       le-leb 1 (extension + 2) (omega arith),
-      le-leb (extension + 2) (limits .extension + 2) (omega (arith, may .short)),
+      le-leb (extension + 2) (p .limits .extension + 2) (omega (arith, may .short)),
     )
 entry-fits p types Pinned task extension place may blocks used = rw used
 
@@ -108,7 +118,7 @@ entry-place Pinned task extension place p = refl
 
 -- a refresh of the object in a block
 pub fit-refreshed : (p : Tables) → Fit p → Typed p → (kind : Kind) (task extension place slot : ℕ) → MaySet task extension p
-    → SlotFree slot (p .expirations) → isUsed (getD (p .blocks) place freeBlock) ≡ true
+    → SlotFree (p .limits) slot (p .expirations) → isUsed (getD (p .blocks) place freeBlock) ≡ true
     → isPinningKind kind ≡ false → Fit (withEntry slot (entryFor kind task extension place p) p)
 fit-refreshed p fit types kind task extension place slot may entry used plain =
     fit-entry-set p fit slot _ entry (entry-fits p types kind task extension place may (p .blocks) used)
@@ -132,22 +142,22 @@ distinct-set (g ∷ hs) (suc i) h new e =
     rw (or-map (eqb g 0) (λ old. ap not (none-set (eqb g) hs i h apart (not-true _ old))) head) (distinct-set hs i h others tail)
 
 -- the size of a new object is of its store's range
-new-sized : (place size : ℕ) (blocks : List BlockEntry) → PlaceFree place size blocks → isSizedFor place size ≡ true
-new-sized place size blocks block =
+new-sized : (place size : ℕ) (limits : Limits) (blocks : List BlockEntry) → PlaceFree limits place size blocks → isSizedFor place size ≡ true
+new-sized place size limits blocks block =
     by-test (isSmall size)
     (λ s. rw (block .store, s, le-leb 1 size (block .least)))
     (λ s. rw (block .store, s, le-leb size largeSize (block .most), le-leb (smallSize + 1) size (omega (arith, leb-false size smallSize s))))
 
 -- A make
 module _ (p : Tables) (fit : Fit p) (types : Typed p) (kind : Kind) (task extension size place slot : ℕ)
-    (may : MaySet task extension p) (block : PlaceFree place size (p .blocks)) (entry : SlotFree slot (p .expirations)) where
+    (may : MaySet task extension p) (block : PlaceFree (p .limits) place size (p .blocks)) (entry : SlotFree (p .limits) slot (p .expirations)) where
   -- older entries are fit by the new blocks
-  entries-still : all (isFitEntry (p .tasks) (p .global) (withObject place size p .blocks)) (p .expirations) ≡ true
+  entries-still : all (isFitEntry (p .limits) (p .tasks) (p .global) (withObject place size p .blocks)) (p .expirations) ≡ true
   entries-still =
       passes-imp
       (λ e h.
-      let stays = block-stays (p .tasks) (p .global) (p .blocks) place (newBlock (p .given) size) (block .free) e h in
-      used-fits _ (p .global) _ _ (dueOf e) (λ dated. ap isUsed (stays dated)) h)
+      let stays = block-stays (p .limits) (p .tasks) (p .global) (p .blocks) place (newBlock (p .given) size) (block .free) e h in
+      used-fits (p .limits) _ (p .global) _ _ (dueOf e) (λ dated. ap isUsed (stays dated)) h)
       (p .expirations) (fit .entries)
 
   new-used : isUsed (getD (withObject place size p .blocks) place freeBlock) ≡ true
@@ -160,7 +170,7 @@ module _ (p : Tables) (fit : Fit p) (types : Typed p) (kind : Kind) (task extens
   block-fits =
       rw (
         any-set-new (isNaming place) (p .expirations) slot _ (entry .listed) (entry-names kind task extension place p (may .known)),
-        new-sized place size (p .blocks) block,
+        new-sized place size (p .limits) (p .blocks) block,
         le-leb (p .given + 1) (p .given + 1) (omega arith),
         or-true,
       )
@@ -178,6 +188,9 @@ module _ (p : Tables) (fit : Fit p) (types : Typed p) (kind : Kind) (task extens
         once =
             once-set (p .expirations) slot _
             (λ pinned. rw (entry-place kind task extension place p)
-            (none-pinned (p .tasks) (p .global) (p .blocks) (p .expirations) place (rw (block .free)) (fit .entries)))
+            (none-pinned (p .limits) (p .tasks) (p .global) (p .blocks) (p .expirations) place (rw (block .free)) (fit .entries)))
             (fit .once);
+        allowed = fit .allowed;
+        listed = allFrom-set (isBlockAt (p .limits)) (p .blocks) place (newBlock (p .given) size) (rw (block .its, or-true)) (fit .listed);
+        counted = counted-set p slot _ entry fit;
       }

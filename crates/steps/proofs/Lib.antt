@@ -2,6 +2,7 @@ pub mod KeptBlocks
 pub mod Late
 pub mod PinnedOnce
 pub mod FitTasks
+pub mod Bounded
 pub mod FitSwept
 pub mod FitAfter
 pub mod ReadTasks

@@ -11,7 +11,7 @@ use Rattle.ledger.specs.declared.Verdict.the-variants.{Accepted}
 use Rattle.record.specs.Reading.{Typed}
 use Rattle.record.specs.Tables.{ExpirationEntry, Tables}
 use Rattle.steps.specs.Objects.{makeVerdict, withEntry, withObject, madePool, refreshedPool, writtenPool, releasedPool}
-use Rattle.steps.proofs.Chosen.{make-takes}
+use Rattle.steps.proofs.Chosen.{make-unspent}
 
 typed-entry : (slot : ℕ) (e : ExpirationEntry) (p : Tables) → Typed p → Typed (withEntry slot e p)
 typed-entry slot e p types =
@@ -28,7 +28,7 @@ pub typed-made : (task : ℕ) (kind : Kind) (extension size : ℕ) (p : Tables) 
     → Typed (madePool task kind extension size p)
 unfolding madePool lastHandle counterRange
 typed-made task kind extension size p types accepted =
-    let unspent = make-takes task kind extension size p types accepted .unspent in
+    let unspent = make-unspent task kind extension size p accepted in
     typed-entry _ _ (withObject _ size p)
     (record {
       tasks = types .tasks;

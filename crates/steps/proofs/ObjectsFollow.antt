@@ -4,7 +4,7 @@ use native.Mathlib.Omega.{arith}
 use mathlib.Core.Bool.{true, false}
 use mathlib.Core.List.{List, []}
 use mathlib.Core.Logic.{_≢_}
-use mathlib.Core.Path.{_≡_, sym, subst, _∙_}
+use mathlib.Core.Path.{_≡_, refl, sym, subst, _∙_}
 use borrow.Author.Tests.{not-false, not-true, eqb-false}
 use lib.Dec.{eqb}
 use lib.ListN.{length, getD, replicate}
@@ -24,7 +24,7 @@ use Rattle.record.specs.Reading.{isWholeSmall, isWholeLarge, blockBytes, record
 use Rattle.record.specs.WellFormed.{isWellFormed}
 use Rattle.record.specs.Tables.{Tables, blockEntries}
 use Rattle.record.proofs.Distinct.{handleAt}
-use Rattle.record.proofs.Facts.{fit-parts, fit-whole}
+use Rattle.record.proofs.Facts.{fit-parts, fit-whole, fit-used}
 use Rattle.steps.specs.Objects.{placeOf, freePlace, handleVerdict, makeVerdict, refreshVerdict, standingVerdict, readVerdict, writeVerdict, madePool, refreshedPool, writtenPool}
 use Rattle.steps.specs.Remaining.{lifeIn}
 use Rattle.steps.proofs.Chosen.{make-takes, refresh-takes, handle-found, standing-found, read-stands, write-begins, write-end}
@@ -54,7 +54,7 @@ module _ {p : Tables} {small large : List ℕ} {L : Ledger} (w : isWellFormed p 
       (nonzero, not-false _ (sym (gone-alike (fit-parts p w) reads handle nonzero types) ∙ place))
 
   -- in a block in use
-  place-found : (handle : ℕ) → handleVerdict handle p ≡ Accepted → Found small large (p .blocks) handle (objectAt handle (L .memory .objects))
+  place-found : (handle : ℕ) → handleVerdict handle p ≡ Accepted → Found (p .limits) small large (p .blocks) handle (objectAt handle (L .memory .objects))
   place-found handle v = let (nonzero, standing) = handle-stands handle v in found (fit-parts p w) reads handle nonzero standing
 
   -- and with the life that the ledger gives it
@@ -72,14 +72,14 @@ module _ {p : Tables} {small large : List ℕ} {L : Ledger} (w : isWellFormed p 
       → isWellFormed (madePool task kind extension size p) ≡ true
   unfolding madePool
   make-fits task kind extension size v =
-      let taken = make-takes task kind extension size p types v in
+      let taken = make-takes task kind extension size p (fit-parts p w) types v in
       fit-whole _ (fit-made p (fit-parts p w) types kind task extension size _ _ (taken .may) (taken .block) (taken .entry))
 
   pub refresh-fits : (task : ℕ) (kind : Kind) (extension handle : ℕ) → refreshVerdict task kind extension handle p ≡ Accepted
       → isWellFormed (refreshedPool task kind extension handle p) ≡ true
   unfolding refreshedPool
   refresh-fits task kind extension handle v =
-      let renewed = refresh-takes task kind extension handle p types v in
+      let renewed = refresh-takes task kind extension handle p (fit-parts p w) types v in
       fit-whole _
       (fit-refreshed p (fit-parts p w) types kind task extension _ _ (renewed .may) (renewed .entry) (place-found handle (renewed .found) .used) (renewed .plain))
 
@@ -91,49 +91,48 @@ module _ {p : Tables} {small large : List ℕ} {L : Ledger} (w : isWellFormed p 
       → Reads (refreshedPool task kind extension handle p) small large (carried (Refresh task kind extension handle) [] L)
   unfolding refreshedPool
   refresh-reads task kind extension handle v =
-      let renewed = refresh-takes task kind extension handle p types v in
+      let renewed = refresh-takes task kind extension handle p (fit-parts p w) types v in
       refreshed-reads p small large L (fit-parts p w) types reads kind task extension _ _ (renewed .may) (renewed .entry) handle
       (place-found handle (renewed .found) .its) (renewed .plain)
 
   -- with both stores of 01's lengths
-  module _ (small-whole : isWholeSmall small ≡ true) (large-whole : isWholeLarge large ≡ true) where
+  module _ (small-whole : isWholeSmall (p .limits) small ≡ true) (large-whole : isWholeLarge (p .limits) large ≡ true) where
     pub make-reads : (task : ℕ) (kind : Kind) (extension size : ℕ) → makeVerdict task kind extension size p ≡ Accepted
-        → (let place = freePlace size (p .blocks) in
+        → (let place = freePlace (p .limits) size (p .blocks) in
         let zeros : List ℕ = replicate (sizeOf place) 0 in
         Reads (madePool task kind extension size p) (smallAfter place 0 zeros small) (largeAfter place 0 zeros large)
         (carried (Make task kind extension size) [] L))
     unfolding madePool
     make-reads task kind extension size v =
-        let taken = make-takes task kind extension size p types v in
-        let listed : freePlace size (p .blocks) < blockEntries = omega (arith, taken .block .listed, types .blocks) in
+        let taken = make-takes task kind extension size p (fit-parts p w) types v in
         made-reads p small large _ _ L (fit-parts p w) types reads kind task extension size _ _ (taken .may) (taken .block) (taken .entry)
-        small-whole large-whole (made-bytes small large small-whole large-whole _ listed)
+        small-whole large-whole (made-bytes (p .limits) (fit-parts p w .allowed) small large small-whole large-whole _ (taken .block .its))
 
     -- a read that is accepted finds the object in a block,
     module _ (task handle : ℕ) (v : readVerdict task handle small large p ≡ Accepted) where
-      read-found : Found small large (p .blocks) handle (objectAt handle (L .memory .objects))
+      read-found : Found (p .limits) small large (p .blocks) handle (objectAt handle (L .memory .objects))
       read-found = place-found handle (standing-found task handle p (read-stands task handle small large p v))
 
-      listed : placeOf handle (p .blocks) < blockEntries
-      listed = omega (arith, read-found .within, types .blocks)
+      in-use : eqb (handleAt (p .blocks) (placeOf handle (p .blocks))) 0 ≡ false
+      in-use = not-true _ (read-found .used)
 
       -- which lies in its store, and the object's bytes with it
       pub read-block : InBlock small large (placeOf handle (p .blocks)) (sizeOf (placeOf handle (p .blocks)))
-      read-block = whole-block small large small-whole large-whole _ listed
+      read-block = whole-block (p .limits) (fit-parts p w .allowed) small large small-whole large-whole _ (fit-used (fit-parts p w) _ in-use .listed)
 
       pub read-place : InBlock small large (placeOf handle (p .blocks)) (blockOf handle (p .blocks) .length)
-      read-place = used-in-block small large small-whole large-whole p (fit-parts p w) _ listed (read-found .used)
+      read-place = used-in-block (p .limits) (fit-parts p w .allowed) small large small-whole large-whole p (fit-parts p w) _ refl in-use
 
       -- those are what the ledger answers
       pub read-bytes : ownBytes (objectAt handle (L .memory .objects))
           ≡ blockBytes small large (placeOf handle (p .blocks)) (blockOf handle (p .blocks) .length)
       read-bytes =
-          let bytes = read-found .bytes (both-whole small large small-whole large-whole (blockOf handle (p .blocks) .length)) in
-          rw (bytes, read-found .size) (first-bytes small large small-whole large-whole _ _ read-place)
+          let bytes = read-found .bytes (both-whole (p .limits) (fit-parts p w .allowed) small large small-whole large-whole (blockOf handle (p .blocks) .length)) in
+          rw (bytes, read-found .size) (first-bytes (p .limits) (fit-parts p w .allowed) small large small-whole large-whole _ _ read-place)
 
     -- a write that is accepted lies in a block in use
     module _ (task handle offset : ℕ) (new : List ℕ) (v : writeVerdict task handle offset (length new) small large p ≡ Accepted) where
-      here : Found small large (p .blocks) handle (objectAt handle (L .memory .objects))
+      here : Found (p .limits) small large (p .blocks) handle (objectAt handle (L .memory .objects))
       here = read-found task handle (write-begins task handle offset (length new) small large p v)
 
       used : handleAt (p .blocks) (placeOf handle (p .blocks)) ≢ 0

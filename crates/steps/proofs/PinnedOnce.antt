@@ -19,6 +19,7 @@ use Rattle.record.specs.declared.GlobalTime.{GlobalTime}
 use Rattle.record.specs.declared.Due.{Due}
 use Rattle.record.specs.declared.Due.the-variants.{Free, Local, Global, Pinned, Unknown}
 use Rattle.steps.proofs.Taken.{fit-used}
+use Rattle.ledger.specs.declared.Limits.{Limits}
 
 -- entries that stay on their blocks, and of which none becomes pinned
 pub once-map : (f : ExpirationEntry → ExpirationEntry) → ((e : ExpirationEntry) → f e .block ≡ e .block)
@@ -70,14 +71,14 @@ pinned-dated (Pinned due) p = refl
 pinned-dated Unknown p = absurd (false≢true p)
 
 -- so none names a block that is not
-pub none-pinned : (tasks : List TaskEntry) (global : GlobalTime) (blocks : List BlockEntry) (xs : List ExpirationEntry) (place : ℕ)
-    → isUsed (getD blocks place freeBlock) ≡ false → all (isFitEntry tasks global blocks) xs ≡ true → any (isPinning place) xs ≡ false
-none-pinned tasks global blocks xs place free fits =
+pub none-pinned : (limits : Limits) (tasks : List TaskEntry) (global : GlobalTime) (blocks : List BlockEntry) (xs : List ExpirationEntry) (place : ℕ)
+    → isUsed (getD blocks place freeBlock) ≡ false → all (isFitEntry limits tasks global blocks) xs ≡ true → any (isPinning place) xs ≡ false
+none-pinned limits tasks global blocks xs place free fits =
     All→none _ xs
     (all-imp
     (λ e fit. refuted (isPinning place e)
     (λ p.
     let (pinned, here) = and-eq-true-iff (isPinnedDue (dueOf e)) _ .0 p in
-    let used = fit-used _ global _ (dueOf e) fit (pinned-dated (dueOf e) pinned) in
+    let used = fit-used limits _ global _ (dueOf e) fit (pinned-dated (dueOf e) pinned) in
     false≢true (sym free ∙ rw (eqb-true (e .block) place here) at used)))
     xs (all-true _ xs fits))

@@ -5,14 +5,14 @@ use mathlib.Core.Bool.{true, cond}
 use mathlib.Core.List.{List, [], _∷_, map, map-id}
 use mathlib.Core.Logic.{_≢_}
 use mathlib.Core.Path.{_≡_, refl, sym, ap, fun-ext, subst, _∙_}
-use borrow.Author.Tests.{eqb-true, eqb-false}
+use borrow.Author.Tests.{eqb-true, eqb-false, ne-eqb}
 use lib.Dec.{eqb}
 use lib.ListN.{length, getD}
 use lib.Seq.{getD-set-same, getD-set-other, set-getD}
 use Rattle.lists.specs.Blocks.{overwritten}
 use Rattle.lists.specs.Tables.{readFrom}
 use Rattle.lists.proofs.All.{all-imp, all-map}
-use Rattle.lists.proofs.Cases.{by-test}
+use Rattle.lists.proofs.Cases.{by-test, cond-same}
 use Rattle.lists.proofs.Permutations.{map-perm}
 use Rattle.lists.proofs.Replacing.{readFrom-set-same}
 use Rattle.lists.proofs.Tables.{map-readFrom, entry-within}
@@ -21,27 +21,29 @@ use Rattle.ledger.specs.Ledger.{Ledger}
 use Rattle.ledger.specs.Compared.{shownObject, viewOf}
 use Rattle.ledger.specs.Kept.{Ascending}
 use Rattle.ledger.specs.Noticed.{disturbed, disturbedIn}
+use Rattle.ledger.specs.declared.Limits.{Limits}
 use Rattle.record.specs.Codes.{freeBlock}
 use Rattle.record.specs.Reading.{isWholeSmall, isWholeLarge, isWhole, blockBytes, sizeOf, objectIn, recordView, Typed, Reads}
 use Rattle.record.specs.WellFormed.{handleOf}
 use Rattle.record.specs.Tables.{BlockEntry, Tables}
-use Rattle.record.proofs.Facts.{Fit}
+use Rattle.record.proofs.Facts.{Fit, fit-used}
 use Rattle.record.proofs.Distinct.{handleAt, same-handle}
 use Rattle.stores.specs.Places.{InBlock, smallAfter, largeAfter}
+use Rattle.stores.proofs.Places.{first-bytes}
 use Rattle.stores.proofs.Changes.{BytesChanged, bytes-changed}
 use Rattle.steps.proofs.Finding.{objectOf}
-use Rattle.steps.proofs.StoreBytes.{both-whole, whole-block}
+use Rattle.steps.proofs.StoreBytes.{whole-block}
 use Rattle.steps.proofs.Summed.{summed-shown}
 use Rattle.steps.specs.Objects.{withSum}
 
 -- of whole stores every object shows as it is
-pub shown-whole : (small large : List ℕ) → isWholeSmall small ≡ true → isWholeLarge large ≡ true → (o : Object)
-    → shownObject (isWhole small large) o ≡ o
-shown-whole small large s l o = rw (both-whole small large s l (o .size))
+pub shown-whole : (limits : Limits) (small large : List ℕ) → isWholeSmall limits small ≡ true → isWholeLarge limits large ≡ true → (o : Object)
+    → shownObject (isWhole limits small large) o ≡ o
+shown-whole limits small large s l o = rw (s, l, cond-same)
 
-all-shown : (small large : List ℕ) → isWholeSmall small ≡ true → isWholeLarge large ≡ true → (os : List Object)
-    → map (shownObject (isWhole small large)) os ≡ os
-all-shown small large s l os = ap (λ (f : Object → Object). map f os) (fun-ext (shown-whole small large s l)) ∙ map-id os
+all-shown : (limits : Limits) (small large : List ℕ) → isWholeSmall limits small ≡ true → isWholeLarge limits large ≡ true → (os : List Object)
+    → map (shownObject (isWhole limits small large)) os ≡ os
+all-shown limits small large s l os = ap (λ (f : Object → Object). map f os) (fun-ext (shown-whole limits small large s l)) ∙ map-id os
 
 -- a change that leaves the handles leaves their order
 ascending-after : (f : Object → Object) → ((o : Object) → f o .handle ≡ o .handle) → (os : List Object) → Ascending os → Ascending (map f os)
@@ -56,7 +58,7 @@ abbrev pub withObjects : (Object → Object) → Ledger → Ledger
 withObjects f L =
     let m = L .memory in
     record {
-      memory = record { clocks = m .clocks; given = m .given; objects = map f (m .objects); pinned = m .pinned };
+      memory = record { limits = m .limits; clocks = m .clocks; given = m .given; objects = map f (m .objects); pinned = m .pinned };
       expirations = L .expirations;
     }
 
@@ -73,7 +75,7 @@ objectAfter p small large block offset new sum j =
     }
 
 -- New bytes in a block in use, of whole stores.
-module _ (p : Tables) (small large : List ℕ) (types : Typed p) (small-whole : isWholeSmall small ≡ true) (large-whole : isWholeLarge large ≡ true)
+module _ (p : Tables) (small large : List ℕ) (fit : Fit p) (small-whole : isWholeSmall (p .limits) small ≡ true) (large-whole : isWholeLarge (p .limits) large ≡ true)
     (block offset : ℕ) (new : List ℕ) (used : handleAt (p .blocks) block ≢ 0) (within : offset + length new ≤ sizeOf block) where
   abbrev small′ : List ℕ
   small′ = smallAfter block offset new small
@@ -86,10 +88,10 @@ module _ (p : Tables) (small large : List ℕ) (types : Typed p) (small-whole : 
   listed j u = entry-within freeBlock (p .blocks) j (λ e. u (ap handleOf e))
 
   all-of : (j : ℕ) → handleAt (p .blocks) j ≢ 0 → InBlock small large j (sizeOf j)
-  all-of j u = whole-block small large small-whole large-whole j (rw (types .blocks) at (listed j u))
+  all-of j u = whole-block (p .limits) (fit .allowed) small large small-whole large-whole j (fit-used fit j (ne-eqb _ 0 u) .listed)
 
   pub in-place : InBlock small large block (offset + length new)
-  in-place = record { known = all-of block used .known; small-whole = small-whole; large-whole = large-whole; within = within }
+  in-place = first-bytes (all-of block used) (offset + length new) within
 
   change : BytesChanged small large small′ large′ block offset new
   change = bytes-changed offset new in-place
@@ -137,14 +139,19 @@ module _ (p : Tables) (small large : List ℕ) (types : Typed p) (small-whole : 
     unfolding recordView viewOf
     changed-reads {L} reads =
         let os = L .memory .objects in
-        let whole = all-shown small′ large′ (rw (change .small-size) small-whole) (rw (change .large-size) large-whole) in
+        let whole = all-shown (p .limits) small′ large′ (rw (change .small-size) small-whole) (rw (change .large-size) large-whole) in
         record {
           alike =
               record {
+                limits = reads .alike .limits;
                 tasks = reads .alike .tasks;
                 global = reads .alike .global;
                 given = reads .alike .given;
-                objects = rw (objects-after, whole _) (map-perm f (rw (all-shown small large small-whole large-whole os) at (reads .alike .objects)));
+                objects =
+                    rw (objects-after, whole (map f os), whole (map f (readFrom 0 (objectIn small large) (p .blocks))))
+                    (map-perm f
+                    (rw (all-shown (p .limits) small large small-whole large-whole os, all-shown (p .limits) small large small-whole large-whole (readFrom 0 (objectIn small large) (p .blocks)))
+                    at (reads .alike .objects)));
                 expirations = rw (summed-shown block sum′ p) (reads .alike .expirations);
               };
           ascending = ascending-after f same os (reads .ascending);
@@ -155,19 +162,19 @@ module _ (p : Tables) (small large : List ℕ) (types : Typed p) (small-whole : 
 same-sum : (p : Tables) (block : ℕ) → withSum block (getD (p .blocks) block freeBlock .sum) p ≡ p
 same-sum p block =
     ap
-    (λ (bs : List BlockEntry). record { tasks = p .tasks; global = p .global; given = p .given; blocks = bs; expirations = p .expirations })
+    (λ (bs : List BlockEntry). record { limits = p .limits; tasks = p .tasks; global = p .global; given = p .given; blocks = bs; expirations = p .expirations })
     (set-getD (p .blocks) block freeBlock)
 
 -- One byte of a block in use is another, and nothing else: the record reads as the ledger in which that byte of the object is.
 pub disturbed-reads : {p : Tables} {small large : List ℕ} {L : Ledger} → Fit p → Typed p → Reads p small large L
-    → isWholeSmall small ≡ true → isWholeLarge large ≡ true
+    → isWholeSmall (p .limits) small ≡ true → isWholeLarge (p .limits) large ≡ true
     → (block at value : ℕ) → handleAt (p .blocks) block ≢ 0 → at < sizeOf block
     → Reads p (smallAfter block at (value ∷ []) small) (largeAfter block at (value ∷ []) large) (disturbedIn (handleAt (p .blocks) block) at value L)
 unfolding disturbed
 disturbed-reads {p} {small} {large} {L} fit types reads small-whole large-whole block at value used inside =
     let f = disturbed (handleAt (p .blocks) block) at value in
     subst (λ (q : Tables). Reads q (smallAfter block at (value ∷ []) small) (largeAfter block at (value ∷ []) large) (withObjects f L)) (same-sum p block)
-    (changed-reads p small large types small-whole large-whole block at (value ∷ []) used (omega arith) _ f (λ o. refl)
+    (changed-reads p small large fit small-whole large-whole block at (value ∷ []) used (omega arith) _ f (λ o. refl)
     (λ j u. rw (same-handle (p .blocks) (fit .distinct) block j used)
     (by-test (eqb j block) (λ e. rw (e, eqb-true j block e)) (λ e. rw e)))
     reads)

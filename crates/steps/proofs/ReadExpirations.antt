@@ -31,6 +31,7 @@ use Rattle.record.specs.declared.Due.{Due}
 use Rattle.record.specs.declared.Due.the-variants.{Free, Local, Global, Pinned, Unknown}
 use Rattle.steps.specs.Events.{verdictOf, leaverOf, passedEntry}
 use Rattle.ledger.specs.declared.Verdict.the-variants.{Accepted}
+use Rattle.ledger.specs.declared.Limits.{Limits}
 use Rattle.steps.proofs.ReadTasks.{ClocksAlike, state-alike, clock-alike}
 use Rattle.steps.proofs.Aging.{aged, clock-after, ledger-ages, record-ages}
 
@@ -112,22 +113,22 @@ module _ (event : Event) (task : ℕ) (c : Clocks) (untested : isTested event �
   record-stays same after handle Unknown present = refl
 
 -- a fit expiration's setter is not absent
-fit-present : {tasks : List TaskEntry} {global : GlobalTime} {c : Clocks} → ClocksAlike tasks global c
-    → (used : Bool) (handle : ℕ) (d : Due) → isFitDue (getD tasks (setterOf d) absentEntry) global used d ≡ true
+fit-present : (limits : Limits) {tasks : List TaskEntry} {global : GlobalTime} {c : Clocks} → ClocksAlike tasks global c
+    → (used : Bool) (handle : ℕ) (d : Due) → isFitDue limits (getD tasks (setterOf d) absentEntry) global used d ≡ true
     → AllPresent c (shownDue tasks global handle d)
 unfolding shownDue
-fit-present same used handle Free fit = tt
-fit-present {tasks} {global} {c} same used handle (Local setter at) fit =
-    (rw (state-alike tasks c (same .tasks) setter) at (fit-local _ global used setter at fit .present), tt)
-fit-present same used handle (Global setter at) fit = (tt, tt)
-fit-present same used handle (Pinned due) fit = (tt, tt)
-fit-present same used handle Unknown fit = tt
+fit-present limits same used handle Free fit = tt
+fit-present limits {tasks} {global} {c} same used handle (Local setter at) fit =
+    (rw (state-alike tasks c (same .tasks) setter) at (fit-local limits _ global used setter at fit .present), tt)
+fit-present limits same used handle (Global setter at) fit = (tt, tt)
+fit-present limits same used handle (Pinned due) fit = (tt, tt)
+fit-present limits same used handle Unknown fit = tt
 
 -- An accepted event: from a record and a ledger that show the same expirations, to entries and a time that read as the ledger's clocks after it.
 module _ (event : Event) (task : ℕ) {tasks entries : List TaskEntry} {global time : GlobalTime} {c : Clocks}
     (same : ClocksAlike tasks global c) (after : ClocksAlike entries time (clocksAfter event task c))
     (accepted : verdictOf event (stateOf (getD tasks task absentEntry .state)) ≡ Accepted)
-    (blocks : List BlockEntry) (xs : List ExpirationEntry) (fit : all (isFitEntry tasks global blocks) xs ≡ true)
+    (limits : Limits) (blocks : List BlockEntry) (xs : List ExpirationEntry) (fit : all (isFitEntry limits tasks global blocks) xs ≡ true)
     (ys : List Expiration) (alike : List·Permᴰ (readBy (shownEntry tasks global blocks) xs) (map (shown c) ys)) where
   accepts : verdictOf event (taskAt c task .state) ≡ Accepted
   accepts = rw (state-alike tasks c (same .tasks) task) at accepted
@@ -138,12 +139,12 @@ module _ (event : Event) (task : ℕ) {tasks entries : List TaskEntry} {global t
       (map (shown (clocksAfter event task c)) (lasting event task (advances event task c) (clocksAfter event task c) ys))
   expirations-alike tested =
       let listed = accepted-listed event task c tested accepts in
-      rw (record-ages event task same after tested listed blocks xs fit, ledger-ages event task c tested listed ys)
+      rw (record-ages event task same after tested listed limits blocks xs fit, ledger-ages event task c tested listed ys)
       (readBy-perm (aged event task c) alike)
 
   -- no setter is absent, in the record and so in the ledger
   entries-present : All (λ (e : ExpirationEntry). AllPresent c (shownEntry tasks global blocks e)) xs
-  entries-present = all-imp (λ e. fit-present same _ _ (dueOf e)) xs (all-true (isFitEntry tasks global blocks) xs fit)
+  entries-present = all-imp (λ e. fit-present limits same _ _ (dueOf e)) xs (all-true (isFitEntry limits tasks global blocks) xs fit)
 
   ledger-present : All (λ (y : Expiration). SetterPresent c (leftOf c (y .due))) ys
   ledger-present = map-all _ (shown c) ys (all-perm _ alike (all-readBy _ _ xs entries-present))

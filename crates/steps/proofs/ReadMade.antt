@@ -14,8 +14,8 @@ use Rattle.lists.proofs.Cases.{by-test, or-right}
 use Rattle.lists.proofs.All.{all-imp, all-left, all-true}
 use Rattle.lists.proofs.Filters.{filter-append, filter-all}
 use Rattle.lists.proofs.Pairwise.{pairwise-append}
-use Rattle.lists.proofs.Permutations.{last-perm, readBy-set, readFrom-set}
-use Rattle.lists.proofs.Tables.{readBy-same, readFrom-same, entry-within}
+use Rattle.lists.proofs.Permutations.{last-perm, map-perm, readBy-set, readFrom-set}
+use Rattle.lists.proofs.Tables.{readBy-same, readFrom-same}
 use Rattle.ledger.specs.Limits.{isSmall, blockSize}
 use Rattle.ledger.specs.Tasks.{Clocks, taskAt}
 use Rattle.ledger.specs.Expirations.{Expiration, isOf, dueAfter, remaining}
@@ -30,13 +30,13 @@ use Rattle.ledger.specs.declared.Call.the-variants.{Make, Refresh}
 use Rattle.record.specs.Codes.{dueBy, dueOf, freeBlock, freeEntry}
 use Rattle.record.specs.Reading.{isSmallBlock, shownDue, shownEntry, isWholeSmall, isWholeLarge, isWhole, objectIn, recordView, Typed, Reads, sizeOf}
 use Rattle.record.specs.WellFormed.{handleOf}
-use Rattle.record.specs.Tables.{BlockEntry, Tables, blockEntries}
-use Rattle.record.proofs.Facts.{Fit}
+use Rattle.record.specs.Tables.{BlockEntry, Tables}
+use Rattle.record.proofs.Facts.{Fit, fit-used}
 use Rattle.record.proofs.Distinct.{handleAt}
 use Rattle.steps.proofs.ReadObjects.{same-shown}
 use Rattle.steps.specs.Objects.{entryFor, withEntry, withObject}
 use Rattle.steps.proofs.Finding.{every-object-stands, handles-given}
-use Rattle.steps.proofs.StoreBytes.{BytesCleared, both-whole, whole-block}
+use Rattle.steps.proofs.StoreBytes.{BytesCleared, whole-block}
 use Rattle.steps.proofs.Taken.{MaySet, SlotFree, PlaceFree, newBlock, slot-due, local-due, global-due, units-set, clock-range, block-stays}
 
 -- the object stands by these expirations
@@ -64,15 +64,15 @@ entry-shown : (p : Tables) → Typed p → (kind : Kind) (task extension place :
 unfolding entryFor dueBy shownDue dueAfter leftOf remaining
 entry-shown p types Local task extension place may blocks clocks =
     let units : taskAt clocks task .clock + extension + 1 - taskAt clocks task .clock ≡ extension + 1 = omega arith in
-    rw (local-due task _ (may .known), units-set _ (extension + 1) (clock-range p types task) (omega (arith, may .short)), units)
+    rw (local-due task _ (may .known), units-set _ (extension + 1) (clock-range p types task) (omega (arith, may .most)), units)
 entry-shown p types Global task extension place may blocks clocks =
     let units : clocks .global + extension + 2 - clocks .global ≡ extension + 2 = omega arith in
-    rw (global-due task _ (may .known), units-set (p .global .0) (extension + 2) (types .global) (omega (arith, may .short)), units)
+    rw (global-due task _ (may .known), units-set (p .global .0) (extension + 2) (types .global) (omega (arith, may .most)), units)
 entry-shown p types Pinned task extension place may blocks clocks = refl
 
 -- A call that sets an expiration
 module _ (p : Tables) (small large : List ℕ) (L : Ledger) (fit : Fit p) (types : Typed p) (reads : Reads p small large L)
-    (kind : Kind) (task extension place slot : ℕ) (may : MaySet task extension p) (entry : SlotFree slot (p .expirations)) where
+    (kind : Kind) (task extension place slot : ℕ) (may : MaySet task extension p) (entry : SlotFree (p .limits) slot (p .expirations)) where
   -- where the older entries show by these blocks what they showed, the new one is one more
   expirations-set : (blocks : List BlockEntry) (handle : ℕ) → handleAt blocks place ≡ handle
       → readBy (shownEntry (p .tasks) (p .global) blocks) (p .expirations) ≡ readBy (shownEntry (p .tasks) (p .global) (p .blocks)) (p .expirations)
@@ -98,6 +98,7 @@ module _ (p : Tables) (small large : List ℕ) (L : Ledger) (fit : Fit p) (types
       record {
         alike =
             record {
+              limits = reads .alike .limits;
               tasks = reads .alike .tasks;
               global = reads .alike .global;
               given = reads .alike .given;
@@ -115,8 +116,8 @@ block-size place size store = rw store
 
 -- A make
 module _ (p : Tables) (small large small′ large′ : List ℕ) (L : Ledger) (fit : Fit p) (types : Typed p) (reads : Reads p small large L)
-    (kind : Kind) (task extension size place slot : ℕ) (may : MaySet task extension p) (block : PlaceFree place size (p .blocks))
-    (entry : SlotFree slot (p .expirations)) (small-whole : isWholeSmall small ≡ true) (large-whole : isWholeLarge large ≡ true)
+    (kind : Kind) (task extension size place slot : ℕ) (may : MaySet task extension p) (block : PlaceFree (p .limits) place size (p .blocks))
+    (entry : SlotFree (p .limits) slot (p .expirations)) (small-whole : isWholeSmall (p .limits) small ≡ true) (large-whole : isWholeLarge (p .limits) large ≡ true)
     (cleared : BytesCleared small large small′ large′ place) where
   -- the older entries show what they showed: those in use name blocks that were in use
   expirations-stay : readBy (shownEntry (p .tasks) (p .global) (withObject place size p .blocks)) (p .expirations)
@@ -125,7 +126,7 @@ module _ (p : Tables) (small large small′ large′ : List ℕ) (L : Ledger) (f
       readBy-same _ _ (p .expirations)
       (all-imp
       (λ e h.
-      let stays = block-stays (p .tasks) (p .global) (p .blocks) place (newBlock (p .given) size) (block .free) e h in
+      let stays = block-stays (p .limits) (p .tasks) (p .global) (p .blocks) place (newBlock (p .given) size) (block .free) e h in
       same-shown (p .tasks) (p .global) _ _ (dueOf e) (λ dated. ap handleOf (stays dated)))
       (p .expirations) (all-true _ (p .expirations) (fit .entries)))
 
@@ -137,30 +138,29 @@ module _ (p : Tables) (small large small′ large′ : List ℕ) (L : Ledger) (f
       by-test (eqb (b .handle) 0)
       (λ z. rw z)
       (λ z.
-      let known : i < blockEntries = omega (arith, entry-within freeBlock (p .blocks) i (λ e. eqb-false (b .handle) 0 z (ap handleOf e)), types .blocks) in
-      let part = whole-block small large small-whole large-whole i known in
+      let part = whole-block (p .limits) (fit .allowed) small large small-whole large-whole i (fit-used fit i z .listed) in
       rw (z, cleared .others i (λ at. eqb-false (b .handle) 0 z (rw at (block .free))) (sizeOf i) part))
 
   -- the new one has zeros
-  object-shown : objectIn small′ large′ place (newBlock (p .given) size) ≡ shownObject (isWhole small large) (zeroed (L .memory .given + 1) size) ∷ []
+  object-shown : objectIn small′ large′ place (newBlock (p .given) size) ≡ zeroed (L .memory .given + 1) size ∷ []
   unfolding objectIn recordView viewOf
-  object-shown = rw (ne-eqb (p .given + 1) 0 (λ z. omega arith), cleared .zeros (sizeOf place) (omega arith), block-size place size (block .store), both-whole small large small-whole large-whole size, reads .alike .given)
+  object-shown = rw (ne-eqb (p .given + 1) 0 (λ z. omega arith), cleared .zeros (sizeOf place) (omega arith), block-size place size (block .store), reads .alike .given)
 
   -- the record's blocks have it in some place, the ledger at the end
-  objects-set : List·Permᴰ (readFrom 0 (objectIn small′ large′) (withObject place size p .blocks))
-      (map (shownObject (isWhole small large)) (L .memory .objects ++ (zeroed (L .memory .given + 1) size ∷ [])))
+  objects-set : List·Permᴰ (map (shownObject (isWhole (p .limits) small large)) (readFrom 0 (objectIn small′ large′) (withObject place size p .blocks)))
+      (map (shownObject (isWhole (p .limits) small large)) (L .memory .objects ++ (zeroed (L .memory .given + 1) size ∷ [])))
   unfolding recordView viewOf objectIn
   objects-set =
       let front = readFrom-set freeBlock (objectIn small′ large′) (p .blocks) place (newBlock (p .given) size) (block .listed) (rw (block .free)) in
       rw map-append
-      (List·Permᴰ·trans (rw (object-shown, readFrom-same freeBlock _ (objectIn small large) (p .blocks) object-stays) at front)
+      (List·Permᴰ·trans (map-perm (shownObject (isWhole (p .limits) small large)) (rw (object-shown, readFrom-same freeBlock _ (objectIn small large) (p .blocks) object-stays) at front))
       (List·Permᴰ·trans (List·Permᴰ·cons refl (reads .alike .objects)) (last-perm _ _)))
 
   -- its handle is above all others of the ledger
   handles-below : All (λ (o : Object). o .handle < L .memory .given + 1) (L .memory .objects)
   handles-below = all-imp (λ o h. omega arith) (L .memory .objects) (handles-given fit reads)
 
-  same-whole : isWhole small′ large′ ≡ isWhole small large
+  same-whole : isWhole (p .limits) small′ large′ ≡ isWhole (p .limits) small large
   same-whole = fun-ext (λ n. rw (cleared .small-size, cleared .large-size))
 
   pub made-reads : (let call = Make task kind extension size in
@@ -177,6 +177,7 @@ module _ (p : Tables) (small large small′ large′ : List ℕ) (L : Ledger) (f
       record {
         alike =
             record {
+              limits = reads .alike .limits;
               tasks = reads .alike .tasks;
               global = reads .alike .global;
               given = given;

@@ -106,10 +106,11 @@ module _ (tasks : List TaskEntry) (global : GlobalTime) (blocks : List BlockEntr
 
   -- what is left of the record's objects is what stands of the ledger's
   pub objects-alike : (small large : List ℕ) (isWhole : ℕ → Bool) (os : List Object)
-      → List·Permᴰ (readFrom 0 (objectIn small large) blocks) (map (shownObject isWhole) os)
-      → List·Permᴰ (readFrom 0 (objectIn small large) (mapFrom 0 (keptBlock xs) blocks)) (map (shownObject isWhole) (standing ys os))
+      → List·Permᴰ (map (shownObject isWhole) (readFrom 0 (objectIn small large) blocks)) (map (shownObject isWhole) os)
+      → List·Permᴰ (map (shownObject isWhole) (readFrom 0 (objectIn small large) (mapFrom 0 (keptBlock xs) blocks))) (map (shownObject isWhole) (standing ys os))
   objects-alike small large isWhole os same =
-      rw (freed-objects small large, ← filter-map (isStanding ys) (shownObject isWhole) os) (filter-perm (isStanding ys) same)
+      rw (freed-objects small large, ← filter-map (isStanding ys) (shownObject isWhole) os, ← filter-map (isStanding ys) (shownObject isWhole) (readFrom 0 (objectIn small large) blocks))
+      (filter-perm (isStanding ys) same)
 
 -- the objects that stand are in order still
 pub standing-ascending : (ys : List Expiration) (os : List Object) → Ascending os → Ascending (standing ys os)

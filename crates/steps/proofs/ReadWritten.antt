@@ -35,7 +35,7 @@ standing-written handle offset new ys os = filter-map (λ (o : Object). stands y
 
 -- New bytes within the object of a block in use, of whole stores.
 module _ (p : Tables) (small large : List ℕ) (L : Ledger) (fit : Fit p) (types : Typed p) (reads : Reads p small large L)
-    (small-whole : isWholeSmall small ≡ true) (large-whole : isWholeLarge large ≡ true) (block offset : ℕ) (new : List ℕ)
+    (small-whole : isWholeSmall (p .limits) small ≡ true) (large-whole : isWholeLarge (p .limits) large ≡ true) (block offset : ℕ) (new : List ℕ)
     (used : handleAt (p .blocks) block ≢ 0) (within : offset + length new ≤ getD (p .blocks) block freeBlock .length) where
   abbrev rewritten : Object → Object
   rewritten = written (handleAt (p .blocks) block) offset new
@@ -45,15 +45,13 @@ module _ (p : Tables) (small large : List ℕ) (L : Ledger) (fit : Fit p) (types
 
   -- an object lies in its block
   inside : offset + length new ≤ sizeOf block
-  inside =
-      let known : block < blockEntries = rw (types .blocks) at (entry-within freeBlock (p .blocks) block (λ e. used (ap handleOf e))) in
-      le-trans within (used-in-block small large small-whole large-whole p fit block known (rw (ne-eqb _ 0 used)) .within)
+  inside = le-trans within (used-in-block (p .limits) (fit .allowed) small large small-whole large-whole p fit block refl (ne-eqb _ 0 used) .within)
 
   pub written-place : InBlock small large block (offset + length new)
-  written-place = in-place p small large types small-whole large-whole block offset new used inside
+  written-place = in-place p small large fit small-whole large-whole block offset new used inside
 
   pub written-sizes : (length (smallAfter block offset new small) ≡ length small) × (length (largeAfter block offset new large) ≡ length large)
-  written-sizes = changed-sizes p small large types small-whole large-whole block offset new used inside
+  written-sizes = changed-sizes p small large fit small-whole large-whole block offset new used inside
 
   -- the block's object has the new bytes and their sum: no other block has its handle
   each-written : (j : ℕ) → handleAt (p .blocks) j ≢ 0 → rewritten (objectOf small large (p .blocks) j) ≡ objectAfter p small large block offset new sum′ j
@@ -78,6 +76,6 @@ module _ (p : Tables) (small large : List ℕ) (L : Ledger) (fit : Fit p) (types
       subst
       (λ (os : List Object).
       Reads (withSum block sum′ p) (smallAfter block offset new small) (largeAfter block offset new large)
-      (record { memory = record { clocks = m .clocks; given = m .given; objects = os; pinned = m .pinned }; expirations = L .expirations }))
+      (record { memory = record { limits = m .limits; clocks = m .clocks; given = m .given; objects = os; pinned = m .pinned }; expirations = L .expirations }))
       all-stand
-      (changed-reads p small large types small-whole large-whole block offset new used inside sum′ rewritten (λ o. refl) each-written reads)
+      (changed-reads p small large fit small-whole large-whole block offset new used inside sum′ rewritten (λ o. refl) each-written reads)

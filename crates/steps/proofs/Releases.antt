@@ -3,6 +3,7 @@ use Prim.Native.Nat.{ℕ}
 use mathlib.Core.Bool.{true, false≢true}
 use mathlib.Core.List.{List, [], map}
 use mathlib.Core.Path.{_≡_, refl}
+use lib.Dec.{eqb}
 use Rattle.lists.specs.Tables.{mapFrom}
 use Rattle.lists.proofs.Cases.{by-test}
 use Rattle.lists.proofs.Tests.{passes-map}
@@ -31,6 +32,7 @@ use Rattle.steps.proofs.PinnedOnce.{once-map}
 use Rattle.steps.proofs.Pinning.{others, ledger-others, record-others, its-handle, its-used}
 use Rattle.steps.proofs.ReadObjects.{freed-shown}
 use Rattle.steps.proofs.Staying.{kept-stays}
+use Rattle.steps.proofs.Bounded.{kept-listed, counted-map}
 
 -- an entry after the release of a block stays fit, on its block, and pinned only where it was
 module _ (block : ℕ) where
@@ -41,8 +43,11 @@ module _ (block : ℕ) where
   unfolding dueBy
   unpinned-pinned e p = by-test (isPinning block e) (λ q. absurd (false≢true (rw q at p))) (λ q. rw q at p)
 
-  unpinned-fits : (p : Tables) (e : ExpirationEntry) → isFitEntry (p .tasks) (p .global) (p .blocks) e ≡ true
-      → isFitEntry (p .tasks) (p .global) (p .blocks) (unpinnedEntry block e) ≡ true
+  unpinned-free : (e : ExpirationEntry) → eqb (e .clock) 0 ≡ true → eqb (unpinnedEntry block e .clock) 0 ≡ true
+  unpinned-free e z = by-test (isPinning block e) (λ q. rw q) (λ q. rw q z)
+
+  unpinned-fits : (p : Tables) (e : ExpirationEntry) → isFitEntry (p .limits) (p .tasks) (p .global) (p .blocks) e ≡ true
+      → isFitEntry (p .limits) (p .tasks) (p .global) (p .blocks) (unpinnedEntry block e) ≡ true
   unfolding isFitDue dueBy
   unpinned-fits p e h = by-test (isPinning block e) (λ q. rw q) (λ q. rw q h)
 
@@ -57,11 +62,14 @@ fit-released handle p f =
       tasks = f .tasks;
       unticked = f .unticked;
       entries =
-          named-fits (p .tasks) (p .global) (p .blocks) (mapFrom 0 (keptBlock xs) (p .blocks)) xs (kept-block xs (p .blocks))
+          named-fits (p .limits) (p .tasks) (p .global) (p .blocks) (mapFrom 0 (keptBlock xs) (p .blocks)) xs (kept-block xs (p .blocks))
           (passes-map _ kept (unpinned-fits block p) (p .expirations) (f .entries));
       blocks = allFrom-mapFrom _ _ _ (kept-fits (p .given) (p .expirations) xs) 0 (p .blocks) (f .blocks);
       distinct = kept-distinct xs 0 (p .blocks) (f .distinct);
       once = once-map kept (unpinned-block block) (unpinned-pinned block) (p .expirations) (f .once);
+      allowed = f .allowed;
+      listed = allFrom-mapFrom _ _ _ (kept-listed (p .limits) xs) 0 (p .blocks) (f .listed);
+      counted = counted-map (p .limits) kept (unpinned-free block) 0 (p .expirations) (f .counted);
     }
 
 pub release-stays : (handle : ℕ) (p : Tables) → Stays p (releasedPool handle p)

@@ -12,11 +12,12 @@ use Rattle.lists.specs.Most.{most}
 use Rattle.lists.proofs.Cases.{by-test, cond-same}
 use Rattle.lists.proofs.All.{all-every, all-imp, all-true}
 use Rattle.lists.proofs.Most.{most-perm, most-same, most-readBy, most-within}
-use Rattle.ledger.specs.Limits.{limits}
+use Rattle.ledger.proofs.Figures.{allowed}
 use Rattle.ledger.specs.Compared.{Left, viewOf}
 use Rattle.ledger.specs.Remaining.{remainingLife}
 use Rattle.ledger.specs.Objects.{stands}
 use Rattle.ledger.specs.Ledger.{Ledger}
+use Rattle.ledger.specs.declared.Limits.{Limits}
 use Rattle.ledger.proofs.Remaining.{localUnits, globalUnits, mostShown, life-shown}
 use Rattle.record.specs.Codes.{dueOf, setterOf, absentEntry}
 use Rattle.record.specs.Reading.{isWhole, shownDue, recordView, Reads}
@@ -60,7 +61,7 @@ module _ {p : Tables} {small large : List ℕ} {L : Ledger} (fit : Fit p) (reads
   shown-alike : (shownUnits : Left → ℕ) (units : Due → ℕ) (block : ℕ) → handleAt (p .blocks) block ≢ 0
       → ((g h : ℕ) (due : Due) → mostShown shownUnits h (shownDue (p .tasks) (p .global) g due) ≡ cond (eqb g h) (units due) 0)
       → most (unitsOn units block) (p .expirations)
-      ≡ mostShown shownUnits (handleAt (p .blocks) block) (viewOf (isWhole small large) L .expirations)
+      ≡ mostShown shownUnits (handleAt (p .blocks) block) (viewOf (isWhole (p .limits) small large) L .expirations)
   unfolding recordView
   shown-alike shownUnits units block used same =
       most-same _ _ (p .expirations)
@@ -92,38 +93,39 @@ module _ {p : Tables} {small large : List ℕ} {L : Ledger} (fit : Fit p) (reads
       rw its at (block-life task (placeOf handle (p .blocks)) (rw its (eqb-false handle 0 nonzero)))
 
 -- in a well-formed record
-module _ (tasks : List TaskEntry) (global : GlobalTime) (used : Bool) where
-  local-within : (task : ℕ) (due : Due) → isFitDue (getD tasks (setterOf due) absentEntry) global used due ≡ true
+module _ (limits : Limits) (tasks : List TaskEntry) (global : GlobalTime) (used : Bool) where
+  local-within : (task : ℕ) (due : Due) → isFitDue limits (getD tasks (setterOf due) absentEntry) global used due ≡ true
       → leftLocal task (getD tasks task absentEntry .clock) due ≤ limits .extension + 1
   local-within task Free e = omega arith
   local-within task (Local setter at) e =
       by-test (eqb setter task)
-      (λ s. rw (s, ← eqb-true setter task s) (fit-local _ global used setter at e .within))
+      (λ s. rw (s, ← eqb-true setter task s) (fit-local limits _ global used setter at e .within))
       (λ s. rw s (omega arith))
   local-within task (Global setter at) e = omega arith
   local-within task (Pinned due) e = omega arith
   local-within task Unknown e = omega arith
 
-  global-within : (due : Due) → isFitDue (getD tasks (setterOf due) absentEntry) global used due ≡ true → leftGlobal global due ≤ limits .extension + 2
+  global-within : (due : Due) → isFitDue limits (getD tasks (setterOf due) absentEntry) global used due ≡ true → leftGlobal global due ≤ limits .extension + 2
   global-within Free e = omega arith
   global-within (Local setter at) e = omega arith
-  global-within (Global setter at) e = fit-global _ global used setter at e .within
+  global-within (Global setter at) e = fit-global limits _ global used setter at e .within
   global-within (Pinned due) e = omega arith
   global-within Unknown e = omega arith
 
 -- one figure
 most-fit : {p : Tables} → Fit p → (units : Due → ℕ) (n block : ℕ)
-    → ((used : Bool) (due : Due) → isFitDue (getD (p .tasks) (setterOf due) absentEntry) (p .global) used due ≡ true → units due ≤ n)
+    → ((used : Bool) (due : Due) → isFitDue (p .limits) (getD (p .tasks) (setterOf due) absentEntry) (p .global) used due ≡ true → units due ≤ n)
     → most (unitsOn units block) (p .expirations) ≤ n
 most-fit {p} fit units n block within =
     most-within _ n (p .expirations)
     (all-imp (λ e h. by-test (eqb (e .block) block) (λ t. rw t (within _ (dueOf e) h)) (λ t. rw t (omega arith))) (p .expirations)
-    (all-true (isFitEntry (p .tasks) (p .global) (p .blocks)) (p .expirations) (fit .entries)))
+    (all-true (isFitEntry (p .limits) (p .tasks) (p .global) (p .blocks)) (p .expirations) (fit .entries)))
 
 pub life-within : {p : Tables} → Fit p → (task block : ℕ) → LifeWithin (lifeIn task block (p .tasks) (p .global) (p .expirations))
 unfolding lifeIn
 life-within {p} fit task block =
+    let few = allowed (p .limits) (fit .allowed) .most-extension in
     record {
-      local = most-fit fit _ _ block (λ used. local-within (p .tasks) (p .global) used task);
-      global = most-fit fit _ _ block (global-within (p .tasks) (p .global));
+      local = omega (arith, few, most-fit fit (leftLocal task (getD (p .tasks) task absentEntry .clock)) (p .limits .extension + 1) block (λ used. local-within (p .limits) (p .tasks) (p .global) used task));
+      global = omega (arith, few, most-fit fit (leftGlobal (p .global)) (p .limits .extension + 2) block (global-within (p .limits) (p .tasks) (p .global)));
     }

@@ -1,31 +1,33 @@
 -- There is room in the record for one more object or expiration just where there is in the ledger; report counts the same of both.
-use Prim.Native.Nat.{ℕ, _+_, _<_}
+use Prim.Native.Nat.{ℕ, _+_, _≤_, _<_}
 use native.Mathlib.Nat.{zero-add}
 use native.Mathlib.Omega.{arith}
 use mathlib.Core.Bool.{Bool, true, false, false≢true, cond, not, _&&_}
 use mathlib.Core.List.{List, _++_}
 use mathlib.Core.Path.{_≡_, refl, sym, ap, _∙_}
-use borrow.Author.Tests.{lt-ltb, le-ltb}
+use borrow.Author.Tests.{lt-ltb, le-ltb, ltb-true, ltb-false}
 use lib.Dec.{eqb, leb, ltb}
-use lib.ListN.{length, getD, take, drop, length-take, length-drop, length-map}
-use lib.Seq.{length-take-le, getD-take, getD-drop}
+use lib.ListN.{length, getD, take, drop, length-take, length-drop, length-map, List·getD-eq-default}
+use lib.Seq.{length-take-le, getD-take, getD-drop, take-take}
 use Rattle.lists.specs.Tests.{count, All}
-use Rattle.lists.specs.Tables.{readFrom}
+use Rattle.lists.specs.Tables.{readFrom, firstFrom}
 use Rattle.lists.proofs.Cases.{by-test}
 use Rattle.lists.proofs.All.{all-imp, all-true}
 use Rattle.lists.proofs.Counts.{count-map, count-same}
 use Rattle.lists.proofs.Filters.{count-parts}
-use Rattle.lists.proofs.First.{first-full}
+use Rattle.lists.proofs.First.{first-full, count-before}
 use Rattle.lists.proofs.Permutations.{length-perm, count-perm}
-use Rattle.lists.proofs.Tables.{all-places, readFrom-split, length-readFrom, length-readBy}
-use Rattle.ledger.specs.Limits.{limits, isSmall, blocksFor}
+use Rattle.lists.proofs.Blocks.{drop-take}
+use Rattle.lists.proofs.Tables.{allFrom-at, all-places, readFrom-split, length-readFrom, length-readBy}
+use Rattle.ledger.specs.Limits.{capacity, isSmall, blocksFor}
 use Rattle.ledger.proofs.Figures.{allowed}
 use Rattle.ledger.specs.Objects.{Object, smallOnes, largeOnes, inStoreOf, usage}
 use Rattle.ledger.specs.Compared.{shown, shownObject, viewOf}
 use Rattle.ledger.specs.Ledger.{Ledger}
+use Rattle.ledger.specs.declared.Limits.{Limits}
 use Rattle.record.specs.Codes.{dueBy, dueOf, isDated, freeBlock, localCode, globalCode, pinnedCode, isGlobalClock}
-use Rattle.record.specs.Reading.{isWhole, shownDue, objectIn, recordView, Typed, Reads}
-use Rattle.record.specs.WellFormed.{isUsed, isFitDue, isFitEntry}
+use Rattle.record.specs.Reading.{isSmallBlock, isWhole, shownDue, objectIn, recordView, Typed, Reads}
+use Rattle.record.specs.WellFormed.{isUsed, isFitDue, isFitEntry, isBlock, isBlockAt}
 use Rattle.record.specs.declared.TaskEntry.{TaskEntry}
 use Rattle.record.specs.Tables.{BlockEntry, ExpirationEntry, Tables}
 use Rattle.record.specs.declared.GlobalTime.{GlobalTime}
@@ -33,8 +35,6 @@ use Rattle.record.specs.declared.Due.{Due}
 use Rattle.record.specs.declared.Due.the-variants.{Free, Local, Global, Pinned, Unknown}
 use Rattle.record.proofs.Facts.{Fit}
 use Rattle.record.proofs.Exists.{sized-small}
-use Rattle.stores.specs.Places.{blockCount}
-use Rattle.stores.proofs.Places.{all-blocks}
 use Rattle.steps.specs.Objects.{isFreeBlock, endFor, freePlace, isFreeEntry, standingIn}
 use Rattle.steps.specs.Usage.{usageOf}
 use Rattle.steps.proofs.Finding.{each-used}
@@ -56,10 +56,10 @@ shown-once tasks global handle (Pinned due) = refl
 shown-once tasks global handle Unknown = refl
 
 -- a fit entry is free or in use
-fit-dated : (tasks : List TaskEntry) (global : GlobalTime) (blocks : List BlockEntry) (e : ExpirationEntry)
-    → isFitEntry tasks global blocks e ≡ true → isDated (dueOf e) ≡ not (isFreeEntry e)
+fit-dated : (limits : Limits) (tasks : List TaskEntry) (global : GlobalTime) (blocks : List BlockEntry) (e : ExpirationEntry)
+    → isFitEntry limits tasks global blocks e ≡ true → isDated (dueOf e) ≡ not (isFreeEntry e)
 unfolding isFitDue dueBy
-fit-dated tasks global blocks e fit =
+fit-dated limits tasks global blocks e fit =
     by-test (eqb (e .clock) 0)
     (λ z. rw z)
     (λ z.
@@ -67,31 +67,25 @@ fit-dated tasks global blocks e fit =
     (λ g. rw (z, g))
     (λ g. by-test (leb localCode (e .clock) && ltb (e .clock) globalCode) (λ l. rw (z, g, l)) (λ l. by-test (eqb (e .clock) pinnedCode) (λ p. rw (z, g, l, p)) (λ p. absurd (false≢true (rw (z, g, l, p) at fit))))))
 
--- the blocks of the small store, and those of the large one
+-- the entries of the small store's blocks, and those of the large one's
 abbrev smallPart : List BlockEntry → List BlockEntry
-smallPart bs = take (limits .smallBlocks) bs
+smallPart bs = take (capacity .small) bs
 
 abbrev largePart : List BlockEntry → List BlockEntry
-largePart bs = drop (limits .smallBlocks) bs
-
--- they are as many as the store has
-divided : {p : Tables} → Typed p → (length (smallPart (p .blocks)) ≡ limits .smallBlocks) × (length (largePart (p .blocks)) ≡ limits .largeBlocks)
-unfolding blockCount
-divided {p} typed =
-    (length-take-le _ (p .blocks) (omega (arith, typed .blocks, allowed .most-small)), rw (length-drop, typed .blocks) (omega (arith, all-blocks)))
+largePart bs = drop (capacity .small) bs
 
 -- the objects in them
 abbrev inSmall : List ℕ → List ℕ → List BlockEntry → List Object
 inSmall small large bs = readFrom 0 (objectIn small large) (smallPart bs)
 
 abbrev inLarge : List ℕ → List ℕ → List BlockEntry → List Object
-inLarge small large bs = readFrom (limits .smallBlocks) (objectIn small large) (largePart bs)
+inLarge small large bs = readFrom (capacity .small) (objectIn small large) (largePart bs)
 
 module _ {p : Tables} {small large : List ℕ} {L : Ledger} (fit : Fit p) (reads : Reads p small large L) where
   -- those of the small store are small, those of the large one large
   all-small : All (λ (o : Object). isSmall (o .size) ≡ true) (inSmall small large (p .blocks))
   all-small =
-      let n = limits .smallBlocks in
+      let n = capacity .small in
       all-places _ freeBlock (objectIn small large) 0 (smallPart (p .blocks))
       (λ i h.
       let within : i < n = omega (arith, length-take n (p .blocks)) in
@@ -100,7 +94,7 @@ module _ {p : Tables} {small large : List ℕ} {L : Ledger} (fit : Fit p) (reads
 
   all-large : All (λ (o : Object). isSmall (o .size) ≡ false) (inLarge small large (p .blocks))
   all-large =
-      let n = limits .smallBlocks in
+      let n = capacity .small in
       all-places _ freeBlock (objectIn small large) n (largePart (p .blocks))
       (λ i h.
       rw (getD-drop n (p .blocks) i freeBlock)
@@ -112,8 +106,9 @@ module _ {p : Tables} {small large : List ℕ} {L : Ledger} (fit : Fit p) (reads
       ≡ count (λ (o : Object). r (o .size)) (inSmall small large (p .blocks) ++ inLarge small large (p .blocks))
   unfolding recordView viewOf
   count-alike r =
-      sym (count-map _ (shownObject (isWhole small large)) (L .memory .objects)) ∙ sym (count-perm _ (reads .alike .objects))
-      ∙ ap (count _) (rw zero-add at (readFrom-split 0 (objectIn small large) (limits .smallBlocks) (p .blocks)))
+      sym (count-map _ (shownObject (isWhole (p .limits) small large)) (L .memory .objects)) ∙ sym (count-perm _ (reads .alike .objects))
+      ∙ count-map (λ (o : Object). r (o .size)) (shownObject (isWhole (p .limits) small large)) (readFrom 0 (objectIn small large) (p .blocks))
+      ∙ ap (count _) (rw zero-add at (readFrom-split 0 (objectIn small large) (capacity .small) (p .blocks)))
 
   -- so the objects of either store are as many as its blocks in use
   stored : (smallOnes (L .memory .objects) ≡ count isUsed (smallPart (p .blocks)))
@@ -122,15 +117,55 @@ module _ {p : Tables} {small large : List ℕ} {L : Ledger} (fit : Fit p) (reads
       let bs = p .blocks in
       let (front, back) = count-parts (λ (o : Object). isSmall (o .size)) (inSmall small large bs) (inLarge small large bs) all-small all-large in (
         count-alike isSmall ∙ front ∙ objects-counted small large 0 (smallPart bs),
-        count-alike (λ size. not (isSmall size)) ∙ back ∙ objects-counted small large (limits .smallBlocks) (largePart bs),
+        count-alike (λ size. not (isSmall size)) ∙ back ∙ objects-counted small large (capacity .small) (largePart bs),
       )
 
-  pub block-room : Typed p → (size : ℕ) → leb (blocksFor size) (inStoreOf size (L .memory .objects)) ≡ leb (endFor size) (freePlace size (p .blocks))
-  unfolding freePlace blockCount
+  -- none past the figures is in use
+  free-past : (block : ℕ) → isBlock (p .limits) block ≡ false → isFreeBlock (getD (p .blocks) block freeBlock) ≡ true
+  free-past block past =
+      let listed = allFrom-at (isBlockAt (p .limits)) freeBlock (λ i. refl) (p .blocks) (fit .listed) block in
+      by-test (isFreeBlock (getD (p .blocks) block freeBlock)) (λ z. z) (λ z. absurd (false≢true (rw (z, past) at listed)))
+
+  past-small : (k : ℕ) → p .limits .small ≤ k → isFreeBlock (getD (smallPart (p .blocks)) k freeBlock) ≡ true
+  past-small k h =
+      by-test (isSmallBlock k)
+      (λ s. rw (getD-take (capacity .small) (p .blocks) k freeBlock (ltb-true _ _ s)) (free-past k (rw s (le-ltb k (p .limits .small) h))))
+      (λ s.
+      let end : length (smallPart (p .blocks)) ≤ k = simp length-take (omega (arith, ltb-false k (capacity .small) s)) in
+      rw (List·getD-eq-default (smallPart (p .blocks)) freeBlock end))
+
+  past-large : (k : ℕ) → p .limits .large ≤ k → isFreeBlock (getD (largePart (p .blocks)) k freeBlock) ≡ true
+  past-large k h =
+      let n = capacity .small in
+      rw (getD-drop n (p .blocks) k freeBlock)
+      (free-past (n + k) (rw (le-ltb (n + k) n (omega arith)) (le-ltb (n + k) (n + p .limits .large) (omega arith))))
+
+  -- so there is a free one in a store just where fewer are in use than it has
+  small-room : Typed p → leb (p .limits .small) (smallOnes (L .memory .objects)) ≡ leb (p .limits .small) (firstFrom 0 isFreeBlock (take (p .limits .small) (p .blocks)))
+  small-room typed =
+      let n = p .limits .small in
+      let may = allowed (p .limits) (fit .allowed) in
+      let part = take n (p .blocks) in
+      let whole : length part ≡ n = length-take-le n (p .blocks) (omega (arith, typed .blocks, may .most-small)) in
+      let same = stored .0 ∙ count-before isFreeBlock freeBlock n (smallPart (p .blocks)) past-small ∙ ap (count isUsed) (take-take n (capacity .small) (p .blocks) (may .most-small)) in
+      rw same (rw (zero-add, whole) at (first-full isFreeBlock 0 part))
+
+  large-room : Typed p → leb (p .limits .large) (largeOnes (L .memory .objects))
+      ≡ leb (capacity .small + p .limits .large) (firstFrom (capacity .small) isFreeBlock (drop (capacity .small) (take (capacity .small + p .limits .large) (p .blocks))))
+  large-room typed =
+      let n = p .limits .large in
+      let may = allowed (p .limits) (fit .allowed) in
+      let part = take n (largePart (p .blocks)) in
+      let whole : length part ≡ n = length-take-le n (largePart (p .blocks)) (rw (length-drop, typed .blocks) (omega (arith, may .most-large))) in
+      let same = stored .1 ∙ count-before isFreeBlock freeBlock n (largePart (p .blocks)) past-large in
+      rw (same, drop-take (capacity .small) n (p .blocks)) (rw whole at (first-full isFreeBlock (capacity .small) part))
+
+  pub block-room : Typed p → (size : ℕ)
+      → leb (blocksFor (L .memory .limits) size) (inStoreOf size (L .memory .objects)) ≡ leb (endFor (p .limits) size) (freePlace (p .limits) size (p .blocks))
+  unfolding freePlace recordView viewOf
   block-room typed size =
-      by-test (isSmall size)
-      (λ e. rw (e, stored .0) (rw (zero-add, divided typed .0) at (first-full isFreeBlock 0 (smallPart (p .blocks)))))
-      (λ e. rw (e, stored .1) (rw (divided typed .1) at (first-full isFreeBlock (limits .smallBlocks) (largePart (p .blocks)))))
+      rw (← reads .alike .limits)
+      (by-test (isSmall size) (λ e. rw e (small-room typed)) (λ e. rw e (large-room typed)))
 
   -- expirations are as many as entries in use
   pub entries-alike : length (L .expirations) ≡ standingIn (p .expirations)
@@ -139,7 +174,7 @@ module _ {p : Tables} {small large : List ℕ} {L : Ledger} (fit : Fit p) (reads
       sym (length-map (L .expirations) (shown (L .memory .clocks))) ∙ sym (length-perm (reads .alike .expirations))
       ∙ length-readBy _ _ (λ e. shown-once (p .tasks) (p .global) _ (dueOf e)) (p .expirations)
       ∙ count-same _ (λ (e : ExpirationEntry). not (isFreeEntry e)) (p .expirations)
-      (all-imp (fit-dated (p .tasks) (p .global) (p .blocks)) (p .expirations) (all-true _ (p .expirations) (fit .entries)))
+      (all-imp (fit-dated (p .limits) (p .tasks) (p .global) (p .blocks)) (p .expirations) (all-true _ (p .expirations) (fit .entries)))
 
   pub usage-alike : usage (L .memory) (L .expirations) ≡ usageOf p
   unfolding usage usageOf recordView viewOf

@@ -31,13 +31,14 @@ use Rattle.steps.proofs.KeptBlocks.{block-left}
 use Rattle.steps.proofs.Summed.{summed-handle, summed-length}
 
 -- blocks that are the same, and no handle more
-pub same-stays : {p p′ : Tables} → p′ .blocks ≡ p .blocks → p′ .given ≡ p .given → Stays p p′
-same-stays e g = record { given = omega (arith, g); same = λ block used given. rw e (refl, refl) }
+pub same-stays : {p p′ : Tables} → p′ .limits ≡ p .limits → p′ .blocks ≡ p .blocks → p′ .given ≡ p .given → Stays p p′
+same-stays l e g = record { limits = l; given = omega (arith, g); same = λ block used given. rw e (refl, refl) }
 
 -- one call after another
 pub stays-on : {p p′ p″ : Tables} → Stays p p′ → Stays p′ p″ → Stays p p″
 stays-on {p} {p′} a b =
     record {
+      limits = b .limits ∙ a .limits;
       given = omega (arith, a .given, b .given);
       same = λ block used given.
           let later = b .same block used (omega (arith, given, a .given)) in
@@ -47,9 +48,10 @@ stays-on {p} {p′} a b =
 
 -- a block that nothing names is freed
 pub kept-stays : (p : Tables) {tasks : List TaskEntry} {global : GlobalTime} (xs : List ExpirationEntry)
-    → Stays p (record { tasks = tasks; global = global; given = p .given; blocks = mapFrom 0 (keptBlock xs) (p .blocks); expirations = xs })
+    → Stays p (record { limits = p .limits; tasks = tasks; global = global; given = p .given; blocks = mapFrom 0 (keptBlock xs) (p .blocks); expirations = xs })
 kept-stays p xs =
     record {
+      limits = refl;
       given = omega arith;
       same = λ block.
           rw (block-left xs (p .blocks) block)
@@ -63,20 +65,21 @@ swept-stays leaver advanced tasks global p = kept-stays p _
 
 stays-by : (v : Verdict) (event : Event) (task : ℕ) (p : Tables) → Stays p (outcomeBy v event task p .pool)
 unfolding poolAfter
-stays-by Accepted event task p = by-test (isTested event) (λ t. rw t (swept-stays _ _ _ _ p)) (λ t. rw t (same-stays refl refl))
-stays-by (Refused r) event task p = same-stays refl refl
+stays-by Accepted event task p = by-test (isTested event) (λ t. rw t (swept-stays _ _ _ _ p)) (λ t. rw t (same-stays refl refl refl))
+stays-by (Refused r) event task p = same-stays refl refl refl
 
 pub event-stays : (event : Event) (task : ℕ) (p : Tables) → Stays p (scheduled event task p .pool)
 unfolding scheduled
 event-stays event task p = stays-by (verdictAt event task (p .tasks)) event task p
 
 -- a make: the one block that it sets has a handle that was not given
-pub make-stays : (task : ℕ) (kind : Kind) (extension size : ℕ) (p : Tables) → freePlace size (p .blocks) < length (p .blocks)
+pub make-stays : (task : ℕ) (kind : Kind) (extension size : ℕ) (p : Tables) → freePlace (p .limits) size (p .blocks) < length (p .blocks)
     → Stays p (madePool task kind extension size p)
 unfolding madePool
 make-stays task kind extension size p listed =
-    let place = freePlace size (p .blocks) in
+    let place = freePlace (p .limits) size (p .blocks) in
     record {
+      limits = refl;
       given = omega arith;
       same = λ block.
           by-test (eqb block place)
@@ -86,13 +89,13 @@ make-stays task kind extension size p listed =
 
 pub refresh-stays : (task : ℕ) (kind : Kind) (extension handle : ℕ) (p : Tables) → Stays p (refreshedPool task kind extension handle p)
 unfolding refreshedPool
-refresh-stays task kind extension handle p = same-stays refl refl
+refresh-stays task kind extension handle p = same-stays refl refl refl
 
 -- a write: the block that it sets has another sum only
 pub write-stays : (handle offset : ℕ) (new small large : List ℕ) (p : Tables) → Stays p (writtenPool handle offset new small large p)
 unfolding writtenPool
 write-stays handle offset new small large p =
-    record { given = omega arith; same = λ block used given. (summed-handle _ _ p block, summed-length _ _ p block) }
+    record { limits = refl; given = omega arith; same = λ block used given. (summed-handle _ _ p block, summed-length _ _ p block) }
 
 -- an object that stands on has one block
 pub one-block : OneBlock

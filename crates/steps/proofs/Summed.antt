@@ -10,7 +10,7 @@ use Rattle.lists.proofs.Replacing.{kept-at, kept-map}
 use Rattle.lists.proofs.Tables.{readBy-same, allFrom-at, allFrom-set}
 use Rattle.record.specs.Codes.{freeBlock}
 use Rattle.record.specs.Reading.{shownEntry}
-use Rattle.record.specs.WellFormed.{isFitBlock, isFitEntry, handleOf}
+use Rattle.record.specs.WellFormed.{isFitBlock, isFitEntry, isBlockAt, handleOf}
 use Rattle.record.specs.Tables.{BlockEntry, ExpirationEntry, Tables}
 use Rattle.record.proofs.Facts.{Fit}
 use Rattle.record.proofs.Distinct.{handleAt}
@@ -31,7 +31,7 @@ module _ (place sum : ℕ) (p : Tables) where
       ≡ readBy (shownEntry (p .tasks) (p .global) (p .blocks)) (p .expirations)
   summed-shown = readBy-same _ _ (p .expirations) (all-every _ (λ e. rw (summed-handle (e .block))) (p .expirations))
 
-  same-fit : (e : ExpirationEntry) → isFitEntry (p .tasks) (p .global) (withSum place sum p .blocks) e ≡ isFitEntry (p .tasks) (p .global) (p .blocks) e
+  same-fit : (e : ExpirationEntry) → isFitEntry (p .limits) (p .tasks) (p .global) (withSum place sum p .blocks) e ≡ isFitEntry (p .limits) (p .tasks) (p .global) (p .blocks) e
   same-fit e = rw (summed-handle (e .block))
 
   pub fit-summed : Fit p → Fit (withSum place sum p)
@@ -46,4 +46,9 @@ module _ (place sum : ℕ) (p : Tables) where
             (allFrom-at (isFitBlock (p .given) (p .expirations)) freeBlock (λ i. refl) (p .blocks) (f .blocks) place) (f .blocks);
         distinct = rw (kept-map handleOf freeBlock (p .blocks) place newEntry refl) (f .distinct);
         once = f .once;
+        allowed = f .allowed;
+        listed =
+            allFrom-set (isBlockAt (p .limits)) (p .blocks) place newEntry
+            (allFrom-at (isBlockAt (p .limits)) freeBlock (λ i. refl) (p .blocks) (f .listed) place) (f .listed);
+        counted = f .counted;
       }

@@ -12,12 +12,12 @@ use Rattle.lists.specs.Tests.{any, All}
 use Rattle.lists.proofs.Cases.{by-test, and₃}
 use Rattle.lists.proofs.All.{all-getD}
 use Rattle.lists.proofs.Tables.{allFrom→All}
-use Rattle.ledger.specs.Limits.{limits, taskCount, largeSize, counterRange, isSmall}
-use Rattle.ledger.proofs.Figures.{allowed}
+use Rattle.ledger.specs.Limits.{capacity, taskCount, largeSize, counterRange, isSmall}
 use Rattle.ledger.specs.Tasks.{isAbsent}
+use Rattle.ledger.specs.declared.Limits.{Limits}
 use Rattle.record.specs.Codes.{dueBy, stateOf, dueOf, isDated, leftAt, absentEntry, freeBlock, freeEntry, localCode, globalCode, departedCode}
 use Rattle.record.specs.Reading.{isSmallBlock, Typed}
-use Rattle.record.specs.WellFormed.{isFitDue, isFitEntry, isNaming, isSizedFor, isFitBlock}
+use Rattle.record.specs.WellFormed.{isFitDue, isFitEntry, isNaming, isSizedFor, isFitBlock, isBlock}
 use Rattle.record.specs.declared.TaskEntry.{TaskEntry}
 use Rattle.record.specs.Tables.{BlockEntry, ExpirationEntry, Tables}
 use Rattle.record.specs.declared.GlobalTime.{GlobalTime}
@@ -29,18 +29,21 @@ use Rattle.record.proofs.Facts.{Fit, fit-local, fit-global}
 pub record MaySet (task extension : ℕ) (p : Tables) : Type 0 where
   pub known : task < taskCount
   pub present : isAbsent (stateOf (getD (p .tasks) task absentEntry .state)) ≡ false
-  pub short : extension ≤ limits .extension
+  pub short : extension ≤ p .limits .extension
+  pub most : extension ≤ capacity .extension
 
--- any free entry of the expirations
-pub record SlotFree (slot : ℕ) (xs : List ExpirationEntry) : Type 0 where
+-- any free entry of the expirations, of those that the figures allow
+pub record SlotFree (limits : Limits) (slot : ℕ) (xs : List ExpirationEntry) : Type 0 where
   pub listed : slot < length xs
   pub free : getD xs slot freeEntry .clock ≡ 0
+  pub below : slot < limits .expirations
 
 -- O10: a free block of the right store, for an object of a size in range
-pub record PlaceFree (place size : ℕ) (blocks : List BlockEntry) : Type 0 where
+pub record PlaceFree (limits : Limits) (place size : ℕ) (blocks : List BlockEntry) : Type 0 where
   pub listed : place < length blocks
   pub free : getD blocks place freeBlock .handle ≡ 0
   pub store : isSmallBlock place ≡ isSmall size
+  pub its : isBlock limits place ≡ true
   pub least : 1 ≤ size
   pub most : size ≤ largeSize
 
@@ -49,7 +52,7 @@ abbrev pub newBlock : ℕ → ℕ → BlockEntry
 newBlock given size = record { handle = given + 1; length = size; sum = 0 }
 
 -- a free entry has no expiration
-pub slot-due : (slot : ℕ) (xs : List ExpirationEntry) → SlotFree slot xs → dueOf (getD xs slot freeEntry) ≡ Free
+pub slot-due : {limits : Limits} (slot : ℕ) (xs : List ExpirationEntry) → SlotFree limits slot xs → dueOf (getD xs slot freeEntry) ≡ Free
 unfolding dueBy
 slot-due slot xs entry = rw (entry .free)
 
@@ -68,30 +71,30 @@ global-due task due known =
     rw (ne-eqb (globalCode + task) 0 (λ e. omega arith), le-leb globalCode (globalCode + task) (omega arith), le-leb (globalCode + task) departedCode (omega arith), same)
 
 -- units left right after they are set: no counter goes round in so few
-pub units-set : (now units : ℕ) → now < counterRange → units ≤ limits .extension + 2 → leftAt ((now + units) % counterRange) now ≡ units
+pub units-set : (now units : ℕ) → now < counterRange → units ≤ capacity .extension + 2 → leftAt ((now + units) % counterRange) now ≡ units
 unfolding counterRange
-units-set now units range few = omega (arith, allowed .most-extension)
+units-set now units range few = omega arith
 
 pub clock-range : (p : Tables) → Typed p → (task : ℕ) → getD (p .tasks) task absentEntry .clock .0 < counterRange
 unfolding counterRange
 clock-range p types task = all-getD (λ (e : TaskEntry). e .clock .0 < counterRange) absentEntry (omega arith) (p .tasks) (types .clocks) task
 
 -- a fit expiration names a block in use
-pub fit-used : (setter : TaskEntry) (global : GlobalTime) (used : Bool) (due : Due) → isFitDue setter global used due ≡ true → isDated due ≡ true
+pub fit-used : (limits : Limits) (setter : TaskEntry) (global : GlobalTime) (used : Bool) (due : Due) → isFitDue limits setter global used due ≡ true → isDated due ≡ true
     → used ≡ true
 unfolding isFitDue
-fit-used setter global used Free fit dated = absurd (false≢true dated)
-fit-used setter global used (Local task at) fit dated = fit-local setter global used task at fit .naming
-fit-used setter global used (Global task at) fit dated = fit-global setter global used task at fit .naming
-fit-used setter global used (Pinned due) fit dated = and-eq-true-iff used _ .0 fit .0
-fit-used setter global used Unknown fit dated = absurd (false≢true dated)
+fit-used limits setter global used Free fit dated = absurd (false≢true dated)
+fit-used limits setter global used (Local task at) fit dated = fit-local limits setter global used task at fit .naming
+fit-used limits setter global used (Global task at) fit dated = fit-global limits setter global used task at fit .naming
+fit-used limits setter global used (Pinned due) fit dated = and-eq-true-iff used _ .0 fit .0
+fit-used limits setter global used Unknown fit dated = absurd (false≢true dated)
 
 -- so its block stays as it is when a free one is taken
-pub block-stays : (tasks : List TaskEntry) (global : GlobalTime) (blocks : List BlockEntry) (place : ℕ) (b : BlockEntry)
-    → getD blocks place freeBlock .handle ≡ 0 → (e : ExpirationEntry) → isFitEntry tasks global blocks e ≡ true → isDated (dueOf e) ≡ true
+pub block-stays : (limits : Limits) (tasks : List TaskEntry) (global : GlobalTime) (blocks : List BlockEntry) (place : ℕ) (b : BlockEntry)
+    → getD blocks place freeBlock .handle ≡ 0 → (e : ExpirationEntry) → isFitEntry limits tasks global blocks e ≡ true → isDated (dueOf e) ≡ true
     → getD (set blocks place b) (e .block) freeBlock ≡ getD blocks (e .block) freeBlock
-block-stays tasks global blocks place b free e fit dated =
-    let used = fit-used _ global _ (dueOf e) fit dated in
+block-stays limits tasks global blocks place b free e fit dated =
+    let used = fit-used limits _ global _ (dueOf e) fit dated in
     getD-set-other blocks place (e .block) b freeBlock (λ at. false≢true (rw (at, free) at used))
 
 -- what a fit block in use has

@@ -11,11 +11,11 @@ use Rattle.lists.specs.Tests.{any}
 use Rattle.lists.proofs.All.{all-imp, none→All}
 use Rattle.lists.proofs.Cases.{by-test, or-false-parts}
 use Rattle.lists.proofs.Counts.{any-same}
-use Rattle.ledger.specs.Limits.{limits, lastHandle}
+use Rattle.ledger.specs.Limits.{lastHandle}
 use Rattle.ledger.specs.Tasks.{isAbsent, isWaiting}
 use Rattle.ledger.specs.Expirations.{Expiration}
 use Rattle.ledger.specs.Objects.{Memory, objectAt, isIntact, stands, handlesOf}
-use Rattle.ledger.specs.Refusals.{Test, shared, own, noSuchTask, taskAbsent, taskWaiting, handleNotGiven, objectGone, testsOf, verdict, asRefusal}
+use Rattle.ledger.specs.Refusals.{mostExtension, Test, shared, own, noSuchTask, taskAbsent, taskWaiting, handleNotGiven, objectGone, testsOf, verdict, asRefusal}
 use Rattle.ledger.specs.Compared.{viewOf}
 use Rattle.ledger.specs.Ledger.{Ledger, verdictOn, standingVerdictOn}
 use Rattle.ledger.specs.declared.Call.the-variants.{Make, Refresh, Read, Write, Batch, Release}
@@ -31,7 +31,7 @@ use Rattle.record.specs.Reading.{isWholeSmall, isWholeLarge, recordView, Typed,
 use Rattle.record.specs.Tables.{Tables}
 use Rattle.record.proofs.Facts.{Fit}
 use Rattle.steps.proofs.ReadTasks.{state-alike}
-use Rattle.steps.specs.Objects.{andThen, refuseIf, byState, placeOf, isUngiven, isMissing, taskVerdict, handleVerdict, makeVerdict, refreshVerdict, standingVerdict, readVerdict, writeVerdict, batchVerdict, releaseVerdict}
+use Rattle.steps.specs.Objects.{andThen, refuseIf, byState, placeOf, isUngiven, isMissing, standingIn, taskVerdict, handleVerdict, makeVerdict, refreshVerdict, standingVerdict, readVerdict, writeVerdict, batchVerdict, releaseVerdict}
 use Rattle.steps.proofs.Finding.{Found, blockOf, gone-alike, found}
 use Rattle.steps.proofs.Pinning.{pinned-alike}
 use Rattle.steps.proofs.Rooms.{block-room, entries-alike}
@@ -83,6 +83,20 @@ module _ {p : Tables} {small large : List ℕ} {L : Ledger} (typed : Typed p) (f
   unfolding recordView viewOf
   given-alike = sym (reads .alike .given)
 
+  limits-alike : L .memory .limits ≡ p .limits
+  unfolding recordView viewOf
+  limits-alike = sym (reads .alike .limits)
+
+  -- 6 and 10
+  extension-test : (kind : Kind) (extension : ℕ) → ltb (mostExtension (L .memory .limits) kind) extension ≡ ltb (mostExtension (p .limits) kind) extension
+  extension-test kind extension = rw limits-alike
+
+  room-test : leb (L .memory .limits .expirations) (length (L .expirations)) ≡ leb (p .limits .expirations) (standingIn (p .expirations))
+  room-test = rw (limits-alike, entries-alike fit reads)
+
+  batch-room-test : (more : ℕ) → ltb (L .memory .limits .expirations) (length (L .expirations) + more) ≡ ltb (p .limits .expirations) (standingIn (p .expirations) + more)
+  batch-room-test more = rw (limits-alike, entries-alike fit reads)
+
   -- 1, 3, 4
   task-tests : (task : ℕ) {ts : List Test} {v : Verdict} → Agree (L .memory) (L .expirations) ts v
       → Agree (L .memory) (L .expirations) (noSuchTask task ∷ taskAbsent task ∷ taskWaiting task ∷ ts) (andThen (taskVerdict task (p .tasks)) v)
@@ -102,7 +116,7 @@ module _ {p : Tables} {small large : List ℕ} {L : Ledger} (typed : Typed p) (f
 
     -- a handle that was given and whose object is not gone finds that
     object-here : isUngiven (p .given) handle ≡ false → isMissing (p .blocks) handle ≡ false
-        → Found small large (p .blocks) handle (objectAt handle (L .memory .objects))
+        → Found (p .limits) small large (p .blocks) handle (objectAt handle (L .memory .objects))
     object-here given stays = found fit reads handle (or-false-parts _ _ given .0) (not-false _ (gone-test given ∙ stays))
 
     -- 13
@@ -130,10 +144,10 @@ module _ {p : Tables} {small large : List ℕ} {L : Ledger} (typed : Typed p) (f
   unfolding testsOf makeVerdict
   make-verdict task kind extension size new =
       task-tests task
-      (test-alike refl
+      (test-alike (extension-test kind extension)
       (λ e. test-alike refl
       (λ e. test-alike (ap (leb lastHandle) given-alike)
-      (λ e. test-alike (block-room fit reads typed size) (λ e. last-alike (ap (leb (limits .expirations)) (entries-alike fit reads))))))) .so
+      (λ e. test-alike (block-room fit reads typed size) (λ e. last-alike room-test))))) .so
 
   pub refresh-verdict : (task : ℕ) (kind : Kind) (extension handle : ℕ) (new : List ℕ)
       → verdictOn L (Refresh task kind extension handle) new ≡ asRefusal (refreshVerdict task kind extension handle p)
@@ -141,7 +155,7 @@ module _ {p : Tables} {small large : List ℕ} {L : Ledger} (typed : Typed p) (f
   refresh-verdict task kind extension handle new =
       task-tests task
       (test-alike refl
-      (λ e. test-alike refl (λ e. handle-tests handle (λ given stays. last-alike (ap (leb (limits .expirations)) (entries-alike fit reads)))))) .so
+      (λ e. test-alike (extension-test kind extension) (λ e. handle-tests handle (λ given stays. last-alike room-test)))) .so
 
   -- of remaining life
   pub standing-verdict : (task handle : ℕ) → standingVerdictOn L task handle ≡ asRefusal (standingVerdict task handle p)
@@ -149,14 +163,14 @@ module _ {p : Tables} {small large : List ℕ} {L : Ledger} (typed : Typed p) (f
   standing-verdict task handle = task-tests task (test-alike (given-test handle) (λ given. last-alike (gone-test handle given))) .so
 
   -- with both stores of 01's lengths
-  module _ (small-whole : isWholeSmall small ≡ true) (large-whole : isWholeLarge large ≡ true) where
+  module _ (small-whole : isWholeSmall (p .limits) small ≡ true) (large-whole : isWholeLarge (p .limits) large ≡ true) where
     -- 23, of a handle whose object is not gone
     sum-test : (handle : ℕ) → isUngiven (p .given) handle ≡ false → isMissing (p .blocks) handle ≡ false
         → not (isIntact (objectAt handle (L .memory .objects)))
         ≡ not (eqb (sumAt small large (placeOf handle (p .blocks))) (blockOf handle (p .blocks) .sum))
     sum-test handle given stays =
         let here = object-here handle given stays in
-        let bytes = here .bytes (both-whole small large small-whole large-whole (blockOf handle (p .blocks) .length)) in
+        let bytes = here .bytes (both-whole (p .limits) (fit .allowed) small large small-whole large-whole (blockOf handle (p .blocks) .length)) in
         rw (bytes, here .sum)
 
     pub read-verdict : (task handle : ℕ) (new : List ℕ)
@@ -193,7 +207,7 @@ module _ {p : Tables} {small large : List ℕ} {L : Ledger} (typed : Typed p) (f
       task-tests task
       (test-alike refl
       (λ e. test-alike refl
-      (λ e. test-alike refl
+      (λ e. test-alike (extension-test kind extension)
       (λ e. test-alike (ap (λ (n : ℕ). any (isUngiven n) handles) given-alike)
       (λ given. test-alike (some-gone handles given)
-      (λ e. last-alike (ap (λ (n : ℕ). ltb (limits .expirations) (n + length handles)) (entries-alike fit reads)))))))) .so
+      (λ e. last-alike (batch-room-test (length handles)))))))) .so

@@ -131,12 +131,12 @@ passedEntry leaver advanced tasks global e = keptEntry leaver tasks global (late
 unfoldable pub swept : ℕ → Bool → List TaskEntry → GlobalTime → Tables → Tables
 swept leaver advanced tasks global p =
     let xs = map (passedEntry leaver advanced tasks global) (p .expirations) in
-    record { tasks = tasks; global = global; given = p .given; blocks = mapFrom 0 (keptBlock xs) (p .blocks); expirations = xs }
+    record { limits = p .limits; tasks = tasks; global = global; given = p .given; blocks = mapFrom 0 (keptBlock xs) (p .blocks); expirations = xs }
 
 -- the record with these tasks and this time, all else as it was
 abbrev pub withTimes : List TaskEntry → GlobalTime → Tables → Tables
 withTimes tasks global p =
-    record { tasks = tasks; global = global; given = p .given; blocks = p .blocks; expirations = p .expirations }
+    record { limits = p .limits; tasks = tasks; global = global; given = p .given; blocks = p .blocks; expirations = p .expirations }
 
 -- an accepted event
 unfoldable pub poolAfter : Event → ℕ → Tables → Tables

@@ -6,8 +6,9 @@ use lib.Dec.{eqb, leb, ltb}
 use lib.ListN.{length, getD, set, take, drop}
 use Rattle.lists.specs.Tests.{any, count}
 use Rattle.lists.specs.Tables.{firstFrom, mapFrom}
-use Rattle.ledger.specs.Limits.{limits, taskCount, largeSize, largestBatch, lastHandle, counterRange, isSmall}
+use Rattle.ledger.specs.Limits.{capacity, taskCount, largeSize, largestBatch, lastHandle, counterRange, isSmall}
 use Rattle.ledger.specs.Refusals.{mostExtension, isPinning as isPinningKind}
+use Rattle.ledger.specs.declared.Limits.{Limits}
 use Rattle.ledger.specs.declared.Kind.{Kind}
 use Rattle.ledger.specs.declared.Kind.the-variants.{Local, Global, Pinned}
 use Rattle.ledger.specs.declared.State.{State}
@@ -16,7 +17,7 @@ use Rattle.ledger.specs.declared.Refusal.{Refusal}
 use Rattle.ledger.specs.declared.Refusal.the-variants.{NoSuchTask, TaskAbsent, TaskWaiting, ExtensionTooLong, LengthOutOfRange, HandlesSpent, NoFreeBlock, NoFreeExpiration, HandleNotGiven, ObjectGone, OutsideObject, BatchOutOfRange, OnlyMakePins, NotPinned, SumDiffers}
 use Rattle.ledger.specs.declared.Verdict.{Verdict}
 use Rattle.ledger.specs.declared.Verdict.the-variants.{Accepted, Refused}
-use Rattle.stores.specs.Places.{blockCount, sumAt, sumAfter}
+use Rattle.stores.specs.Places.{sumAt, sumAfter}
 use Rattle.record.specs.Codes.{stateOf, absentEntry, freeBlock, localCode, globalCode, pinnedCode, freedEntry}
 use Rattle.record.specs.WellFormed.{isPinning}
 use Rattle.record.specs.declared.TaskEntry.{TaskEntry}
@@ -39,23 +40,23 @@ abbrev pub isFreeBlock : BlockEntry → Bool
 isFreeBlock b = eqb (b .handle) 0
 
 -- where the blocks of a size's store end
-abbrev pub endFor : ℕ → ℕ
-endFor size = cond (isSmall size) (limits .smallBlocks) blockCount
+abbrev pub endFor : Limits → ℕ → ℕ
+endFor limits size = cond (isSmall size) (limits .small) (capacity .small + limits .large)
 
 -- the first free block of a size's store, or its end
-unfoldable pub freePlace : ℕ → List BlockEntry → ℕ
-freePlace size blocks =
-    cond (isSmall size) (firstFrom 0 isFreeBlock (take (limits .smallBlocks) blocks))
-    (firstFrom (limits .smallBlocks) isFreeBlock (drop (limits .smallBlocks) blocks))
+unfoldable pub freePlace : Limits → ℕ → List BlockEntry → ℕ
+freePlace limits size blocks =
+    cond (isSmall size) (firstFrom 0 isFreeBlock (take (limits .small) blocks))
+    (firstFrom (capacity .small) isFreeBlock (drop (capacity .small) (take (capacity .small + limits .large) blocks)))
 
 -- the same by the handles alone
 abbrev pub isNoHandle : ℕ → Bool
 isNoHandle handle = eqb handle 0
 
-unfoldable pub freePlaceIn : ℕ → List ℕ → ℕ
-freePlaceIn size handles =
-    cond (isSmall size) (firstFrom 0 isNoHandle (take (limits .smallBlocks) handles))
-    (firstFrom (limits .smallBlocks) isNoHandle (drop (limits .smallBlocks) handles))
+unfoldable pub freePlaceIn : Limits → ℕ → List ℕ → ℕ
+freePlaceIn limits size handles =
+    cond (isSmall size) (firstFrom 0 isNoHandle (take (limits .small) handles))
+    (firstFrom (capacity .small) isNoHandle (drop (capacity .small) (take (capacity .small + limits .large) handles)))
 
 -- an entry that is not in use, and how many are
 abbrev pub isFreeEntry : ExpirationEntry → Bool
@@ -86,8 +87,8 @@ abbrev pub taskVerdict : ℕ → List TaskEntry → Verdict
 taskVerdict task tasks = andThen (refuseIf (leb taskCount task) NoSuchTask) (byState (stateOf (getD tasks task absentEntry .state)))
 
 -- 6, and 21 for what only make sets
-abbrev pub extensionVerdict : Kind → ℕ → Verdict
-extensionVerdict kind extension = refuseIf (ltb (mostExtension kind) extension) ExtensionTooLong
+abbrev pub extensionVerdict : Limits → Kind → ℕ → Verdict
+extensionVerdict limits kind extension = refuseIf (ltb (mostExtension limits kind) extension) ExtensionTooLong
 
 abbrev pub kindVerdict : Kind → Verdict
 kindVerdict kind = refuseIf (isPinningKind kind) OnlyMakePins
@@ -104,27 +105,27 @@ abbrev pub handleVerdict : ℕ → Tables → Verdict
 handleVerdict handle p = foundVerdict handle (p .given) (placeOf handle (p .blocks))
 
 -- 10, by how many stand
-abbrev pub roomVerdict : ℕ → Verdict
-roomVerdict standing = refuseIf (leb (limits .expirations) standing) NoFreeExpiration
+abbrev pub roomVerdict : Limits → ℕ → Verdict
+roomVerdict limits standing = refuseIf (leb (limits .expirations) standing) NoFreeExpiration
 
 -- R40 to R43, the tests of the four; make's also by the handles given and the place that was found
-abbrev pub makeVerdictBy : ℕ → Kind → ℕ → ℕ → List TaskEntry → ℕ → ℕ → ℕ → Verdict
-makeVerdictBy task kind extension size tasks given place standing =
+abbrev pub makeVerdictBy : Limits → ℕ → Kind → ℕ → ℕ → List TaskEntry → ℕ → ℕ → ℕ → Verdict
+makeVerdictBy limits task kind extension size tasks given place standing =
     andThen (taskVerdict task tasks)
-    (andThen (extensionVerdict kind extension)
+    (andThen (extensionVerdict limits kind extension)
     (andThen (refuseIf (eqb size 0 || ltb largeSize size) LengthOutOfRange)
     (andThen (refuseIf (leb lastHandle given) HandlesSpent)
-    (andThen (refuseIf (leb (endFor size) place) NoFreeBlock) (roomVerdict standing)))))
+    (andThen (refuseIf (leb (endFor limits size) place) NoFreeBlock) (roomVerdict limits standing)))))
 
 unfoldable pub makeVerdict : ℕ → Kind → ℕ → ℕ → Tables → Verdict
 makeVerdict task kind extension size p =
-    makeVerdictBy task kind extension size (p .tasks) (p .given) (freePlace size (p .blocks)) (standingIn (p .expirations))
+    makeVerdictBy (p .limits) task kind extension size (p .tasks) (p .given) (freePlace (p .limits) size (p .blocks)) (standingIn (p .expirations))
 
 unfoldable pub refreshVerdict : ℕ → Kind → ℕ → ℕ → Tables → Verdict
 refreshVerdict task kind extension handle p =
     andThen (taskVerdict task (p .tasks))
     (andThen (kindVerdict kind)
-    (andThen (extensionVerdict kind extension) (andThen (handleVerdict handle p) (roomVerdict (standingIn (p .expirations))))))
+    (andThen (extensionVerdict (p .limits) kind extension) (andThen (handleVerdict handle p) (roomVerdict (p .limits) (standingIn (p .expirations))))))
 
 -- R46: the tests of remaining life, with which those of a read, a write and a release begin
 unfoldable pub standingVerdict : ℕ → ℕ → Tables → Verdict
@@ -155,12 +156,12 @@ unfoldable pub releaseVerdict : ℕ → ℕ → Tables → Verdict
 releaseVerdict task handle p = andThen (standingVerdict task handle p) (pinVerdict (placeOf handle (p .blocks)) (p .expirations))
 
 -- R47: the tests of a batch, by the handles given, which objects are gone and how many expirations stand
-abbrev pub batchVerdictBy : ℕ → Kind → ℕ → List ℕ → List TaskEntry → ℕ → (ℕ → Bool) → ℕ → Verdict
-batchVerdictBy task kind extension handles tasks given isGone standing =
+abbrev pub batchVerdictBy : Limits → ℕ → Kind → ℕ → List ℕ → List TaskEntry → ℕ → (ℕ → Bool) → ℕ → Verdict
+batchVerdictBy limits task kind extension handles tasks given isGone standing =
     andThen (taskVerdict task tasks)
     (andThen (refuseIf (eqb (length handles) 0 || ltb largestBatch (length handles)) BatchOutOfRange)
     (andThen (kindVerdict kind)
-    (andThen (extensionVerdict kind extension)
+    (andThen (extensionVerdict limits kind extension)
     (andThen (refuseIf (any (isUngiven given) handles) HandleNotGiven)
     (andThen (refuseIf (any isGone handles) ObjectGone)
     (refuseIf (ltb (limits .expirations) (standing + length handles)) NoFreeExpiration))))))
@@ -175,7 +176,7 @@ isMissingIn handles handle = leb blockEntries (placeIn handle handles)
 
 unfoldable pub batchVerdict : ℕ → Kind → ℕ → List ℕ → Tables → Verdict
 batchVerdict task kind extension handles p =
-    batchVerdictBy task kind extension handles (p .tasks) (p .given) (isMissing (p .blocks)) (standingIn (p .expirations))
+    batchVerdictBy (p .limits) task kind extension handles (p .tasks) (p .given) (isMissing (p .blocks)) (standingIn (p .expirations))
 
 -- the entry of an expiration that a task sets on a block: due by E4 and E5, by counters that wrap (T8); E22: a pinned one is never due
 abbrev pub entryBy : Kind → ℕ → ℕ → ℕ → List TaskEntry → GlobalTime → ExpirationEntry
@@ -191,12 +192,13 @@ entryFor kind task extension block p = entryBy kind task extension block (p .tas
 -- one expiration more, in an entry that was free
 abbrev pub withEntry : ℕ → ExpirationEntry → Tables → Tables
 withEntry slot e p =
-    record { tasks = p .tasks; global = p .global; given = p .given; blocks = p .blocks; expirations = set (p .expirations) slot e }
+    record { limits = p .limits; tasks = p .tasks; global = p .global; given = p .given; blocks = p .blocks; expirations = set (p .expirations) slot e }
 
 -- the next handle, in a block that was free
 abbrev pub withObject : ℕ → ℕ → Tables → Tables
 withObject place size p =
     record {
+      limits = p .limits;
       tasks = p .tasks;
       global = p .global;
       given = p .given + 1;
@@ -207,7 +209,7 @@ withObject place size p =
 -- the record after a make that is accepted, in the first free block and the first free entry
 unfoldable pub madePool : ℕ → Kind → ℕ → ℕ → Tables → Tables
 madePool task kind extension size p =
-    let place = freePlace size (p .blocks) in
+    let place = freePlace (p .limits) size (p .blocks) in
     withEntry (freeSlot (p .expirations)) (entryFor kind task extension place p) (withObject place size p)
 
 -- and after a refresh
@@ -228,6 +230,7 @@ summedBlock sum b = record { handle = b .handle; length = b .length; sum = sum }
 abbrev pub withSum : ℕ → ℕ → Tables → Tables
 withSum place sum p =
     record {
+      limits = p .limits;
       tasks = p .tasks;
       global = p .global;
       given = p .given;
@@ -248,4 +251,4 @@ unpinnedEntry block e = cond (isPinning block e) (freedEntry e) e
 unfoldable pub releasedPool : ℕ → Tables → Tables
 releasedPool handle p =
     let xs = map (unpinnedEntry (placeOf handle (p .blocks))) (p .expirations) in
-    record { tasks = p .tasks; global = p .global; given = p .given; blocks = mapFrom 0 (keptBlock xs) (p .blocks); expirations = xs }
+    record { limits = p .limits; tasks = p .tasks; global = p .global; given = p .given; blocks = mapFrom 0 (keptBlock xs) (p .blocks); expirations = xs }

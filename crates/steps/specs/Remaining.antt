@@ -5,7 +5,7 @@ use mathlib.Core.List.{List}
 use lib.Dec.{eqb}
 use lib.ListN.{getD}
 use Rattle.lists.specs.Most.{most}
-use Rattle.ledger.specs.Limits.{limits}
+use Rattle.ledger.specs.Limits.{capacity}
 use Rattle.ledger.specs.declared.Life.{Life}
 use Rattle.record.specs.Codes.{dueOf, leftAt, absentEntry}
 use Rattle.record.specs.Tables.{ExpirationEntry}
@@ -41,7 +41,7 @@ lifeIn task block tasks global xs =
       global = most (unitsOn (leftGlobal global) block) xs;
     }
 
--- neither figure is above what an expiration can have: 31 ticks, 32 advances
+-- neither figure is above what an expiration can have, whatever the figures
 pub record LifeWithin (life : Life) : Type 0 where
-  pub local : life .local ≤ limits .extension + 1
-  pub global : life .global ≤ limits .extension + 2
+  pub local : life .local ≤ capacity .extension + 1
+  pub global : life .global ≤ capacity .extension + 2

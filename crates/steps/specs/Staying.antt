@@ -9,6 +9,8 @@ use Rattle.record.specs.WellFormed.{isWellFormed}
 
 -- O29: a block that has afterwards a handle which was already given has the handle and the length that it had. The block of a new handle is left open.
 pub record Stays (p p′ : Tables) : Type 0 where
+  -- C2: the figures too
+  pub limits : p′ .limits ≡ p .limits
   pub given : p .given ≤ p′ .given
   pub same : (block : ℕ) → 0 < getD (p′ .blocks) block freeBlock .handle → getD (p′ .blocks) block freeBlock .handle ≤ p .given
       → (getD (p′ .blocks) block freeBlock .handle ≡ getD (p .blocks) block freeBlock .handle)

@@ -1,7 +1,7 @@
 -- What report counts of a record.
 use lib.ListN.{take, drop}
 use Rattle.lists.specs.Tests.{count}
-use Rattle.ledger.specs.Limits.{limits}
+use Rattle.ledger.specs.Limits.{capacity}
 use Rattle.ledger.specs.declared.Usage.{Usage}
 use Rattle.record.specs.WellFormed.{isUsed}
 use Rattle.record.specs.Tables.{Tables}
@@ -11,8 +11,8 @@ use Rattle.steps.specs.Objects.{standingIn}
 unfoldable pub usageOf : Tables → Usage
 usageOf p =
     record {
-      small = count isUsed (take (limits .smallBlocks) (p .blocks));
-      large = count isUsed (drop (limits .smallBlocks) (p .blocks));
+      small = count isUsed (take (capacity .small) (p .blocks));
+      large = count isUsed (drop (capacity .small) (p .blocks));
       expirations = standingIn (p .expirations);
       given = p .given;
     }

@@ -10,10 +10,10 @@ use lib.Seq.{take-take}
 use Rattle.lists.specs.Blocks.{blockOf, overwritten, BlockChanged}
 use Rattle.lists.proofs.Blocks.{block-change, take-new, take-replicate}
 use Rattle.lists.proofs.Cases.{by-test}
-use Rattle.ledger.specs.Limits.{limits}
+use Rattle.ledger.specs.Limits.{capacity}
 use Rattle.record.specs.Reading.{isSmallBlock, blockBytes, sizeOf}
 use Rattle.stores.specs.Places.{storeOf, indexOf, startOf, InBlock, smallAfter, largeAfter}
-use Rattle.stores.proofs.Places.{countOf, index-within, store-size, part-bytes}
+use Rattle.stores.proofs.Places.{part-bytes, first-bytes}
 
 -- new bytes at an offset in a block: that block's first bytes have them, and those of every other block are as they were
 pub record BytesChanged (small large small′ large′ : List ℕ) (block offset : ℕ) (new : List ℕ) : Type 0 where
@@ -38,7 +38,7 @@ bytes-of {small} {large} {block} {count} p =
 one-place : (a b : ℕ) → isSmallBlock a ≡ isSmallBlock b → indexOf a ≡ indexOf b → a ≡ b
 unfolding indexOf
 one-place a b e i =
-    let first = limits .smallBlocks in
+    let first = capacity .small in
     by-test (isSmallBlock b)
     (λ t. rw (e ∙ t, t) at i)
     (λ t. let same : a - first ≡ b - first = rw (e ∙ t, t) at i in omega (arith, ltb-false a first (e ∙ t), ltb-false b first t))
@@ -54,7 +54,7 @@ module _ {small large : List ℕ} {block : ℕ} (offset : ℕ) (new : List ℕ) 
   unfolding smallAfter largeAfter startOf
   changed =
       let store = storeOf small large block in
-      let c = block-change (countOf block) (sizeOf block) (indexOf block) offset new store (store-size p) (index-within p) (p .within) in
+      let c = block-change (p .blocks) (sizeOf block) (indexOf block) offset new store (p .whole) (p .among) (p .within) in
       by-test (isSmallBlock block) (λ e. rw e (rw e at c)) (λ e. rw e (rw e at c))
 
   small-kept : length small′ ≡ length small
@@ -65,12 +65,17 @@ module _ {small large : List ℕ} {block : ℕ} (offset : ℕ) (new : List ℕ) 
   unfolding largeAfter
   large-kept = by-test (isSmallBlock block) (λ e. rw e) (λ e. rw e (rw e at (changed .size)))
 
+  store-kept : (other : ℕ) → length (storeOf small′ large′ other) ≡ length (storeOf small large other)
+  store-kept other = by-test (isSmallBlock other) (λ e. rw e small-kept) (λ e. rw e large-kept)
+
   in-block : {other count : ℕ} → InBlock small large other count → InBlock small′ large′ other count
-  in-block q =
+  in-block {other} q =
       record {
         known = q .known;
-        small-whole = rw small-kept (q .small-whole);
-        large-whole = rw large-kept (q .large-whole);
+        blocks = q .blocks;
+        whole = store-kept other ∙ q .whole;
+        few = q .few;
+        among = q .among;
         within = q .within;
       }
 
@@ -102,7 +107,6 @@ pub bytes-cleared : {small large : List ℕ} {block count : ℕ} → InBlock sma
 bytes-cleared {small} {large} {block} {count} q =
     let zeros : List ℕ = replicate (sizeOf block) 0 in
     let w : 0 + length zeros ≤ sizeOf block = simp length-replicate (omega arith) in
-    let p : InBlock small large block (0 + length zeros) =
-    record { known = q .known; small-whole = q .small-whole; large-whole = q .large-whole; within = w } in
+    let p : InBlock small large block (0 + length zeros) = first-bytes q (0 + length zeros) w in
     rw (bytes-of (in-block 0 zeros p q), changed 0 zeros p .block, take-new count zeros _ (simp length-replicate (q .within)))
     (take-replicate count (sizeOf block) 0 (q .within))

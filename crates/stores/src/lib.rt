@@ -5,16 +5,15 @@ ghost use Prim.Native.Nat.{_+_, _≤_, _<_};
 ghost use lib.ListN.{length, take, drop, replicate};
 ghost use Rattle.lists.specs.Blocks.{overwritten};
 ghost use Rattle.record.specs.Reading.{blockBytes, sizeOf};
-ghost use Rattle.stores.specs.Places.{blockCount, startOf, InBlock, smallAfter, largeAfter};
-use ledger::LIMITS;
+ghost use Rattle.record.specs.Tables.{blockEntries};
+ghost use Rattle.stores.specs.Places.{startOf, InBlock, smallAfter, largeAfter};
+use record::SMALL_COUNT;
 pub use sums::block_sum;
 pub use sums::sum_after;
 
 mod sums;
 
-// The blocks of the small store, the bytes of a small and of a large block.
-const SMALL_BLOCKS: usize = LIMITS.small_blocks;
-
+// The bytes of a small and of a large block.
 pub const SMALL_SIZE: usize = ledger::SMALL_SIZE as usize;
 
 pub const LARGE_SIZE: usize = ledger::LARGE_SIZE as usize;
@@ -106,13 +105,13 @@ pub fn write_block(store: &mut [u8], at: usize, bytes: &[u8])
 
 // Where a block starts in its store.
 pub fn block_start(block: usize) -> usize
-    requires { ⌜ block < blockCount ⌝ }
+    requires { ⌜ block < blockEntries ⌝ }
     ensures { λ r. ⌜ r ≡ startOf block ⌝ }
 {
-    if block < SMALL_BLOCKS {
+    if block < SMALL_COUNT {
         block * SMALL_SIZE
     } else {
-        (block - SMALL_BLOCKS) * LARGE_SIZE
+        (block - SMALL_COUNT) * LARGE_SIZE
     }
 }
 
@@ -120,7 +119,7 @@ pub fn block_start(block: usize) -> usize
 fn block_size(block: usize) -> usize
     ensures { λ r. ⌜ r ≡ sizeOf block ⌝ }
 {
-    if block < SMALL_BLOCKS {
+    if block < SMALL_COUNT {
         SMALL_SIZE
     } else {
         LARGE_SIZE
@@ -142,7 +141,7 @@ pub fn block_part<'a>(small: &'a [u8], large: &'a [u8], block: usize, length: us
     ensures { λ r. ⌜ now r ≡ blockBytes (now (small .entry)) (now (large .entry)) block length ⌝ }
 {
     let start = block_start(block);
-    if block < SMALL_BLOCKS {
+    if block < SMALL_COUNT {
         part_of(small, start, length)
     } else {
         part_of(large, start, length)
@@ -162,7 +161,7 @@ pub fn clear_place(small: &mut [u8], large: &mut [u8], block: usize)
     ensures { λ _. ⌜ (now (small .exit) ≡ smallAfter block 0 (replicate (sizeOf block) 0) (now (small .entry))) × (now (large .exit) ≡ largeAfter block 0 (replicate (sizeOf block) 0) (now (large .entry))) ⌝ }
 {
     let start = block_start(block);
-    if block < SMALL_BLOCKS {
+    if block < SMALL_COUNT {
         clear_block(small, start, SMALL_SIZE);
         return;
     }
@@ -175,7 +174,7 @@ pub fn write_place(small: &mut [u8], large: &mut [u8], block: usize, offset: usi
     ensures { λ _. ⌜ (now (small .exit) ≡ smallAfter block offset (now (bytes .entry)) (now (small .entry))) × (now (large .exit) ≡ largeAfter block offset (now (bytes .entry)) (now (large .entry))) ⌝ }
 {
     let at = block_start(block) + offset;
-    if block < SMALL_BLOCKS {
+    if block < SMALL_COUNT {
         write_block(small, at, bytes);
         return;
     }

@@ -6,12 +6,12 @@ ghost use Rattle.lists.specs.Sums.{total};
 ghost use Rattle.ledger.specs.Limits.{largeSize};
 ghost use Rattle.record.specs.Reading.{blockBytes, sizeOf};
 ghost use Rattle.stores.specs.Places.{InBlock, mostSum, sumAt, sumAfter};
-use super::SMALL_BLOCKS;
 use super::TURN;
 use super::block_size;
 use super::block_start;
 use super::part_of;
 use super::read_turn;
+use record::SMALL_COUNT;
 
 // A turn's eight bytes, each added to the sum of its place among the eight: a machine may add them as one. No sum of a place is larger than a block's.
 fn add_turn(sums: [u16; TURN], turn: [u8; TURN]) -> [u16; TURN]
@@ -71,7 +71,7 @@ fn part_sum(small: &[u8], large: &[u8], block: usize, offset: usize, count: usiz
     ensures { λ r. ⌜ r ≡ total (take count (drop offset (blockBytes (now (small .entry)) (now (large .entry)) block (sizeOf block)))) ⌝ }
 {
     let at = block_start(block) + offset;
-    if block < SMALL_BLOCKS {
+    if block < SMALL_COUNT {
         sum_of(part_of(small, at, count))
     } else {
         sum_of(part_of(large, at, count))

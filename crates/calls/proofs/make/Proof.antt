@@ -9,6 +9,7 @@ use Rattle.record.specs.Tables.{blockEntries, expirationEntries}
 use Rattle.objects.specs.Outcomes.{makePlan}
 use Rattle.steps.specs.Objects.{freePlaceIn}
 use Rattle.expirations.specs.Standing.{standingOf}
+use Rattle.calls.proofs.Lent.{lent-allowed}
 use Rattle.calls.proofs.MakeLent.{make-refused-lent, make-may-set, make-clears, make-unspent, make-set-lent}
 use Rattle.calls.proofs.make.Statement.{statement}
 use Rattle.calls.proofs.make.Tie as tie
@@ -16,7 +17,7 @@ use Rattle.calls.proofs.make.Tie as tie
 -- the plan, by what stands
 planned : (p : tie.After-plan-make)
     → let a = p .before .before .before .before .before .before .args in
-    p .plan-make .result ≡ makePlan (a .task) (a .kind) (a .extension) (a .size) (a .h) (freePlaceIn (a .size) (a .handles .now)) (standingOf (a .clocks .now))
+    p .plan-make .result ≡ makePlan (a .task) (a .kind) (a .extension) (a .size) (a .h) (freePlaceIn (a .h .limits) (a .size) (a .handles .now)) (standingOf (a .clocks .now))
 planned p = rw (← p .before .standing .ensures) (p .plan-make .ensures)
 
 returns : tie.Need-returns
@@ -70,7 +71,7 @@ make-spec =
     tie.close
     (tie.spec
     (λ c κs. search needs)
-    (λ c κs. search needs)
+    (λ c κs. let s = c .before .before .before .before .before in (s .pre .0 .blocks .of-handles, lent-allowed _ _ _ _ _ _ (s .pre .1 .fit)))
     (λ c. search needs)
     (λ c. search needs)
     (λ c κs. search needs)

@@ -10,19 +10,19 @@ use Rattle.calls.proofs.schedule.Tie as tie
 returns : tie.Need-returns
 returns c =
     let planned = c .before .before .before .before .before in
-    let start = planned .before .before .before in
+    let start = planned .before .before .before .before in
     schedule-still (head-typed _ _ (start .good .0)) (start .pre .0) (start .pre .1) _ _ (planned .plan .ensures) (not-true _ (c .if1 .taken))
 
 end-requires : tie.Need-end-requires
 end-requires c κs =
     let planned = c .before .before .before .before .before .before .before .before in
-    let start = planned .before .before .before in
+    let start = planned .before .before .before .before in
     (ends-known _ _ _ _ (planned .plan .ensures) (not-false _ (c .before .before .before .if1 .left)), start .pre .0, start .pre .1)
 
 returns-2 : tie.Need-returns-2
 returns-2 c =
     let planned = c .before .before .before .before .before .before .before .before .before in
-    let start = planned .before .before .before in
+    let start = planned .before .before .before .before in
     schedule-ended (head-typed _ _ (start .good .0)) (start .pre .0) (start .pre .1) _ _ (planned .plan .ensures) (not-false _ (c .before .before .before .before .if1 .left))
     (c .end .ensures)
 

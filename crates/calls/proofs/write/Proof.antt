@@ -17,7 +17,7 @@ start c = c .before .before .before .before .before .before .before
 find-for-write-requires : tie.Need-find-for-write-requires
 find-for-write-requires c κs =
     let s = c .before .before .before .before .before .before in
-    let (small-whole, large-whole) = halves (s .args .small .now) (s .args .large .now) (s .pre .1 .whole refl) in
+    let (small-whole, large-whole) = halves (s .args .h .limits) (s .args .small .now) (s .args .large .now) (s .pre .1 .whole refl) in
     (s .pre .0, lent-fits _ _ _ _ _ _ (s .pre .1 .fit), small-whole, large-whole)
 
 sum-after-requires : tie.Need-sum-after-requires

@@ -23,7 +23,7 @@ find-for-read-requires : tie.Need-find-for-read-requires
 find-for-read-requires c κs =
     let told = c .before .before .before .before .before .before .before .before in
     let s = start (told .before .before) in
-    let (small-whole, large-whole) = halves (s .args .small .now) (s .args .large .now) (ready-for (s .pre .1) (ap Use (told .call4 .given .1)) .whole refl) in
+    let (small-whole, large-whole) = halves (s .args .h .limits) (s .args .small .now) (s .args .large .now) (ready-for (s .pre .1) (ap Use (told .call4 .given .1)) .whole refl) in
     (s .pre .0, lent-fits _ _ _ _ _ _ (s .pre .1 .fit), small-whole, large-whole)
 
 write-requires : tie.Need-write-requires

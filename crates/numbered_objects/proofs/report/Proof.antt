@@ -29,6 +29,6 @@ report-spec =
     (λ c κs. columns-sized (c .before .before .before .before .before .before .before .args .t1) _ (c .before .before .before .before .before .before .before .good .0))
     (λ c κs. search needs)
     returns
-    (λ c κs. search needs)
-    (λ c κs. search needs)
+    (λ c κs. let s = c .before .before .before .before .before .before .before .before .before .before .before in columns-sized (s .args .t1) _ (s .good .0) .entries .of-clocks)
+    (λ c κs. let s = c .before .before .before .before .before .before .before .before .before .before .before .before .before .before in columns-sized (s .args .t1) _ (s .good .0) .blocks .of-handles)
     returns-2)

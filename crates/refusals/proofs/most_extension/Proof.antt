@@ -1,6 +1,5 @@
 -- Kind by kind.
 use borrow.Author.Needs.{needs}
-use Rattle.ledger.proofs.Figures.{at-capacity}
 use Rattle.refusals.proofs.most_extension.Statement.{statement}
 use Rattle.refusals.proofs.most_extension.Tie as tie
 
@@ -11,6 +10,6 @@ most-extension-spec =
     (λ c. search needs)
     (λ c. search needs)
     (λ c. search needs)
-    (λ c. rw (c .enum-told .given .1, at-capacity))
-    (λ c. rw (c .enum-told2 .given .1, at-capacity))
+    (λ c. rw (c .enum-told .given .1))
+    (λ c. rw (c .enum-told2 .given .1))
     (λ c. rw (c .enum-told3 .given .1)))

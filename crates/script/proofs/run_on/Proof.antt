@@ -98,7 +98,7 @@ loop-again-2 c =
     )
 
 returns : tie.Need-returns Inv-loop μ-loop
-returns c = run-ends (c .before .before .before .loop .inv .0) (c .before .before .loop-test .left)
+returns c = run-ends (c .before .before .before .before .loop .inv .0) (c .before .before .before .loop-test .left)
 
 pub run-on-spec : {M : Type 1} → statement M
 run-on-spec =
@@ -124,7 +124,7 @@ run-on-spec =
     show-requires
     (λ c. nears (c .before .before .before .before .before .before .before .before .before .before .before .before .before .before .before .before .before .before .before .before .before .before .before .before))
     loop-again-2
-    (λ c. search needs)
-    (λ c. search needs)
-    (λ c. search needs)
+    (λ c. c .before .before .before .before .loop .inv .0 .stores .0)
+    (λ c. c .before .before .before .before .loop .inv .0 .stores .1)
+    (λ c. c .before .before .before .before .loop .inv .0 .size)
     returns)

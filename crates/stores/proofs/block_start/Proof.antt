@@ -1,11 +1,9 @@
 -- By the one test.
 use native.Mathlib.Omega.{arith}
 use borrow.Author.Needs.{needs}
-use Rattle.ledger.proofs.Figures.{at-capacity}
 use Rattle.record.proofs.Figures.{small-block, large-block}
 use Rattle.record.specs.Reading.{sizeOf}
 use Rattle.stores.specs.Places.{indexOf, startOf}
-use Rattle.stores.proofs.Places.{blocks-listed}
 use Rattle.stores.proofs.block_start.Statement.{statement}
 use Rattle.stores.proofs.block_start.Tie as tie
 
@@ -15,6 +13,6 @@ block-start-spec =
     tie.close
     (tie.spec
     (λ c. search needs)
-    (λ c. omega (arith, blocks-listed))
+    (λ c. omega arith)
     (λ c. rw (small-block (c .if1 .taken)))
-    (λ c. rw (large-block (c .if1 .left), at-capacity)))
+    (λ c. rw (large-block (c .if1 .left))))

@@ -15,9 +15,9 @@ returns c =
     record {
       so = λ named n.
           c .all-within .ensures .so named n
-          ∙ all-timely (head-typed (s .args .h) _ (s .good .0)) (firsts .firsts .ensures) (units .units .ensures)
+          ∙ all-timely (head-typed (s .args .h) _ (s .good .0)) (firsts .firsts .ensures) (units .units .ensures) (s .pre .1)
           (entriesOf (s .args .clocks .now) named (s .args .dues .now))
-          (dues-below (s .args .clocks .now) named (s .args .dues .now) (s .pre .codes .size) n (s .pre .of-dues) (c .all-within .ensures .below));
+          (dues-below (s .args .clocks .now) named (s .args .dues .now) (s .pre .0 .codes .size) n (s .pre .0 .of-dues) (c .all-within .ensures .below));
     }
 
 pub all-timely-spec : {M : Type 1} → statement M

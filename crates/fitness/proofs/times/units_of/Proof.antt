@@ -1,6 +1,7 @@
--- By the one test.
+-- By the state: 0, 1 or 2.
+use native.Mathlib.Omega.{arith}
 use borrow.Author.Needs.{needs}
-use mathlib.Core.Path.{sym, _∙_}
+use Rattle.fitness.proofs.Within.{share, share-below}
 use Rattle.fitness.proofs.times.units_of.Statement.{statement}
 use Rattle.fitness.proofs.times.units_of.Tie as tie
 
@@ -8,6 +9,7 @@ pub units-of-spec : {M : Type 1} → statement M
 units-of-spec =
     tie.close
     (tie.spec
-    (λ c κs. search needs)
-    (λ c. rw (sym (c .before .is-absent .ensures) ∙ c .if1 .taken))
-    (λ c. rw (sym (c .before .is-absent .ensures) ∙ c .if1 .left)))
+    (λ c. omega arith)
+    (λ c. record { fits = share-below _ _ (c .pre .0) (c .pre .1) })
+    (λ c. omega (arith, share-below _ (c .args .state) (c .pre .0) (c .pre .1)))
+    (λ c. share _ _ (c .pre .0)))

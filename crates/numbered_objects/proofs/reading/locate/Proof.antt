@@ -28,29 +28,29 @@ returns c =
 
 returns-2 : tie.Need-returns-2
 returns-2 c =
-    let tested = c .before .before .before in
+    let tested = c .before .before .before .before in
     let fits = fits-by-value (start tested .args .t1) (made tested .head-of .ensures) (tested .is-well-formed .ensures) in
-    refused-locates _ _ _ _ _ _ (wrong-obeys fits (c .before .before .if1 .left) refl (c .before .are-whole .ensures) (c .if2 .taken))
+    refused-locates _ _ _ _ _ _ (wrong-obeys fits (c .before .before .before .if1 .left) refl (c .before .are-whole .ensures) (c .if2 .taken))
 
 -- neither 15 nor 14
-passed : (t : tie.Else2) → (let a = start (t .before .before .before) .args in Ready (Use (Read (a .task) (a .handle))) (a .t1) (a .small .now) (a .large .now))
+passed : (t : tie.Else2) → (let a = start (t .before .before .before .before) .args in Ready (Use (Read (a .task) (a .handle))) (a .t1) (a .small .now) (a .large .now))
 passed t =
-    let tested = t .before .before .before in
+    let tested = t .before .before .before .before in
     let fits = fits-by-value (start tested .args .t1) (made tested .head-of .ensures) (tested .is-well-formed .ensures) in
-    ready fits (t .before .before .if1 .left) refl (t .before .are-whole .ensures) (t .if2 .left)
+    ready fits (t .before .before .before .if1 .left) refl (t .before .are-whole .ensures) (t .if2 .left)
 
 find-for-read-requires : tie.Need-find-for-read-requires
 find-for-read-requires c κs =
     let whole = c .before .before .before .before .before .before in
-    let tested = whole .before .before .before in
+    let tested = whole .before .before .before .before in
     let s = start tested in
-    let (small-whole, large-whole) = halves (s .args .small .now) (s .args .large .now) (passed whole .whole refl) in
-    (columns-sized (s .args .t1) _ (s .good .0), sym (tested .is-well-formed .ensures) ∙ not-false _ (whole .before .before .if1 .left), small-whole, large-whole)
+    let (small-whole, large-whole) = halves (s .args .t1 .limits) (s .args .small .now) (s .args .large .now) (passed whole .whole refl) in
+    (columns-sized (s .args .t1) _ (s .good .0), sym (tested .is-well-formed .ensures) ∙ not-false _ (whole .before .before .before .if1 .left), rw (made tested .head-of .ensures) small-whole, rw (made tested .head-of .ensures) large-whole)
 
 returns-3 : tie.Need-returns-3
 returns-3 c =
     let whole = c .before .before .before .before .before .before .before in
-    let tested = whole .before .before .before in
+    let tested = whole .before .before .before .before in
     let s = start tested in
     located-by-value (s .args .t1) (made tested .head-of .ensures) (head-typed (s .args .t1) _ (s .good .0)) (columns-sized (s .args .t1) _ (s .good .0)) _ _ (passed whole) (c .find-for-read .ensures)
 

@@ -16,7 +16,7 @@ plan-batch-spec =
     (λ c κs.
     let tested = c .before .before in
     let start = tested .before .before .before in
-    (start .pre, batch-fits (start .args .task) (start .args .kind) (start .args .extension) (start .args .h .tasks) _ (sym (tested .batch-call-verdict .ensures) ∙ c .enum-told .given .1)))
+    (start .pre, batch-fits (start .args .h .limits) (start .args .task) (start .args .kind) (start .args .extension) (start .args .h .tasks) _ (sym (tested .batch-call-verdict .ensures) ∙ c .enum-told .given .1)))
     (λ c. search needs)
     (λ c κs. search needs)
     (λ c. plan-refused _ _ _ _ _ _ _ (handles-count _) (sym (c .before .before .before .batch-call-verdict .ensures) ∙ c .before .why .given .1))

@@ -14,8 +14,8 @@ use Rattle.ledger.specs.declared.Verdict.{Verdict}
 use Rattle.ledger.specs.declared.Verdict.the-variants.{Accepted, Refused}
 use Rattle.record.specs.Codes.{freeBlock}
 use Rattle.record.specs.Tables.{BlockEntry, Tables, lent, blockEntries}
-use Rattle.stores.specs.Places.{sumAt}
-use Rattle.stores.proofs.Places.{all-blocks}
+use Rattle.record.specs.Reading.{sizeOf}
+use Rattle.stores.specs.Places.{InBlock, sumAt}
 use Rattle.steps.specs.Objects.{placeOf, andThen, standingVerdict, sumVerdict, readVerdict}
 use Rattle.objects.specs.Outcomes.{foundBy, bytesBy}
 use Rattle.objects.specs.declared.Found.{Found}
@@ -24,7 +24,7 @@ use Rattle.objects.specs.declared.Found.the-variants.{Refused as Refused
 use Rattle.objects.specs.declared.FoundBytes.{FoundBytes}
 use Rattle.objects.specs.declared.FoundBytes.the-variants.{At as AtBytes}
 use Rattle.objects.specs.declared.FoundBytes.the-variants.{Refused as RefusedBytes}
-use Rattle.objects.proofs.Outcomes.{found-accepted, standing-listed, entry-at}
+use Rattle.objects.proofs.Outcomes.{found-accepted, standing-listed, standing-block, entry-at}
 use Rattle.objects.proofs.finding.find_for_read.Statement.{statement}
 use Rattle.objects.proofs.finding.find_for_read.Tie as tie
 
@@ -70,9 +70,11 @@ listed c =
 
 block-sum-requires : tie.Need-block-sum-requires
 block-sum-requires c κs =
-    let known = listed (c .before .before) in
-    let start = c .before .before .before .before .before .before .before .before in
-    record { known = omega (arith, all-blocks); small-whole = start .pre .2; large-whole = start .pre .3; within = omega arith }
+    let stood = c .before .before .before .before .before in
+    let start = stood .before .before .before in
+    let a = start .args in
+    let (v, place) = found-accepted false (a .task) (a .handle) (tables start) (standingVerdict (a .task) (a .handle) (tables start)) (sym (stood .find-standing .ensures) ∙ c .before .before .before .block .given .1) in
+    rw place at (standing-block (a .h) {small = a .small .now} {large = a .large .now} (start .pre .0) (a .task) (a .handle) (start .pre .1) (start .pre .2) (start .pre .3) v)
 
 -- the sum in its entry
 sum-of : (c : tie.After-sum-in)
