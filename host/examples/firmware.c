@@ -1,6 +1,6 @@
 /*
- * A superloop of three tasks, as firmware has it: no malloc, no stdio, and its pool is static. examples/firmware is the
- * same in Rust.
+ * A superloop of three tasks, as firmware has it: no malloc, no stdio, and its pool is static and no larger than it has to
+ * be. examples/firmware is the same in Rust.
  *
  * One task measures the water level each turn. The sensor of another takes its time over the rain, so that this task
  * blocks until it is ready. The radio sends both. Nobody frees anything: when the rain's sensor is late, its last
@@ -16,9 +16,11 @@
 
 enum { LEVEL = 0, RAIN = 1, RADIO = 2, TASKS = 3, TURNS = 12, LENGTH = 2 };
 
-/* All the memory that the program has for readings, and the newest of each sensor. */
+/* All the memory that the program has for readings, and the newest of each sensor. Four readings are in use at most; of
+ * large blocks, which it does not use, a pool has one at least. */
+enum { SMALL_BLOCKS = 8, LARGE_BLOCKS = 1, EXPIRATIONS = 16, EXTENSION = 3 };
 static ramsummer_pool pool;
-static uint8_t small[RAMSUMMER_SMALL], large[RAMSUMMER_LARGE];
+static uint8_t small[RAMSUMMER_SMALL_FOR(SMALL_BLOCKS)], large[RAMSUMMER_LARGE_FOR(LARGE_BLOCKS)];
 static uint32_t newest[2];
 
 /* A pool's record and stores, as make, read and write take them. */
@@ -108,7 +110,7 @@ static uint8_t send(unsigned turn) {
 
 /* All tasks join, and the rain's sensor begins. */
 static uint8_t start(void) {
-    uint8_t refusal = ramsummer_fresh(&pool), advanced, task;
+    uint8_t refusal = ramsummer_fresh_sized(&pool, SMALL_BLOCKS, LARGE_BLOCKS, EXPIRATIONS, EXTENSION), advanced, task;
     for (task = 0; task < TASKS && !refusal; task++) refusal = ramsummer_join(&pool, task);
     if (!refusal) refusal = ramsummer_block(&pool, RAIN, &advanced);
     return refusal;

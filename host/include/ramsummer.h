@@ -8,7 +8,8 @@
  * All the rest is tested: any record, any bytes and any number may be passed, and what is wrong is refused. A task, a
  * kind, an extension, a length and an offset may be any unsigned or int: the types below are the library's own, and a
  * number that they cannot hold is refused as too large, and not cut (ramsummer_wide.h, which is included at the end).
- * But a task, a kind, an extension or a handle of 64 bits is cut to 32 before the call, and -Wconversion says so.
+ * But a task, a kind, an extension or a handle of 64 bits is cut to 32 before the call, and -Wconversion says so; the
+ * limits of ramsummer_fresh_sized are not.
  *
  * No call takes a const record. Read, report, remaining and awaited are proved to leave it as it was; but every entry of
  * the library is lent the record for itself alone (`&mut` in the proved source), so that it must not lie in read-only
@@ -19,8 +20,9 @@
  * out in the sum.
  *
  * Each call returns 0 where it was carried out, else the number of its refusal (enum ramsummer_answer). After a
- * refusal the pool, the stores and what the pointers lead to are as before; ramsummer_frame alone also writes the
- * answer line of a refusal. Of what is wrong with a call the first is told, in the order that stands at each call.
+ * refusal the pool, the stores and what the pointers lead to are as before; but ramsummer_frame also writes the answer
+ * line of a refusal, and 29 leaves a record that is not well-formed. Of what is wrong with a call the first is told, in
+ * the order that stands at each call.
  */
 #ifndef RAMSUMMER_H
 #define RAMSUMMER_H
@@ -32,19 +34,29 @@
 extern "C" {
 #endif
 
-/* Sizes in bytes. */
-#define RAMSUMMER_SMALL 2048  /* the small store: 64 blocks of 32, for objects of 1 to 32 bytes */
-#define RAMSUMMER_LARGE 8192  /* the large store: 32 blocks of 256, for objects of 33 to 256 bytes */
-#define RAMSUMMER_LONGEST 256 /* the longest object: room for any read */
-#define RAMSUMMER_LINE 531    /* the room that ramsummer_frame asks for; an answer line has at most 515 bytes */
-#define RAMSUMMER_RECORD 2440 /* the record, ramsummer_pool */
+/* The largest limits that a pool may have (ramsummer_limits), and those of ramsummer_fresh. */
+#define RAMSUMMER_SMALL_BLOCKS 64  /* blocks of the small store */
+#define RAMSUMMER_LARGE_BLOCKS 32  /* blocks of the large store */
+#define RAMSUMMER_EXPIRATIONS 256  /* expirations that stand at a time, in all */
+#define RAMSUMMER_MAX_EXTENSION 30 /* the extension of an expiration; one that is pinned has 0 */
 
-/* Counts. */
+/* Other counts. */
 #define RAMSUMMER_TASKS 16         /* tasks are 0 to 15 */
-#define RAMSUMMER_STORE_BLOCKS 96  /* 64 of the small store, then 32 of the large one */
-#define RAMSUMMER_EXPIRATIONS 256  /* as many stand at most, in all */
-#define RAMSUMMER_MAX_EXTENSION 30 /* the longest extension of an expiration; one that is pinned has 0 */
+#define RAMSUMMER_STORE_BLOCKS 96  /* entries of the record: 64 for the small store, then 32 for the large one */
 #define RAMSUMMER_LARGEST_BATCH 32 /* the most objects that one call refreshes */
+
+/* Sizes in bytes. */
+#define RAMSUMMER_SMALL_SIZE 32  /* a block of the small store, for objects of 1 to 32 bytes */
+#define RAMSUMMER_LARGE_SIZE 256 /* a block of the large store, for objects of 33 to 256 bytes */
+#define RAMSUMMER_LONGEST 256    /* the longest object: room for any read */
+#define RAMSUMMER_LINE 531       /* the room that ramsummer_frame asks for; an answer line has at most 515 bytes */
+#define RAMSUMMER_RECORD 2456    /* the record, ramsummer_pool */
+
+/* The stores of a pool with so many blocks, as the calls ask for them; and those of ramsummer_fresh, 2,048 and 8,192. */
+#define RAMSUMMER_SMALL_FOR(blocks) ((blocks)*RAMSUMMER_SMALL_SIZE)
+#define RAMSUMMER_LARGE_FOR(blocks) ((blocks)*RAMSUMMER_LARGE_SIZE)
+#define RAMSUMMER_SMALL RAMSUMMER_SMALL_FOR(RAMSUMMER_SMALL_BLOCKS)
+#define RAMSUMMER_LARGE RAMSUMMER_LARGE_FOR(RAMSUMMER_LARGE_BLOCKS)
 
 /* By which time an expiration is due, if by any. */
 enum ramsummer_kind {
@@ -62,15 +74,15 @@ enum ramsummer_answer {
     RAMSUMMER_TASK_ABSENT = 3,          /* the task has not joined */
     RAMSUMMER_TASK_WAITING = 4,         /* the task waits: it has not resumed */
     RAMSUMMER_TASK_RUNNING = 5,         /* resume: the task is running */
-    RAMSUMMER_EXTENSION_TOO_LONG = 6,   /* extension above 30, or above 0 where the kind is pinned */
+    RAMSUMMER_EXTENSION_TOO_LONG = 6,   /* extension above the pool's limit, or above 0 where the kind is pinned */
     RAMSUMMER_LENGTH_OUT_OF_RANGE = 7,  /* length 0 or above 256 */
     RAMSUMMER_HANDLES_SPENT = 8,        /* all 4,294,967,295 handles are given */
     RAMSUMMER_NO_FREE_BLOCK = 9,        /* no free block in the store for this length */
-    RAMSUMMER_NO_FREE_EXPIRATION = 10,  /* 256 expirations stand, or a batch would make them more */
+    RAMSUMMER_NO_FREE_EXPIRATION = 10,  /* as many stand as the pool's limit, or a batch would make them more */
     RAMSUMMER_HANDLE_NOT_GIVEN = 11,    /* handle 0, or above the count given */
     RAMSUMMER_OBJECT_GONE = 12,         /* the object's last expiration has ended */
     RAMSUMMER_OUTSIDE_OBJECT = 13,      /* write: offset plus count above the object's length */
-    RAMSUMMER_WRONG_STORE_LENGTH = 14,  /* a store is not RAMSUMMER_SMALL or RAMSUMMER_LARGE long */
+    RAMSUMMER_WRONG_STORE_LENGTH = 14,  /* a store is not as long as the pool's blocks need */
     RAMSUMMER_NOT_WELL_FORMED = 15,     /* the record is damaged; only 16 to 19 and a frame's 255 are tested before */
     RAMSUMMER_NOT_HEXADECIMAL = 16,     /* frame: not all pairs of digits 0-9, A-F */
     RAMSUMMER_UNKNOWN_OPERATION = 17,   /* frame: no or an unknown operation */
@@ -80,6 +92,7 @@ enum ramsummer_answer {
     RAMSUMMER_ONLY_MAKE_PINS = 21,      /* a refresh or a batch of kind pinned */
     RAMSUMMER_NOT_PINNED = 22,          /* release: the object stands, and is not pinned, or no longer */
     RAMSUMMER_SUM_DIFFERS = 23,         /* read, write: the bytes of the object's block were changed from outside */
+    RAMSUMMER_LIMITS_OUT_OF_RANGE = 29, /* fresh_sized: a limit is out of its range */
     RAMSUMMER_BUFFER_TOO_SHORT = 255    /* read, frame: no room for the answer */
 };
 
@@ -98,19 +111,29 @@ typedef struct ramsummer_task_entry {
     uint32_t clock;
 } ramsummer_task_entry;
 
+/* How much a pool holds, and for how long: chosen when it is made (ramsummer_fresh_sized), and changed by no call. */
+typedef struct ramsummer_limits {
+    uint32_t small_blocks; /* blocks of the small store, 1 to 64 */
+    uint32_t large_blocks; /* blocks of the large store, 1 to 32 */
+    uint32_t expirations;  /* expirations that stand at a time, 1 to 256 */
+    uint32_t extension;    /* the longest extension, 0 to 30 */
+} ramsummer_limits;
+
 /*
- * The record of a pool. A fresh one is all zeros.
+ * The record of a pool. A fresh one is all zeros but for its limits; all zeros are none, and refused with 15.
  *
- * Store block i has the object handles[i]; handle 0 is a free one. The low 16 bits of extents[i] are the object's length,
- * the high 16 the sum of all bytes of its block, 32 or 256 of them. Expiration i belongs to the object in store block
- * named[i], and is due when the clock clocks[i] (enum ramsummer_clock) reads dues[i]. The other fields of a free one of
- * either have no meaning and may hold anything.
+ * Store block i has the object handles[i]; handle 0 is a free one. In every pool the small store's blocks are numbered
+ * from 0 on, the large one's from RAMSUMMER_SMALL_BLOCKS on. The low 16 bits of extents[i] are the object's length, the
+ * high 16 the sum of all bytes of its block, 32 or 256 of them. Expiration i, below limits.expirations, belongs to the
+ * object in store block named[i], and is due when the clock clocks[i] (enum ramsummer_clock) reads dues[i]. The other
+ * fields of a free one of either have no meaning and may hold anything.
  */
 typedef struct ramsummer_pool {
     ramsummer_task_entry tasks[RAMSUMMER_TASKS];
     uint32_t global;                          /* global time */
     uint32_t given;                           /* handles given so far */
-    uint32_t handles[RAMSUMMER_STORE_BLOCKS]; /* those of the small store's blocks, then those of the large one's */
+    ramsummer_limits limits;
+    uint32_t handles[RAMSUMMER_STORE_BLOCKS];
     uint32_t extents[RAMSUMMER_STORE_BLOCKS];
     uint8_t clocks[RAMSUMMER_EXPIRATIONS];    /* in no order */
     uint8_t named[RAMSUMMER_EXPIRATIONS];
@@ -128,13 +151,18 @@ RAMSUMMER_ASSERT(sizeof(ramsummer_pool) == RAMSUMMER_RECORD);
 RAMSUMMER_ASSERT(sizeof(ramsummer_task_entry) == 8);
 RAMSUMMER_ASSERT(offsetof(ramsummer_task_entry, ticked) == 2);
 RAMSUMMER_ASSERT(offsetof(ramsummer_task_entry, clock) == 4);
+RAMSUMMER_ASSERT(sizeof(ramsummer_limits) == 16);
+RAMSUMMER_ASSERT(offsetof(ramsummer_limits, large_blocks) == 4);
+RAMSUMMER_ASSERT(offsetof(ramsummer_limits, expirations) == 8);
+RAMSUMMER_ASSERT(offsetof(ramsummer_limits, extension) == 12);
 RAMSUMMER_ASSERT(offsetof(ramsummer_pool, global) == 128);
 RAMSUMMER_ASSERT(offsetof(ramsummer_pool, given) == 132);
-RAMSUMMER_ASSERT(offsetof(ramsummer_pool, handles) == 136);
-RAMSUMMER_ASSERT(offsetof(ramsummer_pool, extents) == 520);
-RAMSUMMER_ASSERT(offsetof(ramsummer_pool, clocks) == 904);
-RAMSUMMER_ASSERT(offsetof(ramsummer_pool, named) == 1160);
-RAMSUMMER_ASSERT(offsetof(ramsummer_pool, dues) == 1416);
+RAMSUMMER_ASSERT(offsetof(ramsummer_pool, limits) == 136);
+RAMSUMMER_ASSERT(offsetof(ramsummer_pool, handles) == 152);
+RAMSUMMER_ASSERT(offsetof(ramsummer_pool, extents) == 536);
+RAMSUMMER_ASSERT(offsetof(ramsummer_pool, clocks) == 920);
+RAMSUMMER_ASSERT(offsetof(ramsummer_pool, named) == 1176);
+RAMSUMMER_ASSERT(offsetof(ramsummer_pool, dues) == 1432);
 #undef RAMSUMMER_ASSERT
 #endif
 
@@ -147,8 +175,15 @@ RAMSUMMER_ASSERT(offsetof(ramsummer_pool, dues) == 1416);
 #define RAMSUMMER_CHECKED
 #endif
 
-/* Makes the record that of a fresh pool, whatever it held. Always 0. The stores may hold any bytes. */
+/* Makes the record that of a fresh pool with the largest limits, whatever it held. Always 0. The stores may hold any
+ * bytes. */
 uint8_t ramsummer_fresh(ramsummer_pool *pool);
+
+/* The same with limits of the site's own; its stores are RAMSUMMER_SMALL_FOR(small_blocks) and
+ * RAMSUMMER_LARGE_FOR(large_blocks) long. Where one is out of its range, what is left is a record that every call refuses
+ * with 15 until it is made fresh. Tests 29. */
+RAMSUMMER_CHECKED uint8_t ramsummer_fresh_sized(ramsummer_pool *pool, uint32_t small_blocks, uint32_t large_blocks,
+                                                uint32_t expirations, uint32_t extension);
 
 /* Absent to running, with clock 0. Tests 15, 1, 2. */
 RAMSUMMER_CHECKED uint8_t ramsummer_join(ramsummer_pool *pool, uint8_t task);

@@ -1,12 +1,14 @@
 /*
- * Ramsummer: any int or unsigned for a task, a kind, an extension, a length or an offset. Included by ramsummer.h.
+ * Ramsummer: any int or unsigned for a task, a kind, an extension, a length or an offset, and any integer for a limit.
+ * Included by ramsummer.h.
  *
- * The library takes them in eight or sixteen bits, and C would cut an int to fit: task 256 would be task 0. So the name
- * of each call that takes one is here that of a function which takes the number as it comes. What the library's type
- * cannot hold it passes on as the largest number that it can, and that is refused with the same number, in the same
- * order of tests: 255 is no task, no kind and no extension, and 65,535 no length. A negative int comes as a large
- * unsigned. A task, a kind or an extension of 64 bits is cut to 32 before the call, and -Wconversion says so. Once
- * compiled it costs a comparison for an int, and nothing for a constant or a uint8_t.
+ * The library takes them in eight or sixteen bits, a limit in 32, and C would cut an int to fit: task 256 would be task 0.
+ * So the name of each call that takes one is here that of a function which takes the number as it comes. What the
+ * library's type cannot hold it passes on as the largest number that it can, and that is refused with the same number, in
+ * the same order of tests: 255 is no task, no kind and no extension, 65,535 no length and 4,294,967,295 no limit. A
+ * negative int comes as a large unsigned. A limit is taken in 64 bits and never cut. A task, a kind or an extension of 64
+ * bits is cut to 32 before the call, and -Wconversion says so. Once compiled it costs a comparison for an int, and nothing
+ * for a constant or a uint8_t.
  *
  * The names are macros without parameters: a call may take its first arguments from one macro of the author's, a pointer
  * to ramsummer_join is one to the function here, and a debugger that stops at ramsummer_join stops in the library.
@@ -20,6 +22,17 @@
 static inline uint8_t ramsummer_to_byte(size_t number) { return (uint8_t)(number > 0xFF ? 0xFF : number); }
 
 static inline uint16_t ramsummer_to_length(size_t number) { return (uint16_t)(number > 0xFFFF ? 0xFFFF : number); }
+
+static inline uint32_t ramsummer_to_limit(uint64_t number) {
+    return (uint32_t)(number > 0xFFFFFFFFu ? 0xFFFFFFFFu : number);
+}
+
+RAMSUMMER_CHECKED static inline uint8_t ramsummer_fresh_sized_wide(ramsummer_pool *pool, uint64_t small_blocks,
+                                                                   uint64_t large_blocks, uint64_t expirations,
+                                                                   uint64_t extension) {
+    return ramsummer_fresh_sized(pool, ramsummer_to_limit(small_blocks), ramsummer_to_limit(large_blocks),
+                                 ramsummer_to_limit(expirations), ramsummer_to_limit(extension));
+}
 
 RAMSUMMER_CHECKED static inline uint8_t ramsummer_join_wide(ramsummer_pool *pool, unsigned task) {
     return ramsummer_join(pool, ramsummer_to_byte(task));
@@ -90,6 +103,7 @@ RAMSUMMER_CHECKED static inline uint8_t ramsummer_remaining_wide(ramsummer_pool 
     return ramsummer_remaining(pool, ramsummer_to_byte(task), handle, local, global);
 }
 
+#define ramsummer_fresh_sized ramsummer_fresh_sized_wide
 #define ramsummer_join ramsummer_join_wide
 #define ramsummer_leave ramsummer_leave_wide
 #define ramsummer_block ramsummer_block_wide

@@ -7,11 +7,11 @@ use core::fmt;
 #[derive(Clone, Copy, Debug, Default, PartialEq, Eq)]
 #[non_exhaustive]
 pub struct Report {
-    /// Objects that stand in the small store, 64 at most.
+    /// Objects that stand in the small store, as many as it has blocks at most.
     pub small: u8,
-    /// Objects that stand in the large store, 32 at most.
+    /// Objects that stand in the large store, as many as it has blocks at most.
     pub large: u8,
-    /// Expirations that stand, 256 at most.
+    /// Expirations that stand, as many as the pool's [limit](crate::Limits) at most.
     pub expirations: u16,
     /// Handles given so far.
     pub given: u32,

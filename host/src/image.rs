@@ -8,25 +8,32 @@
 //! | 4 | [`MAGIC`] |
 //! | 4 | the layout's [`VERSION`] |
 //! | 4 | the length of the image in bytes, all of it |
-//! | 2,440 | the record, field by field in the order of [`Record`] |
-//! | 2,048 and 8,192 | the small store and the large one, where the image has them |
+//! | 2,456 | the record, field by field in the order of [`Record`] |
+//! | 32 and 256 | for each block of the small store and then of the large one, where the image has them |
 //! | 4 | CRC-32 of all bytes before it |
+//!
+//! The record has the [`Limits`] of the pool, which come back with it, and so says how long its stores are. An image comes
+//! back to stores of these lengths alone; an image of the record alone asks for none, and the first call that is lent others
+//! is refused with [`WrongStoreLength`](crate::Refusal::WrongStoreLength).
 //!
 //! include/ramsummer_image.h is the same in C. Nothing here is proved, and the library does not rely on it: what comes
 //! back is a record that the first call tests, as it does any other.
 //!
 //! ```
-//! use ramsummer::{image, Pool, Record, LARGE, SMALL};
+//! use ramsummer::{image, Limits, Pool, Record};
 //!
-//! let mut pool = Pool::over(Record::fresh(), [0; SMALL], [0; LARGE]);
+//! const LIMITS: Limits = Limits { small_blocks: 16, large_blocks: 4, expirations: 64, extension: 10 };
+//!
+//! let mut pool = Pool::over(Record::sized(LIMITS)?, [0; LIMITS.small_length()], [0; LIMITS.large_length()]);
 //! pool.join(3)?;
-//! let mut kept = [0; image::WITH_STORES];
+//! let mut kept = [0; image::with_stores(LIMITS)];
 //! image::save_with_stores(pool.record(), pool.small(), pool.large(), &mut kept).unwrap();
 //!
-//! let (mut small, mut large) = ([0; SMALL], [0; LARGE]);
+//! let (mut small, mut large) = ([0; LIMITS.small_length()], [0; LIMITS.large_length()]);
 //! let record = image::restore_with_stores(&kept, &mut small, &mut large).unwrap();
 //! assert_eq!(record, *pool.record());
 //!
+//! assert_eq!(image::restore_with_stores(&kept, &mut [0; 32], &mut large), Err(image::Fault::StoreLength));
 //! kept[1000] ^= 4;
 //! assert_eq!(image::restore_with_stores(&kept, &mut small, &mut large), Err(image::Fault::Sum));
 //! # Ok::<(), ramsummer::Refusal>(())
@@ -34,22 +41,29 @@
 //!
 //! docs/RESTART.md of the repository says what to save and when, and what the tasks do afterwards.
 
-use crate::{Record, TaskEntry, LARGE, RECORD, SMALL};
+use crate::{Limits, Record, TaskEntry, RECORD};
 use core::array::from_fn;
 use core::fmt;
+use core::mem::offset_of;
 
 /// What an image starts with.
 pub const MAGIC: [u8; 4] = *b"RSMR";
 
 /// The version of the layout. It changes with the order or the count of the record's fields, and with what their numbers
-/// mean. Up to 1 an image did not tell who had set a global expiration, and up to 2 it had no sums of blocks.
-pub const VERSION: u32 = 3;
+/// mean. Up to 1 an image did not tell who had set a global expiration, up to 2 it had no sums of blocks, and up to 3 no
+/// limits.
+pub const VERSION: u32 = 4;
 
 /// The size of an image of the record alone, in bytes.
 pub const RECORD_ALONE: usize = HEAD + RECORD + SUM;
 
-/// The size of an image of the record and both stores, in bytes.
-pub const WITH_STORES: usize = HEAD + RECORD + SMALL + LARGE + SUM;
+/// The size of an image of a pool with [`Limits::STANDARD`] and both stores, in bytes.
+pub const WITH_STORES: usize = with_stores(Limits::STANDARD);
+
+/// The size of an image of a pool with these limits and both stores, in bytes.
+pub const fn with_stores(limits: Limits) -> usize {
+    RECORD_ALONE.saturating_add(limits.small_length()).saturating_add(limits.large_length())
+}
 
 /// Before the record: the magic, the version, the length.
 const HEAD: usize = 12;
@@ -57,14 +71,15 @@ const HEAD: usize = 12;
 /// After all the rest.
 const SUM: usize = 4;
 
-/// What is wrong with an image, or with the room for one. Tested in this order; the first that is found is told.
+/// What is wrong with an image, or with the room for one. Tested in this order, but where an image comes back the length of
+/// the stores is tested last, since only a whole one says it; the first that is found is told.
 #[repr(u8)]
 #[derive(Clone, Copy, Debug, PartialEq, Eq, Hash)]
 #[non_exhaustive]
 pub enum Fault {
-    /// A store of another length than [`SMALL`] or [`LARGE`].
+    /// A store is not as long as the record's [`Limits`] say.
     StoreLength = 1,
-    /// There are fewer bytes than an image of this kind has.
+    /// There are fewer bytes than the image has.
     TooShort = 2,
     /// It does not start with [`MAGIC`]: there never was an image here.
     Magic = 3,
@@ -88,7 +103,7 @@ impl Fault {
 
     const fn sentence(self) -> &'static str {
         match self {
-            Fault::StoreLength => "a store has the wrong length",
+            Fault::StoreLength => "a store is not as long as the record's limits say",
             Fault::TooShort => "there are too few bytes for an image",
             Fault::Magic => "there is no image here",
             Fault::Version => "the image is of another version",
@@ -113,25 +128,26 @@ pub fn save(record: &Record, out: &mut [u8]) -> Result<(), Fault> {
     Ok(())
 }
 
-/// Writes an image of the record and both stores to the start of `out`, [`WITH_STORES`] bytes; the rest of `out` stays.
+/// Writes an image of the record and both stores to the start of `out`, as many bytes as [`with_stores`] says; the rest of
+/// `out` stays.
 pub fn save_with_stores(record: &Record, small: &[u8], large: &[u8], out: &mut [u8]) -> Result<(), Fault> {
-    test_stores(small, large)?;
-    write(record, small, large, out.get_mut(..WITH_STORES).ok_or(Fault::TooShort)?);
+    test_stores(record.limits, small, large)?;
+    write(record, small, large, out.get_mut(..with_stores(record.limits)).ok_or(Fault::TooShort)?);
     Ok(())
 }
 
 /// The record of an image that [`save`] wrote. Bytes after the image may be anything.
 pub fn restore(image: &[u8]) -> Result<Record, Fault> {
-    let mut rest = Reader(content(image, RECORD_ALONE)?);
+    let mut rest = Reader(content(image, |_| RECORD_ALONE)?);
     Ok(rest.record())
 }
 
-/// The record of an image that [`save_with_stores`] wrote; the stores are filled. Where there is a fault, they stay as
-/// they were. Bytes after the image may be anything.
+/// The record of an image that [`save_with_stores`] wrote, of a pool with stores of these lengths; they are filled. Where
+/// there is a fault, they stay as they were. Bytes after the image may be anything.
 pub fn restore_with_stores(image: &[u8], small: &mut [u8], large: &mut [u8]) -> Result<Record, Fault> {
-    test_stores(small, large)?;
-    let mut rest = Reader(content(image, WITH_STORES)?);
+    let mut rest = Reader(content(image, with_stores)?);
     let record = rest.record();
+    test_stores(record.limits, small, large)?;
     rest.fill(small);
     rest.fill(large);
     Ok(record)
@@ -168,8 +184,8 @@ const fn four_steps(mut sum: u32) -> u32 {
     sum
 }
 
-fn test_stores(small: &[u8], large: &[u8]) -> Result<(), Fault> {
-    if small.len() == SMALL && large.len() == LARGE {
+fn test_stores(limits: Limits, small: &[u8], large: &[u8]) -> Result<(), Fault> {
+    if small.len() == limits.small_length() && large.len() == limits.large_length() {
         Ok(())
     } else {
         Err(Fault::StoreLength)
@@ -190,22 +206,30 @@ fn write(record: &Record, small: &[u8], large: &[u8], out: &mut [u8]) {
     out[sum_at..].copy_from_slice(&sum.to_le_bytes());
 }
 
-/// What is between the head and the sum of an image of so many bytes, where both are right.
-fn content(image: &[u8], size: usize) -> Result<&[u8], Fault> {
-    let image = image.get(..size).ok_or(Fault::TooShort)?;
-    let (summed, sum) = image.split_at(size - SUM);
-    let mut rest = Reader(summed);
-    if rest.array() != MAGIC {
-        Err(Fault::Magic)
-    } else if rest.u32() != VERSION {
-        Err(Fault::Version)
-    } else if rest.u32() as usize != size {
-        Err(Fault::Length)
-    } else if Reader(sum).u32() != crc32(summed) {
-        Err(Fault::Sum)
-    } else {
-        Ok(rest.0)
+/// What is between the head and the sum of an image, where both are right. `size` is how many bytes one of these limits has.
+fn content(image: &[u8], size: fn(Limits) -> usize) -> Result<&[u8], Fault> {
+    let size = size(limits_of(image).ok_or(Fault::TooShort)?);
+    let mut head = Reader(image);
+    if head.array() != MAGIC {
+        return Err(Fault::Magic);
     }
+    if head.u32() != VERSION {
+        return Err(Fault::Version);
+    }
+    if head.u32() as usize != size {
+        return Err(Fault::Length);
+    }
+    let (summed, sum) = image.get(..size).ok_or(Fault::TooShort)?.split_at(size - SUM);
+    if Reader(sum).u32() != crc32(summed) {
+        return Err(Fault::Sum);
+    }
+    Ok(&summed[HEAD..])
+}
+
+/// The limits of the pool that an image is of, where there are as many bytes as one of a record alone has.
+fn limits_of(image: &[u8]) -> Option<Limits> {
+    let record = image.get(HEAD..RECORD_ALONE)?;
+    Some(Reader(&record[offset_of!(Record, limits)..]).limits())
 }
 
 /// The room that is not written yet.
@@ -226,6 +250,13 @@ impl Writer<'_> {
         self.bytes(&number.to_le_bytes());
     }
 
+    fn limits(&mut self, limits: Limits) {
+        self.u32(limits.small_blocks);
+        self.u32(limits.large_blocks);
+        self.u32(limits.expirations);
+        self.u32(limits.extension);
+    }
+
     fn record(&mut self, record: &Record) {
         for task in &record.tasks {
             self.u16(task.state);
@@ -234,6 +265,7 @@ impl Writer<'_> {
         }
         self.u32(record.global);
         self.u32(record.given);
+        self.limits(record.limits);
         record.handles.iter().for_each(|&handle| self.u32(handle));
         record.extents.iter().for_each(|&extent| self.u32(extent));
         self.bytes(&record.clocks);
@@ -242,12 +274,12 @@ impl Writer<'_> {
     }
 }
 
-/// The bytes that are not read yet. There are always enough: an image has the size of its kind.
+/// The bytes that are not read yet. There are always enough: an image has the size that its limits say.
 struct Reader<'a>(&'a [u8]);
 
 impl Reader<'_> {
     fn array<const N: usize>(&mut self) -> [u8; N] {
-        let (first, rest) = self.0.split_first_chunk().expect("an image has the size of its kind");
+        let (first, rest) = self.0.split_first_chunk().expect("there are as many bytes as the image has");
         self.0 = rest;
         *first
     }
@@ -266,12 +298,17 @@ impl Reader<'_> {
         u32::from_le_bytes(self.array())
     }
 
+    fn limits(&mut self) -> Limits {
+        Limits { small_blocks: self.u32(), large_blocks: self.u32(), expirations: self.u32(), extension: self.u32() }
+    }
+
     /// As [`Writer::record`] has written it.
     fn record(&mut self) -> Record {
         Record {
             tasks: from_fn(|_| TaskEntry { state: self.u16(), ticked: self.u16(), clock: self.u32() }),
             global: self.u32(),
             given: self.u32(),
+            limits: self.limits(),
             handles: from_fn(|_| self.u32()),
             extents: from_fn(|_| self.u32()),
             clocks: self.array(),

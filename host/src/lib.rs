@@ -26,9 +26,9 @@
 //!
 //! # Without an allocator
 //!
-//! The crate is `no_std` and needs no allocator. Two features, both on by default, add what does: `alloc` adds `Pool::new`
-//! and `Pool::read_to_vec`, and `std`, which is `alloc` and more, makes a [`Refusal`] a `std::error::Error`. Firmware
-//! takes none of them:
+//! The crate is `no_std` and needs no allocator. Two features, both on by default, add what does: `alloc` adds
+//! `Pool::new`, `Pool::sized` and `Pool::read_to_vec`, and `std`, which is `alloc` and more, makes a [`Refusal`] a
+//! `std::error::Error`. Firmware takes none of them:
 //!
 //! ```toml
 //! ramsummer = { path = "...", default-features = false }
@@ -39,14 +39,15 @@
 //! ```
 //! use core::cell::UnsafeCell;
 //! use core::sync::atomic::{AtomicBool, Ordering};
-//! use ramsummer::{Kind, Pool, Record, Refusal, LARGE, SMALL};
+//! use ramsummer::{Kind, Refusal, SitePool};
 //!
-//! type InPlace = Pool<Record, [u8; SMALL], [u8; LARGE]>;
+//! /// 16 small and 4 large blocks.
+//! type Pool = SitePool<16, 4>;
 //!
 //! /// One caller at a time; where there are interrupts, they are held off here.
 //! struct Locked {
 //!     taken: AtomicBool,
-//!     pool: UnsafeCell<InPlace>,
+//!     pool: UnsafeCell<Pool>,
 //! }
 //!
 //! // SAFETY: `with` alone leads to the pool, and lets one caller in at a time.
@@ -54,7 +55,7 @@
 //!
 //! impl Locked {
 //!     /// What the work gives, or nothing while another caller is at it.
-//!     fn with<T>(&self, work: impl FnOnce(&mut InPlace) -> T) -> Option<T> {
+//!     fn with<T>(&self, work: impl FnOnce(&mut Pool) -> T) -> Option<T> {
 //!         if self.taken.swap(true, Ordering::Acquire) {
 //!             return None;
 //!         }
@@ -65,10 +66,9 @@
 //!     }
 //! }
 //!
-//! static POOL: Locked = Locked {
-//!     taken: AtomicBool::new(false),
-//!     pool: UnsafeCell::new(Pool::over(Record::fresh(), [0; SMALL], [0; LARGE])),
-//! };
+//! /// With room for 64 expirations, and extensions up to 10.
+//! static POOL: Locked =
+//!     Locked { taken: AtomicBool::new(false), pool: UnsafeCell::new(Pool::in_place::<64, 10>()) };
 //!
 //! assert_eq!(POOL.with(|pool| pool.join(0)), Some(Ok(())));
 //! let made = POOL.with(|pool| pool.make(0, Kind::Local, 0, 4));
@@ -77,6 +77,41 @@
 //! ```
 //!
 //! `examples/firmware` is a whole program of this sort.
+//!
+//! # Sizes chosen by the site
+//!
+//! Four figures say how much a pool holds and for how long: its [`Limits`]. They are chosen when it is made, and stay for
+//! its life; the refusals [`ExtensionTooLong`](Refusal::ExtensionTooLong), [`NoFreeBlock`](Refusal::NoFreeBlock),
+//! [`NoFreeExpiration`](Refusal::NoFreeExpiration) and [`WrongStoreLength`](Refusal::WrongStoreLength) go by them. The stores
+//! are as long as the blocks need; the record has one size.
+//!
+//! | the pool | with the largest limits | with limits of the site's own |
+//! |---|---|---|
+//! | in boxes | `Pool::new` | `Pool::sized` |
+//! | in place, and so a `static` | [`Pool::over`] and [`Record::fresh`] | [`SitePool`], tested when it is compiled |
+//! | over what is lent | [`Pool::over`] and [`Record::fresh`] | [`Pool::over`] and [`Record::sized`] |
+//! | begun anew | [`Pool::fresh`] | [`Pool::fresh_sized`] |
+//!
+//! ```
+//! use ramsummer::{Kind, Limits, Pool, Record, Refusal};
+//!
+//! const CABLE: Limits = Limits { small_blocks: 16, large_blocks: 4, expirations: 64, extension: 10 };
+//!
+//! let (mut small, mut large) = ([0; CABLE.small_length()], [0; CABLE.large_length()]);
+//! let mut pool = Pool::over(Record::sized(CABLE)?, &mut small, &mut large);
+//! pool.join(0)?;
+//! for _ in 0..16 {
+//!     pool.make(0, Kind::Local, 10, 32)?;
+//! }
+//! assert_eq!(pool.make(0, Kind::Local, 10, 32), Err(Refusal::NoFreeBlock));
+//! assert_eq!(pool.make(0, Kind::Local, 11, 200), Err(Refusal::ExtensionTooLong));
+//!
+//! // A limit out of its range makes no pool.
+//! assert_eq!(Record::sized(Limits { small_blocks: 65, ..CABLE }), Err(Refusal::LimitsOutOfRange));
+//! # Ok::<(), Refusal>(())
+//! ```
+//!
+//! [`Peaks`] tell what a site needs.
 //!
 //! # Bytes changed from outside
 //!
@@ -126,10 +161,13 @@ mod answer;
 mod handle;
 pub mod image;
 mod kind;
+mod limits;
 mod peaks;
 mod pool;
 mod record;
 mod refusal;
+mod site;
+mod store;
 #[allow(unsafe_code)]
 mod sys;
 mod tasks;
@@ -137,9 +175,12 @@ mod tasks;
 pub use answer::{Answer, Remaining, Report};
 pub use handle::Handle;
 pub use kind::Kind;
+pub use limits::{Limits, MAX_EXTENSION};
 pub use peaks::{Gauged, Peaks};
-pub use pool::{Pool, LARGE, LARGEST_BATCH, LINE, LONGEST, MAX_EXTENSION, SMALL};
+pub use pool::{Pool, LARGEST_BATCH, LINE, LONGEST};
 pub use record::{Record, TaskEntry, EXPIRATIONS, RECORD, STORE_BLOCKS, TASKS};
 pub use record::{CLOCK_DEPARTED, CLOCK_GLOBAL, CLOCK_LOCAL, CLOCK_PINNED};
 pub use refusal::Refusal;
+pub use site::SitePool;
+pub use store::{LargeStore, SmallStore, Store, LARGE, LARGE_SIZE, SMALL, SMALL_SIZE};
 pub use tasks::Tasks;

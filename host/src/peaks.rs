@@ -8,7 +8,8 @@ use core::ops::{Deref, DerefMut};
 /// The high-water marks of a pool: the most of each figure that a report has told since they were begun.
 ///
 /// They know what they are told. Only an accepted make, refresh or batch, as a call or as a frame, raises a figure; a
-/// report after each of these misses nothing ([`Gauged`] does that), and one in each cycle costs less.
+/// report after each of these misses nothing ([`Gauged`] does that), and one in each cycle costs less. A site that has
+/// gauged its pool may choose smaller [`Limits`](crate::Limits) for it.
 ///
 /// ```
 /// # use ramsummer::*;
@@ -28,11 +29,11 @@ use core::ops::{Deref, DerefMut};
 #[derive(Clone, Copy, Debug, Default, PartialEq, Eq)]
 #[non_exhaustive]
 pub struct Peaks {
-    /// The most objects that stood in the small store, of 64.
+    /// The most objects that stood in the small store.
     pub small: u8,
-    /// The most objects that stood in the large store, of 32.
+    /// The most objects that stood in the large store.
     pub large: u8,
-    /// The most expirations that stood, of 256.
+    /// The most expirations that stood.
     pub expirations: u16,
 }
 
@@ -64,8 +65,8 @@ impl fmt::Display for Peaks {
 }
 
 /// A pool that keeps its high-water marks: each accepted make, refresh, batch and frame is followed by a report, and
-/// costs that much more. All other calls are the pool's own; `fresh` leaves the marks: call
-/// [`reset_peaks`](Gauged::reset_peaks) after it.
+/// costs that much more. All other calls are the pool's own; `fresh` and `fresh_sized` leave the marks: call
+/// [`reset_peaks`](Gauged::reset_peaks) after them.
 ///
 /// ```
 /// # use ramsummer::*;

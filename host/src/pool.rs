@@ -1,22 +1,13 @@
 //! The pool: a record and two stores, owned or borrowed, and the calls on them.
 
-use crate::{sys, Answer, Handle, Kind, Record, Refusal, Remaining, Report, Tasks};
+use crate::{sys, Answer, Handle, Kind, Limits, Record, Refusal, Remaining, Report, Tasks};
 #[cfg(feature = "alloc")]
 use alloc::{boxed::Box, vec, vec::Vec};
 use core::borrow::BorrowMut;
 use core::fmt;
 
-/// The length of the small store: 64 blocks of 32 bytes, for objects of 1 to 32 bytes.
-pub const SMALL: usize = 2048;
-
-/// The length of the large store: 32 blocks of 256 bytes, for objects of 33 to 256 bytes.
-pub const LARGE: usize = 8192;
-
 /// The length of the longest object: room for any read.
 pub const LONGEST: usize = 256;
-
-/// The longest extension of an expiration; one that is pinned has 0.
-pub const MAX_EXTENSION: u8 = 30;
 
 /// The most objects that [`Pool::refresh_all`] takes.
 pub const LARGEST_BATCH: usize = 32;
@@ -24,10 +15,11 @@ pub const LARGEST_BATCH: usize = 32;
 /// The room that [`Pool::frame`] asks for. An answer line has at most 515 bytes.
 pub const LINE: usize = 531;
 
-/// A memory pool: its record and its two stores, in place, borrowed ([`Pool::over`]) or in boxes (`Pool::new`, with the
-/// feature `alloc`).
+/// A memory pool: its record and its two stores, in place ([`SitePool`](crate::SitePool)), borrowed ([`Pool::over`]) or in
+/// boxes (`Pool::new` and `Pool::sized`, with the feature `alloc`).
 ///
-/// Tasks are 0 to 15. Each call is carried out, or refused without any change.
+/// Tasks are 0 to 15. Each call is carried out, or refused without any change; [`fresh_sized`](Pool::fresh_sized) alone
+/// changes the record also where it is refused.
 #[derive(Clone, PartialEq, Eq)]
 pub struct Pool<
     #[cfg(feature = "alloc")] R = Box<Record>,
@@ -43,7 +35,7 @@ pub struct Pool<
 
 #[cfg(feature = "alloc")]
 impl Pool {
-    /// A fresh pool with its record and stores in boxes.
+    /// A fresh pool with [`Limits::STANDARD`], its record and stores in boxes.
     ///
     /// ```
     /// use ramsummer::{Kind, Pool, Refusal};
@@ -58,13 +50,39 @@ impl Pool {
     /// # Ok::<(), Refusal>(())
     /// ```
     pub fn new() -> Self {
-        Pool::over(Box::default(), vec![0; SMALL].into(), vec![0; LARGE].into())
+        Self::boxed(Record::fresh())
+    }
+
+    /// A fresh pool with limits of the site's own, its record and stores in boxes. Where a limit is out of its range it is
+    /// refused with [`LimitsOutOfRange`](Refusal::LimitsOutOfRange).
+    ///
+    /// ```
+    /// use ramsummer::{Kind, Limits, Pool, Refusal};
+    ///
+    /// let limits = Limits { small_blocks: 1, large_blocks: 1, expirations: 2, extension: 0 };
+    /// let mut pool = Pool::sized(limits)?;
+    /// pool.join(0)?;
+    /// pool.make(0, Kind::Local, 0, 32)?;
+    /// assert_eq!(pool.make(0, Kind::Local, 0, 32), Err(Refusal::NoFreeBlock));
+    /// pool.make(0, Kind::Local, 0, 33)?;
+    /// assert_eq!(pool.refresh(0, Kind::Local, 0, 1.into()), Err(Refusal::NoFreeExpiration));
+    /// assert_eq!(pool.refresh(0, Kind::Local, 1, 1.into()), Err(Refusal::ExtensionTooLong));
+    /// # Ok::<(), Refusal>(())
+    /// ```
+    pub fn sized(limits: Limits) -> Result<Self, Refusal> {
+        Record::sized(limits).map(Self::boxed)
+    }
+
+    /// The stores are as long as the record's limits say.
+    fn boxed(record: Record) -> Self {
+        let (small, large) = (record.limits.small_length(), record.limits.large_length());
+        Pool::over(record.into(), vec![0; small].into(), vec![0; large].into())
     }
 }
 
 #[cfg(feature = "alloc")]
 impl Default for Pool {
-    /// A fresh pool with its record and stores in boxes.
+    /// As [`Pool::new`].
     fn default() -> Self {
         Self::new()
     }
@@ -76,11 +94,11 @@ where
     S: AsRef<[u8]> + AsMut<[u8]>,
     L: AsRef<[u8]> + AsMut<[u8]>,
 {
-    /// A pool over this record and these stores, each owned or borrowed. It is `const`, so that a pool may be a `static`;
-    /// [the crate's page](crate#without-an-allocator) has one.
+    /// A pool over this record and these stores, each owned or borrowed. It is `const`, so that a pool may be a `static`.
     ///
-    /// The stores are [`SMALL`] and [`LARGE`] bytes long; the calls that use them refuse others. A record that was kept
-    /// over a restart may be damaged; a report tells.
+    /// The stores are as long as the record's limits say ([`Limits::small_length`], [`Limits::large_length`]); the calls that
+    /// use them refuse others. With [`Record::fresh`] they are [`SMALL`](crate::SMALL) and [`LARGE`](crate::LARGE) bytes long.
+    /// A record that was kept over a restart may be damaged; a report tells.
     ///
     /// ```
     /// use ramsummer::{Pool, Record, Refusal, LARGE, SMALL};
@@ -118,9 +136,31 @@ where
         self.large.as_ref()
     }
 
-    /// Makes the record that of a fresh pool, whatever it held. The stores stay as they are.
+    /// Makes the record that of a fresh pool with [`Limits::STANDARD`], whatever it held. The stores stay as they are; those
+    /// of a pool with other limits are then refused, and [`fresh_sized`](Pool::fresh_sized) is for it.
     pub fn fresh(&mut self) {
         sys::fresh(self.record.borrow_mut())
+    }
+
+    /// Makes the record that of a fresh pool with these limits, whatever it held. The stores stay as they are, and have to be
+    /// as long as the limits say.
+    ///
+    /// Where a limit is out of its range it is refused with [`LimitsOutOfRange`](Refusal::LimitsOutOfRange), and what it
+    /// leaves is a record that is not well-formed: each call on it is refused, until it is made fresh.
+    ///
+    /// ```
+    /// # use ramsummer::{Limits, Refusal, SitePool};
+    /// # let mut pool = SitePool::<16, 4>::in_place::<64, 10>();
+    /// let limits = Limits { small_blocks: 16, large_blocks: 4, expirations: 64, extension: 10 };
+    /// let none = Limits { small_blocks: 0, ..limits };
+    /// assert_eq!(pool.fresh_sized(none), Err(Refusal::LimitsOutOfRange));
+    /// assert_eq!(pool.join(0), Err(Refusal::NotWellFormed));
+    /// pool.fresh_sized(limits)?;
+    /// pool.join(0)?;
+    /// # Ok::<(), Refusal>(())
+    /// ```
+    pub fn fresh_sized(&mut self, limits: Limits) -> Result<(), Refusal> {
+        sys::fresh_sized(self.record.borrow_mut(), limits)
     }
 
     /// Absent to running, with clock 0.
@@ -172,8 +212,8 @@ where
         sys::tick(self.record.borrow_mut(), task)
     }
 
-    /// A new object of `length` zero bytes, 1 to [`LONGEST`], with one expiration. The extension is 0 to [`MAX_EXTENSION`],
-    /// and 0 where the object is pinned, which is until its [`release`](Pool::release).
+    /// A new object of `length` zero bytes, 1 to [`LONGEST`], with one expiration. The extension is 0 to the pool's
+    /// [limit](Limits), and 0 where the object is pinned, which is until its [`release`](Pool::release).
     ///
     /// ```
     /// # use ramsummer::*;
@@ -191,7 +231,7 @@ where
         sys::make(record, small, large, task, kind, extension, length)
     }
 
-    /// One more expiration for the object; those that it has stay. The extension is 0 to [`MAX_EXTENSION`]. Kind
+    /// One more expiration for the object; those that it has stay. The extension is 0 to the pool's [limit](Limits). Kind
     /// [`Pinned`](Kind::Pinned) is refused with [`OnlyMakePins`](Refusal::OnlyMakePins).
     ///
     /// ```
@@ -370,7 +410,7 @@ where
 }
 
 impl<R: BorrowMut<Record>, S, L> fmt::Debug for Pool<R, S, L> {
-    /// The record, and not the ten thousand bytes of the stores.
+    /// The record, and not the thousands of bytes of the stores.
     fn fmt(&self, f: &mut fmt::Formatter<'_>) -> fmt::Result {
         f.debug_struct("Pool").field("record", self.record.borrow()).finish_non_exhaustive()
     }

@@ -1,15 +1,15 @@
 //! The record of a pool, laid out as the library has it (`ramsummer_pool` in include/ramsummer.h).
 
-use crate::sys;
+use crate::{sys, Limits, Refusal};
 use core::mem::{align_of, offset_of, size_of};
 
 /// Tasks are 0 to 15.
 pub const TASKS: usize = 16;
 
-/// The blocks of both stores: 64 of the small one, then 32 of the large one.
+/// The record's entries for blocks: 64 for the small store, then 32 for the large one.
 pub const STORE_BLOCKS: usize = 96;
 
-/// The expirations that may stand at a time, in all.
+/// The record's entries for expirations.
 pub const EXPIRATIONS: usize = 256;
 
 /// In [`Record::clocks`], with the number of a task added: the local time of that task.
@@ -25,7 +25,7 @@ pub const CLOCK_DEPARTED: u8 = 48;
 pub const CLOCK_PINNED: u8 = 49;
 
 /// The size of a record in bytes.
-pub const RECORD: usize = 2440;
+pub const RECORD: usize = 2456;
 
 /// A task. State 0 is absent, 1 running, 2 waiting.
 #[repr(C)]
@@ -46,9 +46,10 @@ pub struct TaskEntry {
 /// well-formed, before all else but what is wrong with a frame itself, and refuses with
 /// [`NotWellFormed`](crate::Refusal::NotWellFormed) where it is not.
 ///
-/// Store block `i` and the object in it are `handles[i]` and `extents[i]`; 0 to 63 are the small store's, 64 to 95 the
-/// large one's. Expiration `i` is `clocks[i]`, `named[i]` and `dues[i]`; they stand in no order. The other fields of a
-/// free store block or expiration have no meaning, and may hold anything.
+/// Store block `i` and the object in it are `handles[i]` and `extents[i]`; in every pool the small store's are numbered
+/// from 0 on, the large one's from 64 on. Expiration `i` is `clocks[i]`, `named[i]` and `dues[i]`; they stand in no order.
+/// What lies beyond the [`limits`](Record::limits) is free. The other fields of a free store block or expiration have no
+/// meaning, and may hold anything.
 #[repr(C)]
 #[derive(Clone, Debug, PartialEq, Eq)]
 #[non_exhaustive]
@@ -59,6 +60,8 @@ pub struct Record {
     pub global: u32,
     /// The count of handles given so far.
     pub given: u32,
+    /// How much the pool holds, and for how long. No call changes it.
+    pub limits: Limits,
     /// The handle of the object in each store block; 0 where it is free.
     pub handles: [u32; STORE_BLOCKS],
     /// Of each store block the length of its object, in the low 16 bits, and the sum of all its bytes, 32 or 256 of them,
@@ -82,17 +85,49 @@ const _: () = {
     assert!(offset_of!(TaskEntry, clock) == 4);
     assert!(size_of::<Record>() == RECORD && align_of::<Record>() == 4);
     assert!(offset_of!(Record, tasks) == 0 && offset_of!(Record, global) == 128 && offset_of!(Record, given) == 132);
-    assert!(offset_of!(Record, handles) == 136 && offset_of!(Record, extents) == 520);
-    assert!(offset_of!(Record, clocks) == 904 && offset_of!(Record, named) == 1160 && offset_of!(Record, dues) == 1416);
+    assert!(offset_of!(Record, limits) == 136 && size_of::<Limits>() == 16);
+    assert!(offset_of!(Limits, small_blocks) == 0 && offset_of!(Limits, large_blocks) == 4);
+    assert!(offset_of!(Limits, expirations) == 8 && offset_of!(Limits, extension) == 12);
+    assert!(offset_of!(Record, handles) == 152 && offset_of!(Record, extents) == 536);
+    assert!(offset_of!(Record, clocks) == 920 && offset_of!(Record, named) == 1176 && offset_of!(Record, dues) == 1432);
 };
 
 impl Record {
-    /// The record of a fresh pool: all zeros.
+    /// The record of a fresh pool with [`Limits::STANDARD`]: all zeros but for the limits.
     pub const fn fresh() -> Self {
+        Record::of(Limits::STANDARD)
+    }
+
+    /// The record of a fresh pool with limits of the site's own. Where one of them is out of its range it is refused with
+    /// [`LimitsOutOfRange`](Refusal::LimitsOutOfRange).
+    ///
+    /// ```
+    /// use ramsummer::{Limits, Pool, Record, Refusal};
+    ///
+    /// let limits = Limits { small_blocks: 16, large_blocks: 4, expirations: 64, extension: 10 };
+    /// let (mut small, mut large) = ([0; 16 * 32], [0; 4 * 256]);
+    /// let mut pool = Pool::over(Record::sized(limits)?, &mut small, &mut large);
+    /// pool.join(0)?;
+    ///
+    /// let none = Limits { expirations: 0, ..limits };
+    /// assert_eq!(Record::sized(none), Err(Refusal::LimitsOutOfRange));
+    /// # Ok::<(), Refusal>(())
+    /// ```
+    pub const fn sized(limits: Limits) -> Result<Self, Refusal> {
+        if limits.is_allowed() {
+            Ok(Record::of(limits))
+        } else {
+            Err(Refusal::LimitsOutOfRange)
+        }
+    }
+
+    /// It is well-formed where the limits are allowed.
+    pub(crate) const fn of(limits: Limits) -> Self {
         Record {
             tasks: [TaskEntry { state: 0, ticked: 0, clock: 0 }; TASKS],
             global: 0,
             given: 0,
+            limits,
             handles: [0; STORE_BLOCKS],
             extents: [0; STORE_BLOCKS],
             clocks: [0; EXPIRATIONS],
@@ -123,7 +158,7 @@ impl Record {
 }
 
 impl Default for Record {
-    /// The record of a fresh pool.
+    /// As [`Record::fresh`].
     fn default() -> Self {
         Self::fresh()
     }

@@ -2,7 +2,8 @@
 
 use core::fmt;
 
-/// Why a call was refused. A refused call changes nothing. With the feature `std` it is a `std::error::Error`.
+/// Why a call was refused. A refused call changes nothing, but for [`Pool::fresh_sized`](crate::Pool::fresh_sized). With the
+/// feature `std` it is a `std::error::Error`.
 ///
 /// ```
 /// # use ramsummer::{Pool, Record, Refusal, LARGE, SMALL};
@@ -26,7 +27,7 @@ pub enum Refusal {
     TaskWaiting = 4,
     /// Resume: the task is running.
     TaskRunning = 5,
-    /// Extension above 30, or above 0 where the kind is [`Pinned`](crate::Kind::Pinned).
+    /// Extension above the pool's [limit](crate::Limits), or above 0 where the kind is [`Pinned`](crate::Kind::Pinned).
     ExtensionTooLong = 6,
     /// Length 0 or above 256.
     LengthOutOfRange = 7,
@@ -34,7 +35,7 @@ pub enum Refusal {
     HandlesSpent = 8,
     /// No free block in the store for this length.
     NoFreeBlock = 9,
-    /// 256 expirations stand, or a batch would make them more.
+    /// As many expirations stand as the pool's [limit](crate::Limits), or a batch would make them more.
     NoFreeExpiration = 10,
     /// Handle 0, or above the count given.
     HandleNotGiven = 11,
@@ -42,7 +43,7 @@ pub enum Refusal {
     ObjectGone = 12,
     /// Write: offset plus count above the object's length.
     OutsideObject = 13,
-    /// A store of another length than [`SMALL`](crate::SMALL) or [`LARGE`](crate::LARGE).
+    /// A store that is not as long as the pool's blocks need ([`Limits::small_length`](crate::Limits::small_length)).
     WrongStoreLength = 14,
     /// The record is damaged.
     NotWellFormed = 15,
@@ -62,6 +63,8 @@ pub enum Refusal {
     NotPinned = 22,
     /// Read, write: the sum of the block's bytes is another than the record's, so that they were changed from outside.
     SumDiffers = 23,
+    /// A pool that is made with a [limit](crate::Limits) out of its range.
+    LimitsOutOfRange = 29,
     /// Read, frame: no room for the answer in the caller's buffer. It is no refusal of the documents.
     BufferTooShort = 255,
 }
@@ -92,6 +95,7 @@ impl Refusal {
         Refusal::OnlyMakePins,
         Refusal::NotPinned,
         Refusal::SumDiffers,
+        Refusal::LimitsOutOfRange,
         Refusal::BufferTooShort,
     ];
 
@@ -105,22 +109,22 @@ impl Refusal {
         Self::ALL.iter().copied().find(|refusal| refusal.number() == number)
     }
 
-    const fn sentence(self) -> &'static str {
+    pub(crate) const fn sentence(self) -> &'static str {
         match self {
             Refusal::NoSuchTask => "there is no such task: tasks are 0 to 15",
             Refusal::TaskPresent => "the task has joined already",
             Refusal::TaskAbsent => "the task has not joined",
             Refusal::TaskWaiting => "the task is waiting",
             Refusal::TaskRunning => "the task is running",
-            Refusal::ExtensionTooLong => "the extension is above 30, or above 0 for what is pinned",
+            Refusal::ExtensionTooLong => "the extension is above the pool's limit, or above 0 for what is pinned",
             Refusal::LengthOutOfRange => "the length is 0 or above 256",
             Refusal::HandlesSpent => "all handles are given",
             Refusal::NoFreeBlock => "no block is free in the store for this length",
-            Refusal::NoFreeExpiration => "256 expirations may stand, and no more",
+            Refusal::NoFreeExpiration => "no more expirations may stand in this pool",
             Refusal::HandleNotGiven => "the handle was never given",
             Refusal::ObjectGone => "the object is gone: its last expiration has ended",
             Refusal::OutsideObject => "the bytes reach beyond the object's end",
-            Refusal::WrongStoreLength => "a store has the wrong length",
+            Refusal::WrongStoreLength => "a store is not as long as the pool's blocks need",
             Refusal::NotWellFormed => "the record is not well-formed",
             Refusal::NotHexadecimal => "the frame is not hexadecimal, two digits for a byte",
             Refusal::UnknownOperation => "the frame names no known operation",
@@ -130,6 +134,9 @@ impl Refusal {
             Refusal::OnlyMakePins => "only a make pins an object",
             Refusal::NotPinned => "the object is not pinned",
             Refusal::SumDiffers => "the sum differs: the block's bytes were changed from outside",
+            Refusal::LimitsOutOfRange => {
+                "a limit is out of its range: 1 to 64 small blocks, 1 to 32 large, 1 to 256 expirations, extension 0 to 30"
+            }
             Refusal::BufferTooShort => "the buffer is too short for the answer",
         }
     }

@@ -6,11 +6,18 @@
 //! and no memory of its own between calls.
 
 use crate::record::RECORD;
-use crate::{Handle, Kind, Record, Refusal, Remaining, Report};
+use crate::{Handle, Kind, Limits, Record, Refusal, Remaining, Report};
 
 // As in include/ramsummer.h. A reference to one value is a pointer to C; a slice is a pointer and then a length.
 extern "C" {
     fn ramsummer_fresh(pool: &mut Record) -> u8;
+    fn ramsummer_fresh_sized(
+        pool: &mut Record,
+        small_blocks: u32,
+        large_blocks: u32,
+        expirations: u32,
+        extension: u32,
+    ) -> u8;
     fn ramsummer_join(pool: &mut Record, task: u8) -> u8;
     fn ramsummer_leave(pool: &mut Record, task: u8, advanced: &mut u8) -> u8;
     fn ramsummer_block(pool: &mut Record, task: u8, advanced: &mut u8) -> u8;
@@ -97,6 +104,12 @@ pub(crate) fn fresh(pool: &mut Record) {
     // SAFETY: one pointer, from a reference.
     let number = unsafe { ramsummer_fresh(pool) };
     debug_assert_eq!(number, 0);
+}
+
+pub(crate) fn fresh_sized(pool: &mut Record, limits: Limits) -> Result<(), Refusal> {
+    let Limits { small_blocks, large_blocks, expirations, extension } = limits;
+    // SAFETY: one pointer, from a reference.
+    outcome(unsafe { ramsummer_fresh_sized(pool, small_blocks, large_blocks, expirations, extension) })
 }
 
 pub(crate) fn join(pool: &mut Record, task: u8) -> Result<(), Refusal> {

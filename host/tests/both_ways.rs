@@ -1,13 +1,10 @@
 //! The same calls by the typed functions and by frames: the answers are the same, and after each the tasks, the times and
 //! the figures. So no argument goes astray on the way to the library. The place of a block or expiration is left open by
-//! document 01 and not compared. The pools are in place, as a host without an allocator has them.
+//! document 01 and not compared. The pools are in place, as a host without an allocator has them, with the largest limits
+//! and with those of a small site.
 
-use ramsummer::{Handle, Kind, Record, Refusal, Report, TaskEntry, LARGE, LARGEST_BATCH, LINE, LONGEST, SMALL, TASKS};
+use ramsummer::{Handle, Kind, Limits, Refusal, Report, SitePool, TaskEntry, LARGEST_BATCH, LINE, LONGEST, TASKS};
 use std::collections::BTreeSet;
-
-type Pool = ramsummer::Pool<Record, [u8; SMALL], [u8; LARGE]>;
-
-const FRESH: Pool = Pool::over(Record::fresh(), [0; SMALL], [0; LARGE]);
 
 /// Numbers that look random and are the same in each run.
 struct Random(u64);
@@ -38,7 +35,7 @@ fn line<T>(answer: Result<T, Refusal>, data: impl FnOnce(T) -> String) -> String
 }
 
 /// One call by its typed function: its frame, and the answer line.
-fn call(pool: &mut Pool, random: &mut Random) -> (String, String) {
+fn call<const S: usize, const L: usize>(pool: &mut SitePool<S, L>, random: &mut Random) -> (String, String) {
     let nothing = |()| String::new();
     let flag = |advanced| format!("{:02X}", u8::from(advanced));
     let task = random.byte(4);
@@ -100,23 +97,25 @@ fn batch(random: &mut Random, handle: u32) -> Vec<u32> {
     }
 }
 
-fn state(pool: &Pool) -> ([TaskEntry; TASKS], u32, Result<Report, Refusal>) {
-    (pool.record().tasks, pool.record().global, pool.report())
+type State = ([TaskEntry; TASKS], u32, Limits, Result<Report, Refusal>);
+
+fn state<const S: usize, const L: usize>(pool: &SitePool<S, L>) -> State {
+    (pool.record().tasks, pool.record().global, pool.record().limits, pool.report())
 }
 
 /// The first byte of every block is another, from outside.
-fn touched(pool: Pool) -> Pool {
+fn touched<const S: usize, const L: usize>(pool: SitePool<S, L>) -> SitePool<S, L> {
     let (record, mut small, mut large) = pool.into_parts();
-    let first_bytes = small.iter_mut().step_by(32).chain(large.iter_mut().step_by(256));
+    let first_bytes = small.as_mut().iter_mut().step_by(32).chain(large.as_mut().iter_mut().step_by(256));
     first_bytes.for_each(|byte| *byte = byte.wrapping_add(1));
-    Pool::over(record, small, large)
+    SitePool::over(record, small, large)
 }
 
-#[test]
-fn typed_calls_and_frames_do_the_same() {
-    let (mut random, mut typed, mut framed) = (Random(1), FRESH, FRESH);
+/// Compares so many calls. Each operation was carried out; the refusals are handed back.
+fn compare<const S: usize, const L: usize>(fresh: SitePool<S, L>, calls: u32) -> BTreeSet<String> {
+    let (mut random, mut typed, mut framed) = (Random(1), fresh.clone(), fresh);
     let mut seen = BTreeSet::new();
-    for count in 0..20_000 {
+    for count in 0..calls {
         if count % 200 == 199 {
             (typed, framed) = (touched(typed), touched(framed));
         }
@@ -129,8 +128,24 @@ fn typed_calls_and_frames_do_the_same() {
     }
     let done = seen.iter().filter(|(_, answer)| answer == "00").count();
     assert_eq!(done, 13, "each operation was carried out");
-    let refusals: BTreeSet<_> =
-        seen.iter().map(|(_, answer)| answer.as_str()).filter(|answer| *answer != "00").collect();
+    seen.into_iter().map(|(_, answer)| answer).filter(|answer| answer != "00").collect()
+}
+
+fn has_all(refusals: &BTreeSet<String>, expected: &[&str]) -> bool {
+    expected.iter().all(|number| refusals.contains(*number))
+}
+
+#[test]
+fn typed_calls_and_frames_do_the_same() {
+    let refusals = compare(SitePool::<64, 32>::in_place::<256, 30>(), 20_000);
     let expected = ["01", "02", "03", "04", "05", "06", "07", "09", "0B", "0C", "0D", "14", "15", "16", "17"];
-    assert!(refusals.is_superset(&expected.into()), "{refusals:?}");
+    assert!(has_all(&refusals, &expected), "{refusals:?}");
+}
+
+/// Both stores run out, and the expirations.
+#[test]
+fn so_they_do_in_the_pool_of_a_small_site() {
+    let refusals = compare(SitePool::<3, 2>::in_place::<7, 4>(), 20_000);
+    assert!(has_all(&refusals, &["06", "09", "0A"]), "{refusals:?}");
+    compare(SitePool::<1, 1>::in_place::<4, 2>(), 20_000);
 }

@@ -2,7 +2,7 @@
 #![cfg(feature = "alloc")]
 
 use ramsummer::{
-    Handle, Kind, Pool, Record, Refusal, Remaining, EXPIRATIONS, LARGE, LARGEST_BATCH, LONGEST, RECORD, SMALL,
+    Handle, Kind, Limits, Pool, Record, Refusal, Remaining, EXPIRATIONS, LARGE, LARGEST_BATCH, LONGEST, RECORD, SMALL,
     STORE_BLOCKS,
 };
 
@@ -401,8 +401,18 @@ fn a_damaged_record_is_refused_until_it_is_fresh() {
     assert_eq!(pool.to_string(), "the record is not well-formed");
     pool.fresh();
     assert_eq!(*pool.record(), Record::fresh());
-    assert_eq!(*pool.record().as_bytes(), [0; RECORD]);
     pool.join(15).unwrap();
+}
+
+/// But for its limits a fresh record is all zeros; all zeros are none.
+#[test]
+fn zeros_are_no_record() {
+    let mut record = Record::fresh();
+    assert_eq!(record.limits, Limits::STANDARD);
+    record.limits = Limits { small_blocks: 0, large_blocks: 0, expirations: 0, extension: 0 };
+    assert_eq!(*record.as_bytes(), [0; RECORD]);
+    let mut pool = Pool::over(record.into(), vec![0; SMALL].into(), vec![0; LARGE].into());
+    refused(&mut pool, Refusal::NotWellFormed, |pool| pool.join(0));
 }
 
 /// Wherever the library puts an entry.

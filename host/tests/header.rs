@@ -1,9 +1,12 @@
 //! The C headers say the same as this crate, and docs/REFUSALS.md too: sizes, places, counts, names, numbers, sentences.
 
-use ramsummer::{Kind, Record, Refusal, TaskEntry};
+use in_c::{host, is_without_cpp};
+use ramsummer::{Kind, Limits, Record, Refusal, TaskEntry};
 use std::mem::{offset_of, size_of};
 use std::path::{Path, PathBuf};
 use std::process::{Command, Output};
+
+mod in_c;
 
 /// The C compiler's answer, or none where there is no compiler for this.
 fn cc(arguments: &[&str]) -> Option<Output> {
@@ -12,10 +15,6 @@ fn cc(arguments: &[&str]) -> Option<Output> {
         eprintln!("cc is not here: the test of the C headers was left out");
     }
     output.ok()
-}
-
-fn host() -> &'static Path {
-    Path::new(env!("CARGO_MANIFEST_DIR"))
 }
 
 /// `TaskAbsent` as the header has it: `RAMSUMMER_TASK_ABSENT`.
@@ -28,9 +27,18 @@ fn c_name(name: &str) -> String {
 
 /// Expressions in C, and what this crate has for each.
 fn claims() -> Vec<(String, usize)> {
+    let cable = Limits { small_blocks: 16, large_blocks: 4, ..Limits::STANDARD };
     let mut claims: Vec<(String, usize)> = [
+        ("RAMSUMMER_SMALL_BLOCKS", Limits::STANDARD.small_blocks as usize),
+        ("RAMSUMMER_LARGE_BLOCKS", Limits::STANDARD.large_blocks as usize),
+        ("RAMSUMMER_EXPIRATIONS", Limits::STANDARD.expirations as usize),
+        ("RAMSUMMER_MAX_EXTENSION", Limits::STANDARD.extension as usize),
+        ("RAMSUMMER_SMALL_SIZE", ramsummer::SMALL_SIZE),
+        ("RAMSUMMER_LARGE_SIZE", ramsummer::LARGE_SIZE),
         ("RAMSUMMER_SMALL", ramsummer::SMALL),
         ("RAMSUMMER_LARGE", ramsummer::LARGE),
+        ("RAMSUMMER_SMALL_FOR(15 + 1)", cable.small_length()),
+        ("RAMSUMMER_LARGE_FOR(3 + 1)", cable.large_length()),
         ("RAMSUMMER_LONGEST", ramsummer::LONGEST),
         ("RAMSUMMER_LINE", ramsummer::LINE),
         ("RAMSUMMER_RECORD", ramsummer::RECORD),
@@ -48,13 +56,19 @@ fn claims() -> Vec<(String, usize)> {
         ("RAMSUMMER_CLOCK_DEPARTED", ramsummer::CLOCK_DEPARTED.into()),
         ("RAMSUMMER_CLOCK_PINNED", ramsummer::CLOCK_PINNED.into()),
         ("sizeof(ramsummer_task_entry)", size_of::<TaskEntry>()),
+        ("sizeof(ramsummer_limits)", size_of::<Limits>()),
         ("sizeof(ramsummer_pool)", size_of::<Record>()),
         ("offsetof(ramsummer_task_entry, state)", offset_of!(TaskEntry, state)),
         ("offsetof(ramsummer_task_entry, ticked)", offset_of!(TaskEntry, ticked)),
         ("offsetof(ramsummer_task_entry, clock)", offset_of!(TaskEntry, clock)),
+        ("offsetof(ramsummer_limits, small_blocks)", offset_of!(Limits, small_blocks)),
+        ("offsetof(ramsummer_limits, large_blocks)", offset_of!(Limits, large_blocks)),
+        ("offsetof(ramsummer_limits, expirations)", offset_of!(Limits, expirations)),
+        ("offsetof(ramsummer_limits, extension)", offset_of!(Limits, extension)),
         ("offsetof(ramsummer_pool, tasks)", offset_of!(Record, tasks)),
         ("offsetof(ramsummer_pool, global)", offset_of!(Record, global)),
         ("offsetof(ramsummer_pool, given)", offset_of!(Record, given)),
+        ("offsetof(ramsummer_pool, limits)", offset_of!(Record, limits)),
         ("offsetof(ramsummer_pool, handles)", offset_of!(Record, handles)),
         ("offsetof(ramsummer_pool, extents)", offset_of!(Record, extents)),
         ("offsetof(ramsummer_pool, clocks)", offset_of!(Record, clocks)),
@@ -108,7 +122,7 @@ fn the_headers_compile_as_c_and_as_cpp() {
         let options = [&warnings[..], &["-fsyntax-only", "-x", language, &standard]].concat();
         let Some(checked) = cc(&[&options[..], &[source.to_str().unwrap()]].concat()) else { return };
         let said = String::from_utf8_lossy(&checked.stderr);
-        if said.contains("cc1plus") {
+        if is_without_cpp(&said) {
             eprintln!("cc has no C++ here: {standard} was left out");
         } else {
             assert!(checked.status.success(), "{standard}: {said}");
@@ -119,9 +133,11 @@ fn the_headers_compile_as_c_and_as_cpp() {
 /// Fresh alone is never refused.
 #[test]
 fn the_compiler_warns_of_an_answer_that_nobody_looks_at() {
-    for (call, is_warned_of) in [("ramsummer_join(pool, 0)", true), ("ramsummer_fresh(pool)", false)] {
-        let text = format!("#include \"ramsummer.h\"\nvoid f(ramsummer_pool *pool) {{ {call}; }}\n");
-        let source = written(&format!("unused_{is_warned_of}.c"), &text);
+    let calls = [("join(pool, 0)", true), ("fresh_sized(pool, 16, 4, 64, 10)", true), ("fresh(pool)", false)];
+    for (call, is_warned_of) in calls {
+        let text = format!("#include \"ramsummer.h\"\nvoid f(ramsummer_pool *pool) {{ ramsummer_{call}; }}\n");
+        let (name, _) = call.split_once('(').unwrap();
+        let source = written(&format!("unused_{name}.c"), &text);
         let object = source.with_extension("o");
         let options = ["-Wall", "-Werror", "-c", source.to_str().unwrap(), "-o", object.to_str().unwrap()];
         let Some(checked) = cc(&options) else { return };
@@ -149,6 +165,6 @@ fn the_refusals_are_those_of_the_documents() {
 fn numbers_and_refusals_go_both_ways() {
     for number in 0..=255 {
         let back = Refusal::from_number(number).map(Refusal::number);
-        assert_eq!(back, matches!(number, 1..=23 | 255).then_some(number));
+        assert_eq!(back, matches!(number, 1..=23 | 29 | 255).then_some(number));
     }
 }

@@ -1,9 +1,9 @@
 //! Saved images: what is saved comes back, and no damage of one bit or cut goes unnoticed.
 
-use lives::{pools, Random};
-use ramsummer::image::{crc32, restore, restore_with_stores, save, save_with_stores, Fault};
+use lives::{limits, pools, pools_of, Random};
+use ramsummer::image::{crc32, restore, restore_with_stores, save, save_with_stores, with_stores, Fault};
 use ramsummer::image::{MAGIC, RECORD_ALONE, VERSION, WITH_STORES};
-use ramsummer::{Pool, Record, Refusal, LARGE, RECORD, SMALL};
+use ramsummer::{Kind, Limits, Pool, Record, Refusal, LARGE, LARGE_SIZE, RECORD, SMALL, SMALL_SIZE};
 
 mod lives;
 
@@ -20,14 +20,19 @@ fn image_of(record: &Record) -> Vec<u8> {
 }
 
 fn whole_image_of(pool: &Pool) -> Vec<u8> {
-    let mut image = vec![0; WITH_STORES];
+    let mut image = vec![0; with_stores(pool.record().limits)];
     save_with_stores(pool.record(), pool.small(), pool.large(), &mut image).unwrap();
     image
 }
 
 /// The record and the stores of an image, as a pool.
 fn restored(image: &[u8]) -> Result<Pool, Fault> {
-    let (mut small, mut large) = (vec![0; SMALL], vec![0; LARGE]);
+    restored_to(image, Limits::STANDARD)
+}
+
+/// The same with stores of these limits.
+fn restored_to(image: &[u8], limits: Limits) -> Result<Pool, Fault> {
+    let (mut small, mut large) = (vec![0; limits.small_length()], vec![0; limits.large_length()]);
     let record = restore_with_stores(image, &mut small, &mut large)?;
     Ok(Pool::over(record.into(), small.into(), large.into()))
 }
@@ -53,6 +58,67 @@ fn what_calls_lead_to_comes_back() {
     assert!(standing > 400);
 }
 
+#[test]
+fn so_does_a_pool_of_any_limits() {
+    let mut standing = 0;
+    for limits in limits(40) {
+        for pool in pools_of(limits, 10) {
+            assert_eq!(restore(&image_of(pool.record())).as_ref(), Ok(pool.record()));
+            let back = restored_to(&whole_image_of(&pool), limits).unwrap();
+            assert!(back == pool);
+            standing += u32::from(back.report().unwrap().small);
+        }
+    }
+    assert!(standing > 400, "{standing}");
+}
+
+/// Also where both stores together are as long as the image's: eight small blocks are one large one. Nothing is written.
+#[test]
+fn an_image_comes_back_to_stores_of_its_own_limits_alone() {
+    let limits = Limits { small_blocks: 17, large_blocks: 3, expirations: 9, extension: 4 };
+    let pool = Pool::sized(limits).unwrap();
+    let image = whole_image_of(&pool);
+    for (small, large) in [(9, 4), (25, 2), (17, 2), (17, 4), (16, 3), (18, 3), (64, 32), (1, 1), (0, 0)] {
+        let (mut small, mut large) = (vec![0xA5; small * SMALL_SIZE], vec![0xA5; large * LARGE_SIZE]);
+        assert_eq!(restore_with_stores(&image, &mut small, &mut large), Err(Fault::StoreLength));
+        assert!(small.iter().chain(&large).all(|&byte| byte == 0xA5));
+    }
+    // Limits that no store goes by are the image's, and not the caller's.
+    let record = restored_to(&image, Limits { expirations: 256, extension: 30, ..limits }).unwrap().record().clone();
+    assert_eq!(record.limits, limits);
+}
+
+/// It has no stores with it: the first call that is lent others tells.
+#[test]
+fn a_record_alone_comes_back_with_its_limits() {
+    let limits = Limits { small_blocks: 16, large_blocks: 4, expirations: 64, extension: 10 };
+    let record = restore(&image_of(&Record::sized(limits).unwrap())).unwrap();
+    assert_eq!(record.limits, limits);
+    let mut pool = Pool::over(record, [0; SMALL], [0; LARGE]);
+    pool.join(0).unwrap();
+    assert_eq!(pool.make(0, Kind::Local, 0, 4), Err(Refusal::WrongStoreLength));
+}
+
+/// Numbers so large that 32 bits could not say how long a store or the image would be.
+#[test]
+fn limits_of_no_pool_have_no_stores() {
+    for figure in [1 << 24, 1 << 27, (1 << 27) + 1, u32::MAX] {
+        for limits in
+            [Limits { small_blocks: figure, ..Limits::STANDARD }, Limits { large_blocks: figure, ..Limits::STANDARD }]
+        {
+            let mut record = Record::fresh();
+            record.limits = limits;
+            let mut room = vec![0; WITH_STORES];
+            assert_eq!(save_with_stores(&record, &[0; SMALL], &[0; LARGE], &mut room), Err(Fault::StoreLength));
+            assert_eq!(save_with_stores(&record, &[], &[], &mut room), Err(Fault::StoreLength));
+            // Written by other hands.
+            save(&record, &mut room).unwrap();
+            assert_eq!(restored(&room).err(), Some(Fault::Length));
+            assert_eq!(restore(&room).as_ref(), Ok(&record)); // it is for the first call to refuse
+        }
+    }
+}
+
 /// Also a record that no call leads to. It is for the first call to refuse.
 #[test]
 fn any_record_comes_back() {
@@ -72,20 +138,26 @@ fn the_layout_is_that_of_its_version() {
     let counted: Vec<u8> = (0..RECORD).map(|place| (place % 251) as u8).collect();
     let mut image = vec![0; RECORD_ALONE];
     image[..4].copy_from_slice(b"RSMR");
-    image[4] = 3;
-    image[8..12].copy_from_slice(&2456_u32.to_le_bytes());
+    image[4] = 4;
+    image[8..12].copy_from_slice(&2472_u32.to_le_bytes());
     image[12..12 + RECORD].copy_from_slice(&counted);
     let sum = crc32(&image[..RECORD_ALONE - 4]);
     image[RECORD_ALONE - 4..].copy_from_slice(&sum.to_le_bytes());
     let record = restore(&image).unwrap();
     assert_eq!((record.tasks[0].state, record.tasks[0].ticked, record.tasks[0].clock), (0x0100, 0x0302, 0x0706_0504));
-    assert_eq!((record.global, record.handles[0], record.extents[0]), (0x8382_8180, 0x8B8A_8988, 0x1514_1312));
-    assert_eq!((record.clocks[0], record.named[0]), ((904 % 251) as u8, (1160 % 251) as u8));
+    let Limits { small_blocks, large_blocks, expirations, extension } = record.limits;
+    assert_eq!((record.global, record.given, small_blocks), (0x8382_8180, 0x8786_8584, 0x8B8A_8988));
+    assert_eq!((large_blocks, expirations, extension), (0x8F8E_8D8C, 0x9392_9190, 0x9796_9594));
+    assert_eq!((record.handles[0], record.extents[0]), (0x9B9A_9998, 0x2524_2322));
+    assert_eq!((record.clocks[0], record.named[0]), ((920 % 251) as u8, (1176 % 251) as u8));
     assert_eq!(image_of(&record), image);
     // The sums of fresh images, by Python's zlib.
-    assert_eq!(image_of(&Record::fresh())[RECORD_ALONE - 4..], 0x5A13_EC91_u32.to_le_bytes());
-    assert_eq!(whole_image_of(&Pool::new())[WITH_STORES - 4..], 0x7747_717D_u32.to_le_bytes());
-    assert_eq!((MAGIC, VERSION, RECORD_ALONE, WITH_STORES), (*b"RSMR", 3, 2456, 12_696));
+    let cable = Limits { small_blocks: 16, large_blocks: 4, expirations: 64, extension: 10 };
+    assert_eq!(image_of(&Record::fresh())[RECORD_ALONE - 4..], 0x287C_09D4_u32.to_le_bytes());
+    assert_eq!(whole_image_of(&Pool::new())[WITH_STORES - 4..], 0x9B02_1BF4_u32.to_le_bytes());
+    assert_eq!(whole_image_of(&Pool::sized(cable).unwrap())[4008 - 4..], 0xA825_58B5_u32.to_le_bytes());
+    assert_eq!((MAGIC, VERSION, RECORD_ALONE, WITH_STORES), (*b"RSMR", 4, 2472, 12_712));
+    assert_eq!(with_stores(cable), 4008);
 }
 
 #[test]
@@ -147,7 +219,7 @@ fn bytes_after_an_image_may_be_anything() {
 fn other_versions_and_the_other_kind_are_told() {
     let pool = late_pool();
     let mut image = image_of(pool.record());
-    for version in [0, 1, 2, 4, 256, u32::MAX] {
+    for version in [0, 1, 2, 3, 5, 256, u32::MAX] {
         image[4..8].copy_from_slice(&version.to_le_bytes());
         assert_eq!(restore(&image), Err(Fault::Version));
     }
@@ -156,8 +228,10 @@ fn other_versions_and_the_other_kind_are_told() {
     let mut room = vec![0; WITH_STORES];
     save(pool.record(), &mut room).unwrap();
     assert_eq!(restored(&room).err(), Some(Fault::Length));
-    assert_eq!(restore(&[0; RECORD_ALONE]), Err(Fault::Magic));
-    assert_eq!(restore(&[0xFF; RECORD_ALONE]), Err(Fault::Magic));
+    for erased in [[0; RECORD_ALONE], [0xFF; RECORD_ALONE]] {
+        assert_eq!(restore(&erased), Err(Fault::Magic));
+        assert_eq!(restored(&erased).err(), Some(Fault::Magic));
+    }
 }
 
 #[test]
@@ -168,6 +242,8 @@ fn room_and_stores_have_to_be_long_enough() {
     assert_eq!(save_with_stores(&record, &small, &large, &mut room[1..]), Err(Fault::TooShort));
     assert_eq!(save_with_stores(&record, &small[1..], &large, &mut room), Err(Fault::StoreLength));
     assert_eq!(save_with_stores(&record, &large, &small, &mut room), Err(Fault::StoreLength));
-    assert_eq!(restore_with_stores(&room, &mut [0; SMALL], &mut [0; SMALL]), Err(Fault::StoreLength));
     assert!(room.iter().all(|&byte| byte == 0));
+    save_with_stores(&record, &small, &large, &mut room).unwrap();
+    assert_eq!(restore_with_stores(&room, &mut [0; SMALL], &mut [0; SMALL]), Err(Fault::StoreLength));
+    assert_eq!(restore_with_stores(&room, &mut [0; SMALL - 1], &mut [0; LARGE]), Err(Fault::StoreLength));
 }

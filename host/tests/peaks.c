@@ -1,8 +1,9 @@
 /*
- * The C side of tests/peaks.rs: a line in, the answer and the high-water marks out. A line is a call frame, `reset`, which
- * begins the marks anew, or `damage`, after which the record is not well-formed.
+ * The C side of tests/peaks.rs, whose arguments are the limits of its pool: a line in, the answer and the high-water marks
+ * out. A line is a call frame, `reset`, which begins the marks anew, or `damage`, after which the record is not well-formed.
  */
 #include <stdio.h>
+#include <stdlib.h>
 #include <string.h>
 
 #include "ramsummer_peaks.h"
@@ -13,7 +14,8 @@ static ramsummer_peaks peaks;
 
 static uint8_t frame(const char *line) {
     size_t count;
-    return ramsummer_frame(&pool, small, sizeof small, large, sizeof large, (const uint8_t *)line, strlen(line), out,
+    return ramsummer_frame(&pool, small, RAMSUMMER_SMALL_FOR(pool.limits.small_blocks), large,
+                           RAMSUMMER_LARGE_FOR(pool.limits.large_blocks), (const uint8_t *)line, strlen(line), out,
                            sizeof out, &count);
 }
 
@@ -28,9 +30,14 @@ static uint8_t answer(const char *line) {
     return ramsummer_peaks_after(&peaks, &pool, frame(line));
 }
 
-int main(void) {
+static uint64_t number(const char *argument) { return strtoul(argument, NULL, 10); }
+
+int main(int count, char **arguments) {
     char line[80];
-    ramsummer_fresh(&pool);
+    if (count != 5) return 1;
+    if (ramsummer_fresh_sized(&pool, number(arguments[1]), number(arguments[2]), number(arguments[3]),
+                              number(arguments[4])))
+        return 1;
     while (fgets(line, sizeof line, stdin)) {
         int number;
         line[strcspn(line, "\n")] = 0;

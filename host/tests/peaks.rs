@@ -2,7 +2,7 @@
 
 use in_c::{built, host, scratch};
 use lives::Random;
-use ramsummer::{Gauged, Handle, Kind, Peaks, Pool, Refusal, LINE};
+use ramsummer::{Gauged, Handle, Kind, Limits, Peaks, Pool, Refusal, LINE};
 use std::fs::{self, File};
 use std::process::Command;
 
@@ -98,11 +98,14 @@ fn frame(pool: &Pool, random: &mut Random) -> String {
 
 /// What the marks have to be after a line, by those before it.
 fn most(pool: &Pool, line: &str, before: Peaks) -> Peaks {
-    let now = standing(pool);
     match line {
-        "reset" => now,
-        _ => peaks(now.small.max(before.small), now.large.max(before.large), now.expirations.max(before.expirations)),
+        "reset" => standing(pool),
+        _ => raised(before, standing(pool)),
     }
+}
+
+fn raised(before: Peaks, now: Peaks) -> Peaks {
+    peaks(now.small.max(before.small), now.large.max(before.large), now.expirations.max(before.expirations))
 }
 
 /// The number of the line's answer.
@@ -114,14 +117,26 @@ fn answer(pool: &mut Gauged<Pool>, line: &str) -> u8 {
     outcome.map_or_else(Refusal::number, |()| 0)
 }
 
-#[test]
-fn marks_are_the_most_that_stood_after_any_call_in_c_too() {
-    let (mut pool, mut random, mut expected) = (Gauged::over(Pool::new()), Random(5), Peaks::new());
+/// What tests/peaks.c says to this script.
+fn told(name: &str, standard: &str, limits: Limits, script: &str) -> Option<Vec<u8>> {
+    let binary = built(&format!("{name}_{standard}"), &host().join("tests/peaks.c"), standard)?;
+    let input = scratch(&format!("{name}.in"));
+    fs::write(&input, script).unwrap();
+    let Limits { small_blocks, large_blocks, expirations, extension } = limits;
+    let arguments = [small_blocks, large_blocks, expirations, extension].map(|limit| limit.to_string());
+    Some(Command::new(binary).args(arguments).stdin(File::open(input).unwrap()).output().unwrap().stdout)
+}
+
+/// The most that any mark came to.
+fn compare(name: &str, limits: Limits) -> Peaks {
+    let (mut pool, mut random) = (Gauged::over(Pool::sized(limits).unwrap()), Random(5));
+    let (mut expected, mut highest) = (Peaks::new(), Peaks::new());
     let (mut script, mut answers) = (String::new(), String::new());
     for turn in 1..20_000 {
         let line = if turn % 100 == 0 { "reset".into() } else { frame(&pool, &mut random) };
         let number = answer(&mut pool, &line);
         expected = most(&pool, &line, expected);
+        highest = raised(highest, expected);
         assert_eq!(pool.peaks(), expected, "{line}");
         script += &format!("{line}\n");
         answers += &format!("{number}: {expected}\n");
@@ -131,10 +146,20 @@ fn marks_are_the_most_that_stood_after_any_call_in_c_too() {
         answers += &format!("15: {expected}\n");
     }
     for standard in ["c99", "c++98"] {
-        let name = format!("peaks_{standard}");
-        let Some(binary) = built(&name, &host().join("tests/peaks.c"), standard) else { return };
-        fs::write(scratch("peaks.in"), &script).unwrap();
-        let told = Command::new(binary).stdin(File::open(scratch("peaks.in")).unwrap()).output().unwrap().stdout;
+        let Some(told) = told(name, standard, limits, &script) else { break };
         assert!(told == answers.as_bytes(), "{standard}");
     }
+    highest
+}
+
+#[test]
+fn marks_are_the_most_that_stood_after_any_call_in_c_too() {
+    compare("peaks", Limits::STANDARD);
+}
+
+/// Of a small site they come to its limits, and no further.
+#[test]
+fn marks_go_no_further_than_the_limits() {
+    let limits = Limits { small_blocks: 3, large_blocks: 2, expirations: 7, extension: 2 };
+    assert_eq!(compare("peaks_of_a_site", limits), peaks(3, 2, 7));
 }

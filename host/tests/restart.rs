@@ -1,7 +1,8 @@
 //! What docs/RESTART.md says of tasks that come back, held on pools that calls lead to.
 
-use lives::pools;
-use ramsummer::{image, Handle, Kind, Pool, Record, Refusal, Report, CLOCK_LOCAL, CLOCK_PINNED, LARGE, SMALL, TASKS};
+use lives::{limits, pools, pools_of};
+use ramsummer::{image, Handle, Kind, Limits, Pool, Record, Refusal, Report};
+use ramsummer::{CLOCK_LOCAL, CLOCK_PINNED, LARGE, SMALL, TASKS};
 
 mod lives;
 
@@ -17,7 +18,12 @@ fn restored(record: &Record) -> Record {
 
 /// The pools again, each from the image of its record.
 fn restarted() -> impl Iterator<Item = Pool> {
-    pools(400).map(|pool| {
+    restarted_of(Limits::STANDARD, 400)
+}
+
+/// The same of pools with these limits.
+fn restarted_of(limits: Limits, count: usize) -> impl Iterator<Item = Pool> {
+    pools_of(limits, count).map(|pool| {
         let (record, small, large) = pool.into_parts();
         Pool::over(restored(&record).into(), small, large)
     })
@@ -88,27 +94,33 @@ fn a_read_without_the_stores_is_refused() {
     assert!(refused > 1000, "{refused}");
 }
 
-/// Without the stores: no object stands after 32 ticks of one task, once all have left and what is pinned is released; and no
-/// handle is given again.
+/// All have left, and one joins and releases what is pinned. The count of that, and the ticks after which an object stood.
+fn emptied(pool: &mut Pool) -> (usize, u32) {
+    for task in 0..TASKS as u8 {
+        let _ = pool.leave(task);
+    }
+    pool.join(0).unwrap();
+    let pinned = pinned(pool.record());
+    pinned.iter().for_each(|handle| pool.release(0, *handle).unwrap());
+    let mut last = 0;
+    for ticks in 1..=pool.record().limits.extension + 2 {
+        assert_eq!(pool.tick(0), Ok(true));
+        if pool.report().unwrap().small > 0 {
+            last = ticks;
+        }
+    }
+    (pinned.len(), last)
+}
+
+/// Without the stores: no object stands after as many ticks of one task as the pool's extension and 2, once all have left and
+/// what is pinned is released; and no handle is given again.
 #[test]
-fn a_pool_without_its_stores_is_empty_after_32_ticks() {
+fn a_pool_without_its_stores_is_empty_in_time() {
     let (mut longest, mut released) = (0, 0);
-    for mut pool in restarted() {
+    for mut pool in restarted().chain(limits(40).flat_map(|limits| restarted_of(limits, 20))) {
         let given = pool.record().given;
-        for task in 0..TASKS as u8 {
-            let _ = pool.leave(task);
-        }
-        pool.join(0).unwrap();
-        for handle in pinned(pool.record()) {
-            pool.release(0, handle).unwrap();
-            released += 1;
-        }
-        for ticks in 1..=32 {
-            assert_eq!(pool.tick(0), Ok(true));
-            if pool.report().unwrap().small > 0 {
-                longest = longest.max(ticks);
-            }
-        }
+        let (pinned, last) = emptied(&mut pool);
+        (longest, released) = (longest.max(last), released + pinned);
         let mut empty = Report::default();
         empty.given = given;
         assert_eq!(pool.report(), Ok(empty));

@@ -35,6 +35,7 @@ fn c_form(parameter: &str) -> Vec<String> {
         "uint8_t" => "u8",
         "uint16_t" => "u16",
         "uint32_t" => "u32",
+        "uint64_t" => "u64",
         "unsigned" => "c_uint",
         other => panic!("{other} in {parameter}"),
     };
@@ -72,7 +73,7 @@ fn source() -> Option<String> {
 
 #[test]
 fn the_header_and_the_crate_agree() {
-    assert_eq!(header().len(), 16);
+    assert_eq!(header().len(), 17);
     assert_eq!(signatures(include_str!("../src/sys.rs"), "fn", rust_form), header());
 }
 
@@ -84,18 +85,29 @@ fn the_header_and_the_proved_source_agree() {
     }
 }
 
-/// Each entry that takes a number narrower than an int is called by a function that takes it wide, under its name.
+/// What a number of the library's type is taken as, so that C does not cut it: one narrower than an int, and a limit.
+fn wide_types(name: &str, narrow: &str) -> &'static [&'static str] {
+    match narrow {
+        "u8" | "u16" => &["c_uint", "usize"],
+        "u32" if name == "fresh_sized" => &["u64"],
+        _ => &[],
+    }
+}
+
+/// Each entry that takes such a number is called by a function that takes it wide, under its name.
 #[test]
-fn no_entry_is_left_that_cuts_an_int() {
+fn no_entry_is_left_that_cuts_a_number() {
     let text = include_str!("../include/ramsummer_wide.h");
     let mut functions = signatures(text, "uint8_t", c_form);
     functions.retain(|name, _| name.ends_with("_wide"));
-    let is_narrow = |kind: &String| kind == "u8" || kind == "u16";
-    for (name, narrow) in header().into_iter().filter(|(_, kinds)| kinds.iter().any(is_narrow)) {
-        let wide = functions.remove(&format!("{name}_wide")).unwrap_or_else(|| panic!("{name} cuts an int"));
-        let is_passed = |(wide, narrow)| match is_narrow(narrow) {
-            true => wide == "c_uint" || wide == "usize",
-            false => wide == narrow,
+    for (name, narrow) in header() {
+        if narrow.iter().all(|kind| wide_types(&name, kind).is_empty()) {
+            continue;
+        }
+        let wide = functions.remove(&format!("{name}_wide")).unwrap_or_else(|| panic!("{name} cuts a number"));
+        let is_passed = |(wide, narrow): (&String, &String)| match wide_types(&name, narrow) {
+            [] => wide == narrow,
+            types => types.contains(&wide.as_str()),
         };
         assert!(wide.len() == narrow.len() && wide.iter().zip(&narrow).all(is_passed), "{name}: {wide:?}");
         assert!(text.contains(&format!("\n#define ramsummer_{name} ramsummer_{name}_wide\n")), "{name}");

@@ -1,6 +1,7 @@
 /*
  * The C side of tests/wide_c.rs: an int that the library's type for an argument cannot hold is refused with the number of
- * one that is too large, in its turn among the tests, and nothing changes. Prints what was otherwise.
+ * one that is too large, in its turn among the tests, and nothing changes; and so is a limit of a pool of any 64 bits, after
+ * which there is no pool. Prints what was otherwise.
  */
 #include <limits.h>
 #include <stdio.h>
@@ -192,6 +193,52 @@ static void fits(void) {
         REFUSED(6, ramsummer_refresh(&w.pool, RUNS, RAMSUMMER_LOCAL, n, stands));
 }
 
+/* A pool with limits out of their range: 29, and then 15. */
+static void expect_none(int line, uint8_t answer) {
+    uint8_t next = ramsummer_join(&w.pool, RUNS);
+    if (answer == 29 && next == 15) return;
+    printf("line %d: answered %d and not 29, then %d and not 15\n", line, answer, next);
+    faults++;
+}
+
+/* Small blocks, large blocks, expirations and extension of a pool that there is not, and of one that there is. */
+#define NONE(s, l, x, e) expect_none(__LINE__, ramsummer_fresh_sized(&w.pool, s, l, x, e))
+#define SOME(s, l, x, e) do { DONE(ramsummer_fresh_sized(&w.pool, s, l, x, e)); DONE(ramsummer_join(&w.pool, 0)); } while (0)
+
+/* No limit of any sort, whatever the type that it comes in. */
+#define NO_LIMIT(n) do { NONE(n, 1, 1, 0); NONE(1, n, 1, 0); NONE(1, 1, n, 0); NONE(1, 1, 1, n); } while (0)
+
+static void no_limits(void) {
+    static const int ints[] = {257, 65536, INT_MAX, -1, -30, -256, INT_MIN};
+    size_t i;
+    for (i = 0; i < sizeof ints / sizeof *ints; i++) {
+        int n = ints[i];
+        NO_LIMIT(n);
+        NO_LIMIT((unsigned)n);
+        NO_LIMIT((int64_t)n);
+    }
+    for (i = 0; i <= 256; i++) NO_LIMIT(((uint64_t)1 << 32) + i);
+    for (i = 32; i < 64; i++) NO_LIMIT(((uint64_t)1 << i) + 1);
+    NO_LIMIT(UINT32_MAX);
+    NO_LIMIT(UINT64_MAX);
+}
+
+/* Each at both ends of its range, and one past them. */
+static void limits(void) {
+    uint8_t (*sized)(ramsummer_pool *, uint64_t, uint64_t, uint64_t, uint64_t) = ramsummer_fresh_sized;
+    SOME(1, 1, 1, 0);
+    SOME(64, 32, 256, 30);
+    NONE(0, 1, 1, 0);
+    NONE(65, 1, 1, 0);
+    NONE(1, 0, 1, 0);
+    NONE(1, 33, 1, 0);
+    NONE(1, 1, 0, 0);
+    NONE(1, 1, 257, 0);
+    NONE(1, 1, 1, 31);
+    no_limits();
+    expect_none(__LINE__, sized(&w.pool, (uint64_t)1 << 32, 1, 1, 0));
+}
+
 int main(void) {
     static const int extremes[] = {65535, 65536, 65540, 65792, 1 << 24, INT_MAX, -1, -252, -256, -65532, INT_MIN};
     uint8_t (*join)(ramsummer_pool *, unsigned) = ramsummer_join;
@@ -202,5 +249,6 @@ int main(void) {
     for (i = 0; i < sizeof extremes / sizeof *extremes; i++) refused(extremes[i]);
     REFUSED(1, join(&w.pool, 256));
     fits();
+    limits();
     return faults == 0 ? 0 : 1;
 }

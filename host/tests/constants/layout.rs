@@ -2,9 +2,14 @@
 
 use crate::source::{between, text_of, value};
 
-/// The fields of a struct of the record's crate, with their types.
+/// Where the record's structs are defined.
+fn text() -> String {
+    text_of("record") + &text_of("ledger")
+}
+
+/// The fields of one of the record's structs, with their types.
 fn fields(name: &str) -> Vec<(String, String)> {
-    let text = text_of("record");
+    let text = text();
     let body = between(&text, &format!("#[repr(C)]\npub struct {name} {{\n"), "\n}").unwrap();
     let fields =
         body.lines().filter_map(|line| line.trim().strip_prefix("pub ")?.trim_end_matches(',').split_once(": "));
@@ -22,7 +27,7 @@ pub fn size_of(kind: &str) -> u64 {
     if let Some((element, count)) = between(kind, "[", "]").and_then(|array| array.split_once("; ")) {
         return size_of(element) * value("record", count);
     }
-    match between(&text_of("record"), &format!("pub struct {kind}(pub "), ")") {
+    match between(&text(), &format!("pub struct {kind}(pub "), ")") {
         Some(number) => size_of(number),
         None => fields(kind).iter().map(|(_, kind)| size_of(kind)).sum(),
     }

@@ -4,7 +4,8 @@
 mod layout;
 mod source;
 
-use source::{arms, is_here, value};
+use ramsummer::Limits;
+use source::{arms, between, is_here, text_of, value};
 use std::collections::BTreeMap;
 
 /// Names in capitals and without underscores, since the source has other letters for some.
@@ -29,15 +30,17 @@ fn constants() -> Numbers {
 /// What the source has for them.
 fn proved() -> Numbers {
     let mut numbers: Numbers = [
-        ("SMALL", value("pool", "SMALL_BYTES")),
-        ("LARGE", value("pool", "LARGE_BYTES")),
+        ("SMALL_BLOCKS", value("ledger", "CAPACITY.small")),
+        ("LARGE_BLOCKS", value("ledger", "CAPACITY.large")),
+        ("EXPIRATIONS", value("ledger", "CAPACITY.expirations")),
+        ("MAX_EXTENSION", value("ledger", "CAPACITY.extension")),
+        ("SMALL_SIZE", value("stores", "SMALL_SIZE")),
+        ("LARGE_SIZE", value("stores", "LARGE_SIZE")),
         ("LONGEST", value("ledger", "LARGE_SIZE")),
         ("LINE", value("execute", "LONGEST_ANSWER")),
         ("RECORD", layout::size_of("Pool")),
         ("TASKS", value("ledger", "TASK_COUNT")),
         ("STORE_BLOCKS", value("record", "BLOCK_COUNT")),
-        ("EXPIRATIONS", value("record", "EXPIRATION_COUNT")),
-        ("MAX_EXTENSION", value("ledger", "LIMITS.extension")),
         ("LARGEST_BATCH", value("ledger", "LARGEST_BATCH")),
         ("BUFFER_TOO_SHORT", value("numbered", "TOO_SHORT")),
         ("CLOCK_LOCAL", value("record", "LOCAL")),
@@ -51,12 +54,25 @@ fn proved() -> Numbers {
         let kind = kind.strip_prefix("KindByte::Known(Kind::")?.strip_suffix(')')?;
         Some((plain(kind), number.parse().ok()?))
     }));
-    let answers = arms("ledger", "number_of").into_iter().chain(arms("ledger", "answer_number"));
-    numbers.extend(answers.filter_map(|(answer, number)| {
-        let answer = answer.strip_prefix("Refusal::").or((answer == "Answer::Done").then_some("Done"))?;
-        Some((plain(answer), number.parse().ok()?))
+    numbers.extend(arms("ledger", "place_of").into_iter().filter_map(|(refusal, place)| {
+        Some((plain(refusal.strip_prefix("Refusal::")?), number_at(place.parse().ok()?)))
+    }));
+    numbers.extend(arms("ledger", "answer_number").into_iter().filter_map(|(answer, number)| {
+        Some((plain(answer.strip_prefix("Answer::").filter(|answer| *answer == "Done")?), number.parse().ok()?))
     }));
     numbers
+}
+
+/// The number of the refusal at this place of the proved list: `if place < 24 { place } else { 29 }`.
+fn number_at(place: u64) -> u64 {
+    let text = text_of("ledger");
+    let rule = between(&text, "if place < ", " }\n").unwrap();
+    let (first, last) = rule.split_once(" { place } else { ").unwrap();
+    if place < first.parse().unwrap() {
+        place
+    } else {
+        last.parse().unwrap()
+    }
 }
 
 /// `RAMSUMMER_ASSERT(offsetof(ramsummer_pool, given) == 132);`: the struct, the field and the place.
@@ -74,8 +90,8 @@ fn the_header_has_the_constants_of_the_proved_source() {
         assert_eq!(constants(), proved());
         assert_eq!(
             constants().len(),
-            10 + 3 + 4 + 1 + 23 + 1,
-            "sizes and counts, kinds, clocks, done, refusals, buffer too short"
+            4 + 3 + 5 + 3 + 4 + 1 + 24 + 1,
+            "limits, other counts, sizes, kinds, clocks, done, refusals, buffer too short"
         );
     }
 }
@@ -83,11 +99,29 @@ fn the_header_has_the_constants_of_the_proved_source() {
 #[test]
 fn the_header_has_the_places_of_the_proved_record() {
     if is_here() {
-        assert_eq!(places().len(), 9);
+        assert_eq!(places().len(), 13);
         for (name, field, place) in places() {
-            let name = if name == "pool" { "Pool" } else { "TaskEntry" };
+            let (name, field) = match name {
+                "pool" => ("Pool", field),
+                "limits" => ("Limits", field.trim_end_matches("_blocks")),
+                _ => ("TaskEntry", field),
+            };
             assert_eq!(layout::place_of(name, field), place, "{field} of {name}");
         }
-        assert_eq!(layout::size_of("TaskEntry"), 8);
+        assert_eq!((layout::size_of("TaskEntry"), layout::size_of("Limits")), (8, 16));
+    }
+}
+
+/// The lengths of the stores and the entries of the tables, by the constants above.
+#[test]
+fn the_stores_of_a_fresh_pool_are_those_of_the_proved_source() {
+    if is_here() {
+        let lengths = [value("pool", "SMALL_BYTES"), value("pool", "LARGE_BYTES")];
+        assert_eq!(lengths, [ramsummer::SMALL, ramsummer::LARGE].map(|length| length as u64));
+        assert_eq!(value("record", "EXPIRATION_COUNT"), ramsummer::EXPIRATIONS as u64);
+        let standard =
+            ["small", "large", "expirations", "extension"].map(|limit| value("ledger", &format!("STANDARD.{limit}")));
+        let Limits { small_blocks, large_blocks, expirations, extension } = Limits::STANDARD;
+        assert_eq!(standard, [small_blocks, large_blocks, expirations, extension].map(u64::from));
     }
 }

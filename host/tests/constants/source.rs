@@ -121,7 +121,7 @@ fn named(krate: &str, name: &str) -> u64 {
     }
 }
 
-/// `use ledger::LIMITS;` names the crate of a constant.
+/// `use ledger::STANDARD;` names the crate of a constant.
 fn origin<'a>(text: &'a str, constant: &str) -> Option<&'a str> {
     let line = text.lines().find(|line| line.starts_with("use ") && line.ends_with(&format!("::{constant};")))?;
     between(line, "use ", "::")

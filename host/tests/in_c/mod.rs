@@ -1,5 +1,7 @@
 //! Programs in C, which are compiled with every warning an error and linked with the library.
 
+#![allow(dead_code)] // Each test uses what it needs.
+
 use std::path::{Path, PathBuf};
 use std::process::Command;
 
@@ -21,11 +23,16 @@ pub fn built(name: &str, source: &Path, standard: &str) -> Option<PathBuf> {
     cc.args(["-x", "none", env!("RAMSUMMER_ARCHIVE"), "-o"]).arg(&binary);
     let Ok(said) = cc.output() else { return left_out(name) };
     let errors = String::from_utf8_lossy(&said.stderr);
-    if errors.contains("cc1plus") {
+    if is_without_cpp(&errors) {
         return left_out(name);
     }
     assert!(said.status.success(), "{name} by {standard}: {errors}");
     Some(binary)
+}
+
+/// Whether the compiler says that its part for C++ is missing, which it names in quotes.
+pub fn is_without_cpp(errors: &str) -> bool {
+    ["cc1plus'", "cc1plus\u{2019}"].iter().any(|named| errors.contains(named))
 }
 
 fn left_out(name: &str) -> Option<PathBuf> {

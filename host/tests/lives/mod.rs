@@ -2,7 +2,7 @@
 
 #![allow(dead_code)] // Each test uses what it needs.
 
-use ramsummer::{Handle, Kind, Pool};
+use ramsummer::{Handle, Kind, Limits, Pool};
 
 /// Numbers that look random and are the same in each run.
 pub struct Random(pub u64);
@@ -18,11 +18,26 @@ impl Random {
     }
 }
 
+/// Limits of so many pools: the smallest, the largest, and then some of chance.
+pub fn limits(count: usize) -> impl Iterator<Item = Limits> {
+    let mut random = Random(12);
+    let mut upto = move |most: u32| 1 + random.below(most.into()) as u32;
+    let most = Limits::STANDARD;
+    let ends = [Limits { small_blocks: 1, large_blocks: 1, expirations: 1, extension: 0 }, most];
+    let chosen = std::iter::repeat_with(move || Limits {
+        small_blocks: upto(most.small_blocks),
+        large_blocks: upto(most.large_blocks),
+        expirations: upto(most.expirations),
+        extension: upto(most.extension + 1) - 1,
+    });
+    ends.into_iter().chain(chosen).take(count)
+}
+
 /// One call, which may be refused.
 fn call(pool: &mut Pool, random: &mut Random) {
     let task = random.below(16) as u8;
     let kind = if random.below(2) == 0 { Kind::Local } else { Kind::Global };
-    let extension = random.below(31) as u8;
+    let extension = random.below(u64::from(pool.record().limits.extension) + 1) as u8;
     let length = 1 + random.below(64) as u16;
     let handle = Handle::from(pool.record().given.saturating_sub(random.below(90) as u32));
     let _ = match random.below(18) {
@@ -41,7 +56,12 @@ fn call(pool: &mut Pool, random: &mut Random) {
 
 /// Pools that calls lead to from a fresh one, each 20 calls after the last.
 pub fn pools(count: usize) -> impl Iterator<Item = Pool> {
-    let (mut pool, mut random) = (Pool::new(), Random(7));
+    pools_of(Limits::STANDARD, count)
+}
+
+/// The same from one with these limits.
+pub fn pools_of(limits: Limits, count: usize) -> impl Iterator<Item = Pool> {
+    let (mut pool, mut random) = (Pool::sized(limits).unwrap(), Random(7));
     (0..count).map(move |_| {
         (0..20).for_each(|_| call(&mut pool, &mut random));
         pool.clone()

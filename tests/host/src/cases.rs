@@ -1,7 +1,7 @@
 //! What is measured: each call on records where few and many expirations stand, accepted and refused, and on those whose
 //! handles make the fit test work most.
 
-use plain::limits::{EXPIRATIONS, LARGEST_BATCH, PINNING, SMALL_SIZE, TASKS};
+use plain::limits::{Limits, EXPIRATIONS, LARGEST_BATCH, PINNING, SMALL_SIZE, TASKS};
 use plain::record::{is_global, FREE, LOCAL, PINNED, RUNNING, WAITING};
 use reference::call::{packed, Call, Handles, Kind};
 use reference::frame::encode;
@@ -89,7 +89,7 @@ fn last_is_due_next(memory: &mut Memory, goes_by: fn(u8) -> bool) {
 
 /// All expirations are global, and the fifteen tasks that have set them all wait, or have all ticked. Task 0 runs.
 fn set_by_others(expirations: usize, wait: bool) -> Memory {
-    let mut memory = standing_by(TASKS, objects(expirations), expirations, |count| Setting {
+    let mut memory = standing_by(Limits::STANDARD, TASKS, objects(expirations), expirations, |count| Setting {
         task: 1 + (count % (TASKS - 1)) as u8,
         kind: Kind::Global,
         extension: 5 + (count % 26) as u8,

@@ -59,6 +59,8 @@ pub const SUBJECTS: [Subject; 3] = [Subject::Library, Subject::Plain, Subject::W
 #[derive(Clone, Copy, Debug, PartialEq, Eq)]
 pub enum Entry {
     Fresh,
+    /// With the figures that the record has.
+    FreshSized,
     Join,
     Leave,
     Block,
@@ -81,8 +83,9 @@ pub enum Entry {
 
 impl Entry {
     /// The entries, and the fit test.
-    pub const ALL: [Entry; 16] = [
+    pub const ALL: [Entry; 17] = [
         Entry::Fresh,
+        Entry::FreshSized,
         Entry::Join,
         Entry::Leave,
         Entry::Block,
@@ -101,7 +104,10 @@ impl Entry {
     ];
 
     pub fn name(self) -> String {
-        format!("{self:?}").to_lowercase()
+        match self {
+            Entry::FreshSized => "fresh_sized".to_string(),
+            other => format!("{other:?}").to_lowercase(),
+        }
     }
 }
 
@@ -130,6 +136,10 @@ fn fit(desk: &mut Desk, _: &Arguments) -> u8 {
 fn entry_of<E: Entries>(entry: Entry) -> Action {
     match entry {
         Entry::Fresh => |desk, _| E::fresh(&mut desk.memory.pool),
+        Entry::FreshSized => |desk, _| {
+            let limits = desk.memory.pool.limits;
+            E::fresh_sized(&mut desk.memory.pool, limits)
+        },
         Entry::Join => |desk, with| E::join(&mut desk.memory.pool, with.task),
         Entry::Leave => |desk, with| E::leave(&mut desk.memory.pool, with.task, &mut desk.advanced),
         Entry::Block => |desk, with| E::block(&mut desk.memory.pool, with.task, &mut desk.advanced),
@@ -212,7 +222,7 @@ fn work_of(entry: Entry) -> Option<Action> {
             let refresh = |handle: &u32| number(work::refresh(&mut desk.memory.pool, with_all, *handle));
             with.handles.iter().map(refresh).max().unwrap_or(0)
         },
-        Entry::Fresh | Entry::Frame | Entry::Fit => return None,
+        Entry::Fresh | Entry::FreshSized | Entry::Frame | Entry::Fit => return None,
     })
 }
 

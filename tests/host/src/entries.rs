@@ -1,12 +1,14 @@
 //! The entries of the C interface with the types of Rust, and the plain pool under them.
 
 use plain::calls;
+use plain::limits::Limits;
 use plain::record::Pool;
 
 /// What the library has, and the plain pool too.
 #[allow(clippy::too_many_arguments)] // As the C interface has them.
 pub trait Entries {
     fn fresh(pool: &mut Pool) -> u8;
+    fn fresh_sized(pool: &mut Pool, limits: Limits) -> u8;
     fn join(pool: &mut Pool, task: u8) -> u8;
     fn leave(pool: &mut Pool, task: u8, advanced: &mut u8) -> u8;
     fn block(pool: &mut Pool, task: u8, advanced: &mut u8) -> u8;
@@ -58,6 +60,11 @@ impl Entries for Plain {
     #[inline]
     fn fresh(pool: &mut Pool) -> u8 {
         calls::fresh(pool)
+    }
+
+    #[inline]
+    fn fresh_sized(pool: &mut Pool, limits: Limits) -> u8 {
+        calls::fresh_sized(pool, limits)
     }
 
     #[inline]

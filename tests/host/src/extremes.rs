@@ -2,7 +2,7 @@
 //! standing, and handles that are alike modulo 65536. Calls make all but the handles, which are put in at the end;
 //! tests/numbering.rs reaches those by calls, on a record of its own.
 
-use plain::limits::{EXPIRATIONS, LARGEST_BATCH, PINNING};
+use plain::limits::{Limits, BLOCKS, EXPIRATIONS, LARGEST_BATCH, LARGE_BLOCKS, PINNING, SMALL_BLOCKS};
 use reference::call::{packed, Call, Handles, Kind};
 
 use crate::cases::{case, line, naming, Case};
@@ -15,11 +15,11 @@ use crate::samples::{renumber, standing, standing_by, Numbering, Setting};
 const TASKS: u8 = 15;
 const ABSENT: u8 = TASKS;
 const ALIKE: Numbering = Numbering::Alike(65_536);
-const FULL: (usize, usize) = (64, 32);
-const OBJECTS: usize = FULL.0 + FULL.1;
+const FULL: (usize, usize) = (SMALL_BLOCKS, LARGE_BLOCKS);
+const OBJECTS: usize = BLOCKS;
 const LAST_BLOCK: usize = OBJECTS - 1;
 
-/// What a logger does most and [`crate::cases`] has not: a fresh record, and a scan of sixteen readings.
+/// What a logger does and [`crate::cases`] has not: a fresh record, of either kind, and a scan of sixteen readings.
 pub fn usual() -> Vec<Case> {
     let (expirations, count) = (EXPIRATIONS / 2, 16);
     let arguments = naming(expirations, count);
@@ -27,6 +27,7 @@ pub fn usual() -> Vec<Case> {
     let batch = Call::Batch { task: 0, kind: Kind::Local, extension: 9, handles: Handles(&handles) };
     vec![
         case("fresh", Entry::Fresh, expirations, Arguments::default()),
+        case("fresh_sized", Entry::FreshSized, expirations, Arguments::default()),
         case("frame: batch of 16", Entry::Frame, expirations, line(&batch)),
         case("batch of 16", Entry::Batch, expirations, arguments),
     ]
@@ -141,7 +142,7 @@ fn room_for(small: usize, large: usize) -> Memory {
 }
 
 fn set(expirations: usize, setting: impl Fn(usize) -> Setting) -> Memory {
-    standing_by(usize::from(TASKS), FULL, expirations, setting)
+    standing_by(Limits::STANDARD, usize::from(TASKS), FULL, expirations, setting)
 }
 
 /// One expiration on each object, and all others on that of the last block.

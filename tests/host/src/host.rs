@@ -128,10 +128,11 @@ impl<E: Entries> Host<E> {
     }
 
     /// An accepted call touches its own bytes alone: a make clears one block, a write replaces its bytes, and no
-    /// other call touches a store. Of the record a write changes the sum of its block, and read, report and remaining
-    /// nothing. A new object has the sum of zeros.
+    /// other call touches a store. Of the record a write changes the sum of its block, read, report and remaining
+    /// nothing, and no call the figures of the site. A new object has the sum of zeros.
     fn check_memory(&mut self, call: &Call) {
         let Host { memory, before, .. } = self;
+        assert_eq!(memory.pool.limits, before.pool.limits, "{call:?}");
         match *call {
             Call::Make { length, .. } => {
                 let place = memory.place(memory.pool.given).expect("the new object has a block");

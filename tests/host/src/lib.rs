@@ -1,6 +1,6 @@
 //! The linked library as tests and measures use it: its entries, a host that makes calls and watches what they
-//! touch, the record read as a ledger, records to begin from, the cases that are measured, instructions by callgrind,
-//! and the depth of the stack.
+//! touch, the record read as a ledger, the figures of sites, records to begin from, the cases that are measured,
+//! instructions by callgrind, and the depth of the stack.
 //!
 //! `RAMSUMMER_LIB` names the folder of another library than the repository's own, as host/README.md says:
 //!
@@ -22,4 +22,5 @@ pub mod measures;
 pub mod memory;
 pub mod reading;
 pub mod samples;
+pub mod sites;
 pub mod stack;

@@ -1,5 +1,6 @@
 //! The linked library: its C interface, and safe entries over it. A slice goes as its first value and its length.
 
+use plain::limits::Limits;
 use plain::record::Pool;
 
 use crate::entries::Entries;
@@ -10,6 +11,13 @@ pub struct Library;
 
 extern "C" {
     fn ramsummer_fresh(pool: *mut Pool) -> u8;
+    fn ramsummer_fresh_sized(
+        pool: *mut Pool,
+        small_blocks: u32,
+        large_blocks: u32,
+        expirations: u32,
+        extension: u32,
+    ) -> u8;
     fn ramsummer_join(pool: *mut Pool, task: u8) -> u8;
     fn ramsummer_leave(pool: *mut Pool, task: u8, advanced: *mut u8) -> u8;
     fn ramsummer_block(pool: *mut Pool, task: u8, advanced: *mut u8) -> u8;
@@ -84,6 +92,12 @@ impl Entries for Library {
     #[inline]
     fn fresh(pool: &mut Pool) -> u8 {
         unsafe { ramsummer_fresh(pool) }
+    }
+
+    #[inline]
+    fn fresh_sized(pool: &mut Pool, limits: Limits) -> u8 {
+        let Limits { small_blocks, large_blocks, expirations, extension } = limits;
+        unsafe { ramsummer_fresh_sized(pool, small_blocks, large_blocks, expirations, extension) }
     }
 
     #[inline]

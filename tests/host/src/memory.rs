@@ -1,23 +1,35 @@
-//! What a host owns: the record and both stores.
+//! What a host owns: the record, and both stores, as long as the record's figures say.
 
-use plain::limits::{LARGE_SIZE, LARGE_STORE, SMALL_BLOCKS, SMALL_SIZE, SMALL_STORE};
-use plain::record::{extent_of, length_in, Pool, FRESH, RECORD};
+use plain::limits::{Limits, LARGE_SIZE, SMALL_BLOCKS, SMALL_SIZE};
+use plain::record::{extent_of, fresh, length_in, Pool, RECORD};
 use reference::random::Random;
 
-#[derive(Clone, Debug)]
+#[derive(Debug)]
 pub struct Memory {
     pub pool: Pool,
-    pub small: [u8; SMALL_STORE],
-    pub large: [u8; LARGE_STORE],
+    pub small: Vec<u8>,
+    pub large: Vec<u8>,
 }
 
 impl Memory {
-    /// A fresh record with stores of chance.
+    /// A fresh record of 01's figures with stores of chance.
     pub fn fresh(random: &mut Random) -> Memory {
-        let mut memory = Memory { pool: FRESH, small: [0; SMALL_STORE], large: [0; LARGE_STORE] };
+        Memory::sized(Limits::STANDARD, random)
+    }
+
+    /// The same of a site's figures.
+    pub fn sized(limits: Limits, random: &mut Random) -> Memory {
+        let (small, large) = (vec![0; limits.small_store()], vec![0; limits.large_store()]);
+        let mut memory = Memory { pool: fresh(limits), small, large };
         random.fill(&mut memory.small);
         random.fill(&mut memory.large);
         memory
+    }
+
+    /// The places of the site's blocks in the block table.
+    pub fn places(&self) -> Vec<usize> {
+        let Limits { small_blocks, large_blocks, .. } = self.pool.limits;
+        (0..small_blocks as usize).chain(SMALL_BLOCKS..SMALL_BLOCKS + large_blocks as usize).collect()
     }
 
     /// The block at a place of the block table.
@@ -44,6 +56,19 @@ impl Memory {
     /// The place of the block that holds this object.
     pub fn place(&self, handle: u32) -> Option<usize> {
         self.pool.handles.iter().position(|&other| other == handle)
+    }
+}
+
+/// A copy takes the room that is there.
+impl Clone for Memory {
+    fn clone(&self) -> Memory {
+        Memory { pool: self.pool.clone(), small: self.small.clone(), large: self.large.clone() }
+    }
+
+    fn clone_from(&mut self, other: &Memory) {
+        self.pool.clone_from(&other.pool);
+        self.small.clone_from(&other.small);
+        self.large.clone_from(&other.large);
     }
 }
 

@@ -1,7 +1,7 @@
-//! A record and its stores read as a ledger, and a ledger read in the same way, so that the two compare: clocks by
-//! 32 bits, an object's expirations by kind, setter and units left, in no order. Places are not compared.
+//! A record and its stores read as a ledger, and a ledger read in the same way, so that the two compare: the figures of the
+//! site, clocks by 32 bits, an object's expirations by kind, setter and units left, in no order. Places are not compared.
 
-use plain::limits::TASKS;
+use plain::limits::{Limits, BLOCKS, SMALL_BLOCKS, TASKS};
 use plain::record::{length_in, sum_in, Pool, ABSENT, DEPARTED, FREE, GLOBAL, LOCAL, PINNED, RUNNING};
 use reference::block::Block;
 use reference::call::Figures;
@@ -10,9 +10,11 @@ use reference::ledger::{Ledger, Standing};
 use reference::tasks::{State, Task};
 
 use crate::memory::Memory;
+use crate::sites;
 
 #[derive(Debug, PartialEq, Eq)]
 pub struct Reading {
+    limits: Limits,
     tasks: Vec<(State, bool, u32)>,
     global: u32,
     given: u32,
@@ -29,13 +31,14 @@ pub struct Ahead {
 
 /// What a record stands for that is well-formed.
 pub fn of_record(memory: &Memory) -> Reading {
-    let Pool { tasks, global, given, .. } = &memory.pool;
+    let Pool { limits, tasks, global, given, .. } = &memory.pool;
     let state = |state: u16| match state {
         ABSENT => State::Absent,
         RUNNING => State::Running,
         _ => State::Waiting,
     };
     Reading {
+        limits: *limits,
         tasks: tasks.iter().map(|task| (state(task.state), task.ticked != 0, task.clock)).collect(),
         global: *global,
         given: *given,
@@ -66,7 +69,7 @@ fn standing(memory: &Memory) -> Vec<Standing> {
         if handle != 0 {
             expirations.sort();
             let extent = pool.extents[place];
-            let block = Block { length: length_in(extent), bytes: memory.block(place).to_vec(), sum: sum_in(extent) };
+            let block = Block { length: length_in(extent), bytes: bytes_of(memory, place), sum: sum_in(extent) };
             standing.push(Standing { handle, block, expirations });
         }
     }
@@ -74,10 +77,22 @@ fn standing(memory: &Memory) -> Vec<Standing> {
     standing
 }
 
+/// The bytes of a block, which are not compared where a store has another length than the figures say.
+fn bytes_of(memory: &Memory, place: usize) -> Vec<u8> {
+    let limits = memory.pool.limits;
+    let are_whole = (memory.small.len(), memory.large.len()) == (limits.small_store(), limits.large_store());
+    if are_whole {
+        memory.block(place).to_vec()
+    } else {
+        Vec::new()
+    }
+}
+
 /// What a ledger says, with its clocks so far ahead.
 pub fn of_ledger(ledger: &Ledger, ahead: &Ahead) -> Reading {
     let task = |(task, ahead): (&Task, &u32)| (task.state, task.ticked, (task.clock as u32).wrapping_add(*ahead));
     Reading {
+        limits: sites::of(ledger.limits()),
         tasks: ledger.tasks().entries().iter().zip(&ahead.clocks).map(task).collect(),
         global: (ledger.tasks().global() as u32).wrapping_add(ahead.global),
         given: ledger.figures().given,
@@ -89,8 +104,8 @@ pub fn of_ledger(ledger: &Ledger, ahead: &Ahead) -> Reading {
 pub fn figures(pool: &Pool) -> Figures {
     let used = |places: std::ops::Range<usize>| pool.handles[places].iter().filter(|&&handle| handle != 0).count();
     Figures {
-        small: used(0..64) as u8,
-        large: used(64..96) as u8,
+        small: used(0..SMALL_BLOCKS) as u8,
+        large: used(SMALL_BLOCKS..BLOCKS) as u8,
         expirations: pool.clocks.iter().filter(|&&clock| clock != FREE).count() as u16,
         given: pool.given,
     }

@@ -1,32 +1,44 @@
 //! Records that are well-formed, to damage, to misuse and to measure on.
 
 use plain::fit::spread;
-use plain::limits::{BLOCKS, EXPIRATIONS, LARGE_BLOCKS, LARGE_SIZE, SMALL_BLOCKS, SMALL_SIZE, TASKS};
+use plain::limits::{Limits, BLOCKS, LARGE_SIZE, SMALL_SIZE, TASKS};
 use reference::call::{Call, Kind};
 use reference::frame::decode;
-use reference::generate::{script_of, Profile};
+use reference::generate::{sized_script_of, Profile};
+use reference::limits;
 use reference::random::Random;
 use reference::script::lines;
 
 use crate::entries::Plain;
 use crate::host::Host;
 use crate::memory::Memory;
+use crate::sites;
 
 /// All tasks run, both stores are full, and so many expirations stand, from 96 to 256. The handles are 1 to 96 in
 /// the order of the blocks.
 pub fn full(expirations: usize) -> Memory {
-    let objects = SMALL_BLOCKS + LARGE_BLOCKS;
-    assert!((objects..=EXPIRATIONS).contains(&expirations), "each object has an expiration");
-    standing(TASKS, (SMALL_BLOCKS, LARGE_BLOCKS), expirations)
+    full_of(Limits::STANDARD, expirations)
+}
+
+/// The same of a site: as many objects as it has blocks, and at least as many expirations.
+pub fn full_of(limits: Limits, expirations: usize) -> Memory {
+    let blocks = (limits.small_blocks as usize, limits.large_blocks as usize);
+    assert!(blocks.0 + blocks.1 <= expirations, "each object has an expiration");
+    standing_of(limits, TASKS, blocks, expirations)
 }
 
 /// So many tasks run, so many small and large objects stand, and so many expirations in all, set by the tasks in turn,
 /// local and global. None goes within five ticks.
 pub fn standing(tasks: usize, objects: (usize, usize), expirations: usize) -> Memory {
-    standing_by(tasks, objects, expirations, |count| Setting {
+    standing_of(Limits::STANDARD, tasks, objects, expirations)
+}
+
+/// The same of a site; where its largest extension is less, they go as much earlier.
+pub fn standing_of(limits: Limits, tasks: usize, objects: (usize, usize), expirations: usize) -> Memory {
+    standing_by(limits, tasks, objects, expirations, |count| Setting {
         task: (count % tasks) as u8,
         kind: if count % 2 == 0 { Kind::Local } else { Kind::Global },
-        extension: 5 + (count % 26) as u8,
+        extension: (5 + count % 26).min(limits.extension as usize) as u8,
         object: count % (objects.0 + objects.1),
     })
 }
@@ -41,12 +53,13 @@ pub struct Setting {
 
 /// So many tasks run, so many small and large objects stand, each made with one of the first of these expirations.
 pub fn standing_by(
+    limits: Limits,
     tasks: usize,
     (small, large): (usize, usize),
     expirations: usize,
     setting: impl Fn(usize) -> Setting,
 ) -> Memory {
-    let mut host = Host::<Plain>::new(Memory::fresh(&mut Random::new(1)));
+    let mut host = Host::<Plain>::new(Memory::sized(limits, &mut Random::new(1)));
     let mut done = |call: Call| assert!(host.call(&call).is_ok(), "{call:?}");
     for task in 0..tasks as u8 {
         done(Call::Join { task });
@@ -65,9 +78,14 @@ pub fn standing_by(
 
 /// What stands after so many lines of a list, by the plain pool.
 pub fn after(profile: Profile, seed: u64, count: usize) -> Memory {
-    let script = script_of(Some(profile), seed, 100_000);
+    after_of(limits::Limits::STANDARD, profile, seed, count)
+}
+
+/// The same of a site.
+pub fn after_of(limits: limits::Limits, profile: Profile, seed: u64, count: usize) -> Memory {
+    let script = sized_script_of(limits, Some(profile), seed, 100_000);
     let mut room = vec![0; script.len()];
-    let mut host = Host::<Plain>::new(Memory::fresh(&mut Random::new(seed)));
+    let mut host = Host::<Plain>::new(Memory::sized(sites::of(limits), &mut Random::new(seed)));
     for line in lines(&script).take(count) {
         if let Ok(call) = decode(line, &mut room) {
             let _ = host.call(&call);

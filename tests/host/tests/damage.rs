@@ -1,158 +1,23 @@
 //! Damaged records. Every call refuses one with 15 and touches nothing, exactly when the rules say that it is not
 //! well-formed; else it answers as the plain pool does.
 
+mod damaged;
+
+use damaged::{is_fit, Pair};
 use host_tests::entries::Plain;
 use host_tests::host::Host;
-use host_tests::library::Library;
 use host_tests::memory::{bytes_mut, Memory};
-use host_tests::reading::{figures, of_record};
-use host_tests::samples::{after, full, standing_by, Setting};
+use host_tests::reading::figures;
+use host_tests::samples::{after, after_of, full, full_of, standing_by, standing_of, Setting};
+use host_tests::sites::{with, CABLE, FIGURES};
 use plain::fit::is_well_formed;
-use plain::limits::{BLOCKS, EXPIRATIONS, TASKS};
-use plain::record::{extent_of, is_global, length_in, sum_in, Pool};
-use plain::record::{ABSENT, DEPARTED, FREE, GLOBAL, LOCAL, PINNED, RECORD, RUNNING};
-use reference::call::{packed, Accepted, Call, Figures, Handles, Kind, Lifetime};
+use plain::limits::{Limits, BLOCKS, EXPIRATIONS, LARGE_BLOCKS, SMALL_BLOCKS, TASKS};
+use plain::record::{extent_of, fresh, sum_in, Pool};
+use plain::record::{ABSENT, DEPARTED, FREE, GLOBAL, LOCAL, PINNED, RECORD, RUNNING, WAITING};
+use reference::call::{Accepted, Call, Figures, Kind, Lifetime};
 use reference::generate::Profile;
+use reference::limits;
 use reference::random::Random;
-
-const NOT_WELL_FORMED: u8 = 15;
-
-// The rules W of docs/RULES.md.
-
-/// All of them. Nothing here is arranged for speed.
-fn is_fit(pool: &Pool) -> bool {
-    let dates = || (0..EXPIRATIONS).filter(|&date| pool.clocks[date] != FREE);
-    let block_of = |date: usize| usize::from(pool.named[date]);
-    let used = |place: usize| pool.handles.get(place).is_some_and(|&handle| handle != 0);
-    let running = || pool.tasks.iter().filter(|task| task.state == RUNNING);
-    let named = dates().all(|date| used(block_of(date)));
-    // W16 among them: no two pinned ones of one object.
-    let blocks = (0..96).filter(|&place| used(place)).all(|place| {
-        let (handle, length) = (pool.handles[place], length_in(pool.extents[place]));
-        let range = if place < 64 { 1..=32 } else { 33..=256 };
-        dates().any(|date| block_of(date) == place)
-            && range.contains(&length)
-            && handle <= pool.given
-            && pool.handles.iter().filter(|&&other| other == handle).count() == 1
-            && dates().filter(|&date| block_of(date) == place && pool.clocks[date] == PINNED).count() <= 1
-    });
-    let known = pool.tasks.iter().all(|task| task.state <= 2 && task.ticked <= 1);
-    let marks = pool.tasks.iter().all(|task| task.ticked == 0 || task.state == RUNNING);
-    let pending = running().count() == 0 || running().any(|task| task.ticked == 0);
-    let absent = pool.tasks.iter().all(|task| task.state != ABSENT || task.clock == 0);
-    named && blocks && dates().all(|date| is_ahead(pool, date)) && known && marks && pending && absent
-}
-
-/// W6 to W8, W12, W14 and W15: a known clock, a setter that is there or departed, and so much left as can be; or pinned,
-/// with no time.
-fn is_ahead(pool: &Pool, date: usize) -> bool {
-    let units = |now: u32| pool.dues[date].wrapping_sub(now);
-    let global = (1..=32).contains(&units(pool.global));
-    match pool.clocks[date] {
-        clock @ LOCAL..GLOBAL => {
-            let setter = pool.tasks[usize::from(clock - LOCAL)];
-            setter.state != ABSENT && (1..=31).contains(&units(setter.clock))
-        }
-        clock @ GLOBAL..DEPARTED => pool.tasks[usize::from(clock - GLOBAL)].state != ABSENT && global,
-        DEPARTED => global,
-        PINNED => pool.dues[date] == 0,
-        _ => false,
-    }
-}
-
-// One damaged record.
-
-/// The library and the plain pool, with the same memory.
-struct Pair {
-    library: Host<Library>,
-    plain: Host<Plain>,
-    whole: Memory,
-    calls: [Call<'static>; 8],
-    fit: usize,
-    unfit: usize,
-}
-
-impl Pair {
-    fn of(whole: Memory) -> Pair {
-        let running = whole.pool.tasks.iter().position(|task| task.state == RUNNING);
-        let task = running.unwrap_or(0) as u8;
-        let handle = whole.pool.handles.into_iter().max().unwrap_or(0);
-        let busiest = busiest(&whole.pool, task);
-        // For as long as the test runs.
-        let handles = Handles(packed(&[handle, busiest, handle]).leak());
-        Pair {
-            library: Host::new(whole.clone()),
-            plain: Host::new(whole.clone()),
-            calls: [
-                Call::Report,
-                Call::Tick { task },
-                Call::Read { task, handle },
-                Call::Remaining { task, handle: busiest },
-                Call::Make { task, kind: Kind::Local, extension: 30, length: 40 },
-                Call::Batch { task, kind: Kind::Global, extension: 30, handles },
-                Call::Release { task, handle: pinned(&whole.pool) },
-                Call::Write { task, handle, offset: 0, bytes: &[7] },
-            ],
-            whole,
-            fit: 0,
-            unfit: 0,
-        }
-    }
-
-    /// Makes these calls, each on the record that the damage leaves.
-    fn examine(&mut self, calls: &[Call], damage: impl Fn(&mut Pool)) {
-        damage(&mut self.library.memory.pool);
-        let fit = is_well_formed(&self.library.memory.pool);
-        for call in calls {
-            if fit {
-                damage(&mut self.plain.memory.pool);
-                self.compare(call);
-                damage(&mut self.library.memory.pool);
-            } else {
-                // The host tests that nothing is touched.
-                assert_eq!(self.library.call(call), Err(NOT_WELL_FORMED), "{call:?}");
-            }
-        }
-        self.fit += usize::from(fit);
-        self.unfit += usize::from(!fit);
-    }
-
-    /// Answers alike and leaves alike; then both have the whole record again.
-    fn compare(&mut self, call: &Call) {
-        let told = self.library.call(call);
-        assert_eq!(told, self.plain.call(call), "{call:?}");
-        if told.is_ok() && !matches!(call, Call::Read { .. } | Call::Remaining { .. } | Call::Report) {
-            assert_eq!(of_record(&self.library.memory), of_record(&self.plain.memory), "{call:?}");
-            self.library.memory.clone_from(&self.whole);
-            self.plain.memory.clone_from(&self.whole);
-        }
-        self.plain.memory.pool.clone_from(&self.whole.pool);
-    }
-
-    fn restore(&mut self) {
-        self.library.memory.pool.clone_from(&self.whole.pool);
-        self.plain.memory.pool.clone_from(&self.whole.pool);
-    }
-}
-
-/// The object on which the most expirations count for this task, first of the kind that it has fewer of, local or global.
-fn busiest(pool: &Pool, task: u8) -> u32 {
-    let counting = |block: &usize| {
-        let on = || pool.clocks.iter().zip(&pool.named).filter(|(_, &named)| usize::from(named) == *block);
-        let local = on().filter(|(&clock, _)| clock == LOCAL + task).count();
-        let global = on().filter(|(&clock, _)| is_global(clock)).count();
-        (local.min(global), local + global)
-    };
-    pool.handles[(0..BLOCKS).max_by_key(counting).unwrap_or(0)]
-}
-
-/// The object of the last pinned expiration; 1 if there is none.
-fn pinned(pool: &Pool) -> u32 {
-    let last = pool.clocks.iter().rposition(|&clock| clock == PINNED);
-    last.map_or(1, |last| pool.handles[usize::from(pool.named[last])])
-}
-
-// Damages.
 
 /// All values at all offsets: a report, and one of the other calls in turn.
 fn overwrite_each_byte(whole: Memory) {
@@ -195,6 +60,37 @@ fn one_byte_of_a_late_record() {
     overwrite_each_byte(late());
 }
 
+#[test]
+fn one_byte_of_a_full_record_of_a_small_site() {
+    overwrite_each_byte(full_of(CABLE, 64));
+}
+
+#[test]
+fn one_byte_of_a_mixed_record_of_a_small_site() {
+    overwrite_each_byte(mixed_site());
+}
+
+#[test]
+fn one_byte_of_the_smallest_record() {
+    overwrite_each_byte(smallest());
+}
+
+/// One block of each store, one expiration and no extension: a large object stands.
+fn smallest() -> Memory {
+    standing_of(Limits::SMALLEST, 2, (0, 1), 1)
+}
+
+/// Tasks of every state, and free blocks and expirations within the figures.
+fn mixed_site() -> Memory {
+    let limits = limits::Limits { small_blocks: 40, large_blocks: 18, expirations: 130, extension: 23 };
+    let memory = after_of(limits, Profile::Everyday, 63, 900);
+    let has = |state: u16| memory.pool.tasks.iter().any(|task| task.state == state);
+    assert!(has(ABSENT) && has(RUNNING) && has(WAITING));
+    let Figures { small, large, expirations, .. } = figures(&memory.pool);
+    assert!((1..40).contains(&small) && (1..18).contains(&large) && (40..130).contains(&expirations));
+    memory
+}
+
 /// Tasks of every state, global expirations of such that run, that wait and that departed, and pinned ones.
 fn mixed() -> Memory {
     after(Profile::Everyday, 63, 900)
@@ -202,7 +98,7 @@ fn mixed() -> Memory {
 
 /// Full, and every third object is pinned.
 fn with_pinned() -> Memory {
-    standing_by(TASKS, (64, 32), 256, |count| Setting {
+    standing_by(Limits::STANDARD, TASKS, (SMALL_BLOCKS, LARGE_BLOCKS), EXPIRATIONS, |count| Setting {
         task: (count % TASKS) as u8,
         kind: if count < BLOCKS && count % 3 == 0 { Kind::Pinned } else { Kind::Global },
         extension: if count < BLOCKS && count % 3 == 0 { 0 } else { (count % 31) as u8 },
@@ -245,7 +141,8 @@ fn undamaged_records() {
 /// Entries copied over others, flags and counters put to likely values, a few at a time. Here the rules' words judge.
 #[test]
 fn likely_damages() {
-    let wholes = [full(256), full(96), with_pinned(), mixed(), late()].map(Pair::of);
+    let sites = [full_of(CABLE, 64), full_of(CABLE, 40), mixed_site(), smallest()];
+    let wholes = [full(256), full(96), with_pinned(), mixed(), late()].into_iter().chain(sites).map(Pair::of);
     let mut random = Random::new(11);
     for mut pair in wholes {
         let calls = pair.calls;
@@ -266,7 +163,7 @@ fn likely_damages() {
 fn damage(pool: &mut Pool, random: &mut Random) {
     let (from, to) = (random.below(256), random.below(256));
     let small = random.below(4) as u32;
-    match random.below(19) {
+    match random.below(21) {
         0 => pool.tasks[to % TASKS] = pool.tasks[from % TASKS],
         1 => pool.tasks[to % TASKS].state = small as u16,
         2 => pool.tasks[to % TASKS].ticked = small as u16,
@@ -296,7 +193,110 @@ fn damage(pool: &mut Pool, random: &mut Random) {
         15 => pool.dues[to] = 0,
         16 => (pool.clocks[to], pool.dues[to]) = (PINNED, 0),
         17 => pool.extents[to % 96] = pool.extents[to % 96].wrapping_add(small << 16),
+        18 => {
+            let (figure, ..) = random.pick(&FIGURES);
+            *figure(&mut pool.limits) = figure(&mut pool.limits.clone()).wrapping_add(small).wrapping_sub(2);
+        }
+        19 => {
+            let (figure, least, most) = random.pick(&FIGURES);
+            *figure(&mut pool.limits) = random.pick(&[least, most, most + 1, least.wrapping_sub(1)]);
+        }
         _ => pool.dues[to] = pool.dues[to].wrapping_add(small),
+    }
+}
+
+/// With the damaged record the rules' words, the plain pool and the library agree, and it is as expected.
+fn expect(pair: &mut Pair, fit: bool, damage: impl Fn(&mut Pool)) {
+    let calls = pair.calls;
+    let mut damaged = pair.whole.pool.clone();
+    damage(&mut damaged);
+    assert_eq!((is_fit(&damaged), is_well_formed(&damaged)), (fit, fit), "{damaged:?}");
+    pair.examine(&calls[..2], damage);
+    pair.restore();
+}
+
+/// Each figure at either end of its range and one past it, in a fresh record, which asks no more of it.
+#[test]
+fn figures_at_the_ends_of_their_ranges() {
+    for limits in [Limits::SMALLEST, CABLE, Limits::STANDARD] {
+        let mut pair = Pair::of(Memory::sized(limits, &mut Random::new(5)));
+        for (figure, least, most) in FIGURES {
+            for (value, fit) in [(least, true), (most, true), (least.wrapping_sub(1), false), (most + 1, false)] {
+                expect(&mut pair, fit, |pool| *figure(&mut pool.limits) = value);
+            }
+        }
+    }
+}
+
+/// Each figure of a full record: no lower than what stands in it, and as high as there are.
+#[test]
+fn figures_of_full_records() {
+    for (whole, used) in
+        [(full_of(CABLE, 64), [16, 4, 64, 10]), (full(256), [64, 32, 256, 30]), (smallest(), [0, 1, 1, 0])]
+    {
+        let mut pair = Pair::of(whole);
+        for ((figure, least, most), used) in FIGURES.into_iter().zip(used) {
+            for value in 0..=most + 2 {
+                let fit = (used.max(least)..=most).contains(&value);
+                expect(&mut pair, fit, |pool| *figure(&mut pool.limits) = value);
+            }
+        }
+    }
+}
+
+/// An object in this block with a global expiration in this entry, so many units ahead, in a pool of these figures.
+fn one_object(limits: Limits, block: usize, date: usize, units: u32) -> Pool {
+    let mut pool = Pool { given: 1, ..fresh(limits) };
+    (pool.handles[block], pool.extents[block]) = (1, if block < SMALL_BLOCKS { 32 } else { 33 });
+    (pool.clocks[date], pool.named[date], pool.dues[date]) = (DEPARTED, block as u8, units);
+    pool
+}
+
+/// An entry in use at each place, at each figure: within it is fit, and from it on it is not.
+#[test]
+fn entries_in_use_past_the_figure() {
+    let mut pair = Pair::of(Memory::fresh(&mut Random::new(5)));
+    for expirations in 1..=EXPIRATIONS {
+        let limits = Limits { expirations: expirations as u32, ..Limits::STANDARD };
+        for date in [0, 1, expirations - 1, expirations, expirations + 1, 128, 254, 255] {
+            if date < EXPIRATIONS {
+                expect(&mut pair, date < expirations, |pool| *pool = one_object(limits, 0, date, 1));
+            }
+        }
+    }
+}
+
+/// A block in use at each place of either store, at each figure: within it is fit, and from it on it is not, nor is a free
+/// one that is named there.
+#[test]
+fn blocks_in_use_or_named_past_the_figures() {
+    let mut pair = Pair::of(Memory::fresh(&mut Random::new(5)));
+    for (figure, first, most) in [(FIGURES[0].0, 0, SMALL_BLOCKS), (FIGURES[1].0, SMALL_BLOCKS, LARGE_BLOCKS)] {
+        for (blocks, place) in (1..=most).flat_map(|blocks| (0..most).map(move |place| (blocks, place))) {
+            let limits = with(Limits::STANDARD, figure, blocks as u32);
+            let in_use = one_object(limits, first + place, 0, 1);
+            expect(&mut pair, place < blocks, |pool| pool.clone_from(&in_use));
+            // The first block has the object, and a second expiration names this one, which has none.
+            let mut named = one_object(limits, first, 0, 1);
+            (named.clocks[1], named.named[1], named.dues[1]) = (DEPARTED, (first + place) as u8, 1);
+            expect(&mut pair, place == 0, |pool| pool.clone_from(&named));
+        }
+    }
+}
+
+/// At each largest extension: as many units ahead as it gives, and one more is not fit.
+#[test]
+fn due_times_past_the_largest_extension() {
+    let mut pair = Pair::of(Memory::fresh(&mut Random::new(5)));
+    for (extension, units) in (0..=30).flat_map(|extension| (0..=34).map(move |units| (extension, units))) {
+        let pool = one_object(Limits { extension, ..Limits::STANDARD }, 0, 0, units);
+        for (code, most) in [(LOCAL + 3, extension + 1), (GLOBAL + 3, extension + 2), (DEPARTED, extension + 2)] {
+            expect(&mut pair, (1..=most).contains(&units), |damaged| {
+                damaged.clone_from(&pool);
+                damaged.tasks[3].state = RUNNING;
+                damaged.clocks[0] = code;
+            });
+        }
     }
 }
 
@@ -360,7 +360,7 @@ fn pinned_in_each_entry() {
 
 /// Half the blocks of both stores are in use, each third object is pinned, and there are free entries.
 fn half_pinned() -> Memory {
-    standing_by(TASKS, (32, 16), 200, |count| {
+    standing_by(Limits::STANDARD, TASKS, (32, 16), 200, |count| {
         let pins = count < 48 && count % 3 == 0;
         let (kind, extension) = if pins { (Kind::Pinned, 0) } else { (Kind::Global, (count % 31) as u8) };
         Setting { task: (count % TASKS) as u8, kind, extension, object: count % 40 }

@@ -5,21 +5,46 @@ use host_tests::entries::Entries;
 use host_tests::host::Host;
 use host_tests::library::Library;
 use host_tests::memory::Memory;
-use host_tests::samples::{full, standing};
+use host_tests::samples::{full, full_of, standing, standing_of};
+use host_tests::sites::CABLE;
 use plain::calls::ANSWER_ROOM;
+use plain::limits::{Limits, LARGE_SIZE, SMALL_SIZE};
 use reference::call::{Accepted, Call, Kind};
 use reference::random::Random;
 
 const UNTOLD: u32 = 0xA5A5_A5A5;
 const COUNT_UNTOLD: usize = UNTOLD as usize;
 
-/// Lengths of the stores that are wrong.
-const WRONG: [(usize, usize); 7] =
-    [(0, 8192), (2047, 8192), (2049, 8192), (2048, 0), (2048, 8191), (2048, 8193), (8192, 2048)];
+/// 01's figures, and those of a small site.
+const SITES: [Limits; 2] = [Limits::STANDARD, CABLE];
+
+/// The lengths of the stores.
+fn right(limits: Limits) -> (usize, usize) {
+    (limits.small_store(), limits.large_store())
+}
+
+/// Lengths that are wrong: by a byte, by a block, those of another site, and the two changed over.
+fn wrong(limits: Limits) -> Vec<(usize, usize)> {
+    let (small, large) = right(limits);
+    let of_small = [0, 1, small - SMALL_SIZE, small - 1, small + 1, small + SMALL_SIZE].map(|small| (small, large));
+    let of_large = [0, 1, large - LARGE_SIZE, large - 1, large + 1, large + LARGE_SIZE].map(|large| (small, large));
+    let other = SITES.into_iter().find(|&other| other != limits).map(right);
+    of_small.into_iter().chain(of_large).chain(other).chain([(large, small)]).collect()
+}
+
+/// Each of them, with its site.
+fn all_wrong() -> impl Iterator<Item = (Limits, (usize, usize))> {
+    SITES.into_iter().flat_map(|limits| wrong(limits).into_iter().map(move |stores| (limits, stores)))
+}
+
+/// Five objects stand, with ten expirations.
+fn five(limits: Limits) -> Memory {
+    standing_of(limits, 16, (3, 2), 10)
+}
 
 /// A full record but for the state of one task, which is none.
-fn damaged() -> Memory {
-    let mut memory = full(96);
+fn damaged(limits: Limits) -> Memory {
+    let mut memory = full_of(limits, (limits.small_blocks + limits.large_blocks) as usize);
     memory.pool.tasks[3].state = 3;
     memory
 }
@@ -70,8 +95,8 @@ fn frame(memory: &mut Memory, (small, large): (usize, usize), line: &[u8], room:
 
 #[test]
 fn a_store_of_wrong_length_is_14() {
-    let mut memory = standing(16, (3, 2), 10);
-    for stores in WRONG {
+    for (limits, stores) in all_wrong() {
+        let mut memory = five(limits);
         // A task that there is, and one that there is not: 14 comes first.
         for task in [0, 16] {
             assert_eq!(make(&mut memory, stores, task, 0), 14);
@@ -88,8 +113,8 @@ fn a_store_of_wrong_length_is_14() {
 
 #[test]
 fn a_record_that_is_not_well_formed_is_15_before_14() {
-    let mut memory = damaged();
-    for stores in WRONG {
+    for (limits, stores) in all_wrong() {
+        let mut memory = damaged(limits);
         assert_eq!(make(&mut memory, stores, 0, 0), 15);
         assert_eq!(read(&mut memory, stores, 0), 15);
         assert_eq!(write(&mut memory, stores, 0), 15);
@@ -109,8 +134,8 @@ fn a_record_that_is_not_well_formed_is_15_before_14() {
 
 #[test]
 fn calls_that_touch_no_store_do_not_look() {
-    for stores in WRONG {
-        let mut memory = standing(16, (3, 2), 10);
+    for (limits, stores) in all_wrong() {
+        let mut memory = five(limits);
         let mut told = |line: &[u8]| frame(&mut memory, stores, line, ANSWER_ROOM);
         assert_eq!(told(b"0202"), (0, b"0000\n".to_vec()));
         assert_eq!(told(b"0102"), (0, b"00\n".to_vec()));
@@ -133,7 +158,7 @@ fn calls_that_touch_no_store_do_not_look() {
 #[test]
 fn an_unknown_kind_is_19_before_all_else() {
     for kind in 3..=255 {
-        for (mut memory, stores) in [(standing(16, (3, 2), 10), (2048, 8192)), (damaged(), (2047, 1))] {
+        for (mut memory, stores) in [(five(CABLE), right(CABLE)), (damaged(CABLE), (2047, 1))] {
             for task in [0, 16] {
                 assert_eq!(make(&mut memory, stores, task, kind), 19);
                 let before = memory.clone();
@@ -146,7 +171,7 @@ fn an_unknown_kind_is_19_before_all_else() {
         }
     }
     for line in [&b"061003030004"[..], b"071003FF00000000", b"0C1003FF"] {
-        assert_eq!(frame(&mut damaged(), (1, 1), line, ANSWER_ROOM), (19, b"13\n".to_vec()));
+        assert_eq!(frame(&mut damaged(CABLE), (1, 1), line, ANSWER_ROOM), (19, b"13\n".to_vec()));
     }
 }
 
@@ -156,7 +181,7 @@ fn a_batch_of_any_size() {
     for task in [0, 16] {
         for count in [0, 1, 32, 33, 34, 63, 64, 65, 255, 256, 257, 65_536, 1_000_000] {
             let handles = vec![1; count];
-            let mut memory = standing(16, (3, 2), 10);
+            let mut memory = five(Limits::STANDARD);
             let before = memory.clone();
             let number = Library::refresh_all(&mut memory.pool, task, 0, 30, &handles);
             assert_eq!(
@@ -171,9 +196,10 @@ fn a_batch_of_any_size() {
                 "{count}"
             );
             assert!((memory == before) == (number != 0), "{count}");
-            let mut memory = damaged();
+            let mut memory = damaged(Limits::STANDARD);
+            let before = memory.clone();
             assert_eq!(Library::refresh_all(&mut memory.pool, task, 1, 31, &handles), 15, "{count}");
-            assert!(memory == damaged(), "{count}");
+            assert!(memory == before, "{count}");
         }
     }
 }
@@ -213,24 +239,24 @@ fn a_refused_read_needs_no_room() {
 
 #[test]
 fn a_frame_needs_room_for_any_answer() {
-    let mut memory = standing(16, (3, 2), 10);
+    let mut memory = five(CABLE);
     let before = memory.clone();
     for room in [0, 1, 515, ANSWER_ROOM - 1] {
         // Whatever the line is, it is not looked at.
         for line in [&b"0500"[..], b"0A", b"xyz", b""] {
-            assert_eq!(frame(&mut memory, (2048, 8192), line, room).0, 255);
+            assert_eq!(frame(&mut memory, right(CABLE), line, room).0, 255);
             assert!(memory == before);
         }
     }
     for room in [ANSWER_ROOM, ANSWER_ROOM + 1, 5_000] {
-        assert_eq!(frame(&mut memory, (2048, 8192), b"0A", room), (0, b"000302000A00000005\n".to_vec()));
+        assert_eq!(frame(&mut memory, right(CABLE), b"0A", room), (0, b"000302000A00000005\n".to_vec()));
     }
 }
 
 #[test]
 fn lines_of_any_length() {
-    let mut memory = standing(16, (3, 2), 10);
-    let mut told = |line: &[u8]| frame(&mut memory, (2048, 8192), line, ANSWER_ROOM).0;
+    let mut memory = five(CABLE);
+    let mut told = |line: &[u8]| frame(&mut memory, right(CABLE), line, ANSWER_ROOM).0;
     for count in [263, 264, 265, 1_000, 50_000] {
         let digits = vec![b'0'; 2 * count];
         let with = |operation: &[u8]| [operation, &digits[2..]].concat();

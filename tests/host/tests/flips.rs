@@ -1,5 +1,5 @@
-//! What refusal 15 notices of a flipped bit, and what it cannot: every flip of one bit of full records. The table goes
-//! to docs/RESTART.md, and the test holds the document to it:
+//! What refusal 15 notices of a flipped bit, and what it cannot: every flip of one bit of full records. The table of 01's
+//! figures goes to docs/RESTART.md, and the test holds the document to it:
 //!
 //! ```text
 //! cargo test --offline --manifest-path tests/host/Cargo.toml --test flips -- --nocapture
@@ -10,7 +10,8 @@ use host_tests::host::Host;
 use host_tests::library::Library;
 use host_tests::memory::{bytes_mut, Memory};
 use host_tests::reading::{figures, of_record};
-use plain::limits::{LARGE_SIZE, TASKS};
+use host_tests::sites::CABLE;
+use plain::limits::{Limits, LARGE_SIZE, SMALL_BLOCKS, TASKS};
 use plain::record::{Pool, RECORD};
 use reference::call::{Call, Kind};
 use reference::random::Random;
@@ -30,16 +31,21 @@ fn kind(random: &mut Random) -> Kind {
     random.pick(&[Kind::Local, Kind::Global])
 }
 
+fn extension(random: &mut Random, pool: &Pool) -> u8 {
+    random.below(1 + pool.limits.extension as usize) as u8
+}
+
 /// One in twenty is pinned.
-fn make(random: &mut Random, length: u16) -> Call<'static> {
+fn make(random: &mut Random, pool: &Pool, length: u16) -> Call<'static> {
     let (task, pinned) = (random.below(TASKS) as u8, random.one_in(20));
-    let (kind, extension) = if pinned { (Kind::Pinned, 0) } else { (kind(random), random.below(31) as u8) };
+    let (kind, extension) = if pinned { (Kind::Pinned, 0) } else { (kind(random), extension(random, pool)) };
     Call::Make { task, kind, extension, length }
 }
 
 fn refresh(random: &mut Random, pool: &Pool) -> Call<'static> {
     let handle = random.pick(&pool.handles);
-    Call::Refresh { task: random.below(TASKS) as u8, kind: kind(random), extension: random.below(31) as u8, handle }
+    let (task, kind) = (random.below(TASKS) as u8, kind(random));
+    Call::Refresh { task, kind, extension: extension(random, pool), handle }
 }
 
 /// Any call that changes the record, but for leaves.
@@ -54,15 +60,15 @@ fn any(random: &mut Random, pool: &Pool) -> Call<'static> {
         _ => {
             let longest = random.pick(&[32, 256]);
             let length = 1 + random.below(longest) as u16;
-            make(random, length)
+            make(random, pool, length)
         }
     }
 }
 
-/// Both stores are full and 256 expirations stand, after a life of some thousand calls.
-fn full(seed: u64) -> Memory {
+/// Both stores are full and as many expirations stand as can, after a life of some thousand calls.
+fn full(limits: Limits, seed: u64) -> Memory {
     let mut random = Random::new(seed);
-    let mut host = Host::<Library>::new(Memory::fresh(&mut random));
+    let mut host = Host::<Library>::new(Memory::sized(limits, &mut random));
     for task in 0..TASKS as u8 {
         host.call(&Call::Join { task }).unwrap();
     }
@@ -72,25 +78,25 @@ fn full(seed: u64) -> Memory {
     for task in 0..TASKS as u8 {
         let _ = host.call(&Call::Resume { task });
     }
-    while !is_full(&host.memory.pool) {
+    while !is_full(&host.memory) {
         fill(&mut random, &mut host, 1..=32);
         fill(&mut random, &mut host, 33..=256);
     }
     while host.call(&refresh(&mut random, &host.memory.pool)).err() != Some(NO_FREE_EXPIRATION) {}
-    let standing = figures(&host.memory.pool);
-    assert_eq!((standing.small, standing.large, standing.expirations), (64, 32, 256));
+    assert!(is_full(&host.memory));
+    assert_eq!(u32::from(figures(&host.memory.pool).expirations), limits.expirations);
     host.memory
 }
 
-fn is_full(pool: &Pool) -> bool {
-    !pool.handles.contains(&0)
+fn is_full(memory: &Memory) -> bool {
+    memory.places().into_iter().all(|place| memory.pool.handles[place] != 0)
 }
 
 /// Makes objects of these lengths until no block for them is free. Where no expiration is free, time goes on.
 fn fill(random: &mut Random, host: &mut Host<Library>, lengths: RangeInclusive<u16>) {
     loop {
         let length = lengths.start() + random.below(lengths.len()) as u16;
-        match host.call(&make(random, length)) {
+        match host.call(&make(random, &host.memory.pool, length)) {
             Ok(_) => {}
             Err(NO_FREE_BLOCK) => return,
             Err(number) => {
@@ -103,11 +109,14 @@ fn fill(random: &mut Random, host: &mut Host<Library>, lengths: RangeInclusive<u
 
 // The flips.
 
+const FIELD_COUNT: usize = 10;
+
 /// The fields of a record, and where each starts. An extent has a length, and after it a sum.
-const FIELDS: [(&str, usize); 9] = [
+const FIELDS: [(&str, usize); FIELD_COUNT] = [
     ("`tasks`", offset_of!(Pool, tasks)),
     ("`global`", offset_of!(Pool, global)),
     ("`given`", offset_of!(Pool, given)),
+    ("`limits`", offset_of!(Pool, limits)),
     ("`handles`", offset_of!(Pool, handles)),
     ("`extents`, lengths", offset_of!(Pool, extents)),
     ("`extents`, sums", offset_of!(Pool, extents) + 2),
@@ -115,13 +124,31 @@ const FIELDS: [(&str, usize); 9] = [
     ("`named`", offset_of!(Pool, named)),
     ("`dues`", offset_of!(Pool, dues)),
 ];
-const LENGTHS: usize = 4;
-const SUMS: usize = 5;
+const LIMITS: usize = 3;
+const LENGTHS: usize = 5;
+const SUMS: usize = 6;
+const NAMED: usize = 8;
+const DUES: usize = 9;
 
 fn field_of(place: usize) -> usize {
     match FIELDS.iter().rposition(|&(_, start)| start <= place).unwrap() {
         LENGTHS | SUMS => LENGTHS + place % 4 / 2,
         field => field,
+    }
+}
+
+/// Whether a byte means nothing: it is of a length, a sum, a named block or a due number past the site's figures.
+fn is_idle(limits: Limits, place: usize) -> bool {
+    let entry = |start: usize, width: usize| (place - start) / width;
+    let is_past = |date: usize| date >= limits.expirations as usize;
+    match field_of(place) {
+        LENGTHS | SUMS => match entry(offset_of!(Pool, extents), 4).checked_sub(SMALL_BLOCKS) {
+            None => entry(offset_of!(Pool, extents), 4) >= limits.small_blocks as usize,
+            Some(large) => large >= limits.large_blocks as usize,
+        },
+        NAMED => is_past(entry(offset_of!(Pool, named), 1)),
+        DUES => is_past(entry(offset_of!(Pool, dues), 4)),
+        _ => false,
     }
 }
 
@@ -152,12 +179,12 @@ fn sum(counts: &[Count]) -> Count {
     })
 }
 
-/// All flips of a record, by field. One that is answered has another meaning than before: the flip was not in vain. One of a
-/// sum is always answered, and makes a read of its object refuse.
-fn flip_all(mut memory: Memory) -> [Count; 9] {
-    let mut counts = [Count::default(); 9];
-    let before = of_record(&memory);
-    for bit in 0..8 * RECORD {
+/// All flips of a record, by field, but for those of bytes that mean nothing. One that is answered has another meaning than
+/// before: the flip was not in vain. One of a sum is always answered, and makes a read of its object refuse.
+fn flip_all(mut memory: Memory) -> [Count; FIELD_COUNT] {
+    let mut counts = [Count::default(); FIELD_COUNT];
+    let (before, limits) = (of_record(&memory), memory.pool.limits);
+    for bit in (0..8 * RECORD).filter(|bit| !is_idle(limits, bit / 8)) {
         let (place, mask) = (bit / 8, 1 << (bit % 8));
         let field = field_of(place);
         let count = &mut counts[field];
@@ -181,7 +208,7 @@ fn flip_all(mut memory: Memory) -> [Count; 9] {
 }
 
 /// Lines of a table in Markdown: a field, its bits, and how many of the flips were answered.
-fn table(records: &[[Count; 9]]) -> String {
+fn table(records: &[[Count; FIELD_COUNT]]) -> String {
     let line =
         |name: &str, count: Count| format!("| {name} | {} | {:.1} % |\n", count.flips / records.len(), count.share());
     let fields = FIELDS.iter().enumerate().map(|(field, (name, _))| {
@@ -192,7 +219,7 @@ fn table(records: &[[Count; 9]]) -> String {
 }
 
 /// The lowest and the highest share of one record.
-fn range(records: &[[Count; 9]]) -> String {
+fn range(records: &[[Count; FIELD_COUNT]]) -> String {
     let mut shares: Vec<f64> = records.iter().map(|counts| sum(counts).share()).collect();
     shares.sort_by(f64::total_cmp);
     format!("{:.1} to {:.1} %", shares[0], shares[shares.len() - 1])
@@ -200,10 +227,19 @@ fn range(records: &[[Count; 9]]) -> String {
 
 #[test]
 fn the_document_says_how_many_flips_are_answered() {
-    let records: Vec<_> = (0..RECORDS).map(|seed| flip_all(full(seed))).collect();
+    let records: Vec<_> = (0..RECORDS).map(|seed| flip_all(full(Limits::STANDARD, seed))).collect();
     let (table, range) = (table(&records), range(&records));
     println!("{table}\nof one record: {range}");
     let document = Path::new(env!("CARGO_MANIFEST_DIR")).join("../../docs/RESTART.md");
     let text = std::fs::read_to_string(document).unwrap();
     assert!(text.contains(&table) && text.contains(&range), "docs/RESTART.md has other figures");
+}
+
+/// Of a small site: the flips of its figures make it larger or smaller, and those of blocks and expirations that it has not
+/// are noticed.
+#[test]
+fn of_a_small_site() {
+    let records: Vec<_> = (0..RECORDS / 10).map(|seed| flip_all(full(CABLE, seed))).collect();
+    println!("{}\nof one record: {}", table(&records), range(&records));
+    assert!(records.iter().all(|counts| counts[LIMITS].answered > 0));
 }

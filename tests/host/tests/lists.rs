@@ -1,5 +1,6 @@
 //! Long lists of calls, on the library, the plain pool and both ledgers at once: the same answers and, from time to
-//! time, the same state. The lists are the reference's scripts; lines that hold no call go to the entry for frames.
+//! time, the same state; of sites of all figures after each call. The lists are the reference's scripts; lines that hold no
+//! call go to the entry for frames.
 
 mod census;
 
@@ -7,14 +8,16 @@ use census::{is_due_across, Census, NUMBERS};
 use host_tests::entries::{Entries, Plain};
 use host_tests::host::{Host, Told};
 use host_tests::library::Library;
-use host_tests::memory::Memory;
+use host_tests::memory::{bytes_mut, Memory};
 use host_tests::reading::{of_ledger, of_record, Ahead};
+use host_tests::sites;
 use plain::record::PINNED;
 use reference::call::{Call, Handles, Model};
 use reference::frame::{decode, encode_answer};
-use reference::generate::{script_of, Profile, PROFILES};
+use reference::generate::{self, script_of, sized_script_of, Profile, PROFILES};
 use reference::indexed;
 use reference::ledger::Ledger;
+use reference::limits::Limits;
 use reference::outside::{Change, Changes, Exposed};
 use reference::random::Random;
 use reference::script::lines;
@@ -22,8 +25,12 @@ use reference::script::lines;
 /// The size of a list as a script, in bytes.
 const SIZE: usize = 200_000;
 
-/// How many calls go by between two comparisons of the whole state.
+/// How many calls go by from one comparison of the whole state to the next, where it is not each call.
 const STATE: usize = 50;
+
+/// How many sites there are, and the size of the list of each.
+const SITES: u64 = 200;
+const SITE_SIZE: usize = 60_000;
 
 /// Everything that makes the same calls.
 struct Company {
@@ -36,28 +43,35 @@ struct Company {
     late: bool,
     /// Something outside changes bytes of the stores between the calls.
     changes: Option<Changes>,
+    /// How many calls go by from one comparison of the whole state to the next.
+    step: usize,
     ahead: Ahead,
     global_before: u32,
     census: Census,
 }
 
 impl Company {
+    /// With 01's figures.
     fn new(seed: u64, late: bool) -> Company {
+        Company::of(Limits::STANDARD, seed, late)
+    }
+
+    fn of(limits: Limits, seed: u64, late: bool) -> Company {
         let mut random = Random::new(seed);
-        let mut memory = Memory::fresh(&mut random);
+        let memory = Memory::sized(sites::of(limits), &mut random);
         let mut ahead = Ahead::default();
         if late {
             ahead.global = u32::MAX - random.below(200) as u32;
-            memory.pool.global = ahead.global;
         }
         Company {
-            ledger: Ledger::fresh(),
-            indexed: indexed::Ledger::fresh(),
-            library: Host::new(memory.clone()),
-            plain: Host::new(memory),
+            ledger: Ledger::of(limits),
+            indexed: indexed::Ledger::of(limits),
+            library: begun(memory.clone(), ahead.global),
+            plain: begun(memory, ahead.global),
             random,
             late,
             changes: None,
+            step: STATE,
             global_before: ahead.global,
             ahead,
             census: Census::default(),
@@ -76,7 +90,7 @@ impl Company {
                 Ok(call) => self.call(&call),
                 Err(_) => self.ask(line, None),
             }
-            if count % STATE == 0 {
+            if count % self.step == 0 {
                 self.compare_states();
             }
         }
@@ -179,6 +193,15 @@ impl Company {
     }
 }
 
+/// A pool whose record was made by its entry, whatever stood there, with the figures that it is to have.
+fn begun<E: Entries>(mut memory: Memory, global: u32) -> Host<E> {
+    let limits = memory.pool.limits;
+    bytes_mut(&mut memory.pool).fill(0xFF);
+    assert_eq!(E::fresh_sized(&mut memory.pool, limits), 0, "{limits:?}");
+    memory.pool.global = global;
+    Host::new(memory)
+}
+
 /// Lists of one profile each and of all together. Those of every seed differ.
 fn run_lists(seeds: std::ops::Range<u64>, company: impl Fn(u64) -> Company) -> Census {
     let mut census = Census::default();
@@ -226,6 +249,47 @@ fn of_records_whose_counters_go_round() {
     assert!(census.clock_wraps > 100 && census.global_wraps > 20 && census.pinned_wraps > 5);
     assert!(census.remaining_across > 1_000 && census.batches_across > 1_000 && census.put_off_across > 100);
     assert!(census.calls + census.frames > 1_000_000);
+}
+
+/// A list on a pool of the figures of a seed. Of each third the counters go round, and of each other third something outside
+/// changes the stores. After each call the whole state is compared.
+fn run_site(limits: Limits, seed: u64) -> Census {
+    let only = PROFILES.get(seed as usize % (2 * PROFILES.len() + 1)).copied();
+    let changes = (seed % 3 == 1).then(|| Changes::new(seed));
+    let company = Company { step: 1, changes, ..Company::of(limits, seed, seed % 3 == 2) };
+    company.run(&sized_script_of(limits, only, seed, SITE_SIZE))
+}
+
+/// Figures of all sizes, the smallest and 01's among them: 6, 9 and 10 come by them, and no more stands than they allow.
+#[test]
+fn of_sites_of_all_figures() {
+    let (mut census, mut full, mut refused) = (Census::default(), [0; 3], [0; 3]);
+    for seed in 0..SITES {
+        let limits = generate::limits(seed);
+        let met = run_site(limits, seed);
+        let (small, large, expirations) = met.most;
+        let most = [usize::from(small), usize::from(large), usize::from(expirations)];
+        for (place, figure) in [limits.small_blocks, limits.large_blocks, limits.expirations].into_iter().enumerate() {
+            assert!(most[place] <= figure, "{most:?} of {limits:?}");
+            full[place] += usize::from(most[place] == figure);
+        }
+        let standard = Limits::STANDARD;
+        let less_room = limits.small_blocks < standard.small_blocks && limits.large_blocks < standard.large_blocks;
+        let less = [limits.extension < standard.extension, less_room, limits.expirations < standard.expirations];
+        for (place, number) in [6, 9, 10].into_iter().enumerate() {
+            refused[place] += if less[place] { met.refused[number] } else { 0 };
+        }
+        census.add(&met);
+    }
+    census.print();
+    println!("of {SITES} sites so many had all small blocks, large blocks, expirations in use: {full:?}");
+    println!("6, 9, 10 by figures below 01's: {refused:?}");
+    assert!(full.iter().all(|&count| count > 50) && refused.iter().all(|&count| count > 1_000));
+    assert!(census.accepted.iter().all(|&count| count > 1_000));
+    for number in (1..=7).chain(9..=13).chain(16..=23) {
+        assert!(census.refused[number] > 500, "{number}");
+    }
+    assert!(census.calls + census.frames > 500_000);
 }
 
 /// One byte, two that cancel out or two of chance, put back now and then: reads and writes are refused by all or by none, and
@@ -286,13 +350,4 @@ fn with_handle_after<'a>(given: u32, call: Call<'a>, room: &'a mut Vec<[u8; 4]>)
         }
         other => other,
     }
-}
-
-/// A fresh record is written over whatever stands there.
-#[test]
-fn fresh_is_all_zeros() {
-    let mut memory = Memory::fresh(&mut Random::new(1));
-    host_tests::memory::bytes_mut(&mut memory.pool).fill(0xFF);
-    assert_eq!(Library::fresh(&mut memory.pool), 0);
-    assert!(host_tests::memory::bytes(&memory.pool).iter().all(|&byte| byte == 0));
 }

@@ -7,7 +7,7 @@ use host_tests::library::Library;
 use host_tests::memory::Memory;
 use host_tests::reading::figures;
 use host_tests::samples::{standing_by, Setting};
-use plain::limits::{BLOCKS, EXPIRATIONS, TASKS};
+use plain::limits::{Limits, BLOCKS, EXPIRATIONS, LARGE_BLOCKS, SMALL_BLOCKS, TASKS};
 use plain::record::{Pool, PINNED};
 use reference::call::{packed, Accepted, Call, Handles, Kind, Lifetime};
 use reference::random::Random;
@@ -18,7 +18,7 @@ fn release(host: &mut Host<Library>, task: u8, handle: u32) -> u8 {
 
 /// Both stores full and 256 expirations: the first so many objects are pinned, and the rest is on the objects of even number.
 fn with_pinned(count: usize) -> Memory {
-    standing_by(TASKS, (64, 32), EXPIRATIONS, |place| {
+    standing_by(Limits::STANDARD, TASKS, (SMALL_BLOCKS, LARGE_BLOCKS), EXPIRATIONS, |place| {
         let (kind, extension) = if place < count { (Kind::Pinned, 0) } else { (Kind::Global, 30) };
         Setting { task: (place % TASKS) as u8, kind, extension, object: 2 * place % BLOCKS }
     })

@@ -1,11 +1,15 @@
-//! How much stack a call may take, on records with few and many expirations, accepted and refused.
+//! How much stack a call may take, on records with few and many expirations, accepted and refused, of 01's figures and of a
+//! small site.
 
 use std::hint::black_box;
 
 use host_tests::cases::{all, Case};
-use host_tests::desk::{Action, Entry, Subject};
+use host_tests::desk::{Action, Arguments, Entry, Subject};
 use host_tests::extremes;
+use host_tests::samples::standing_of;
+use host_tests::sites::CABLE;
 use host_tests::stack::depth;
+use plain::record::{PINNED, WAITING};
 
 const KB: usize = 1024;
 
@@ -19,9 +23,26 @@ fn deepest(cases: &[Case], entry: Entry, subject: Subject) -> usize {
     depths.max().unwrap_or(0)
 }
 
+/// Each call on a small site, where it is accepted: a block of each store is free, task 1 waits, task 15 is absent, and the
+/// first object is pinned.
+fn on_a_small_site(entry: Entry) -> Case {
+    let mut memory = standing_of(CABLE, 15, (15, 3), 60);
+    memory.pool.tasks[1].state = WAITING;
+    (memory.pool.clocks[0], memory.pool.dues[0]) = (PINNED, 0);
+    let task = match entry {
+        Entry::Join => 15,
+        Entry::Resume => 1,
+        _ => 0,
+    };
+    let (bytes, line) = (vec![7; 32], b"09000000000100A5".to_vec());
+    let arguments = Arguments { task, kind: 0, extension: 10, size: 256, handle: 1, handles: vec![1; 4], bytes, line };
+    Case { name: "small site", entry, expirations: 60, numbering: None, memory, arguments, answer: 0 }
+}
+
 #[test]
 fn a_call_stays_within_its_limit() {
-    let cases: Vec<_> = all().into_iter().chain(extremes::usual()).chain(extremes::all()).collect();
+    let small = Entry::ALL.into_iter().map(on_a_small_site);
+    let cases: Vec<_> = all().into_iter().chain(extremes::usual()).chain(extremes::all()).chain(small).collect();
     for entry in Entry::ALL {
         let [library, plain] = [Subject::Library, Subject::Plain].map(|subject| deepest(&cases, entry, subject));
         println!("{}: {library} bytes, plain {plain}", entry.name());

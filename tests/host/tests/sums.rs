@@ -5,7 +5,8 @@ use host_tests::entries::Entries;
 use host_tests::host::Host;
 use host_tests::library::Library;
 use host_tests::memory::Memory;
-use plain::limits::{BLOCKS, SMALL_BLOCKS};
+use host_tests::sites::CABLE;
+use plain::limits::{Limits, LARGE_SIZE, SMALL_BLOCKS, SMALL_SIZE};
 use plain::record::{length_in, sum_in};
 use reference::call::{packed, Accepted, Call, Handles, Kind};
 use reference::random::Random;
@@ -14,6 +15,9 @@ const SUM_DIFFERS: u8 = 23;
 
 /// Three tasks run.
 const TASKS: u8 = 3;
+
+/// 01's figures, those of a small site, and the smallest that let an object stand in each store.
+const SITES: [Limits; 3] = [Limits::STANDARD, CABLE, Limits { expirations: 2, ..Limits::SMALLEST }];
 
 fn read(handle: u32) -> Call<'static> {
     Call::Read { task: 0, handle }
@@ -25,20 +29,21 @@ fn write(handle: u32) -> Call<'static> {
 }
 
 /// Both stores are full of objects of many lengths: the first made of each store has no byte written, the second has a block
-/// full of 255, and the others have bytes of chance. Each stands for long by global time, and every third is pinned.
-fn full() -> Memory {
+/// full of 255, and the others have bytes of chance. Each stands for as long as it can by global time, and every third is
+/// pinned.
+fn full(limits: Limits) -> Memory {
     let mut random = Random::new(6);
-    let mut host = Host::<Library>::new(Memory::fresh(&mut random));
+    let mut host = Host::<Library>::new(Memory::sized(limits, &mut random));
     (0..TASKS).for_each(|task| assert_eq!(host.call(&Call::Join { task }), Ok(Accepted::Done)));
-    for place in 0..BLOCKS {
+    for (handle, place) in (1..).zip(host.memory.places()) {
         let (first, shortest, longest) = if place < SMALL_BLOCKS { (0, 1, 32) } else { (SMALL_BLOCKS, 33, 256) };
         let length = match place - first {
             1 => longest,
             _ => shortest + random.below(longest - shortest + 1),
         };
-        let (kind, extension) = if place % 3 == 0 { (Kind::Pinned, 0) } else { (Kind::Global, 30) };
+        let longest = limits.extension as u8;
+        let (kind, extension) = if place % 3 == 0 { (Kind::Pinned, 0) } else { (Kind::Global, longest) };
         let make = Call::Make { task: (place % 3) as u8, kind, extension, length: length as u16 };
-        let handle = 1 + place as u32;
         assert_eq!(host.call(&make), Ok(Accepted::Handle(handle)));
         let mut bytes = vec![255; length];
         match place - first {
@@ -65,10 +70,15 @@ fn others(random: &mut Random, place: usize, held: u8) -> Vec<u8> {
 /// object are not; put back, it is as if nothing had been.
 #[test]
 fn every_byte_of_both_stores() {
-    let whole = full();
+    SITES.into_iter().for_each(every_byte_of);
+}
+
+fn every_byte_of(limits: Limits) {
+    let whole = full(limits);
     let mut random = Random::new(7);
     let mut host = Host::<Library>::new(whole.clone());
-    for place in 0..BLOCKS {
+    let places = whole.places();
+    for (turn, &place) in places.iter().enumerate() {
         let handle = whole.pool.handles[place];
         for offset in 0..whole.block(place).len() {
             let held = whole.block(place)[offset];
@@ -77,7 +87,7 @@ fn every_byte_of_both_stores() {
                 assert_eq!(host.call(&read(handle)), Err(SUM_DIFFERS), "{place}, {offset}, {value}");
                 assert_eq!(host.call(&write(handle)), Err(SUM_DIFFERS), "{place}, {offset}, {value}");
             }
-            let other = (place + 1 + random.below(BLOCKS - 1)) % BLOCKS;
+            let other = places[(turn + 1 + random.below(places.len() - 1)) % places.len()];
             assert_eq!(host.call(&read(whole.pool.handles[other])), Ok(Accepted::Bytes(own(&whole, other))));
             host.memory.block_mut(place)[offset] = held;
         }
@@ -91,14 +101,19 @@ fn own(memory: &Memory, place: usize) -> &[u8] {
     &memory.block(place)[..usize::from(length_in(memory.pool.extents[place]))]
 }
 
-/// Among 96 objects: 23 until the changed one goes, 12 from then on, and the calls that end it answer as without the change.
+/// Among all others: 23 until the changed one goes, 12 from then on, and the calls that end it answer as without the change.
 #[test]
 fn until_it_goes_among_all_others() {
-    let whole = full();
+    SITES.into_iter().for_each(until_it_goes);
+}
+
+fn until_it_goes(limits: Limits) {
+    let whole = full(limits);
     let mut random = Random::new(12);
-    for place in 0..BLOCKS {
+    let places = whole.places();
+    for (turn, &place) in places.iter().enumerate() {
         let handle = whole.pool.handles[place];
-        let next = whole.pool.handles[(place + 1) % BLOCKS];
+        let next = whole.pool.handles[places[(turn + 1) % places.len()]];
         let (mut before, mut after) = (Host::<Library>::new(whole.clone()), Host::<Library>::new(whole.clone()));
         let offset = random.below(whole.block(place).len());
         let byte = &mut after.memory.block_mut(place)[offset];
@@ -120,16 +135,21 @@ fn until_it_goes_among_all_others() {
 /// writes of others, and time. They tell the same with the change as without it, and leave the same record.
 #[test]
 fn all_other_calls_do_not_look() {
-    let whole = full();
+    SITES.into_iter().for_each(other_calls_do_not_look);
+}
+
+fn other_calls_do_not_look(limits: Limits) {
+    let whole = full(limits);
     let mut random = Random::new(8);
-    for place in 0..BLOCKS {
+    for (turn, place) in whole.places().into_iter().enumerate() {
         let handle = whole.pool.handles[place];
         let offset = random.below(whole.block(place).len());
         let changed = whole.block(place)[offset].wrapping_add(1 + random.below(255) as u8);
         let (mut before, mut after) = (Host::<Library>::new(whole.clone()), Host::<Library>::new(whole.clone()));
         after.memory.block_mut(place)[offset] = changed;
-        let others: Vec<_> = whole.pool.handles.iter().copied().filter(|&other| other != handle).collect();
-        let handles = packed(&[others[place % 95], handle, handle]);
+        let others = whole.places().into_iter().map(|other| whole.pool.handles[other]);
+        let others: Vec<_> = others.filter(|&other| other != handle).collect();
+        let handles = packed(&[others[turn % others.len()], handle, handle]);
         let mut calls = vec![
             Call::Report,
             Call::Remaining { task: 0, handle },
@@ -160,7 +180,7 @@ fn refused_until_it_goes() {
     let kinds = [(Kind::Local, 2), (Kind::Global, 1), (Kind::Pinned, 0)];
     for (kind, extension) in kinds {
         for (length, place) in [(1, 0), (32, 31), (7, 31), (33, 0), (100, 255), (256, 128)] {
-            let mut host = Host::<Library>::new(Memory::fresh(&mut Random::new(9)));
+            let mut host = Host::<Library>::new(Memory::sized(CABLE, &mut Random::new(9)));
             (0..2).for_each(|task| assert_eq!(host.told(&Call::Join { task }), 0));
             assert_eq!(host.told(&Call::Make { task: 0, kind, extension, length }), 0);
             assert_eq!(host.told(&write(1)), 0);
@@ -176,8 +196,8 @@ fn refused_until_it_goes() {
             let released = host.told(&Call::Release { task: 1, handle: 1 });
             assert_eq!(released, if kind == Kind::Pinned { 0 } else { 12 });
             // Its block is given out again, once all of its store are.
-            let blocks = if length <= 32 { SMALL_BLOCKS } else { BLOCKS - SMALL_BLOCKS };
-            for count in 0..blocks as u32 {
+            let blocks = if length <= 32 { CABLE.small_blocks } else { CABLE.large_blocks };
+            for count in 0..blocks {
                 assert_eq!((host.told(&read(1)), host.told(&write(1))), (12, 12), "{kind:?}, {length}");
                 assert_eq!(host.told(&Call::Make { task: 1, kind: Kind::Global, extension: 9, length }), 0);
                 assert_eq!(host.told(&read(2 + count)), 0);
@@ -191,10 +211,10 @@ fn refused_until_it_goes() {
 /// One byte up by as much as another goes down, wherever both are: what is read is what stands there, and a write goes on.
 #[test]
 fn changes_that_cancel_out_pass() {
-    let whole = full();
+    let whole = full(Limits::STANDARD);
     let mut random = Random::new(10);
     let mut met = 0;
-    for place in 0..BLOCKS {
+    for place in whole.places() {
         let handle = whole.pool.handles[place];
         for _ in 0..50 {
             let mut host = Host::<Library>::new(whole.clone());
@@ -224,17 +244,18 @@ fn changes_that_cancel_out_pass() {
 /// Each bit of each sum in the record: it is as if a byte were changed. The record is well-formed with any sum.
 #[test]
 fn every_bit_of_a_sum() {
-    let whole = full();
+    let whole = full(Limits::STANDARD);
     let mut host = Host::<Library>::new(whole.clone());
     let report = format!("{:?}", host.call(&Call::Report));
-    for place in 0..BLOCKS {
+    let places = whole.places();
+    for (turn, &place) in places.iter().enumerate() {
         for bit in 16..32 {
             host.memory.pool.extents[place] ^= 1 << bit;
             let handle = whole.pool.handles[place];
             assert_eq!(host.call(&read(handle)), Err(SUM_DIFFERS), "{place}, {bit}");
             assert_eq!(host.call(&write(handle)), Err(SUM_DIFFERS), "{place}, {bit}");
             assert_eq!(format!("{:?}", host.call(&Call::Report)), report);
-            let other = (place + bit) % BLOCKS;
+            let other = places[(turn + bit) % places.len()];
             assert_eq!(host.call(&read(whole.pool.handles[other])), Ok(Accepted::Bytes(own(&whole, other))));
             host.memory.pool.extents[place] ^= 1 << bit;
         }
@@ -281,31 +302,36 @@ fn write_nothing(memory: &mut Memory, store: usize, task: u8, handle: u32) -> u8
 /// Of several faults the first tells: 15, 14, 1, 3, 4, 11, 12, 23, and then 255 of a read and 13 of a write.
 #[test]
 fn the_refusals_in_order() {
-    let mut host = Host::<Library>::new(full());
-    host.memory.pool.given = 97;
-    assert_eq!(host.told(&Call::Block { task: 1 }), 0);
-    // A byte of each block but the first of each store.
-    host.memory.small.iter_mut().step_by(32).skip(1).for_each(|byte| *byte ^= 1);
-    host.memory.large.iter_mut().step_by(256).skip(1).for_each(|byte| *byte ^= 1);
-    let [small, large, changed, last] = [0, SMALL_BLOCKS, 1, BLOCKS - 1].map(|place| host.memory.pool.handles[place]);
-    let gone = [(16, changed), (3, changed), (1, changed), (0, 0), (0, 98), (0, 97)];
-    let rows = [&gone[..], &[(0, changed), (2, last), (0, small), (0, large)]].concat();
-    let numbers = [1, 3, 4, 11, 11, 12, 23, 23, 0, 0];
-    for (&(task, handle), number) in rows.iter().zip(numbers) {
-        let or = |last: u8| if number == 0 { last } else { number };
-        assert_eq!(host.told(&Call::Read { task, handle }), number, "{task}, {handle}");
-        assert_eq!(read_without_room(&mut host.memory, 2048, task, handle), or(255), "{task}, {handle}");
-        assert_eq!(read_without_room(&mut host.memory, 2047, task, handle), 14, "{task}, {handle}");
-        assert_eq!(write_nothing(&mut host.memory, 2048, task, handle), number, "{task}, {handle}");
-        assert_eq!(write_nothing(&mut host.memory, 2047, task, handle), 14, "{task}, {handle}");
-        for offset in [1, 255] {
-            let write = Call::Write { task, handle, offset, bytes: &[7; 256] };
-            assert_eq!(host.told(&write), or(13), "{write:?}");
+    for limits in [Limits::STANDARD, CABLE] {
+        let mut host = Host::<Library>::new(full(limits));
+        let (places, right) = (host.memory.places(), limits.small_store());
+        let gone = 1 + places.len() as u32;
+        host.memory.pool.given = gone;
+        assert_eq!(host.told(&Call::Block { task: 1 }), 0);
+        // A byte of each block but the first of each store.
+        host.memory.small.iter_mut().step_by(SMALL_SIZE).skip(1).for_each(|byte| *byte ^= 1);
+        host.memory.large.iter_mut().step_by(LARGE_SIZE).skip(1).for_each(|byte| *byte ^= 1);
+        let [small, large, changed, last] =
+            [0, SMALL_BLOCKS, 1, places[places.len() - 1]].map(|place| host.memory.pool.handles[place]);
+        let none = [(16, changed), (3, changed), (1, changed), (0, 0), (0, 1 + gone), (0, gone)];
+        let rows = [&none[..], &[(0, changed), (2, last), (0, small), (0, large)]].concat();
+        let numbers = [1, 3, 4, 11, 11, 12, 23, 23, 0, 0];
+        for (&(task, handle), number) in rows.iter().zip(numbers) {
+            let or = |last: u8| if number == 0 { last } else { number };
+            assert_eq!(host.told(&Call::Read { task, handle }), number, "{task}, {handle}");
+            assert_eq!(read_without_room(&mut host.memory, right, task, handle), or(255), "{task}, {handle}");
+            assert_eq!(read_without_room(&mut host.memory, right - 1, task, handle), 14, "{task}, {handle}");
+            assert_eq!(write_nothing(&mut host.memory, right, task, handle), number, "{task}, {handle}");
+            assert_eq!(write_nothing(&mut host.memory, right - 1, task, handle), 14, "{task}, {handle}");
+            for offset in [1, 255] {
+                let write = Call::Write { task, handle, offset, bytes: &[7; 256] };
+                assert_eq!(host.told(&write), or(13), "{write:?}");
+            }
         }
-    }
-    host.memory.pool.tasks[5].state = 3;
-    for (task, handle) in rows {
-        assert_eq!(read_without_room(&mut host.memory, 2047, task, handle), 15, "{task}, {handle}");
-        assert_eq!(write_nothing(&mut host.memory, 2047, task, handle), 15, "{task}, {handle}");
+        host.memory.pool.tasks[5].state = 3;
+        for (task, handle) in rows {
+            assert_eq!(read_without_room(&mut host.memory, right - 1, task, handle), 15, "{task}, {handle}");
+            assert_eq!(write_nothing(&mut host.memory, right - 1, task, handle), 15, "{task}, {handle}");
+        }
     }
 }

@@ -1,20 +1,30 @@
 //! The calls as a host makes them, with the answers of the library's C interface: a number, and what else is
-//! answered in the parameters lent for it. Each tests 15 first, after 19 where a kind is named; then comes the
-//! work. A refusal changes nothing.
+//! answered in the parameters lent for it. Each but fresh tests 15 first, after 19 where a kind is named; then comes the
+//! work. A refusal changes nothing, but for 29.
 
 use crate::fit::is_well_formed;
 use crate::frames::{answer, decode, Reply, Request, LONGEST_FRAME, MOST_NAMED};
-use crate::limits::PINNING;
+use crate::limits::{Limits, PINNING};
 use crate::record::{Pool, FRESH};
-use crate::refusals::{ACCEPTED, NOT_WELL_FORMED, SHORT_BUFFER, UNKNOWN_KIND};
+use crate::refusals::{ACCEPTED, LIMITS_OUT_OF_RANGE, NOT_WELL_FORMED, SHORT_BUFFER, UNKNOWN_KIND};
 use crate::work;
 
 /// The least room that a frame asks for its answer.
 pub const ANSWER_ROOM: usize = 531;
 
 pub fn fresh(pool: &mut Pool) -> u8 {
+    fresh_sized(pool, Limits::STANDARD)
+}
+
+/// With the figures of a site. Where it may not choose them, 29, and a record that is not well-formed.
+pub fn fresh_sized(pool: &mut Pool, limits: Limits) -> u8 {
     *pool = FRESH;
-    ACCEPTED
+    pool.limits = limits;
+    if limits.is_allowed() {
+        ACCEPTED
+    } else {
+        LIMITS_OUT_OF_RANGE
+    }
 }
 
 pub fn join(pool: &mut Pool, task: u8) -> u8 {

@@ -1,7 +1,7 @@
-//! The record, as the library has it: sixteen task entries, two counters, and the tables of blocks and of expirations, an
-//! array for each field. It is 2440 bytes of numbers without a gap.
+//! The record, as the library has it: sixteen task entries, two counters, the figures of its site, and the tables of blocks
+//! and of expirations, an array for each field. It is 2456 bytes of numbers without a gap.
 
-use crate::limits::{BLOCKS, EXPIRATIONS, TASKS};
+use crate::limits::{Limits, BLOCKS, EXPIRATIONS, TASKS};
 
 /// The state of a task entry.
 pub const ABSENT: u16 = 0;
@@ -44,16 +44,17 @@ pub struct TaskEntry {
     pub clock: u32,
 }
 
-/// Block i has the object `handles[i]`, 0 where it is free, with the length and the sum in `extents[i]`. Blocks 0 to 63
-/// are the small store's, 64 to 95 the large one's. Expiration i belongs to the object in the block `named[i]`, and is due
-/// when the clock `clocks[i]` reads `dues[i]`, which is 0 where it is pinned. The other fields of a free block or expiration
-/// have no meaning.
+/// Block i has the object `handles[i]`, 0 where it is free, with the length and the sum in `extents[i]`. Blocks from 0 on
+/// are the small store's, from 64 on the large one's, as many as the limits say. Expiration i belongs to the object in the
+/// block `named[i]`, and is due when the clock `clocks[i]` reads `dues[i]`, which is 0 where it is pinned; those past the
+/// limits are free. The other fields of a free block or expiration have no meaning.
 #[derive(Clone, Debug, PartialEq, Eq)]
 #[repr(C)]
 pub struct Pool {
     pub tasks: [TaskEntry; TASKS],
     pub global: u32,
     pub given: u32,
+    pub limits: Limits,
     pub handles: [u32; BLOCKS],
     pub extents: [u32; BLOCKS],
     pub clocks: [u8; EXPIRATIONS],
@@ -65,20 +66,26 @@ pub struct Pool {
 pub const GROUP: usize = 32;
 
 /// The bytes of a record.
-pub const RECORD: usize = 2440;
+pub const RECORD: usize = 2456;
 
 const _: () = assert!(size_of::<Pool>() == RECORD && align_of::<Pool>() == 4);
 
 pub const ABSENT_TASK: TaskEntry = TaskEntry { state: ABSENT, ticked: 0, clock: 0 };
 
-/// A fresh pool, all zeros.
-pub const FRESH: Pool = Pool {
-    tasks: [ABSENT_TASK; TASKS],
-    global: 0,
-    given: 0,
-    handles: [0; BLOCKS],
-    extents: [0; BLOCKS],
-    clocks: [FREE; EXPIRATIONS],
-    named: [0; EXPIRATIONS],
-    dues: [0; EXPIRATIONS],
-};
+/// A fresh pool of these figures, all else zeros.
+pub const fn fresh(limits: Limits) -> Pool {
+    Pool {
+        tasks: [ABSENT_TASK; TASKS],
+        global: 0,
+        given: 0,
+        limits,
+        handles: [0; BLOCKS],
+        extents: [0; BLOCKS],
+        clocks: [FREE; EXPIRATIONS],
+        named: [0; EXPIRATIONS],
+        dues: [0; EXPIRATIONS],
+    }
+}
+
+/// A fresh pool of 01's figures.
+pub const FRESH: Pool = fresh(Limits::STANDARD);

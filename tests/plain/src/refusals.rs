@@ -25,6 +25,7 @@ pub const BATCH_OUT_OF_RANGE: u8 = 20;
 pub const ONLY_MAKE_PINS: u8 = 21;
 pub const NOT_PINNED: u8 = 22;
 pub const SUM_DIFFERS: u8 = 23;
+pub const LIMITS_OUT_OF_RANGE: u8 = 29;
 
 /// Not a refusal of the rules: a buffer is too short.
 pub const SHORT_BUFFER: u8 = 255;

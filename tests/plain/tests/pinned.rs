@@ -1,39 +1,40 @@
 //! Order 5 by its own entry: the ledger's answers on the reference's scripts, 15 first, records with pinned expirations in
 //! all places, and counters that go round.
 
-use plain::calls::{self, ANSWER_ROOM};
+mod memory;
+
+use memory::{sites, Memory};
+use plain::calls;
 use plain::fit::is_well_formed;
-use plain::limits::{BLOCKS, EXPIRATIONS, LARGE_STORE, SMALL_STORE};
+use plain::limits::{BLOCKS, EXPIRATIONS};
 use plain::record::{Pool, FREE, FRESH, LOCAL, PINNED, RUNNING};
 use reference::call::{Call, Model};
 use reference::frame::decode;
-use reference::generate::{script_of, Profile};
+use reference::generate::{sized_script_of, Profile};
 use reference::ledger::Ledger;
 use reference::script::lines;
 
-/// By the entry and by the frame: the ledger's number, and the same record.
+/// By the entry and by the frame, at 01's figures and at others: the ledger's number, and the same record.
 #[test]
 fn the_answers_of_the_ledger() {
     let mut asked = 0;
-    for seed in 0..40 {
-        let script = script_of(Some(Profile::Pinned), seed, 20_000);
+    for (seed, limits) in sites(0..40) {
+        let script = sized_script_of(limits, Some(Profile::Pinned), seed, 20_000);
         let mut room = vec![0; script.len()];
-        let (mut pool, mut small, mut large) = (FRESH, [7; SMALL_STORE], [7; LARGE_STORE]);
-        let (mut ledger, mut out) = (Ledger::fresh(), [0; ANSWER_ROOM]);
+        let (mut memory, mut ledger) = (Memory::beside(limits), Ledger::of(limits));
         for line in lines(&script) {
             let Ok(call) = decode(line, &mut room) else { continue };
-            let mut typed = pool.clone();
+            let mut typed = memory.pool.clone();
             let number = ledger.call(&call).err().map_or(0, |refusal| refusal as u8);
-            let told = calls::frame(&mut pool, &mut small, &mut large, line, &mut out, &mut 0);
-            assert_eq!(told, number, "{call:?}");
+            assert_eq!(memory.frame(line).0, number, "{call:?}");
             if let Call::Release { task, handle } = call {
                 assert_eq!(calls::release(&mut typed, task, handle), number, "{call:?}");
-                assert_eq!(typed, pool, "{call:?}");
+                assert_eq!(typed, memory.pool, "{call:?}");
                 asked += 1;
             }
         }
     }
-    assert!(asked > 3_000, "{asked}");
+    assert!(asked > 6_000, "{asked}");
 }
 
 /// Task 0 runs, and an object stands in each block, pinned from this entry of the table on.
@@ -100,18 +101,18 @@ fn what_is_not_fit() {
 #[test]
 fn where_the_counters_go_round() {
     for counter in [0, u32::MAX - 31, u32::MAX - 1, u32::MAX] {
-        let mut pool = Pool { global: counter, ..FRESH };
-        (pool.tasks[0].state, pool.tasks[0].clock) = (RUNNING, counter);
-        let (mut small, mut large) = ([0; SMALL_STORE], [0; LARGE_STORE]);
-        assert_eq!(calls::make(&mut pool, &mut small, &mut large, 0, 2, 0, 1, &mut 0), 0);
+        let mut memory = Memory::of(Pool { global: counter, ..FRESH });
+        (memory.pool.tasks[0].state, memory.pool.tasks[0].clock) = (RUNNING, counter);
+        assert_eq!(memory.make(2, 0, 1), 0);
+        let pool = &mut memory.pool;
         for _ in 0..40 {
             let (mut local, mut global) = (9, 9);
-            assert_eq!(calls::remaining(&pool, 0, 1, &mut local, &mut global), 0);
+            assert_eq!(calls::remaining(pool, 0, 1, &mut local, &mut global), 0);
             assert_eq!((local, global), (0, 0), "{counter}");
-            assert_eq!(calls::tick(&mut pool, 0, &mut 0), 0);
-            assert!(is_well_formed(&pool));
+            assert_eq!(calls::tick(pool, 0, &mut 0), 0);
+            assert!(is_well_formed(pool));
         }
-        assert_eq!(calls::release(&mut pool, 0, 1), 0);
+        assert_eq!(calls::release(pool, 0, 1), 0);
         assert_eq!((pool.clocks, pool.handles), (FRESH.clocks, FRESH.handles), "{counter}");
     }
 }

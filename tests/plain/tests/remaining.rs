@@ -1,11 +1,13 @@
 //! Order 1 by its own entry: the ledger's answers on the reference's scripts, 15 first, and counters that go round.
 
-use plain::calls::{self, ANSWER_ROOM};
-use plain::limits::{LARGE_STORE, SMALL_STORE};
+mod memory;
+
+use memory::{sites, Memory};
+use plain::calls;
 use plain::record::{Pool, FRESH, RUNNING};
 use reference::call::{Accepted, Call, Lifetime, Model};
 use reference::frame::decode;
-use reference::generate::{script_of, Profile};
+use reference::generate::{sized_script_of, Profile};
 use reference::ledger::Ledger;
 use reference::script::lines;
 
@@ -18,14 +20,14 @@ fn told(pool: &Pool, task: u8, handle: u32) -> (u8, u8, u8) {
     (number, local, global)
 }
 
+/// At 01's figures and at others.
 #[test]
 fn the_answers_of_the_ledger() {
     let mut asked = 0;
-    for seed in 0..40 {
-        let script = script_of(Some(Profile::Remaining), seed, 20_000);
+    for (seed, limits) in sites(0..40) {
+        let script = sized_script_of(limits, Some(Profile::Remaining), seed, 20_000);
         let mut room = vec![0; script.len()];
-        let (mut pool, mut small, mut large) = (FRESH, [7; SMALL_STORE], [7; LARGE_STORE]);
-        let (mut ledger, mut out) = (Ledger::fresh(), [0; ANSWER_ROOM]);
+        let (mut memory, mut ledger) = (Memory::beside(limits), Ledger::of(limits));
         for line in lines(&script) {
             let Ok(call) = decode(line, &mut room) else { continue };
             let expected = ledger.call(&call);
@@ -34,23 +36,22 @@ fn the_answers_of_the_ledger() {
                     Ok(Accepted::Remaining(Lifetime { local, global })) => (0, local, global),
                     other => (other.expect_err("a refusal") as u8, UNTOLD, UNTOLD),
                 };
-                assert_eq!(told(&pool, task, handle), expected, "{call:?}");
+                assert_eq!(told(&memory.pool, task, handle), expected, "{call:?}");
                 asked += 1;
             }
-            calls::frame(&mut pool, &mut small, &mut large, line, &mut out, &mut 0);
+            memory.frame(line);
         }
     }
-    assert!(asked > 5_000, "{asked}");
+    assert!(asked > 10_000, "{asked}");
 }
 
 /// Object 1 has a local expiration of task 0 and a global one, both with extension 30, set when both counters read this.
 fn set_at(counter: u32) -> Pool {
-    let mut pool = Pool { global: counter, ..FRESH };
-    (pool.tasks[0].state, pool.tasks[0].clock) = (RUNNING, counter);
-    let (mut small, mut large) = ([0; SMALL_STORE], [0; LARGE_STORE]);
-    assert_eq!(calls::make(&mut pool, &mut small, &mut large, 0, 0, 30, 1, &mut 0), 0);
-    assert_eq!(calls::refresh(&mut pool, 0, 1, 30, 1), 0);
-    pool
+    let mut memory = Memory::of(Pool { global: counter, ..FRESH });
+    (memory.pool.tasks[0].state, memory.pool.tasks[0].clock) = (RUNNING, counter);
+    assert_eq!(memory.make(0, 30, 1), 0);
+    assert_eq!(calls::refresh(&mut memory.pool, 0, 1, 30, 1), 0);
+    memory.pool
 }
 
 #[test]

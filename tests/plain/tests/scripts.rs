@@ -1,33 +1,29 @@
-//! The plain pool on the reference's scripts, frame by frame: the same output as both ledgers'. That it tells damaged
-//! records, and leaves the same state, is tested beside the library.
+//! The plain pool on the reference's scripts, frame by frame: the same output as both ledgers', at 01's figures and at
+//! others. That it tells damaged records, and leaves the same state, is tested beside the library.
 
-use plain::calls::{self, ANSWER_ROOM};
-use plain::limits::{LARGE_STORE, SMALL_STORE};
-use plain::record::FRESH;
-use reference::generate::script;
+mod memory;
+
+use memory::{sites, Memory};
+use reference::call::Model;
+use reference::generate::sized_script;
 use reference::indexed;
 use reference::ledger::Ledger;
-use reference::script::{lines, run_on, LIMIT};
+use reference::limits::Limits;
+use reference::script::{lines, run_from, LIMIT};
 
-fn output(script: &[u8]) -> Vec<u8> {
-    let (mut pool, mut small, mut large) = (FRESH, [7; SMALL_STORE], [7; LARGE_STORE]);
-    let (mut out, mut length) = ([0; ANSWER_ROOM], 0);
-    let mut output = Vec::new();
-    for line in lines(script) {
-        calls::frame(&mut pool, &mut small, &mut large, line, &mut out, &mut length);
-        output.extend(&out[..length]);
-    }
-    output
+fn output(limits: Limits, script: &[u8]) -> Vec<u8> {
+    let mut memory = Memory::beside(limits);
+    lines(script).flat_map(|line| memory.frame(line).1).collect()
 }
 
 #[test]
 fn the_output_of_both_ledgers() {
-    for seed in 1..=200 {
-        let script = script(seed);
+    for (seed, limits) in sites(1..201) {
+        let script = sized_script(limits, seed);
         if script.len() <= LIMIT {
-            let output = output(&script);
-            assert!(output == run_on::<Ledger>(&script), "seed {seed}");
-            assert!(output == run_on::<indexed::Ledger>(&script), "seed {seed}, indexed");
+            let output = output(limits, &script);
+            assert!(output == run_from(Ledger::of(limits), &script), "seed {seed}, {limits:?}");
+            assert!(output == run_from(indexed::Ledger::of(limits), &script), "seed {seed}, {limits:?}, indexed");
         }
     }
 }

@@ -1,34 +1,23 @@
 //! Order 6 by its own entries: the ledger's answers on the reference's scripts with bytes changed from outside, and one byte
 //! changed in all places.
 
-use plain::calls::{self, ANSWER_ROOM};
+mod memory;
+
+use memory::{sites, Memory};
+use plain::calls;
 use plain::fit::is_well_formed;
-use plain::limits::{BLOCKS, LARGE_SIZE, LARGE_STORE, SMALL_BLOCKS, SMALL_SIZE, SMALL_STORE};
-use plain::record::{extent_of, length_in, sum_in, Pool, FRESH};
+use plain::limits::{BLOCKS, LARGE_SIZE, SMALL_BLOCKS, SMALL_SIZE};
+use plain::record::{extent_of, length_in, sum_in, FRESH};
 use reference::block::Block;
 use reference::call::{Accepted, Call, Model};
 use reference::frame::{decode, encode_answer};
-use reference::generate::script;
+use reference::generate::sized_script;
 use reference::ledger::Ledger;
 use reference::outside::{Changes, Exposed};
 use reference::random::Random;
 use reference::script::lines;
 
-/// A record and its stores.
-#[derive(Clone, Debug, PartialEq, Eq)]
-struct Memory {
-    pool: Pool,
-    small: [u8; SMALL_STORE],
-    large: [u8; LARGE_STORE],
-}
-
-const START: Memory = Memory { pool: FRESH, small: [7; SMALL_STORE], large: [7; LARGE_STORE] };
-
 impl Memory {
-    fn make(&mut self, kind: u8, length: u16) -> u8 {
-        calls::make(&mut self.pool, &mut self.small, &mut self.large, 0, kind, 0, length, &mut 0)
-    }
-
     fn read(&self, task: u8, handle: u32) -> (u8, Vec<u8>) {
         let (mut out, mut count) = ([0; LARGE_SIZE], 0);
         let number = calls::read(&self.pool, &self.small, &self.large, task, handle, &mut out, &mut count);
@@ -37,12 +26,6 @@ impl Memory {
 
     fn write(&mut self, task: u8, handle: u32, offset: u8, bytes: &[u8]) -> u8 {
         calls::write(&mut self.pool, &mut self.small, &mut self.large, task, handle, offset, bytes)
-    }
-
-    fn frame(&mut self, line: &[u8]) -> Vec<u8> {
-        let (mut out, mut count) = ([0; ANSWER_ROOM], 0);
-        calls::frame(&mut self.pool, &mut self.small, &mut self.large, line, &mut out, &mut count);
-        out[..count].to_vec()
     }
 
     fn block(&mut self, block: usize) -> &mut [u8] {
@@ -54,7 +37,7 @@ impl Memory {
     }
 
     /// The block of an object that stands.
-    fn of(&mut self, handle: u32) -> &mut [u8] {
+    fn block_of(&mut self, handle: u32) -> &mut [u8] {
         let block = self.pool.handles.iter().position(|&other| other == handle).expect("it stands");
         self.block(block)
     }
@@ -74,19 +57,20 @@ impl Memory {
     }
 }
 
-/// By the entries and by the frame: the ledger's answer, and the same record and stores, as the ledger's objects say.
+/// By the entries and by the frame, at 01's figures and at others: the ledger's answer, and the same record and stores, as
+/// the ledger's objects say.
 #[test]
 fn the_answers_of_the_ledger() {
     let (mut read, mut written) = ([0; 24], [0; 24]);
-    for seed in 0..150 {
-        let script = script(seed);
+    for (seed, limits) in sites(0..150) {
+        let script = sized_script(limits, seed);
         let mut room = vec![0; script.len()];
-        let (mut memory, mut ledger, mut changes) = (START, Ledger::fresh(), Changes::new(seed));
+        let (mut memory, mut ledger, mut changes) = (Memory::beside(limits), Ledger::of(limits), Changes::new(seed));
         for line in lines(&script[..script.len().min(20_000)]) {
             let Ok(call) = decode(line, &mut room) else { continue };
             for change in changes.before(&call, &ledger) {
                 ledger.disturb(change);
-                memory.of(change.handle)[change.place] = change.byte;
+                memory.block_of(change.handle)[change.place] = change.byte;
             }
             let answer = ledger.call(&call);
             let number = answer.err().map_or(0, |refusal| refusal as u8);
@@ -105,7 +89,7 @@ fn the_answers_of_the_ledger() {
             }
             let mut expected = Vec::new();
             encode_answer(&answer, &mut expected);
-            assert_eq!(memory.frame(line), expected, "{call:?}");
+            assert_eq!(memory.frame(line).1, expected, "{call:?}");
             if matches!(call, Call::Read { .. } | Call::Write { .. }) {
                 assert!(typed == memory, "{call:?}");
                 assert!(is_well_formed(&memory.pool));
@@ -122,12 +106,12 @@ fn the_answers_of_the_ledger() {
 
 /// Task 0 runs, and an object of any length stands in each block, pinned, with bytes of chance.
 fn full(random: &mut Random) -> Memory {
-    let mut memory = START;
+    let mut memory = Memory::of(FRESH);
     assert_eq!(calls::join(&mut memory.pool, 0), 0);
     for handle in 1..=BLOCKS as u32 {
         let is_small = handle <= SMALL_BLOCKS as u32;
         let length = if is_small { 1 + random.below(32) } else { 33 + random.below(224) };
-        assert_eq!(memory.make(2, length as u16), 0);
+        assert_eq!(memory.make(2, 0, length as u16), 0);
         let mut bytes = vec![0; length];
         random.fill(&mut bytes);
         assert_eq!(memory.write(0, handle, 0, &bytes), 0);
@@ -141,10 +125,10 @@ fn one_byte_in_all_places() {
     let mut random = Random::new(1);
     let mut memory = full(&mut random);
     for handle in 1..=BLOCKS as u32 {
-        for place in 0..memory.of(handle).len() {
-            let (was, whole) = (memory.of(handle)[place], memory.read(0, handle));
+        for place in 0..memory.block_of(handle).len() {
+            let (was, whole) = (memory.block_of(handle)[place], memory.read(0, handle));
             assert_eq!(whole.0, 0);
-            memory.of(handle)[place] = was.wrapping_add(1 + random.below(255) as u8);
+            memory.block_of(handle)[place] = was.wrapping_add(1 + random.below(255) as u8);
             assert!(is_well_formed(&memory.pool));
             let before = memory.clone();
             assert_eq!(memory.read(0, handle), (23, vec![]));
@@ -154,7 +138,7 @@ fn one_byte_in_all_places() {
             let other = 1 + handle % BLOCKS as u32;
             assert_eq!((memory.read(0, other).0, memory.write(0, other, 0, &[])), (0, 0));
             assert!(memory == before);
-            memory.of(handle)[place] = was;
+            memory.block_of(handle)[place] = was;
             assert_eq!(memory.read(0, handle), whole);
         }
     }
@@ -182,9 +166,9 @@ fn any_sum() {
 /// From nothing to 65,280 and back, byte by byte and at once.
 #[test]
 fn the_greatest_sum() {
-    let mut memory = START;
+    let mut memory = Memory::of(FRESH);
     assert_eq!(calls::join(&mut memory.pool, 0), 0);
-    assert_eq!(memory.make(0, 256), 0);
+    assert_eq!(memory.make(0, 0, 256), 0);
     for byte in [255, 0] {
         for place in 0..=255 {
             assert_eq!(memory.write(0, 1, place, &[byte]), 0);
@@ -203,16 +187,16 @@ fn the_greatest_sum() {
 #[test]
 fn what_comes_before() {
     let mut memory = full(&mut Random::new(3));
-    memory.of(5)[31] ^= 1;
+    memory.block_of(5)[31] ^= 1;
     assert_eq!(memory.read(0, 5).0, 23);
     assert_eq!(calls::release(&mut memory.pool, 0, 5), 0);
     memory.block(4).fill(9);
     assert_eq!((memory.read(0, 5).0, memory.write(0, 5, 0, &[])), (12, 12));
-    assert_eq!(memory.make(2, 32), 0);
+    assert_eq!(memory.make(2, 0, 32), 0);
     assert_eq!(memory.read(0, 97), (0, vec![0; 32]));
     memory.block(4)[0] = 1;
     let Memory { pool, small, large } = &mut memory;
-    for (small, large) in [(0, LARGE_STORE), (SMALL_STORE, 1)].map(|(s, l)| (&small[..s], &large[..l])) {
+    for (small, large) in [(&small[..0], &large[..]), (&small[..], &large[..1])] {
         assert_eq!(calls::read(pool, small, large, 0, 97, &mut [0; 256], &mut 0), 14);
     }
     assert_eq!(calls::write(pool, &mut small[1..], large, 0, 97, 0, &[]), 14);

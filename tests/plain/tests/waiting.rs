@@ -1,16 +1,20 @@
 //! Order 4: the codes of the clocks, what is kept on the reference's scripts, and counters that go round.
 
-use plain::calls::{self, ANSWER_ROOM};
+mod memory;
+
+use memory::{sites, Memory};
+use plain::calls;
 use plain::fit::is_well_formed;
-use plain::limits::{EXPIRATIONS, LARGE_STORE, SMALL_STORE, TASKS};
+use plain::limits::{EXPIRATIONS, TASKS};
 use plain::record::{
     Pool, TaskEntry, ABSENT, ABSENT_TASK, DEPARTED, FREE, FRESH, GLOBAL, LOCAL, PINNED, RUNNING, WAITING,
 };
 use reference::call::{Call, Model};
 use reference::expiration::{Remaining, Setter};
 use reference::frame::decode;
-use reference::generate::{script_of, Profile};
+use reference::generate::{sized_script_of, Profile};
 use reference::ledger::Ledger;
+use reference::limits::Limits;
 use reference::script::lines;
 
 /// Tasks of each state by turns, and an object with an expiration of this code that is due so far ahead. All clocks and
@@ -75,24 +79,25 @@ fn kept_by(ledger: &Ledger) -> Kept {
     ledger.standing().into_iter().flat_map(|object| of(object.handle, object.expirations)).collect()
 }
 
-/// After each call that moves a task or sets or ends what pins.
+/// After each call that moves a task or sets or ends what pins, at 01's figures and at others.
 #[test]
 fn what_the_ledger_keeps() {
     for profile in [Profile::Waiting, Profile::Pinned, Profile::Crowd, Profile::Everyday] {
-        for seed in 0..15 {
-            let script = script_of(Some(profile), seed, 15_000);
-            let (mut pool, mut small, mut large) = (FRESH, [7; SMALL_STORE], [7; LARGE_STORE]);
-            let (mut ledger, mut out) = (Ledger::fresh(), [0; ANSWER_ROOM]);
-            let mut room = vec![0; script.len()];
-            for line in lines(&script) {
-                let Ok(call) = decode(line, &mut room) else { continue };
-                let number = ledger.call(&call).err().map_or(0, |refusal| refusal as u8);
-                assert_eq!(calls::frame(&mut pool, &mut small, &mut large, line, &mut out, &mut 0), number, "{call:?}");
-                if call.place() < 6 || matches!(call, Call::Release { .. }) {
-                    assert_eq!(kept_in(&pool), kept_by(&ledger), "{call:?}");
-                    assert!(is_well_formed(&pool), "{call:?}");
-                }
-            }
+        sites(0..15).for_each(|(seed, limits)| check_kept(limits, profile, seed));
+    }
+}
+
+fn check_kept(limits: Limits, profile: Profile, seed: u64) {
+    let script = sized_script_of(limits, Some(profile), seed, 15_000);
+    let (mut memory, mut ledger) = (Memory::beside(limits), Ledger::of(limits));
+    let mut room = vec![0; script.len()];
+    for line in lines(&script) {
+        let Ok(call) = decode(line, &mut room) else { continue };
+        let number = ledger.call(&call).err().map_or(0, |refusal| refusal as u8);
+        assert_eq!(memory.frame(line).0, number, "{call:?}");
+        if call.place() < 6 || matches!(call, Call::Release { .. }) {
+            assert_eq!(kept_in(&memory.pool), kept_by(&ledger), "{call:?}");
+            assert!(is_well_formed(&memory.pool), "{call:?}");
         }
     }
 }
@@ -101,8 +106,7 @@ fn what_the_ledger_keeps() {
 #[test]
 fn where_global_time_goes_round() {
     for global in [0, u32::MAX - 40, u32::MAX - 2, u32::MAX] {
-        let mut pool = Pool { global, ..FRESH };
-        let (mut small, mut large) = ([0; SMALL_STORE], [0; LARGE_STORE]);
+        let Memory { mut pool, mut small, mut large } = Memory::of(Pool { global, ..FRESH });
         (0..2).for_each(|task| assert_eq!(calls::join(&mut pool, task), 0));
         assert_eq!(calls::make(&mut pool, &mut small, &mut large, 0, 1, 0, 4, &mut 0), 0);
         assert_eq!(calls::make(&mut pool, &mut small, &mut large, 1, 1, 30, 4, &mut 0), 0);

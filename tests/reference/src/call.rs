@@ -2,6 +2,8 @@
 
 use std::fmt;
 
+use crate::limits::Limits;
+
 /// Which time an expiration goes by: its setter's local time (the paper: own) or the global time (common); or none, so that
 /// only a release ends it (order 5: kept).
 #[derive(Clone, Copy, Debug, PartialEq, Eq)]
@@ -92,7 +94,7 @@ impl Call<'_> {
     }
 }
 
-/// Why a call or a frame is refused; the value is the number in the answer.
+/// Why a call or a frame is refused, or the figures of a pool; the value is the number in the answer.
 #[derive(Clone, Copy, Debug, PartialEq, Eq)]
 #[repr(u8)]
 pub enum Refusal {
@@ -117,6 +119,7 @@ pub enum Refusal {
     OnlyMakePins = 21,
     NotPinned = 22,
     SumDiffers = 23,
+    LimitsOutOfRange = 29,
 }
 
 /// What an accepted call gives back.
@@ -134,9 +137,19 @@ pub enum Accepted<'a> {
 pub type Answer<'a> = Result<Accepted<'a>, Refusal>;
 
 /// What calls are done on. A refused call changes nothing.
-pub trait Model {
-    /// As it is before the first call.
-    fn fresh() -> Self;
+pub trait Model: Sized {
+    /// As it is before the first call, with figures that a site chooses; 29 comes first.
+    fn sized(limits: Limits) -> Result<Self, Refusal>;
+
+    /// The same with figures that are known to be allowed.
+    fn of(limits: Limits) -> Self {
+        Self::sized(limits).expect("figures that are allowed")
+    }
+
+    /// The same with the scope paper's figures.
+    fn fresh() -> Self {
+        Self::of(Limits::STANDARD)
+    }
 
     fn join(&mut self, task: u8) -> Answer<'static>;
     fn leave(&mut self, task: u8) -> Answer<'static>;

@@ -1,10 +1,11 @@
-//! A script being written: lines, calls and arguments, led by a ledger that follows what is written.
+//! A script being written: lines, calls and arguments, led by a ledger that follows what is written. Its figures are
+//! those of the pool that the script is for.
 
 use crate::call::{packed, Call, Handles, Kind, Model, Refusal};
 use crate::damage::{damage, noise};
 use crate::frame::{decode, encode};
 use crate::ledger::Ledger;
-use crate::limits::{Store, LARGEST_BATCH, MOST_EXPIRATIONS, TASKS};
+use crate::limits::{Limits, Store, LARGEST_BATCH, TASKS};
 use crate::random::Random;
 use crate::tasks::Tasks;
 
@@ -20,8 +21,28 @@ pub struct Draft {
 }
 
 impl Draft {
-    pub fn new(random: Random, in_time: bool) -> Draft {
-        Draft { random, script: Vec::new(), ledger: Ledger::fresh(), in_time }
+    pub fn new(random: Random, limits: Limits, in_time: bool) -> Draft {
+        Draft { random, script: Vec::new(), ledger: Ledger::of(limits), in_time }
+    }
+
+    pub fn limits(&self) -> Limits {
+        self.ledger.limits()
+    }
+
+    /// The largest extension.
+    pub fn longest(&self) -> u8 {
+        self.limits().extension as u8
+    }
+
+    /// This extension, or the largest where that is less.
+    pub fn cut(&self, extension: u8) -> u8 {
+        extension.min(self.longest())
+    }
+
+    /// One of these extensions, or the largest where that is less.
+    pub fn cut_one(&mut self, extensions: &[u8]) -> u8 {
+        let extension = self.random.pick(extensions);
+        self.cut(extension)
     }
 
     // Lines.
@@ -56,15 +77,16 @@ impl Draft {
         let handle = self.handle();
         let bytes = [self.random.byte()];
         let handles = vec![handle.to_be_bytes(); self.random.below(4)];
+        let extension = self.cut(3);
         let call = self.random.pick(&[
             Call::Tick { task },
-            Call::Make { task, kind: Kind::Local, extension: 3, length: 10 },
-            Call::Refresh { task, kind: Kind::Global, extension: 3, handle },
+            Call::Make { task, kind: Kind::Local, extension, length: 10 },
+            Call::Refresh { task, kind: Kind::Global, extension, handle },
             Call::Read { task, handle },
             Call::Write { task, handle, offset: 0, bytes: &bytes },
             Call::Report,
             Call::Remaining { task, handle },
-            Call::Batch { task, kind: Kind::Global, extension: 3, handles: Handles(&handles) },
+            Call::Batch { task, kind: Kind::Global, extension, handles: Handles(&handles) },
             Call::Release { task, handle },
         ]);
         let mut line = Vec::new();
@@ -219,7 +241,7 @@ impl Draft {
     /// An object of a length at the end of a store's range, written at its own ends.
     pub fn edge_object(&mut self) {
         let length = self.random.pick(&[1, 32, 33, 256, 256]);
-        let Some(handle) = self.make_now(1, length) else { return };
+        let Some(handle) = self.make_now(self.cut(1), length) else { return };
         let (task, length) = (self.runner(), usize::from(length));
         let ends = [(0, length), (0, 0), (length - 1, 1), (length - 1, 2), (length, 0), (length, 1), (0, length + 1)];
         for _ in 0..2 {
@@ -233,7 +255,7 @@ impl Draft {
     pub fn edge_call(&mut self) {
         let task = self.random.pick(&[0, 0, 0, 1, 15, 16, 255]);
         let kind = self.random.pick(&[Kind::Local, Kind::Global, Kind::Pinned]);
-        let extension = self.random.pick(&[0, 30, 31, 255]);
+        let extension = self.edge_extension();
         let length = self.random.pick(&EDGE_LENGTHS);
         let newest = self.ledger.figures().given;
         let strange = self.strange_handle();
@@ -313,7 +335,8 @@ impl Draft {
     /// An extension is none of a pinned object, whatever its length is.
     pub fn make_pinned_too_long(&mut self) {
         let (task, length) = (self.runner(), self.length());
-        let extension = self.random.pick(&[1, 2, 30, 31, 255]);
+        let longest = self.longest();
+        let extension = self.random.pick(&[1, 2, longest.max(1), longest + 1, 255]);
         self.call(&Call::Make { task, kind: Kind::Pinned, extension, length });
     }
 
@@ -339,7 +362,8 @@ impl Draft {
     /// A running task would pin one object or several by a refresh, such as stand and others.
     pub fn refresh_pinning(&mut self, count: usize) {
         let (task, kind) = (self.runner(), Kind::Pinned);
-        let extension = self.random.pick(&[0, 0, 1, 30, 31]);
+        let longest = self.longest();
+        let extension = self.random.pick(&[0, 0, 1, longest, longest + 1]);
         let (handle, standing) = (self.handle(), self.standing_handles(count));
         let any: Vec<_> = (0..count).map(|_| self.handle()).collect();
         self.call(&Call::Refresh { task, kind, extension, handle });
@@ -401,7 +425,7 @@ impl Draft {
 
     /// How many expirations more there is room for.
     pub fn room(&self) -> usize {
-        MOST_EXPIRATIONS - usize::from(self.ledger.figures().expirations)
+        self.limits().expirations - usize::from(self.ledger.figures().expirations)
     }
 
     /// A running task reads one of these objects, or asks what remains to it.
@@ -458,18 +482,31 @@ impl Draft {
 
     /// Kind and extension: pinned now and then, with no extension as a rule.
     fn lasting(&mut self) -> (Kind, u8) {
+        let longest = self.longest();
         match self.random.below(12) {
-            0 => (Kind::Pinned, self.random.pick(&[0, 0, 0, 0, 1, 30, 31, 255])),
+            0 => (Kind::Pinned, self.random.pick(&[0, 0, 0, 0, 1, longest, longest + 1, 255])),
             _ => (self.kind(), self.extension()),
         }
     }
 
     fn extension(&mut self) -> u8 {
+        let short = self.cut(3);
         match self.random.below(12) {
-            0 => self.random.pick(&[0, 30, 31, 255]),
-            1..=5 => self.random.below(31) as u8,
-            _ => self.random.below(4) as u8,
+            0 => self.edge_extension(),
+            1..=5 => self.up_to(self.longest()),
+            _ => self.up_to(short),
         }
+    }
+
+    /// At the ends of the range, or past it.
+    fn edge_extension(&mut self) -> u8 {
+        let longest = self.longest();
+        self.random.pick(&[0, longest, longest + 1, 255])
+    }
+
+    /// Any extension up to this one.
+    pub fn up_to(&mut self, extension: u8) -> u8 {
+        self.random.below(usize::from(extension) + 1) as u8
     }
 
     fn length(&mut self) -> u16 {

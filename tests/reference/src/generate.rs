@@ -1,11 +1,14 @@
-//! Scripts from seeds: what their phases are about and how they end. No line changes a byte from outside, so that none of
-//! them meets 23: for that there is `outside`.
+//! Scripts from seeds, for pools of any figures: what their phases are about and how they end. No line changes a byte
+//! from outside, so that none of them meets 23: for that there is `outside`.
 
 use crate::call::Call;
 use crate::draft::Draft;
-use crate::limits::{Store, LARGEST_BATCH, LONGEST, LONGEST_EXTENSION, MOST_EXPIRATIONS, TASKS};
+use crate::limits::{Limits, Store, LARGEST_BATCH, LONGEST, TASKS};
 use crate::random::Random;
 use crate::script::LIMIT;
+
+/// An extension that is cut to the largest of any pool.
+const LARGEST: u8 = u8::MAX;
 
 /// What a phase of a script is about.
 #[derive(Clone, Copy, Debug, PartialEq, Eq)]
@@ -14,11 +17,11 @@ pub enum Profile {
     Everyday,
     /// Sixteen tasks that come, go, block and tick.
     Crowd,
-    /// Small objects up to all 64 blocks.
+    /// Small objects up to all blocks.
     SmallFlood,
-    /// Large objects up to all 32 blocks.
+    /// Large objects up to all blocks.
     LargeFlood,
-    /// Expirations up to all 256.
+    /// Expirations up to the last.
     ExpirationFlood,
     /// Objects read on every tick up to their end and past it.
     Lapse,
@@ -28,7 +31,7 @@ pub enum Profile {
     Reading,
     /// Expirations of several tasks on one object, and how long it stands for each of them.
     Remaining,
-    /// Objects refreshed together: of all sizes, with some that do not stand, and up to all 256 expirations.
+    /// Objects refreshed together: of all sizes, with some that do not stand, and up to the last expiration.
     Batch,
     /// Setters of global expirations that wait through advances, leave, and are followed by others of their number.
     Waiting,
@@ -60,20 +63,57 @@ pub const PROFILES: [Profile; 15] = [
     Profile::Noise,
 ];
 
-/// The script of a seed. One in three keeps all use in time and in bounds; one in four keeps to one
-/// profile.
+/// The script of a seed, for a pool of the scope paper's figures.
 pub fn script(seed: u64) -> Vec<u8> {
+    sized_script(Limits::STANDARD, seed)
+}
+
+/// The same of one profile or of all.
+pub fn script_of(only: Option<Profile>, seed: u64, size: usize) -> Vec<u8> {
+    sized_script_of(Limits::STANDARD, only, seed, size)
+}
+
+/// The script of a seed, for a pool of these figures. One in three keeps all use in time and in bounds; one in four
+/// keeps to one profile.
+pub fn sized_script(limits: Limits, seed: u64) -> Vec<u8> {
     let mut random = Random::new(seed);
     let size = size(&mut random);
     let in_time = random.one_in(3);
     let profile = random.pick(&PROFILES);
     let only = if random.one_in(4) { Some(profile) } else { None };
-    whole(Draft::new(random, in_time), size, only)
+    whole(Draft::new(random, limits, in_time), size, only)
 }
 
 /// A script of about this size that keeps to one profile, or has phases of all.
-pub fn script_of(only: Option<Profile>, seed: u64, size: usize) -> Vec<u8> {
-    whole(Draft::new(Random::new(seed), false), size, only)
+pub fn sized_script_of(limits: Limits, only: Option<Profile>, seed: u64, size: usize) -> Vec<u8> {
+    whole(Draft::new(Random::new(seed), limits, false), size, only)
+}
+
+/// The figures of a seed: of every sixteenth the smallest, of the next one the scope paper's, of the others any that a
+/// site may choose, small ones often.
+pub fn limits(seed: u64) -> Limits {
+    let (least, most) = (Limits::SMALLEST, Limits::STANDARD);
+    let mut random = Random::new(seed);
+    match seed % 16 {
+        0 => least,
+        1 => most,
+        _ => Limits {
+            small_blocks: figure(&mut random, least.small_blocks, most.small_blocks),
+            large_blocks: figure(&mut random, least.large_blocks, most.large_blocks),
+            expirations: figure(&mut random, least.expirations, most.expirations),
+            extension: figure(&mut random, least.extension, most.extension),
+        },
+    }
+}
+
+/// One from the least to the most: at an end, near the least, or any.
+fn figure(random: &mut Random, least: usize, most: usize) -> usize {
+    match random.below(8) {
+        0 => least,
+        1 => most,
+        2..=4 => least + random.below(8),
+        _ => least + random.below(most - least + 1),
+    }
 }
 
 /// From nothing up to the limit, on it, and now and then beyond it.
@@ -170,12 +210,13 @@ fn crowd_round(draft: &mut Draft) {
 /// Fills one store, tries both stores at the brim, lets some objects go and makes some again.
 fn flood(draft: &mut Draft, store: Store) {
     draft.gather(1);
-    for _ in 0..store.blocks() {
-        let extension = 10 + draft.random.below(21) as u8;
+    let long = draft.longest() / 3;
+    for _ in 0..draft.limits().blocks(store) {
+        let extension = long + draft.up_to(draft.longest() - long);
         draft.make_in(store, extension);
     }
     for store in [store, Store::Small, Store::Large] {
-        draft.make_in(store, 5);
+        draft.make_in(store, draft.cut(5));
     }
     draft.call(&Call::Report);
     for _ in 0..draft.random.below(20) {
@@ -184,7 +225,7 @@ fn flood(draft: &mut Draft, store: Store) {
         draft.any_use();
     }
     for _ in 0..4 {
-        draft.make_in(store, LONGEST_EXTENSION);
+        draft.make_in(store, draft.longest());
     }
 }
 
@@ -192,10 +233,10 @@ fn flood(draft: &mut Draft, store: Store) {
 fn expiration_flood(draft: &mut Draft) {
     draft.gather(2);
     for _ in 0..1 + draft.random.below(6) {
-        draft.make_in(Store::Small, LONGEST_EXTENSION);
+        draft.make_in(Store::Small, draft.longest());
     }
-    for _ in 0..MOST_EXPIRATIONS {
-        let extension = draft.random.below(31) as u8;
+    for _ in 0..draft.limits().expirations {
+        let extension = draft.up_to(draft.longest());
         draft.refresh_standing(extension);
     }
     draft.refresh_standing(0);
@@ -204,7 +245,7 @@ fn expiration_flood(draft: &mut Draft) {
     for _ in 0..1 + draft.random.below(4) {
         draft.round();
         draft.refresh_standing(0);
-        draft.refresh_standing(LONGEST_EXTENSION);
+        draft.refresh_standing(draft.longest());
     }
     draft.round();
     batch_at_the_brim(draft);
@@ -212,8 +253,9 @@ fn expiration_flood(draft: &mut Draft) {
 
 fn lapse(draft: &mut Draft) {
     draft.gather(1);
-    let any = draft.random.below(31) as u8;
-    let extension = draft.random.pick(&[0, 0, 1, 2, 29, LONGEST_EXTENSION, any]);
+    let longest = draft.longest();
+    let any = draft.up_to(longest);
+    let extension = draft.cut_one(&[0, 0, 1, 2, longest.saturating_sub(1), LARGEST, any]);
     let Some(handle) = draft.make_in(Store::Small, extension) else { return draft.round() };
     for _ in 0..extension + 3 {
         draft.round();
@@ -235,7 +277,7 @@ fn reuse(draft: &mut Draft) {
     draft.round();
     draft.round();
     for _ in 0..4 {
-        if let Some(handle) = draft.make_in(store, 1) {
+        if let Some(handle) = draft.make_in(store, draft.cut(1)) {
             draft.read_now(handle);
         }
     }
@@ -243,7 +285,7 @@ fn reuse(draft: &mut Draft) {
 
 fn reading(draft: &mut Draft) {
     draft.gather(1);
-    let Some(handle) = draft.make_now(LONGEST_EXTENSION, LONGEST) else { return draft.round() };
+    let Some(handle) = draft.make_now(draft.longest(), LONGEST) else { return draft.round() };
     draft.write_whole(handle);
     for _ in 0..200 {
         draft.read_now(handle);
@@ -254,10 +296,10 @@ fn reading(draft: &mut Draft) {
 fn remaining(draft: &mut Draft) {
     let tasks = 1 + draft.random.below(4);
     draft.gather(tasks);
-    let longest = draft.random.pick(&[2, 5, LONGEST_EXTENSION]);
+    let longest = draft.cut_one(&[2, 5, LARGEST]);
     let Some(handle) = draft.make_in(Store::Small, longest) else { return draft.round() };
     for _ in 0..draft.random.below(12) {
-        let below = draft.random.below(usize::from(longest)) as u8;
+        let below = draft.up_to(longest.saturating_sub(1));
         let extension = draft.random.pick(&[below, longest]);
         draft.refresh_by(tasks, extension, handle);
     }
@@ -275,7 +317,7 @@ fn remaining(draft: &mut Draft) {
 fn batch(draft: &mut Draft) {
     let tasks = 1 + draft.random.below(3);
     draft.gather(tasks);
-    let extension = draft.random.pick(&[0, 1, 4, LONGEST_EXTENSION]);
+    let extension = draft.cut_one(&[0, 1, 4, LARGEST]);
     let size = draft.random.pick(&[1, 2, 7, LARGEST_BATCH - 1, LARGEST_BATCH]);
     let scan = draft.scan(size, extension);
     for _ in 0..1 + draft.random.below(3) {
@@ -300,15 +342,16 @@ fn batch_of_no_form(draft: &mut Draft) {
     for _ in 0..5 {
         let far = 200 + draft.random.below(600);
         let count = draft.random.pick(&[0, 9, LARGEST_BATCH + 1, 66, far]);
-        let extension = draft.random.pick(&[LONGEST_EXTENSION, LONGEST_EXTENSION + 1]);
+        let longest = draft.longest();
+        let extension = draft.random.pick(&[longest, longest + 1]);
         draft.batch_mixed(count, extension);
     }
 }
 
 /// Up to the last expiration that there is room for, and past it.
 fn batch_to_the_brim(draft: &mut Draft) {
-    for _ in 0..MOST_EXPIRATIONS / LARGEST_BATCH {
-        draft.batch_standing(LARGEST_BATCH, LONGEST_EXTENSION);
+    for _ in 0..draft.limits().expirations.div_ceil(LARGEST_BATCH) {
+        draft.batch_standing(LARGEST_BATCH, draft.longest());
     }
     batch_at_the_brim(draft);
 }
@@ -330,7 +373,7 @@ fn batch_at_the_brim(draft: &mut Draft) {
 fn waiting(draft: &mut Draft) {
     let tasks = 2 + draft.random.below(3);
     draft.gather(tasks);
-    let extension = draft.random.pick(&[0, 0, 0, 1, 1, 3, LONGEST_EXTENSION]);
+    let extension = draft.cut_one(&[0, 0, 0, 1, 1, 3, LARGEST]);
     let objects: Vec<_> = (0..tasks as u8).filter_map(|task| draft.make_global(task, extension)).collect();
     objects.iter().for_each(|&handle| draft.refresh_by(tasks, extension, handle));
     let rounds = usize::from(extension) + 2;
@@ -386,7 +429,7 @@ fn pinned(draft: &mut Draft) {
     if draft.random.one_in(3) {
         return pin_to_the_brim(draft);
     }
-    let extension = draft.random.pick(&[0, 1, 4]);
+    let extension = draft.cut_one(&[0, 1, 4]);
     let stores: Vec<_> = (0..2 + draft.random.below(5)).map(|_| any_store(draft)).collect();
     let objects: Vec<_> = stores.into_iter().filter_map(|store| draft.make_pinned(store)).collect();
     let others = draft.scan(2, extension);
@@ -440,7 +483,8 @@ fn outlive(draft: &mut Draft, tasks: usize, objects: &[u32]) {
     if draft.random.one_in(2) {
         draft.gather(tasks);
     }
-    let rounds = draft.random.pick(&[1, 3, 6, usize::from(LONGEST_EXTENSION) + 6]);
+    let longest = draft.longest();
+    let rounds = draft.random.pick(&[1, 3, 6, longest + 6]);
     for _ in 0..rounds {
         draft.round();
         if draft.random.one_in(2) {
@@ -453,7 +497,7 @@ fn outlive(draft: &mut Draft, tasks: usize, objects: &[u32]) {
 /// Pins all blocks of a store, tries more, has some go, and sets expirations up to the last and past it.
 fn pin_to_the_brim(draft: &mut Draft) {
     let store = any_store(draft);
-    for _ in 0..=store.blocks() {
+    for _ in 0..=draft.limits().blocks(store) {
         draft.make_pinned(store);
     }
     for _ in 0..2 {
@@ -471,7 +515,7 @@ fn pin_to_the_brim(draft: &mut Draft) {
         draft.refresh_standing(0);
     }
     draft.release_all();
-    for _ in 0..LONGEST_EXTENSION + 1 {
+    for _ in 0..draft.longest() + 1 {
         draft.round();
     }
 }

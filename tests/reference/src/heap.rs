@@ -7,13 +7,14 @@ use crate::block::Block;
 use crate::call::{Accepted, Answer, Call, Handles, Kind, Model, Refusal};
 use crate::expiration::{remaining, Expiration};
 use crate::ledger::{Ledger, Standing};
-use crate::limits::{check_batch, check_extension, check_refreshing, Store, MOST_EXPIRATIONS};
+use crate::limits::{check_batch, check_refreshing, Limits, Store};
 use crate::outside::{Change, Exposed};
 use crate::tasks::Tasks;
 
 /// Objects for ever, and no refusal 9, 10 or 12 (H3, H5). `blocks[h - 1]` is the block of handle h.
 #[derive(Clone, Debug)]
 pub struct Heap {
+    limits: Limits,
     tasks: Tasks,
     blocks: Vec<Block>,
     /// The handles whose pinned expiration is left.
@@ -21,8 +22,9 @@ pub struct Heap {
 }
 
 impl Model for Heap {
-    fn fresh() -> Heap {
-        Heap { tasks: Tasks::default(), blocks: Vec::new(), pinned: BTreeSet::new() }
+    fn sized(limits: Limits) -> Result<Heap, Refusal> {
+        limits.check()?;
+        Ok(Heap { limits, tasks: Tasks::default(), blocks: Vec::new(), pinned: BTreeSet::new() })
     }
 
     fn join(&mut self, task: u8) -> Answer<'static> {
@@ -47,7 +49,7 @@ impl Model for Heap {
 
     fn make(&mut self, task: u8, kind: Kind, extension: u8, length: u16) -> Answer<'static> {
         self.tasks.check_running(task)?;
-        check_extension(kind, extension)?;
+        self.limits.check_extension(kind, extension)?;
         let store = Store::holding(length)?;
         if self.blocks.len() == u32::MAX as usize {
             return Err(Refusal::AllHandlesGiven);
@@ -63,7 +65,7 @@ impl Model for Heap {
     fn refresh(&mut self, task: u8, kind: Kind, extension: u8, handle: u32) -> Answer<'static> {
         self.tasks.check_running(task)?;
         check_refreshing(kind)?;
-        check_extension(kind, extension)?;
+        self.limits.check_extension(kind, extension)?;
         self.check_given(handle)?;
         Ok(Accepted::Done)
     }
@@ -96,7 +98,7 @@ impl Model for Heap {
         self.tasks.check_running(task)?;
         check_batch(handles.count())?;
         check_refreshing(kind)?;
-        check_extension(kind, extension)?;
+        self.limits.check_extension(kind, extension)?;
         for handle in handles.iter() {
             self.check_given(handle)?;
         }
@@ -115,6 +117,11 @@ impl Model for Heap {
 }
 
 impl Heap {
+    /// Of these it is bounded by the largest extension alone.
+    pub fn limits(&self) -> Limits {
+        self.limits
+    }
+
     /// Refusal 11, else the place of the object's block.
     fn check_given(&self, handle: u32) -> Result<usize, Refusal> {
         let handle = handle as usize;
@@ -134,9 +141,10 @@ impl Exposed for Heap {
     }
 }
 
-/// The expiration book: the objects that have an expiration.
-#[derive(Clone, Debug, Default)]
+/// The expiration book: the objects that have an expiration, and the pool's figures.
+#[derive(Clone, Debug)]
 struct Book {
+    limits: Limits,
     objects: BTreeMap<u32, Entry>,
 }
 
@@ -147,9 +155,13 @@ struct Entry {
 }
 
 impl Book {
+    fn of(limits: Limits) -> Book {
+        Book { limits, objects: BTreeMap::new() }
+    }
+
     /// H9 to H13, H23: whether a call that the heap does not refuse, or refuses with 13 or 22, is a use out of time
     /// or bounds. Asked before the book follows the call. Order 2: all objects of a batch stand, and there is room
-    /// for an expiration on each.
+    /// for an expiration on each. Order 12: room and blocks go by the pool's figures.
     fn is_out(&self, call: &Call) -> bool {
         match *call {
             Call::Make { length, .. } => self.is_store_full(length) || !self.has_room(1),
@@ -225,13 +237,13 @@ impl Book {
     /// Room for so many expirations more.
     fn has_room(&self, more: usize) -> bool {
         let expirations: usize = self.objects.values().map(|entry| entry.expirations.len()).sum();
-        expirations + more <= MOST_EXPIRATIONS
+        expirations + more <= self.limits.expirations
     }
 
     fn is_store_full(&self, length: u16) -> bool {
         let store = Store::holding(length);
         let standing = self.objects.values().filter(|entry| Store::holding(entry.length) == store);
-        store.is_ok_and(|store| standing.count() >= store.blocks())
+        store.is_ok_and(|store| standing.count() >= self.limits.blocks(store))
     }
 }
 
@@ -260,8 +272,9 @@ pub struct Judge {
 }
 
 impl Judge {
-    pub fn fresh() -> Judge {
-        Judge { heap: Heap::fresh(), book: Book::default() }
+    /// With figures that are allowed.
+    pub fn of(limits: Limits) -> Judge {
+        Judge { heap: Heap::of(limits), book: Book::of(limits) }
     }
 
     /// Feeds one call; false if it is a use out of time or bounds, after which nothing more is to be told.
@@ -292,13 +305,13 @@ impl Judge {
 }
 
 /// The index of the first use in the list that is out of time or bounds; none if all use is in.
-pub fn first_use_out(calls: &[Call]) -> Option<usize> {
-    let mut judge = Judge::fresh();
+pub fn first_use_out(limits: Limits, calls: &[Call]) -> Option<usize> {
+    let mut judge = Judge::of(limits);
     calls.iter().position(|call| !judge.is_in_time(call))
 }
 
 /// The index of the first call that is compared and that the ledger and the heap answer differently.
-pub fn first_difference(calls: &[Call]) -> Option<usize> {
-    let (mut ledger, mut heap) = (Ledger::fresh(), Heap::fresh());
+pub fn first_difference(limits: Limits, calls: &[Call]) -> Option<usize> {
+    let (mut ledger, mut heap) = (Ledger::of(limits), Heap::of(limits));
     calls.iter().position(|call| call.is_compared() && ledger.call(call) != heap.call(call))
 }

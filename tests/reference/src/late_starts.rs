@@ -1,7 +1,8 @@
-//! Tests of both ledgers at clocks and counts that no script lives to see.
+//! Tests of both ledgers at clocks and counts that no script lives to see, with the scope paper's figures and
+//! with small ones.
 
 use crate::call::{packed, Accepted, Call, Handles, Kind, Lifetime, Model, Refusal};
-use crate::limits::Store;
+use crate::limits::{Limits, Store};
 use crate::{indexed, ledger};
 
 const MAKE: Call = Call::Make { task: 0, kind: Kind::Local, extension: 0, length: 4 };
@@ -14,8 +15,8 @@ pub trait LateStart: Model {
     fn global_mut(&mut self) -> &mut u64;
 }
 
-fn started<L: LateStart>(clock: u64, given: u32) -> L {
-    let mut ledger = L::fresh();
+fn started<L: LateStart>(limits: Limits, clock: u64, given: u32) -> L {
+    let mut ledger = L::of(limits);
     ledger.join(0).unwrap();
     let parts = ledger.clock_and_given();
     (*parts.0, *parts.1) = (clock, given);
@@ -23,8 +24,8 @@ fn started<L: LateStart>(clock: u64, given: u32) -> L {
 }
 
 /// Edge 13: the ledger's clock goes on where a 32-bit one would read 0.
-fn local_expiration_set_at_the_highest_32_bit_clock<L: LateStart>() {
-    let mut ledger: L = started(u64::from(u32::MAX), 0);
+fn local_expiration_set_at_the_highest_32_bit_clock<L: LateStart>(limits: Limits) {
+    let mut ledger: L = started(limits, u64::from(u32::MAX), 0);
     assert_eq!(ledger.call(&MAKE), Ok(Accepted::Handle(1)));
     assert_eq!(ledger.call(&READ), Ok(Accepted::Bytes(&[0; 4])));
     assert_eq!(ledger.remaining(0, 1), Ok(Accepted::Remaining(Lifetime { local: 1, global: 0 })));
@@ -34,8 +35,8 @@ fn local_expiration_set_at_the_highest_32_bit_clock<L: LateStart>() {
 }
 
 /// Order 4: what waits is put off beyond a global time of 32 bits, and what counts goes there.
-fn a_setter_waits_across_the_highest_32_bit_global_time<L: LateStart>() {
-    let mut ledger: L = started(0, 0);
+fn a_setter_waits_across_the_highest_32_bit_global_time<L: LateStart>(limits: Limits) {
+    let mut ledger: L = started(limits, 0, 0);
     ledger.join(1).unwrap();
     *ledger.global_mut() = u64::from(u32::MAX) - 1;
     for task in [0, 1] {
@@ -51,8 +52,8 @@ fn a_setter_waits_across_the_highest_32_bit_global_time<L: LateStart>() {
 }
 
 /// Order 5: whatever the clocks read, what is pinned stands.
-fn a_pinned_object_stands_across_the_highest_32_bit_clocks<L: LateStart>() {
-    let mut ledger: L = started(u64::from(u32::MAX), 0);
+fn a_pinned_object_stands_across_the_highest_32_bit_clocks<L: LateStart>(limits: Limits) {
+    let mut ledger: L = started(limits, u64::from(u32::MAX), 0);
     *ledger.global_mut() = u64::from(u32::MAX) - 1;
     ledger.make(0, Kind::Pinned, 0, 4).unwrap();
     for _ in 0..40 {
@@ -63,8 +64,8 @@ fn a_pinned_object_stands_across_the_highest_32_bit_clocks<L: LateStart>() {
     assert_eq!(ledger.call(&READ), Err(Refusal::ObjectGone));
 }
 
-fn after_the_highest_handle_all_are_given<L: LateStart>() {
-    let mut ledger: L = started(0, u32::MAX - 1);
+fn after_the_highest_handle_all_are_given<L: LateStart>(limits: Limits) {
+    let mut ledger: L = started(limits, 0, u32::MAX - 1);
     assert_eq!(ledger.call(&MAKE), Ok(Accepted::Handle(u32::MAX)));
     assert_eq!(ledger.call(&MAKE), Err(Refusal::AllHandlesGiven));
     assert_eq!(ledger.read(0, u32::MAX), Ok(Accepted::Bytes(&[0; 4])));
@@ -74,9 +75,9 @@ fn after_the_highest_handle_all_are_given<L: LateStart>() {
     assert_eq!(ledger.remaining(0, u32::MAX), Ok(Accepted::Remaining(Lifetime { local: 2, global: 0 })));
 }
 
-fn all_handles_given_is_told_after_a_bad_length_and_before_a_full_store<L: LateStart>() {
-    let mut ledger: L = started(0, 0);
-    for _ in 0..Store::Small.blocks() {
+fn all_handles_given_is_told_after_a_bad_length_and_before_a_full_store<L: LateStart>(limits: Limits) {
+    let mut ledger: L = started(limits, 0, 0);
+    for _ in 0..limits.blocks(Store::Small) {
         ledger.call(&MAKE).unwrap();
     }
     *ledger.clock_and_given().1 = u32::MAX;
@@ -84,20 +85,25 @@ fn all_handles_given_is_told_after_a_bad_length_and_before_a_full_store<L: LateS
     assert_eq!(ledger.make(0, Kind::Local, 0, 257), Err(Refusal::LengthOutOfRange));
 }
 
-fn all<L: LateStart>() {
-    local_expiration_set_at_the_highest_32_bit_clock::<L>();
-    a_setter_waits_across_the_highest_32_bit_global_time::<L>();
-    a_pinned_object_stands_across_the_highest_32_bit_clocks::<L>();
-    after_the_highest_handle_all_are_given::<L>();
-    all_handles_given_is_told_after_a_bad_length_and_before_a_full_store::<L>();
+fn all<L: LateStart>(limits: Limits) {
+    local_expiration_set_at_the_highest_32_bit_clock::<L>(limits);
+    a_setter_waits_across_the_highest_32_bit_global_time::<L>(limits);
+    a_pinned_object_stands_across_the_highest_32_bit_clocks::<L>(limits);
+    after_the_highest_handle_all_are_given::<L>(limits);
+    all_handles_given_is_told_after_a_bad_length_and_before_a_full_store::<L>(limits);
 }
+
+/// As few as these tests need.
+const FEW: Limits = Limits { small_blocks: 2, large_blocks: 1, expirations: 3, extension: 1 };
 
 #[test]
 fn of_the_ledger() {
-    all::<ledger::Ledger>();
+    all::<ledger::Ledger>(Limits::STANDARD);
+    all::<ledger::Ledger>(FEW);
 }
 
 #[test]
 fn of_the_indexed_ledger() {
-    all::<indexed::Ledger>();
+    all::<indexed::Ledger>(Limits::STANDARD);
+    all::<indexed::Ledger>(FEW);
 }

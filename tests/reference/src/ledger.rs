@@ -4,12 +4,13 @@
 use crate::block::Block;
 use crate::call::{Accepted, Answer, Figures, Handles, Kind, Lifetime, Model, Refusal};
 use crate::expiration::{remaining, Expiration, Remaining};
-use crate::limits::{check_batch, check_extension, check_refreshing, Store, MOST_EXPIRATIONS};
+use crate::limits::{check_batch, check_refreshing, Limits, Store};
 use crate::outside::{Change, Exposed};
 use crate::tasks::Tasks;
 
 #[derive(Clone, Debug)]
 pub struct Ledger {
+    limits: Limits,
     /// The sixteen tasks, and global time.
     tasks: Tasks,
     given: u32,
@@ -35,9 +36,10 @@ pub struct Standing {
 
 /// Each call makes its tests in the paper's order and changes nothing before the last of them.
 impl Model for Ledger {
-    /// T5, O9: nothing is there yet.
-    fn fresh() -> Ledger {
-        Ledger { tasks: Tasks::default(), given: 0, objects: Vec::new() }
+    /// 29, else T5 and O9: nothing is there yet.
+    fn sized(limits: Limits) -> Result<Ledger, Refusal> {
+        limits.check()?;
+        Ok(Ledger { limits, tasks: Tasks::default(), given: 0, objects: Vec::new() })
     }
 
     fn join(&mut self, task: u8) -> Answer<'static> {
@@ -74,7 +76,7 @@ impl Model for Ledger {
     /// R40, then O12 to O14: a new object, all zeros, with one expiration.
     fn make(&mut self, task: u8, kind: Kind, extension: u8, length: u16) -> Answer<'static> {
         self.tasks.check_running(task)?;
-        check_extension(kind, extension)?;
+        self.limits.check_extension(kind, extension)?;
         let store = Store::holding(length)?;
         self.check_handles()?;
         self.check_blocks(store)?;
@@ -93,7 +95,7 @@ impl Model for Ledger {
     fn refresh(&mut self, task: u8, kind: Kind, extension: u8, handle: u32) -> Answer<'static> {
         self.tasks.check_running(task)?;
         check_refreshing(kind)?;
-        check_extension(kind, extension)?;
+        self.limits.check_extension(kind, extension)?;
         let place = self.check_standing(handle)?;
         self.check_expirations(1)?;
         let expiration = Expiration::set(&self.tasks, task, kind, extension);
@@ -141,7 +143,7 @@ impl Model for Ledger {
         self.tasks.check_running(task)?;
         check_batch(handles.count())?;
         check_refreshing(kind)?;
-        check_extension(kind, extension)?;
+        self.limits.check_extension(kind, extension)?;
         handles.iter().try_for_each(|handle| self.check_given(handle))?;
         let places = handles.iter().map(|handle| self.check_standing(handle)).collect::<Result<Vec<_>, _>>()?;
         self.check_expirations(handles.count())?;
@@ -168,6 +170,11 @@ impl Model for Ledger {
 
 impl Ledger {
     // What it holds.
+
+    /// Order 12: they stay as they are chosen.
+    pub fn limits(&self) -> Limits {
+        self.limits
+    }
 
     pub fn tasks(&self) -> &Tasks {
         &self.tasks
@@ -255,7 +262,7 @@ impl Ledger {
 
     /// 9: every block of the store belongs to a standing object.
     fn check_blocks(&self, store: Store) -> Result<(), Refusal> {
-        if self.standing_in(store) == store.blocks() {
+        if self.standing_in(store) == self.limits.blocks(store) {
             return Err(Refusal::NoFreeBlock);
         }
         Ok(())
@@ -263,7 +270,7 @@ impl Ledger {
 
     /// 10, by E14: no room for so many more.
     fn check_expirations(&self, more: usize) -> Result<(), Refusal> {
-        if self.expirations() + more > MOST_EXPIRATIONS {
+        if self.expirations() + more > self.limits.expirations {
             return Err(Refusal::ExpirationsFull);
         }
         Ok(())

@@ -1,10 +1,11 @@
-//! The fixed limits of the pool, and the refusals that need nothing else: 6, 7, 20 and 21.
+//! The limits of a pool, those that are fixed and the four figures that a site chooses, and the refusals that need
+//! nothing else: 6, 7, 20, 21 and 29.
+
+use std::str::FromStr;
 
 use crate::call::{Kind, Refusal};
 
 pub const TASKS: usize = 16;
-pub const LONGEST_EXTENSION: u8 = 30;
-pub const MOST_EXPIRATIONS: usize = 256;
 pub const LONGEST_SMALL: u16 = 32;
 const SHORTEST_LARGE: u16 = LONGEST_SMALL + 1;
 pub const LONGEST: u16 = 256;
@@ -26,13 +27,6 @@ impl Store {
         }
     }
 
-    pub const fn blocks(self) -> usize {
-        match self {
-            Store::Small => 64,
-            Store::Large => 32,
-        }
-    }
-
     pub const fn block_size(self) -> usize {
         match self {
             Store::Small => LONGEST_SMALL as usize,
@@ -41,19 +35,82 @@ impl Store {
     }
 }
 
-/// The most for an expiration of this kind: a pinned one has none.
-pub fn longest_extension(kind: Kind) -> u8 {
-    match kind {
-        Kind::Local | Kind::Global => LONGEST_EXTENSION,
-        Kind::Pinned => 0,
+/// Order 12: the figures of a pool, which no call changes.
+#[derive(Clone, Copy, Debug, PartialEq, Eq)]
+pub struct Limits {
+    pub small_blocks: usize,
+    pub large_blocks: usize,
+    pub expirations: usize,
+    /// The largest one.
+    pub extension: usize,
+}
+
+impl Limits {
+    /// The scope paper's figures, and the most of each.
+    pub const STANDARD: Limits = Limits { small_blocks: 64, large_blocks: 32, expirations: 256, extension: 30 };
+
+    /// The least of each.
+    pub const SMALLEST: Limits = Limits { small_blocks: 1, large_blocks: 1, expirations: 1, extension: 0 };
+
+    pub fn is_allowed(self) -> bool {
+        let is_within =
+            |figure: fn(Limits) -> usize| (figure(Limits::SMALLEST)..=figure(Limits::STANDARD)).contains(&figure(self));
+        is_within(|limits| limits.small_blocks)
+            && is_within(|limits| limits.large_blocks)
+            && is_within(|limits| limits.expirations)
+            && is_within(|limits| limits.extension)
+    }
+
+    /// 29.
+    pub fn check(self) -> Result<(), Refusal> {
+        if !self.is_allowed() {
+            return Err(Refusal::LimitsOutOfRange);
+        }
+        Ok(())
+    }
+
+    pub const fn blocks(self, store: Store) -> usize {
+        match store {
+            Store::Small => self.small_blocks,
+            Store::Large => self.large_blocks,
+        }
+    }
+
+    /// The most for an expiration of this kind: a pinned one has none.
+    fn longest_extension(self, kind: Kind) -> usize {
+        match kind {
+            Kind::Local | Kind::Global => self.extension,
+            Kind::Pinned => 0,
+        }
+    }
+
+    /// 6.
+    pub fn check_extension(self, kind: Kind, extension: u8) -> Result<(), Refusal> {
+        if usize::from(extension) > self.longest_extension(kind) {
+            return Err(Refusal::ExtensionTooLong);
+        }
+        Ok(())
     }
 }
 
-pub fn check_extension(kind: Kind, extension: u8) -> Result<(), Refusal> {
-    if extension > longest_extension(kind) {
-        return Err(Refusal::ExtensionTooLong);
+/// The four in their order, in decimal and with commas between: `64,32,256,30`.
+impl FromStr for Limits {
+    type Err = Refusal;
+
+    fn from_str(words: &str) -> Result<Limits, Refusal> {
+        let figures: Option<Vec<_>> = words.split(',').map(figure).collect();
+        let Some(&[small_blocks, large_blocks, expirations, extension]) = figures.as_deref() else {
+            return Err(Refusal::LimitsOutOfRange);
+        };
+        let limits = Limits { small_blocks, large_blocks, expirations, extension };
+        limits.check().map(|()| limits)
     }
-    Ok(())
+}
+
+/// A decimal number without leading zeros.
+fn figure(word: &str) -> Option<usize> {
+    let figure: usize = word.parse().ok()?;
+    (figure.to_string() == word).then_some(figure)
 }
 
 /// A refresh and a batch pin nothing.

@@ -14,10 +14,14 @@ pub fn run(script: &[u8]) -> Vec<u8> {
 
 /// The same on a fresh model of this kind.
 pub fn run_on<M: Model>(script: &[u8]) -> Vec<u8> {
+    run_from(M::fresh(), script)
+}
+
+/// The same from this model on.
+pub fn run_from(mut model: impl Model, script: &[u8]) -> Vec<u8> {
     if script.len() > LIMIT {
         return b"script too long\n".to_vec();
     }
-    let mut model = M::fresh();
     let mut room = vec![0; script.len() / 2];
     let mut output = Vec::with_capacity(script.len());
     for line in lines(script) {

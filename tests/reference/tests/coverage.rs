@@ -2,8 +2,9 @@
 
 mod census;
 
-use census::{batch, pinned, remaining, waiting, Census, OPERATIONS};
-use reference::generate::{script, script_of, Profile, PROFILES};
+use census::{batch, pinned, remaining, sized, waiting, Census, OPERATIONS};
+use reference::generate::{limits, script, script_of, sized_script, Profile, PROFILES};
+use reference::limits::Limits;
 use reference::script::LIMIT;
 
 /// No script lives to see it.
@@ -40,6 +41,43 @@ fn all_is_met() {
     assert_eq!(census.most_running, 16);
     assert!(census.longest_output > 500_000);
     assert!(census.advances >= 1_000 && census.empty_writes >= 100 && census.whole_writes >= 100);
+}
+
+/// With figures that sites choose: what these decide, and every answer of every call.
+#[test]
+fn all_is_met_with_chosen_figures() {
+    let scripts = (0..600).map(|seed| (limits(seed), sized_script(limits(seed), seed)));
+    let census = Census::sized(scripts.filter(|(_, script)| script.len() <= LIMIT));
+    census.print();
+    for ((name, _), count) in sized::SITUATIONS.iter().zip(census.sized) {
+        assert!(count >= 50, "sized, {name}");
+    }
+    for (place, (name, tests)) in OPERATIONS.iter().enumerate() {
+        assert!(census.accepted[place] >= 100, "{name}");
+        for &number in tests.iter().filter(|number| ![HANDLES_SPENT, SUM_DIFFERS].contains(number)) {
+            assert!(census.refused_by[place][number] >= 50, "{name}, {number}");
+        }
+    }
+}
+
+/// The figures of the seeds: all allowed, both ends of each, and many small ones.
+#[test]
+fn figures_of_seeds() {
+    let all: Vec<_> = (0..200).map(limits).collect();
+    let (least, most) = (Limits::SMALLEST, Limits::STANDARD);
+    assert_eq!(all[..2], [least, most]);
+    assert!(all.iter().all(|limits| limits.is_allowed()));
+    let figures: [fn(&Limits) -> usize; 4] = [
+        |limits| limits.small_blocks,
+        |limits| limits.large_blocks,
+        |limits| limits.expirations,
+        |limits| limits.extension,
+    ];
+    for figure in figures {
+        let count = |holds: &dyn Fn(usize) -> bool| all.iter().filter(|limits| holds(figure(limits))).count();
+        assert!(count(&|one| one == figure(&least)) >= 10 && count(&|one| one == figure(&most)) >= 10);
+        assert!(count(&|one| one < 8) >= 60 && count(&|one| one < figure(&most)) >= 100);
+    }
 }
 
 #[test]

@@ -7,9 +7,10 @@ use marks::{Marks, SITUATIONS};
 use reference::block::Block;
 use reference::call::{Answer, Call, Model, Refusal};
 use reference::expiration::Remaining;
-use reference::generate::{script, script_of, Profile, PROFILES};
+use reference::generate::{limits, script_of, sized_script, Profile, PROFILES};
 use reference::indexed;
 use reference::ledger::{Ledger, Standing};
+use reference::limits::Limits;
 use reference::outside::{Change, Changes, Exposed};
 use reference::random::Random;
 use reference::script::calls;
@@ -23,11 +24,21 @@ fn with_objects() -> impl Iterator<Item = Profile> {
 
 #[test]
 fn both_ledgers_are_alike() {
+    check_alike(|_| Limits::STANDARD);
+}
+
+#[test]
+fn both_ledgers_are_alike_with_chosen_figures() {
+    check_alike(limits);
+}
+
+fn check_alike(limits: fn(u64) -> Limits) {
     let mut met = [0; SITUATIONS.len()];
     for seed in 0..300 {
-        let script = script(seed);
+        let script = sized_script(limits(seed), seed);
         let mut room = vec![0; script.len() / 2];
-        compare(&calls(&script[..script.len().min(20_000)], &mut room), seed, &mut met);
+        let calls = calls(&script[..script.len().min(20_000)], &mut room);
+        compare(limits(seed), &calls, seed, &mut met);
     }
     for ((name, _), count) in SITUATIONS.iter().zip(met) {
         println!("{name}: {count}");
@@ -38,8 +49,8 @@ fn both_ledgers_are_alike() {
 }
 
 /// Answers after each call, and all that is kept where bytes changed or a call was refused with 23, which changes nothing.
-fn compare(calls: &[Call], seed: u64, met: &mut [usize; SITUATIONS.len()]) {
-    let (mut literal, mut indexed) = (Ledger::fresh(), indexed::Ledger::fresh());
+fn compare(limits: Limits, calls: &[Call], seed: u64, met: &mut [usize; SITUATIONS.len()]) {
+    let (mut literal, mut indexed) = (Ledger::of(limits), indexed::Ledger::of(limits));
     let (mut changes, mut marks) = (Changes::new(seed), Marks::default());
     for call in calls {
         let changed = changes.before(call, &literal);

@@ -6,17 +6,28 @@ use std::fs;
 use std::path::{Path, PathBuf};
 use std::process::{Command, Output};
 
-use reference::call::Refusal;
-use reference::explain::{explain, in_words, picture};
-use reference::generate::script;
+use reference::call::{Model, Refusal};
+use reference::explain::{explain, in_words, picture, Line};
+use reference::generate::{limits, script, sized_script};
+use reference::ledger::Ledger;
+use reference::limits::Limits;
 use reference::program::run_program;
-use reference::script::{lines, run, LIMIT};
+use reference::script::{lines, run_from, LIMIT};
 
 const EXPLAIN: &str = env!("CARGO_BIN_EXE_explain");
 
+/// In a pool of the scope paper's figures.
+fn explained(script: &[u8]) -> Vec<Line> {
+    explain(Limits::STANDARD, script)
+}
+
+fn pictured(script: &[u8]) -> String {
+    picture(Limits::STANDARD, &explained(script))
+}
+
 /// A script without LFs, and the words of its last line.
 fn last_words(script: &str) -> String {
-    explain(&script_of(script)).pop().unwrap().words
+    explained(&script_of(script)).pop().unwrap().words
 }
 
 fn script_of(frames: &str) -> Vec<u8> {
@@ -265,18 +276,62 @@ fn words_of_each_refusal() {
             "task 1, release of object 1: it was released at line 4",
         ),
     ] {
-        let line = explain(&script_of(script)).pop().unwrap();
+        let line = explained(&script_of(script)).pop().unwrap();
         assert_eq!((line.words.as_str(), line.refusal.map(|refusal| refusal as u8)), (words, Some(number)), "{script}");
+    }
+}
+
+#[test]
+fn words_go_by_the_figures() {
+    for (figures, number, script, words) in [
+        ("1,2,4,5", 6, "0101 060100060004", "an extension is at most 5"),
+        ("1,1,1,0", 6, "0101 060101010004", "an extension is at most 0"),
+        ("1,1,1,0", 6, "0101 060102010004", "what is pinned has extension 0"),
+        (
+            "1,2,4,5",
+            9,
+            "0101 060101000004 060101000004",
+            "the small store is full with 1 object; global time is 0 from the start on and waits for task 1",
+        ),
+        (
+            "1,2,4,5",
+            9,
+            "0101 060102000100 060101000100 060101000100",
+            "the large store is full with 2 objects, 1 of them pinned; \
+             global time is 0 from the start on and waits for task 1",
+        ),
+        (
+            "1,1,1,0",
+            10,
+            "0101 060101000004 060101000100",
+            "1 expiration stands, and with 1 more they are above 1; \
+             global time is 0 from the start on and waits for task 1",
+        ),
+        (
+            "1,2,4,5",
+            10,
+            "0101 060101000004 060101000100 0C0101000000000100000001 0701010000000002",
+            "4 expirations stand, and with 1 more they are above 4; \
+             global time is 0 from the start on and waits for task 1",
+        ),
+        ("1,1,1,0", 0, "0101 060101000004 0A", "1 of 1 small object, 0 of 1 large, 1 of 1 expiration, 1 handle given"),
+        ("1,2,4,5", 0, "0101 060102000100 0A", "0 of 1 small object, 1 of 2 large, 1 of 4 expirations, 1 handle given"),
+    ] {
+        let line = explain(figures.parse().unwrap(), &script_of(script)).pop().unwrap();
+        let (refused, (_, told)) =
+            (line.refusal.map_or(0, |refusal| refusal as u8), line.words.split_once(": ").unwrap());
+        assert_eq!((told, refused), (words, number), "{figures}: {script}");
     }
 }
 
 /// Each line has the answer of the run, and what it says that stands is what the report tells.
 #[test]
 fn generated_scripts_are_explained_as_they_run() {
-    for seed in 0..40 {
-        let script = script(seed);
+    for seed in 0..80 {
+        let limits = if seed < 40 { Limits::STANDARD } else { limits(seed) };
+        let script = sized_script(limits, seed);
         let script = &script[..script.len().min(8_000)];
-        let (explained, answers) = (explain(script), run(script));
+        let (explained, answers) = (explain(limits, script), run_from(Ledger::of(limits), script));
         assert_eq!(explained.len(), lines(&answers).count());
         for (line, answer) in explained.iter().zip(lines(&answers)) {
             let number = line.refusal.map_or(0, |refusal| refusal as u8);
@@ -287,14 +342,14 @@ fn generated_scripts_are_explained_as_they_run() {
 
 #[test]
 fn every_line_has_its_number_and_what_became_of_it() {
-    let text = in_words(&explain(b"0100\n\n0500\n"));
+    let text = in_words(&explained(b"0100\n\n0500\n"));
     let lines = [
         "1  done        join of task 0: it runs, from local time 0 on",
         "2  refused 17  frame \"\": an empty line has no operation",
         "3  done        tick of task 0: global time advances to 1",
     ];
     assert_eq!(text.lines().collect::<Vec<_>>(), lines);
-    assert_eq!(in_words(&explain(b"")), "");
+    assert_eq!(in_words(&explained(b"")), "");
 }
 
 /// Well-formed, with all parts, within its frame, and no text over another.
@@ -327,7 +382,7 @@ fn check_picture(name: &str, picture: &str) {
 #[test]
 fn pictures_can_be_read() {
     for seed in 0..20 {
-        check_picture(&format!("seed {seed}"), &picture(&explain(&script(seed))));
+        check_picture(&format!("seed {seed}"), &pictured(&script(seed)));
     }
     let scripts: [(&str, Vec<u8>); 6] = [
         ("empty", Vec::new()),
@@ -338,14 +393,42 @@ fn pictures_can_be_read() {
         ("only ticks", [&b"0100\n"[..], &b"0500\n".repeat(13_000)].concat()),
     ];
     for (name, script) in scripts {
-        check_picture(name, &picture(&explain(&script)));
+        check_picture(name, &pictured(&script));
     }
+}
+
+/// The scale goes by the figures: as many steps as they need, and up to the larger store.
+#[test]
+fn pictures_go_by_the_figures() {
+    for seed in 0..60 {
+        let (limits, script) = (limits(seed), sized_script(limits(seed), seed));
+        check_picture(&format!("seed {seed}, {limits:?}"), &picture(limits, &explain(limits, &script)));
+    }
+    for (figures, objects, name) in [
+        ("64,32,256,30", &["0", "16", "32", "48", "64"][..], "at most 1 small of 64 blocks, 0 large of 32"),
+        ("1,1,1,0", &["0", "1"], "at most 1 small of 1 block, 0 large of 1"),
+        ("2,7,4,5", &["0", "2", "4", "6"], "at most 1 small of 2 blocks, 0 large of 7"),
+        ("30,3,9,5", &["0", "8", "16", "24"], "at most 1 small of 30 blocks, 0 large of 3"),
+    ] {
+        let limits = figures.parse().unwrap();
+        let picture = picture(limits, &explain(limits, b"0100\n060000000004\n"));
+        let panel = picture.split("<g id=").find(|group| group.starts_with("\"objects\"")).unwrap();
+        assert!(panel.contains(&format!("Standing objects (count): {name}<")), "{figures}: {panel}");
+        let marks: Vec<_> = panel.split("text-anchor=\"end\"").skip(1).map(text_of).collect();
+        assert_eq!(marks, objects, "{figures}");
+    }
+}
+
+/// The text of a tag whose end this begins with.
+fn text_of(rest: &str) -> &str {
+    let (_, text) = rest.split_once('>').unwrap();
+    text.split_once('<').unwrap().0
 }
 
 #[test]
 fn a_picture_has_a_row_for_each_task_that_joins() {
     let count = |script: &[u8]| {
-        let picture = picture(&explain(script));
+        let picture = pictured(script);
         let (_, tasks) = picture.split_once("<g id=\"tasks\">").unwrap();
         tasks.split_once("</g>").unwrap().0.matches("text-anchor=\"end\"").count()
     };
@@ -389,7 +472,7 @@ fn the_weekend_with_block_in_time() {
     let script = fs::read_to_string(document("weekend.script")).unwrap();
     let mut frames: Vec<_> = script.lines().collect();
     let full = |frames: &[&str]| {
-        let lines = explain(frames.join("\n").as_bytes());
+        let lines = explained(frames.join("\n").as_bytes());
         lines.iter().filter(|line| line.refusal == Some(Refusal::NoFreeBlock)).count()
     };
     assert_eq!(full(&frames), 12);
@@ -404,12 +487,40 @@ fn the_program_reads_standard_input() {
     let script = script(3);
     let output = run_program(&mut Command::new(EXPLAIN), &script).unwrap();
     assert!(output.status.success());
-    assert_eq!(output.stdout, in_words(&explain(&script)).as_bytes());
+    assert_eq!(output.stdout, in_words(&explained(&script)).as_bytes());
+}
+
+#[test]
+fn the_program_takes_figures() {
+    let (limits, script) = (limits(5), sized_script(limits(5), 5));
+    let Limits { small_blocks, large_blocks, expirations, extension } = limits;
+    let figures = format!("{small_blocks},{large_blocks},{expirations},{extension}");
+    let output = run_program(Command::new(EXPLAIN).args(["--figures", &figures]), &script).unwrap();
+    assert!(output.status.success());
+    assert_eq!(output.stdout, in_words(&explain(limits, &script)).as_bytes());
+    let file = Path::new(env!("CARGO_TARGET_TMPDIR")).join("figures.svg");
+    let arguments = ["--figures", &figures, "--svg", file.to_str().unwrap()];
+    assert!(run_program(Command::new(EXPLAIN).args(arguments), &script).unwrap().status.success());
+    assert_eq!(fs::read_to_string(file).unwrap(), picture(limits, &explain(limits, &script)));
+}
+
+/// With the number 29, and nothing is explained.
+#[test]
+fn the_program_refuses_figures() {
+    for figures in [&["--figures", "65,32,256,30"][..], &["--figures", "1,1,1,31"], &["--figures", "x"], &["--figures"]]
+    {
+        let output = run_explain(figures);
+        let told = String::from_utf8(output.stderr).unwrap();
+        assert_eq!((output.status.code(), output.stdout), (Some(1), Vec::new()), "{figures:?}");
+        assert!(told.starts_with("explain: refused 29: the figures are small blocks, 1 to 64, "), "{told}");
+        assert_eq!(told.lines().count(), 1, "{told}");
+    }
 }
 
 #[test]
 fn the_program_refuses_what_it_cannot_do() {
-    for arguments in [&["--svg"][..], &["--png", "x"], &["a", "b"], &["--svg", "a", "--svg", "b"]] {
+    let twice = ["--figures", "1,1,1,0", "--figures", "1,1,1,0"];
+    for arguments in [&["--svg"][..], &["--png", "x"], &["a", "b"], &["--svg", "a", "--svg", "b"], &twice] {
         assert_eq!(run_explain(arguments).status.code(), Some(2), "{arguments:?}");
     }
     assert_eq!(run_explain(&["no/such/script"]).status.code(), Some(1));

@@ -1,24 +1,37 @@
 //! Demand 3: the ledger's answers are the heap's exactly when all use is in time and in bounds, and
-//! the first use out is the first answer that differs.
+//! the first use out is the first answer that differs; with the scope paper's figures and with such as a site chooses.
 
 mod plan;
 
 use plan::{kept, random_kind, some_bytes, List, Plan};
 use reference::call::{Accepted, Call, Kind, Model, Refusal};
+use reference::generate::{limits, sized_script};
 use reference::heap::{first_difference, first_use_out, Heap, Judge};
 use reference::ledger::Ledger;
+use reference::limits::Limits;
 use reference::random::Random;
+use reference::script::calls;
 
+/// In a pool of the scope paper's figures.
 fn check(list: &[Call]) -> Option<usize> {
-    let out = first_use_out(list);
-    assert_eq!(out, first_difference(list), "{list:?}");
+    check_in(Limits::STANDARD, list)
+}
+
+fn check_in(limits: Limits, list: &[Call]) -> Option<usize> {
+    let out = first_use_out(limits, list);
+    assert_eq!(out, first_difference(limits, list), "{limits:?} {list:?}");
     out
+}
+
+/// Each seed with the scope paper's figures and with its own.
+fn pools(seeds: std::ops::Range<u64>) -> impl Iterator<Item = (Limits, u64)> {
+    seeds.flat_map(|seed| [(Limits::STANDARD, seed), (limits(seed), seed)])
 }
 
 // Lists of chance.
 
-/// `haste` is how often a tick comes: the rarer, the longer use stays in time.
-fn random_call(random: &mut Random, given: usize, haste: usize) -> Call<'static> {
+/// `longest` is the largest extension. `haste` is how often a tick comes: the rarer, the longer use stays in time.
+fn random_call(random: &mut Random, longest: u8, given: usize, haste: usize) -> Call<'static> {
     let task = random.below(4) as u8;
     if random.below(100) < haste {
         return Call::Tick { task };
@@ -26,7 +39,7 @@ fn random_call(random: &mut Random, given: usize, haste: usize) -> Call<'static>
     let kind = if random.one_in(8) { Kind::Pinned } else { random_kind(random) };
     let extension = match kind {
         Kind::Pinned => random.pick(&[0, 0, 0, 1]),
-        _ => random.pick(&[0, 1, 2, 5, 29, 30, 30, 31]),
+        _ => random.pick(&[0, 1, 2, 5, longest.saturating_sub(1), longest, longest, longest + 1]),
     };
     let handle = random.below(given + 2) as u32;
     match random.below(24) {
@@ -50,14 +63,14 @@ fn random_call(random: &mut Random, given: usize, haste: usize) -> Call<'static>
     }
 }
 
-fn random_list(seed: u64) -> List {
+fn random_list(limits: Limits, seed: u64) -> List {
     let mut random = Random::new(seed);
     let (length, haste) = (random.below(300), random.below(30));
-    let mut heap = Heap::fresh();
+    let mut heap = Heap::of(limits);
     let mut given = 0;
     let mut list = vec![Call::Join { task: 0 }, Call::Join { task: 1 }];
     for _ in 0..length {
-        let call = random_call(&mut random, given, haste);
+        let call = random_call(&mut random, limits.extension as u8, given, haste);
         given += usize::from(matches!(heap.call(&call), Ok(Accepted::Handle(_))));
         list.push(call);
     }
@@ -66,46 +79,98 @@ fn random_list(seed: u64) -> List {
 
 #[test]
 fn lists_of_chance() {
-    let outs: Vec<_> = (0..6_000).map(|seed| check(&random_list(seed))).collect();
+    check_chance(|_| Limits::STANDARD);
+}
+
+#[test]
+fn lists_of_chance_with_chosen_figures() {
+    check_chance(limits);
+}
+
+fn check_chance(limits: fn(u64) -> Limits) {
+    let outs: Vec<_> = (0..6_000).map(|seed| check_in(limits(seed), &random_list(limits(seed), seed))).collect();
     let stayed = outs.iter().filter(|out| out.is_none()).count();
     assert!(stayed > 200 && stayed < 5_800, "{stayed}");
     assert!(outs.iter().flatten().any(|&out| out > 100));
+}
+
+/// A script that keeps all use in does so by its figures.
+#[test]
+fn generated_scripts_with_chosen_figures() {
+    let mut outs = Vec::new();
+    for seed in 0..200 {
+        let (limits, script) = (limits(seed), sized_script(limits(seed), seed));
+        let mut room = vec![0; script.len() / 2];
+        outs.push(check_in(limits, &calls(&script, &mut room)));
+    }
+    let stayed = outs.iter().filter(|out| out.is_none()).count();
+    println!("{stayed} of {} stay in time and in bounds", outs.len());
+    assert!(stayed > 50 && stayed < 150, "{stayed}");
 }
 
 // Lists that are planned.
 
 #[test]
 fn lists_that_stay_in_time() {
-    for seed in 0..1_500 {
-        let mut plan = Plan::new(seed);
+    for (limits, seed) in pools(0..1_500) {
+        let mut plan = Plan::new(limits, seed);
         plan.rounds(40);
-        assert_eq!(check(&plan.list), None);
+        assert_eq!(check_in(limits, &plan.list), None);
     }
 }
 
 #[test]
 fn lists_that_go_out_once() {
-    for seed in 0..1_500 {
-        let mut plan = Plan::new(seed);
+    let mut refused = [0; 13];
+    for (limits, seed) in pools(0..1_500) {
+        let mut plan = Plan::new(limits, seed);
         plan.rounds(10);
         let out = plan.go_out();
         plan.rounds(10);
-        assert_eq!(check(&plan.list), Some(out));
+        assert_eq!(check_in(limits, &plan.list), Some(out));
+        if limits != Limits::STANDARD {
+            refused[number_of(limits, &plan.list[..=out])] += 1;
+        }
     }
+    println!("with chosen figures: 9 {}, 10 {}, 12 {}", refused[9], refused[10], refused[12]);
+    assert!(refused[9].min(refused[10]).min(refused[12]) > 100, "{refused:?}");
+}
+
+/// The number of the refusal that the list ends with.
+fn number_of(limits: Limits, list: &[Call]) -> usize {
+    let mut ledger = Ledger::of(limits);
+    list.iter().map(|call| ledger.call(call).err().map_or(0, |refusal| refusal as usize)).last().unwrap_or(0)
+}
+
+/// A list that uses each figure up is in bounds, and with one less of a figure it goes out where it needs the last.
+#[test]
+fn the_last_of_each_figure() {
+    let (task, kind) = (0, Kind::Local);
+    let make = |extension, length| Call::Make { task, kind, extension, length };
+    let refresh = Call::Refresh { task, kind, extension: 0, handle: 1 };
+    let (small, large) = (make(2, 32), make(2, 33));
+    let list = [Call::Join { task }, small, small, large, large, large, refresh];
+    let limits = Limits { small_blocks: 2, large_blocks: 3, expirations: 6, extension: 2 };
+    assert_eq!(check_in(limits, &list), None);
+    assert_eq!(check_in(Limits { small_blocks: 1, ..limits }, &list), Some(2));
+    assert_eq!(check_in(Limits { large_blocks: 2, ..limits }, &list), Some(5));
+    assert_eq!(check_in(Limits { expirations: 5, ..limits }, &list), Some(6));
+    // The heap refuses with 6 too, so that such a call is left aside: then no object was made.
+    assert_eq!(check_in(Limits { extension: 1, ..limits }, &list), None);
 }
 
 #[test]
 fn the_ledger_and_the_book_keep_the_same() {
-    for seed in 0..150 {
-        let mut plan = Plan::new(seed);
+    for (limits, seed) in pools(0..150) {
+        let mut plan = Plan::new(limits, seed);
         plan.rounds(12);
-        keep_the_same(&plan.list);
-        keep_the_same(&random_list(seed));
+        keep_the_same(limits, &plan.list);
+        keep_the_same(limits, &random_list(limits, seed));
     }
 }
 
-fn keep_the_same(list: &[Call]) {
-    let (mut ledger, mut judge) = (Ledger::fresh(), Judge::fresh());
+fn keep_the_same(limits: Limits, list: &[Call]) {
+    let (mut ledger, mut judge) = (Ledger::of(limits), Judge::of(limits));
     for call in list {
         if !judge.is_in_time(call) {
             return;

@@ -2,9 +2,11 @@
 
 use std::process::{Command, Output};
 
-use reference::generate::script;
+use reference::call::Model;
+use reference::generate::{script, sized_script};
+use reference::ledger::Ledger;
 use reference::program::run_program;
-use reference::script::run;
+use reference::script::{run, run_from};
 
 const REFERENCE: &str = env!("CARGO_BIN_EXE_reference");
 const COMPARE: &str = env!("CARGO_BIN_EXE_compare");
@@ -21,6 +23,22 @@ fn reference_runs_a_script() {
         let output = run_program(Command::new(REFERENCE).args(arguments), &script).unwrap();
         assert!(output.status.success());
         assert_eq!(output.stdout, run(&script));
+    }
+}
+
+#[test]
+fn reference_runs_a_script_with_chosen_figures() {
+    let limits = "1,2,4,5".parse().unwrap();
+    let script = sized_script(limits, 3);
+    let output = run_from(Ledger::of(limits), &script);
+    assert_ne!(output, run(&script));
+    for arguments in [&["--figures", "1,2,4,5"][..], &["--figures", "1,2,4,5", "--indexed"]] {
+        assert_eq!(run_program(Command::new(REFERENCE).args(arguments), &script).unwrap().stdout, output);
+    }
+    for arguments in [&["--figures", "0,2,4,5"][..], &["--indexed", "--figures", "1,2,4"], &["--figures"]] {
+        let output = Command::new(REFERENCE).args(arguments).output().unwrap();
+        assert_eq!((output.status.code(), output.stdout), (Some(1), Vec::new()), "{arguments:?}");
+        assert!(output.stderr.starts_with(b"reference: refused 29: "), "{arguments:?}");
     }
 }
 
@@ -53,6 +71,8 @@ fn wrong_arguments() {
         (COMPARE, &[REFERENCE, "1", "1", "1"]),
         (REFERENCE, &["--index"]),
         (REFERENCE, &["--indexed", "1"]),
+        (REFERENCE, &["--indexed", "--indexed"]),
+        (REFERENCE, &["--figures", "1,1,1,0", "--figures", "1,1,1,0"]),
         (BENCH, &[]),
         (BENCH, &[REFERENCE, "1"]),
     ] {

@@ -5,8 +5,9 @@ mod rows;
 
 use reference::call::Model;
 use reference::frame::decode;
-use reference::generate::script;
+use reference::generate::{limits, sized_script};
 use reference::ledger::Ledger;
+use reference::limits::Limits;
 use reference::script::lines;
 use rows::{check, Row, ACCEPTED};
 
@@ -20,15 +21,20 @@ fn order() {
 #[test]
 fn a_refused_call_changes_nothing() {
     for seed in 0..60 {
-        let script = script(seed);
-        let script = &script[..script.len().min(4_000)];
-        let (mut ledger, mut room) = (Ledger::fresh(), vec![0; script.len()]);
-        for line in lines(script) {
-            let Ok(call) = decode(line, &mut room) else { continue };
-            let before = (ledger.tasks().clone(), ledger.figures(), ledger.standing());
-            if ledger.call(&call).is_err() {
-                assert_eq!(before, (ledger.tasks().clone(), ledger.figures(), ledger.standing()), "{call:?}");
-            }
+        check_unchanged(Limits::STANDARD, seed);
+        check_unchanged(limits(seed), seed);
+    }
+}
+
+fn check_unchanged(limits: Limits, seed: u64) {
+    let script = sized_script(limits, seed);
+    let script = &script[..script.len().min(4_000)];
+    let (mut ledger, mut room) = (Ledger::of(limits), vec![0; script.len()]);
+    for line in lines(script) {
+        let Ok(call) = decode(line, &mut room) else { continue };
+        let before = (ledger.tasks().clone(), ledger.figures(), ledger.standing());
+        if ledger.call(&call).is_err() {
+            assert_eq!(before, (ledger.tasks().clone(), ledger.figures(), ledger.standing()), "{call:?}");
         }
     }
 }

@@ -1,5 +1,5 @@
-//! A superloop of three tasks, as firmware has it: no std, no allocator, and its pool is a static. examples/firmware.c is
-//! the same in C.
+//! A superloop of three tasks, as firmware has it: no std, no allocator, and its pool is a static and no larger than it has
+//! to be. examples/firmware.c is the same in C.
 //!
 //! One task measures the water level each turn. The sensor of another takes its time over the rain, so that this task
 //! blocks until it is ready. The radio sends both. Nobody frees anything: when the rain's sensor is late, its last
@@ -13,7 +13,7 @@ mod board;
 mod memory;
 
 use core::fmt;
-use memory::InPlace;
+use memory::Pool;
 use ramsummer::{Handle, Kind, Refusal};
 
 const LEVEL: u8 = 0;
@@ -23,7 +23,7 @@ const TURNS: u16 = 12;
 
 /// The pool, and the newest reading of each sensor.
 struct Station {
-    pool: &'static mut InPlace,
+    pool: &'static mut Pool,
     level: Handle,
     rain: Handle,
 }

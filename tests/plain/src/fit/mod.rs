@@ -6,9 +6,7 @@ pub use handles::spread;
 
 use core::mem::replace;
 
-use crate::limits::{
-    BLOCKS, GLOBAL_EXTRA, LARGE_SIZE, LOCAL_EXTRA, LONGEST_EXTENSION, SMALL_BLOCKS, SMALL_SIZE, TASKS,
-};
+use crate::limits::{BLOCKS, GLOBAL_EXTRA, LARGE_SIZE, LOCAL_EXTRA, SMALL_BLOCKS, SMALL_SIZE, TASKS};
 use crate::record::{
     length_in, Pool, TaskEntry, ABSENT, DEPARTED, FREE, GLOBAL, GROUP, LOCAL, PINNED, RUNNING, WAITING,
 };
@@ -18,10 +16,20 @@ type Named = [u8; 256];
 
 pub fn is_well_formed(pool: &Pool) -> bool {
     let mut named: Named = [0; 256];
-    fit_tasks(&pool.tasks)
+    pool.limits.is_allowed()
+        && none_past_limits(pool)
+        && fit_tasks(&pool.tasks)
         && fit_expirations(pool, &mut named)
         && fit_blocks(pool, &named)
         && handles::distinct(&pool.handles)
+}
+
+/// No block and no expiration past the limits is in use. At the largest figures there is none to ask.
+fn none_past_limits(pool: &Pool) -> bool {
+    let (small, large) = pool.handles.split_at(SMALL_BLOCKS);
+    let past = small[pool.limits.small_blocks as usize..].iter().chain(&large[pool.limits.large_blocks as usize..]);
+    past.fold(true, |free, &handle| free & (handle == 0))
+        & pool.clocks[pool.limits.expirations as usize..].iter().fold(true, |free, &clock| free & (clock == FREE))
 }
 
 /// Each entry is fit, and if any task runs, one of them has not ticked.
@@ -77,19 +85,22 @@ struct Spans {
     units: [u64; 256],
 }
 
-/// A code that is no clock has no unit, and a free entry all 4,294,967,296.
-const UNITS: [u64; 256] = units();
-
 impl Spans {
+    /// A code that is no clock has no unit, nor has that of a task that is absent; a free entry has all 4,294,967,296.
     fn of(pool: &Pool) -> Spans {
-        let mut spans = Spans { first: [pool.global.wrapping_add(1); 256], units: UNITS };
+        let mut spans = Spans { first: [pool.global.wrapping_add(1); 256], units: [0; 256] };
+        let local = u64::from(pool.limits.extension + LOCAL_EXTRA);
+        let global = u64::from(pool.limits.extension + GLOBAL_EXTRA);
         for (clock, task) in (usize::from(LOCAL)..).zip(&pool.tasks) {
             let is_there = u64::from(task.state != ABSENT);
             spans.first[clock] = task.clock.wrapping_add(1);
-            spans.units[clock] *= is_there;
-            spans.units[clock + usize::from(GLOBAL - LOCAL)] *= is_there;
+            spans.units[clock] = is_there * local;
+            spans.units[clock + usize::from(GLOBAL - LOCAL)] = is_there * global;
         }
         spans.first[usize::from(PINNED)] = 0;
+        spans.units[usize::from(FREE)] = 1 << 32;
+        spans.units[usize::from(DEPARTED)] = global;
+        spans.units[usize::from(PINNED)] = 1;
         spans
     }
 
@@ -131,18 +142,4 @@ const fn by_store(small: u16, large: u16) -> [u16; BLOCKS] {
         block += 1;
     }
     values
-}
-
-const fn units() -> [u64; 256] {
-    let mut units = [0; 256];
-    units[FREE as usize] = 1 << 32;
-    let mut task = 0;
-    while task < TASKS {
-        units[LOCAL as usize + task] = LONGEST_EXTENSION as u64 + LOCAL_EXTRA as u64;
-        units[GLOBAL as usize + task] = LONGEST_EXTENSION as u64 + GLOBAL_EXTRA as u64;
-        task += 1;
-    }
-    units[DEPARTED as usize] = LONGEST_EXTENSION as u64 + GLOBAL_EXTRA as u64;
-    units[PINNED as usize] = 1;
-    units
 }

@@ -3,8 +3,8 @@
 use core::ops::Range;
 
 use crate::limits::{
-    BLOCKS, EXPIRATIONS, GLOBAL_EXTRA, LARGEST_BATCH, LARGE_SIZE, LARGE_STORE, LOCAL_EXTRA, LONGEST_EXTENSION, PINNING,
-    SMALL_BLOCKS, SMALL_SIZE, SMALL_STORE,
+    Limits, BLOCKS, EXPIRATIONS, GLOBAL_EXTRA, LARGEST_BATCH, LARGE_SIZE, LOCAL_EXTRA, PINNING, SMALL_BLOCKS,
+    SMALL_SIZE,
 };
 use crate::record::{
     extent_of, is_global, length_in, sum_in, Pool, ABSENT, FREE, GLOBAL, GROUP, LOCAL, PINNED, WAITING,
@@ -33,18 +33,18 @@ pub fn make(
     large: &mut [u8],
     (task, kind, extension, length): (u8, u8, u8, u16),
 ) -> Result<u32, u8> {
-    check_stores(small, large)?;
+    check_stores(pool.limits, small, large)?;
     let clock = running(pool, task)?;
-    check_extension(kind, extension)?;
-    let (first, end) = match usize::from(length) {
-        1..=SMALL_SIZE => (0, SMALL_BLOCKS),
-        SHORTEST_LARGE..=LARGE_SIZE => (SMALL_BLOCKS, BLOCKS),
+    check_extension(pool.limits, kind, extension)?;
+    let (first, end, count) = match usize::from(length) {
+        1..=SMALL_SIZE => (0, SMALL_BLOCKS, pool.limits.small_blocks),
+        SHORTEST_LARGE..=LARGE_SIZE => (SMALL_BLOCKS, BLOCKS, pool.limits.large_blocks),
         _ => return Err(LENGTH_OUT_OF_RANGE),
     };
     if pool.given == u32::MAX {
         return Err(HANDLES_SPENT);
     }
-    let free = first + place_of(0, &pool.handles[first..end]).ok_or(NO_FREE_BLOCK)?;
+    let free = first + free_place(0, &pool.handles[first..end], count).ok_or(NO_FREE_BLOCK)?;
     set(pool, clock, (task, kind, extension), free)?;
     pool.given += 1;
     pool.handles[free] = pool.given;
@@ -56,7 +56,7 @@ pub fn make(
 pub fn refresh(pool: &mut Pool, (task, kind, extension): (u8, u8, u8), handle: u32) -> Result<(), u8> {
     let clock = running(pool, task)?;
     check_refreshing(kind)?;
-    check_extension(kind, extension)?;
+    check_extension(pool.limits, kind, extension)?;
     let block = find(pool, handle)?;
     set(pool, clock, (task, kind, extension), block)
 }
@@ -69,10 +69,10 @@ pub fn refresh_all(pool: &mut Pool, (task, kind, extension): (u8, u8, u8), handl
         return Err(BATCH_OUT_OF_RANGE);
     }
     check_refreshing(kind)?;
-    check_extension(kind, extension)?;
+    check_extension(pool.limits, kind, extension)?;
     let (mut blocks, mut entries) = ([0; LARGEST_BATCH], [0; LARGEST_BATCH]);
     find_all(pool, handles, &mut blocks)?;
-    find_free(&pool.clocks, &mut entries[..count])?;
+    find_free(pool, &mut entries[..count])?;
     let (goes_by, due) = due_after(pool, clock, (task, kind, extension));
     for (&entry, &block) in entries[..count].iter().zip(&blocks) {
         let entry = usize::from(entry);
@@ -106,7 +106,7 @@ pub fn release(pool: &mut Pool, task: u8, handle: u32) -> Result<(), u8> {
 
 /// The object's bytes, where they lie, if all bytes of its block have their sum.
 pub fn read<'a>(pool: &Pool, small: &'a [u8], large: &'a [u8], task: u8, handle: u32) -> Result<&'a [u8], u8> {
-    check_stores(small, large)?;
+    check_stores(pool.limits, small, large)?;
     running(pool, task)?;
     let block = find(pool, handle)?;
     let (extent, range) = (pool.extents[block], range_of(block));
@@ -124,7 +124,7 @@ pub fn write(
     handle: u32,
     (offset, bytes): (u8, &[u8]),
 ) -> Result<(), u8> {
-    check_stores(small, large)?;
+    check_stores(pool.limits, small, large)?;
     running(pool, task)?;
     let block = find(pool, handle)?;
     let (extent, all) = (pool.extents[block], block_mut(small, large, block));
@@ -183,8 +183,8 @@ pub fn remaining(pool: &Pool, task: u8, handle: u32) -> Result<Lifetime, u8> {
 // Tests.
 
 /// 14.
-fn check_stores(small: &[u8], large: &[u8]) -> Result<(), u8> {
-    if small.len() != SMALL_STORE || large.len() != LARGE_STORE {
+fn check_stores(limits: Limits, small: &[u8], large: &[u8]) -> Result<(), u8> {
+    if small.len() != limits.small_store() || large.len() != limits.large_store() {
         return Err(WRONG_STORE_LENGTH);
     }
     Ok(())
@@ -201,9 +201,9 @@ fn running(pool: &Pool, task: u8) -> Result<u32, u8> {
 }
 
 /// 6: what is pinned has no extension.
-fn check_extension(kind: u8, extension: u8) -> Result<(), u8> {
-    let longest = if kind == PINNING { 0 } else { LONGEST_EXTENSION };
-    if extension > longest {
+fn check_extension(limits: Limits, kind: u8, extension: u8) -> Result<(), u8> {
+    let longest = if kind == PINNING { 0 } else { limits.extension };
+    if u32::from(extension) > longest {
         return Err(EXTENSION_TOO_LONG);
     }
     Ok(())
@@ -252,29 +252,31 @@ fn find_all(pool: &Pool, handles: &[u32], blocks: &mut [u8; LARGEST_BATCH]) -> R
     Ok(())
 }
 
-/// The first free entries, as many as are asked for, or 10. Groups without one are passed over.
-fn find_free(clocks: &[u8; EXPIRATIONS], entries: &mut [u8]) -> Result<(), u8> {
+/// The first free entries, as many as are asked for, or 10 where fewer within the limits are free. Groups without one are
+/// passed over.
+fn find_free(pool: &Pool, entries: &mut [u8]) -> Result<(), u8> {
     let mut places = entries.iter_mut();
-    for (group, clocks) in clocks.as_chunks::<GROUP>().0.iter().enumerate() {
+    'all: for (group, clocks) in pool.clocks.as_chunks::<GROUP>().0.iter().enumerate() {
         if !clocks.iter().fold(false, |has, &clock| has | (clock == FREE)) {
             continue;
         }
         for (i, _) in clocks.iter().enumerate().filter(|(_, &clock)| clock == FREE) {
-            let Some(place) = places.next() else { return Ok(()) };
+            let Some(place) = places.next() else { break 'all };
             *place = (group * GROUP + i) as u8;
         }
     }
-    if places.len() > 0 {
-        return Err(NO_FREE_EXPIRATION);
+    let is_short = places.len() > 0;
+    match entries.last() {
+        Some(&last) if !is_short && u32::from(last) < pool.limits.expirations => Ok(()),
+        _ => Err(NO_FREE_EXPIRATION),
     }
-    Ok(())
 }
 
 // Changes and places.
 
 /// Sets an expiration on the object of a block, in the first free entry, or 10.
 fn set(pool: &mut Pool, clock: u32, with: (u8, u8, u8), block: usize) -> Result<(), u8> {
-    let entry = place_of(FREE, &pool.clocks).ok_or(NO_FREE_EXPIRATION)?;
+    let entry = free_place(FREE, &pool.clocks, pool.limits.expirations).ok_or(NO_FREE_EXPIRATION)?;
     (pool.clocks[entry], pool.dues[entry]) = due_after(pool, clock, with);
     pool.named[entry] = block as u8;
     Ok(())
@@ -293,6 +295,12 @@ fn due_after(pool: &Pool, clock: u32, (task, kind, extension): (u8, u8, u8)) -> 
 fn is_on_some(clocks: &[u8; GROUP], blocks: &[u8; GROUP], block: u8) -> bool {
     let is_on = |(&clock, &other): (&u8, &u8)| (clock != FREE) & (other == block);
     clocks.iter().zip(blocks).fold(false, |some, entry| some | is_on(entry))
+}
+
+/// The first free place within the limits, which are so many. All places past them are free, so that it is the first of the
+/// table or there is none.
+fn free_place<T: Copy + PartialEq>(free: T, table: &[T], count: u32) -> Option<usize> {
+    place_of(free, table).filter(|&place| place < count as usize)
 }
 
 /// Where an entry stands first. A group of them is asked at once, and then the group that has it one by one. Each table

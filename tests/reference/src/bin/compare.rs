@@ -11,6 +11,7 @@ use reference::call::Call;
 use reference::generate;
 use reference::heap::{first_difference, first_use_out};
 use reference::indexed;
+use reference::limits::Limits;
 use reference::program::run_program;
 use reference::script::{calls, lines, run, LIMIT};
 
@@ -171,7 +172,7 @@ fn show(line: Option<&[u8]>) -> String {
 
 /// The two ledgers answer alike and have the same figures after each call.
 fn check_indexed(calls: &[Call]) -> Result<(), String> {
-    match indexed::first_difference(calls) {
+    match indexed::first_difference(Limits::STANDARD, calls) {
         None => Ok(()),
         differs => Err(format!("ledgers: first answer or figures that differ {}", show_call(calls, differs))),
     }
@@ -180,7 +181,7 @@ fn check_indexed(calls: &[Call]) -> Result<(), String> {
 /// Demand 3 of the reference itself: its answers are the heap's exactly when all use is in time and in
 /// bounds, and the first use out is the first answer that differs.
 fn check_heap(calls: &[Call]) -> Result<bool, String> {
-    let (out, differs) = (first_use_out(calls), first_difference(calls));
+    let (out, differs) = (first_use_out(Limits::STANDARD, calls), first_difference(Limits::STANDARD, calls));
     if out != differs {
         return Err(format!(
             "heap: first use out {}, first answer that differs {}",

@@ -3,7 +3,7 @@
 use crate::call::{Accepted, Call, Figures, Kind, Lifetime, Model};
 use crate::explain::phrases::{counted, due, listed, shown_bytes};
 use crate::explain::watch::{Change, Watch};
-use crate::limits::{Store, LARGEST_BATCH, MOST_EXPIRATIONS};
+use crate::limits::{Limits, Store, LARGEST_BATCH};
 
 /// What the call asks.
 pub fn asked(call: &Call) -> String {
@@ -63,7 +63,7 @@ pub fn told(watch: &Watch, call: &Call, change: &Change) -> String {
         }
         Call::Read { task, handle } => bytes(watch, task, handle),
         Call::Write { .. } => "done".into(),
-        Call::Report => figures(watch.ledger.figures()),
+        Call::Report => figures(watch.ledger.figures(), watch.ledger.limits()),
         Call::Remaining { task, handle } => remaining(watch, task, handle),
         Call::Batch { task, kind, extension, .. } => {
             format!("one expiration more for each, until {}", due(watch.expiration(task, kind, extension)))
@@ -131,11 +131,11 @@ fn bytes(watch: &Watch, task: u8, handle: u32) -> String {
     }
 }
 
-fn figures(Figures { small, large, expirations, given }: Figures) -> String {
-    let (smalls, larges) = (Store::Small.blocks(), Store::Large.blocks());
+fn figures(Figures { small, large, expirations, given }: Figures, limits: Limits) -> String {
+    let (smalls, larges) = (counted(limits.small_blocks, "small object"), limits.large_blocks);
+    let most = counted(limits.expirations, "expiration");
     let given = counted(given as usize, "handle");
-    let objects = format!("{small} of {smalls} small objects, {large} of {larges} large");
-    format!("{objects}, {expirations} of {MOST_EXPIRATIONS} expirations, {given} given")
+    format!("{small} of {smalls}, {large} of {larges} large, {expirations} of {most}, {given} given")
 }
 
 fn remaining(watch: &Watch, task: u8, handle: u32) -> String {

@@ -11,7 +11,7 @@ mod watch;
 
 use crate::call::{Call, Figures, Refusal};
 use crate::frame::decode;
-use crate::limits::TASKS;
+use crate::limits::{Limits, TASKS};
 use crate::script::lines;
 use crate::tasks::Task;
 pub use picture::picture;
@@ -31,9 +31,9 @@ pub struct Moment {
     pub tasks: [Task; TASKS],
 }
 
-/// Carries out a script on a fresh ledger.
-pub fn explain(script: &[u8]) -> Vec<Line> {
-    let mut watch = Watch::fresh();
+/// Carries out a script on a fresh ledger of these figures.
+pub fn explain(limits: Limits, script: &[u8]) -> Vec<Line> {
+    let mut watch = Watch::of(limits);
     let mut room = vec![0; script.len() / 2];
     lines(script).map(|line| one(&mut watch, line, &mut room)).collect()
 }

@@ -5,7 +5,7 @@ use crate::explain::answers::store_name;
 use crate::explain::phrases::{counted, listed};
 use crate::explain::trail::Set;
 use crate::explain::watch::Watch;
-use crate::limits::{LARGEST_BATCH, LONGEST, LONGEST_EXTENSION, MOST_EXPIRATIONS, TASKS};
+use crate::limits::{LARGEST_BATCH, LONGEST, TASKS};
 use crate::tasks::State;
 
 /// From the ledger, which a refusal leaves as it was.
@@ -16,7 +16,7 @@ pub fn reason(watch: &Watch, call: &Call, refusal: Refusal) -> String {
         Refusal::TaskAbsent => format!("{}; it has to join first", state(watch, call)),
         Refusal::TaskWaiting => format!("{}; it has to resume first", state(watch, call)),
         Refusal::TaskRunning => format!("{}; only a waiting task can resume", state(watch, call)),
-        Refusal::ExtensionTooLong => too_long(call),
+        Refusal::ExtensionTooLong => too_long(watch, call),
         Refusal::LengthOutOfRange => format!("a length is 1 to {LONGEST}"),
         Refusal::AllHandlesGiven => "all handles are given, and none comes again".into(),
         Refusal::NoFreeBlock => no_block(watch, call),
@@ -31,6 +31,7 @@ pub fn reason(watch: &Watch, call: &Call, refusal: Refusal) -> String {
         Refusal::NotHexadecimal | Refusal::UnknownOperation | Refusal::WrongFrameLength | Refusal::KindAbove2 => {
             unreachable!("refusal {} is a frame's", refusal as u8)
         }
+        Refusal::LimitsOutOfRange => unreachable!("a call comes after the pool is made"),
     }
 }
 
@@ -56,10 +57,10 @@ fn task_of(call: &Call) -> Option<u8> {
     }
 }
 
-fn too_long(call: &Call) -> String {
+fn too_long(watch: &Watch, call: &Call) -> String {
     match call {
         Call::Make { kind: Kind::Pinned, .. } => "what is pinned has extension 0".into(),
-        _ => format!("an extension is at most {LONGEST_EXTENSION}"),
+        _ => format!("an extension is at most {}", watch.ledger.limits().extension),
     }
 }
 
@@ -72,12 +73,17 @@ fn no_block(watch: &Watch, call: &Call) -> String {
         0 => String::new(),
         count => format!(", {count} of them pinned"),
     };
-    format!("the {store} store is full with {objects} objects{pinned}; {}", still(watch))
+    let objects = counted(objects.into(), "object");
+    format!("the {store} store is full with {objects}{pinned}; {}", still(watch))
 }
 
 fn no_expiration(watch: &Watch, call: &Call) -> String {
-    let (standing, asked) = (watch.ledger.figures().expirations, call.objects().len().max(1));
-    format!("{standing} expirations stand, and with {asked} more they are above {MOST_EXPIRATIONS}; {}", still(watch))
+    let (most, asked) = (watch.ledger.limits().expirations, call.objects().len().max(1));
+    let standing = match watch.ledger.figures().expirations {
+        1 => "1 expiration stands".into(),
+        count => format!("{count} expirations stand"),
+    };
+    format!("{standing}, and with {asked} more they are above {most}; {}", still(watch))
 }
 
 /// Why nothing comes back: for whom global time waits, and since when.

@@ -4,7 +4,7 @@ use crate::call::{Call, Kind, Model, Refusal};
 use crate::expiration::Expiration;
 use crate::explain::trail::{Set, Trail};
 use crate::ledger::Ledger;
-use crate::limits::TASKS;
+use crate::limits::{Limits, TASKS};
 use crate::tasks::{State, Task};
 
 pub struct Watch {
@@ -31,8 +31,8 @@ pub struct Change {
 }
 
 impl Watch {
-    pub fn fresh() -> Watch {
-        let (ledger, trail) = (Ledger::fresh(), Trail::default());
+    pub fn of(limits: Limits) -> Watch {
+        let (ledger, trail) = (Ledger::of(limits), Trail::default());
         Watch { ledger, trail, line: 0, since: [0; TASKS], advanced: 0 }
     }
 

@@ -1,4 +1,4 @@
-//! The pool's rules and refusals 1 to 13 and 20 to 23, by schedules and slots.
+//! The pool's rules and refusals 1 to 13, 20 to 23 and 29, by schedules and slots.
 
 use super::globals::Globals;
 use super::objects::Objects;
@@ -8,12 +8,13 @@ use crate::block::Block;
 use crate::call::{Accepted, Answer, Figures, Handles, Kind, Lifetime, Model, Refusal};
 use crate::expiration::Remaining;
 use crate::ledger::Standing;
-use crate::limits::{check_batch, check_extension, check_refreshing, Store, LARGEST_BATCH, MOST_EXPIRATIONS, TASKS};
+use crate::limits::{check_batch, check_refreshing, Limits, Store, LARGEST_BATCH, TASKS};
 use crate::outside::{Change, Exposed};
 use crate::tasks::Task;
 
 #[derive(Clone, Debug)]
 pub struct Ledger {
+    limits: Limits,
     tasks: Tasks,
     given: u32,
     objects: Objects,
@@ -22,15 +23,17 @@ pub struct Ledger {
 }
 
 impl Model for Ledger {
-    /// All tasks absent, both times 0, no object, no expiration, no handle given.
-    fn fresh() -> Ledger {
-        Ledger {
+    /// All tasks absent, both times 0, no object, no expiration, no handle given. A slot for each block.
+    fn sized(limits: Limits) -> Result<Ledger, Refusal> {
+        limits.check()?;
+        Ok(Ledger {
+            limits,
             tasks: Tasks::default(),
             given: 0,
-            objects: Objects::none(),
+            objects: Objects::none(limits.small_blocks + limits.large_blocks),
             local: Default::default(),
             global: Globals::default(),
-        }
+        })
     }
 
     fn join(&mut self, task: u8) -> Answer<'static> {
@@ -67,12 +70,12 @@ impl Model for Ledger {
 
     fn make(&mut self, task: u8, kind: Kind, extension: u8, length: u16) -> Answer<'static> {
         self.tasks.check_running(task)?;
-        check_extension(kind, extension)?;
+        self.limits.check_extension(kind, extension)?;
         let store = Store::holding(length)?;
         if self.given == u32::MAX {
             return Err(Refusal::AllHandlesGiven);
         }
-        if self.objects.standing(store) == store.blocks() {
+        if self.objects.standing(store) == self.limits.blocks(store) {
             return Err(Refusal::NoFreeBlock);
         }
         self.check_expirations()?;
@@ -85,7 +88,7 @@ impl Model for Ledger {
     fn refresh(&mut self, task: u8, kind: Kind, extension: u8, handle: u32) -> Answer<'static> {
         self.tasks.check_running(task)?;
         check_refreshing(kind)?;
-        check_extension(kind, extension)?;
+        self.limits.check_extension(kind, extension)?;
         let slot = self.check_standing(handle)?;
         self.check_expirations()?;
         self.set_expiration(slot, task, kind, extension);
@@ -126,7 +129,7 @@ impl Model for Ledger {
         self.tasks.check_running(task)?;
         check_batch(handles.count())?;
         check_refreshing(kind)?;
-        check_extension(kind, extension)?;
+        self.limits.check_extension(kind, extension)?;
         let (mut slots, mut gone) = ([0; LARGEST_BATCH], false);
         let slots = &mut slots[..handles.count()];
         for (slot, handle) in slots.iter_mut().zip(handles.iter()) {
@@ -139,7 +142,7 @@ impl Model for Ledger {
         if gone {
             return Err(Refusal::ObjectGone);
         }
-        if slots.len() > MOST_EXPIRATIONS - self.objects.expirations() {
+        if slots.len() > self.limits.expirations - self.objects.expirations() {
             return Err(Refusal::ExpirationsFull);
         }
         for &slot in slots.iter() {
@@ -160,6 +163,10 @@ impl Model for Ledger {
 }
 
 impl Ledger {
+    pub fn limits(&self) -> Limits {
+        self.limits
+    }
+
     /// The tasks as the ledger has them.
     pub fn entries(&self) -> [Task; TASKS] {
         self.tasks.entries()
@@ -217,7 +224,7 @@ impl Ledger {
     }
 
     fn check_expirations(&self) -> Result<(), Refusal> {
-        if self.objects.expirations() == MOST_EXPIRATIONS {
+        if self.objects.expirations() == self.limits.expirations {
             return Err(Refusal::ExpirationsFull);
         }
         Ok(())

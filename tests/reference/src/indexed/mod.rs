@@ -11,10 +11,11 @@ mod tasks;
 pub use ledger::Ledger;
 
 use crate::call::{Call, Model};
+use crate::limits::Limits;
 
 /// The index of the first call that the ledger and this one answer differently, or after which their
 /// figures differ.
-pub fn first_difference(calls: &[Call]) -> Option<usize> {
-    let (mut literal, mut indexed) = (crate::ledger::Ledger::fresh(), Ledger::fresh());
+pub fn first_difference(limits: Limits, calls: &[Call]) -> Option<usize> {
+    let (mut literal, mut indexed) = (crate::ledger::Ledger::of(limits), Ledger::of(limits));
     calls.iter().position(|call| literal.call(call) != indexed.call(call) || literal.figures() != indexed.figures())
 }

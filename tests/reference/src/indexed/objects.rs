@@ -3,9 +3,6 @@
 
 use crate::limits::{Store, LONGEST};
 
-/// Both stores full.
-const SLOTS: u8 = (Store::Small.blocks() + Store::Large.blocks()) as u8;
-
 #[derive(Clone, Debug)]
 struct Object {
     handle: u32,
@@ -46,11 +43,12 @@ pub struct Objects {
 }
 
 impl Objects {
-    pub fn none() -> Objects {
+    /// With room for so many.
+    pub fn none(slots: usize) -> Objects {
         Objects {
-            slots: vec![UNUSED; usize::from(SLOTS)],
-            free: (0..SLOTS).rev().collect(),
-            order: Vec::with_capacity(usize::from(SLOTS)),
+            slots: vec![UNUSED; slots],
+            free: (0..slots as u8).rev().collect(),
+            order: Vec::with_capacity(slots),
             standing: [0; 2],
             expirations: 0,
         }

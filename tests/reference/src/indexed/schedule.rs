@@ -1,6 +1,7 @@
 //! The expirations that go by one clock, found by the time they are due.
 
-/// An expiration lies 1 to 32 units ahead, so a ring of 33 lists keeps their times apart.
+/// Whatever a pool's figures are, an expiration lies 1 to 32 units ahead at most, so a ring of 33 lists keeps their
+/// times apart.
 const RING: usize = 33;
 
 /// For each time ahead, the slots of the objects that lose an expiration then.

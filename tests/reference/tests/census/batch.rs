@@ -2,7 +2,7 @@
 
 use reference::call::Call;
 use reference::ledger::Ledger;
-use reference::limits::{Store, LARGEST_BATCH, LONGEST_EXTENSION, MOST_EXPIRATIONS};
+use reference::limits::{Store, LARGEST_BATCH};
 
 /// A batch of a running task, as the ledger finds it.
 pub struct Asked {
@@ -71,19 +71,19 @@ pub fn note(met: &mut [usize; SITUATIONS.len()], call: &Call, ledger: &Ledger) {
     if !ledger.tasks().is_running(task) {
         return;
     }
-    let figures = ledger.figures();
+    let (figures, limits) = (ledger.figures(), ledger.limits());
     let handles: Vec<_> = handles.iter().collect();
     let is_given = |handle: &u32| (1..=figures.given).contains(handle);
     let length = |handle: &u32| ledger.length(*handle);
     let has = |store: Store| handles.iter().filter_map(length).any(|length| Store::holding(length as u16) == Ok(store));
     let asked = Asked {
         count: handles.len(),
-        extends_too_far: extension > LONGEST_EXTENSION,
+        extends_too_far: usize::from(extension) > limits.extension,
         not_given: handles.iter().position(|handle| !is_given(handle)),
         gone: handles.iter().position(|handle| is_given(handle) && length(handle).is_none()),
         twice: handles.iter().enumerate().any(|(place, handle)| handles[..place].contains(handle)),
         stores: [has(Store::Small), has(Store::Large)],
-        room: MOST_EXPIRATIONS - usize::from(figures.expirations),
+        room: limits.expirations - usize::from(figures.expirations),
     };
     for (met, (_, holds)) in met.iter_mut().zip(SITUATIONS) {
         *met += usize::from(holds(&asked));

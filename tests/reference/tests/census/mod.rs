@@ -3,13 +3,15 @@
 pub mod batch;
 pub mod pinned;
 pub mod remaining;
+pub mod sized;
 pub mod waiting;
 
 use pinned::Pins;
 use reference::call::{Accepted, Answer, Call, Model, Refusal};
 use reference::frame::decode;
 use reference::ledger::Ledger;
-use reference::script::{lines, run};
+use reference::limits::Limits;
+use reference::script::{lines, run_from};
 use waiting::{Before, Setters};
 
 /// Each operation and the refusals that its frames and calls may give, in the order of the tests. The ledger gives neither
@@ -52,18 +54,25 @@ pub struct Census {
     pub batch: [usize; batch::SITUATIONS.len()],
     pub waiting: [usize; waiting::SITUATIONS.len()],
     pub pinned: [usize; pinned::SITUATIONS.len()],
+    pub sized: [usize; sized::SITUATIONS.len()],
 }
 
 impl Census {
+    /// In pools of the scope paper's figures.
     pub fn of(scripts: impl Iterator<Item = Vec<u8>>) -> Census {
+        Census::sized(scripts.map(|script| (Limits::STANDARD, script)))
+    }
+
+    /// Each in a pool of its own figures.
+    pub fn sized(scripts: impl Iterator<Item = (Limits, Vec<u8>)>) -> Census {
         let mut census = Census::default();
-        scripts.for_each(|script| census.take(&script));
+        scripts.for_each(|(limits, script)| census.take(limits, &script));
         census
     }
 
-    fn take(&mut self, script: &[u8]) {
-        self.longest_output = self.longest_output.max(run(script).len());
-        let (mut ledger, mut room) = (Ledger::fresh(), vec![0; script.len()]);
+    fn take(&mut self, limits: Limits, script: &[u8]) {
+        self.longest_output = self.longest_output.max(run_from(Ledger::of(limits), script).len());
+        let (mut ledger, mut room) = (Ledger::of(limits), vec![0; script.len()]);
         let (mut setters, mut pins) = (Setters::default(), Pins::default());
         for line in lines(script) {
             match decode(line, &mut room) {
@@ -71,6 +80,7 @@ impl Census {
                 Ok(call) => {
                     batch::note(&mut self.batch, &call, &ledger);
                     let before = (Before::of(&call, &ledger), pins.before(&call, &ledger));
+                    let figures = ledger.figures();
                     let answer = ledger.call(&call);
                     self.note(&call, answer);
                     let number = answer.err().map_or(0, |refusal| refusal as usize);
@@ -78,6 +88,7 @@ impl Census {
                         setters.note(&mut self.waiting, &call, before.0, &ledger);
                     }
                     pins.note(&mut self.pinned, &call, number, before.1, &ledger);
+                    sized::note(&mut self.sized, &sized::Seen { call: &call, number, limits, figures });
                     self.note_state(&ledger);
                     remaining::note(&mut self.remaining, &call, &ledger);
                 }
@@ -143,6 +154,9 @@ impl Census {
         }
         for ((name, _), count) in pinned::SITUATIONS.iter().zip(self.pinned) {
             println!("pinned, {name}: {count}");
+        }
+        for ((name, _), count) in sized::SITUATIONS.iter().zip(self.sized) {
+            println!("sized, {name}: {count}");
         }
     }
 }

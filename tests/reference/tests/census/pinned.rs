@@ -4,7 +4,7 @@ use std::collections::{BTreeMap, BTreeSet};
 
 use reference::call::{Call, Kind};
 use reference::ledger::Ledger;
-use reference::limits::{Store, LARGEST_BATCH, LONGEST, LONGEST_EXTENSION, MOST_EXPIRATIONS};
+use reference::limits::{Limits, Store, LARGEST_BATCH, LONGEST};
 
 /// An object that is pinned, and what it has seen.
 #[derive(Clone, Copy, Debug)]
@@ -19,6 +19,7 @@ struct Pin {
 
 /// What the ledger has before a call.
 pub struct Before {
+    limits: Limits,
     global: u64,
     expirations: usize,
     standing: [usize; 2],
@@ -78,7 +79,7 @@ impl Seen<'_> {
 
     fn has_no_room(&self) -> bool {
         let count = if let Call::Batch { handles, .. } = self.call { handles.count() } else { 1 };
-        self.before.expirations + count > MOST_EXPIRATIONS
+        self.before.expirations + count > self.before.limits.expirations
     }
 
     fn pinned_in(&self, store: Store) -> usize {
@@ -107,13 +108,15 @@ type Situation = (&'static str, fn(&Seen) -> bool);
 pub const SITUATIONS: [Situation; 32] = [
     ("made", |seen| seen.makes(0)),
     ("made with an extension", |seen| {
-        seen.makes(6) && matches!(seen.call, Call::Make { extension: 1..=LONGEST_EXTENSION, .. })
+        let longest = seen.before.limits.extension;
+        seen.makes(6)
+            && matches!(seen.call, Call::Make { extension, .. } if (1..=longest).contains(&(*extension).into()))
     }),
     ("6 before 7", |seen| {
         seen.makes(6) && matches!(seen.call, Call::Make { length, .. } if !(1..=LONGEST).contains(length))
     }),
     ("all blocks pinned, and 9", |seen| {
-        let full = |store: Store| seen.pinned_in(store) == store.blocks();
+        let full = |store: Store| seen.pinned_in(store) == seen.before.limits.blocks(store);
         seen.makes(9) && matches!(seen.call, Call::Make { length, .. } if Store::holding(*length).is_ok_and(full))
     }),
     ("10", |seen| seen.makes(10)),
@@ -139,9 +142,12 @@ pub const SITUATIONS: [Situation; 32] = [
     ("released, and others stand", |seen| seen.released(|pin| pin.count > 1)),
     ("released, and gone", |seen| seen.released(|pin| pin.count == 1)),
     ("released where its store was full", |seen| {
-        seen.released(|pin| pin.count == 1 && seen.before.standing[pin.store as usize] == pin.store.blocks())
+        let blocks = |pin: &Pin| seen.before.limits.blocks(pin.store);
+        seen.released(|pin| pin.count == 1 && seen.before.standing[pin.store as usize] == blocks(pin))
     }),
-    ("released where 256 stood", |seen| seen.released(|_| seen.before.expirations == MOST_EXPIRATIONS)),
+    ("released where no more could stand", |seen| {
+        seen.released(|_| seen.before.expirations == seen.before.limits.expirations)
+    }),
     ("released again, 22", |seen| seen.releases(22) && seen.before.released),
     ("released again, 12", |seen| seen.releases(12) && seen.before.released),
     ("never pinned, 22", |seen| seen.releases(22) && !seen.before.released),
@@ -173,6 +179,7 @@ impl Pins {
         let is_given = |&handle: &u32| (1..=figures.given).contains(&handle);
         let handle = named.first().copied().unwrap_or(0);
         Before {
+            limits: ledger.limits(),
             global: ledger.tasks().global(),
             expirations: usize::from(figures.expirations),
             standing: [usize::from(figures.small), usize::from(figures.large)],

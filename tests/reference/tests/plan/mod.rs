@@ -1,11 +1,11 @@
 //! Lists of calls that stay in time because of how they are made, or go out once. In each round all
 //! use comes first and then every task ticks once, so that each clock, and global time, is the number
 //! of the round. But for one task that may wait for the round: what it has set lasts a round longer, by
-//! its clock, which stands, and by global time, since it is put off.
-
-use std::ops::RangeInclusive;
+//! its clock, which stands, and by global time, since it is put off. The bounds are the figures of the
+//! pool that the list is for.
 
 use reference::call::{packed, Call, Handles, Kind};
+use reference::limits::{Limits, Store, LARGEST_BATCH};
 use reference::random::Random;
 
 pub type List = Vec<Call<'static>>;
@@ -54,6 +54,7 @@ struct Lasting {
 const FOR_EVER: usize = usize::MAX;
 
 pub struct Plan {
+    limits: Limits,
     random: Random,
     pub list: List,
     tasks: u8,
@@ -64,11 +65,11 @@ pub struct Plan {
 }
 
 impl Plan {
-    pub fn new(seed: u64) -> Plan {
+    pub fn new(limits: Limits, seed: u64) -> Plan {
         let mut random = Random::new(seed);
         let tasks = 1 + random.below(16) as u8;
         let list = (0..tasks).map(|task| Call::Join { task }).collect();
-        Plan { random, list, tasks, round: 0, given: 0, objects: Vec::new(), expirations: Vec::new() }
+        Plan { limits, random, list, tasks, round: 0, given: 0, objects: Vec::new(), expirations: Vec::new() }
     }
 
     pub fn rounds(&mut self, count: usize) {
@@ -148,9 +149,21 @@ impl Plan {
         self.expirations.iter().any(|one| one.place == place)
     }
 
-    fn standing(&self, lengths: RangeInclusive<u16>) -> usize {
+    fn standing(&self, store: Store) -> usize {
         let objects = self.objects.iter().enumerate();
-        objects.filter(|&(place, object)| self.stands(place) && lengths.contains(&object.length)).count()
+        objects.filter(|&(place, object)| self.stands(place) && Store::holding(object.length) == Ok(store)).count()
+    }
+
+    fn has_room(&self, more: usize) -> bool {
+        self.expirations.len() + more <= self.limits.expirations
+    }
+
+    fn longest(&self) -> u8 {
+        self.limits.extension as u8
+    }
+
+    fn extension(&mut self) -> u8 {
+        self.random.below(self.limits.extension + 1) as u8
     }
 
     /// The place of an object that may be used in this round.
@@ -160,7 +173,7 @@ impl Plan {
     }
 
     fn make(&mut self) {
-        let (kind, extension) = (random_kind(&mut self.random), self.random.below(31) as u8);
+        let (kind, extension) = (random_kind(&mut self.random), self.extension());
         self.make_if_free(kind, extension);
     }
 
@@ -171,8 +184,8 @@ impl Plan {
     fn make_if_free(&mut self, kind: Kind, extension: u8) {
         let task = self.task();
         let length = 1 + self.random.below(256) as u16;
-        let full = if length <= 32 { self.standing(1..=32) >= 64 } else { self.standing(33..=256) >= 32 };
-        if !full && self.expirations.len() < 256 {
+        let store = if length <= 32 { Store::Small } else { Store::Large };
+        if self.standing(store) < self.limits.blocks(store) && self.has_room(1) {
             self.make_now(task, kind, extension, length);
         }
     }
@@ -186,8 +199,8 @@ impl Plan {
 
     fn refresh(&mut self) {
         let (task, kind) = (self.task(), random_kind(&mut self.random));
-        let extension = self.random.below(31) as u8;
-        if self.expirations.len() < 256 {
+        let extension = self.extension();
+        if self.has_room(1) {
             if let Some(place) = self.any_standing() {
                 self.refresh_now(place, task, kind, extension);
             }
@@ -202,10 +215,10 @@ impl Plan {
     /// Some objects that stand, one or the other of them named twice.
     fn batch(&mut self) {
         let (task, kind) = (self.task(), random_kind(&mut self.random));
-        let extension = self.random.below(31) as u8;
-        let count = 1 + self.random.below(32);
+        let extension = self.extension();
+        let count = 1 + self.random.below(LARGEST_BATCH);
         let places: Vec<_> = (0..count).filter_map(|_| self.any_standing()).collect();
-        if !places.is_empty() && self.expirations.len() + count <= 256 {
+        if !places.is_empty() && self.has_room(count) {
             self.batch_now(&places, task, kind, extension);
         }
     }
@@ -258,7 +271,7 @@ impl Plan {
 
     /// A call that the heap refuses.
     fn left_aside(&mut self) {
-        let (task, kind) = (self.task(), Kind::Local);
+        let (task, kind, extension) = (self.task(), Kind::Local, self.longest());
         let handle = self.random.pick(&[0, self.given + 1, u32::MAX]);
         // Gone or not, other objects of a batch do not count beside a handle that was never given.
         let any = 1 + self.random.below(self.given.max(1) as usize) as u32;
@@ -267,20 +280,20 @@ impl Plan {
             Call::Tick { task: 16 },
             Call::Join { task },
             Call::Resume { task },
-            Call::Make { task, kind, extension: 31, length: 1 },
-            Call::Make { task, kind, extension: 30, length: 257 },
+            Call::Make { task, kind, extension: extension + 1, length: 1 },
+            Call::Make { task, kind, extension, length: 257 },
             Call::Make { task, kind: Kind::Pinned, extension: 1, length: 1 },
             Call::Refresh { task, kind: Kind::Pinned, extension: 0, handle: any },
             Call::Batch { task, kind: Kind::Pinned, extension: 0, handles: kept(&[any]) },
             Call::Release { task, handle },
-            Call::Refresh { task, kind, extension: 30, handle },
+            Call::Refresh { task, kind, extension, handle },
             Call::Read { task, handle },
             Call::Write { task, handle, offset: 255, bytes: &BYTES },
-            Call::Batch { task, kind, extension: 30, handles: first },
-            Call::Batch { task, kind, extension: 30, handles: later },
-            Call::Batch { task, kind, extension: 31, handles: kept(&[any]) },
-            Call::Batch { task, kind, extension: 30, handles: kept(&[]) },
-            Call::Batch { task, kind, extension: 30, handles: kept(&[any; 33]) },
+            Call::Batch { task, kind, extension, handles: first },
+            Call::Batch { task, kind, extension, handles: later },
+            Call::Batch { task, kind, extension: extension + 1, handles: kept(&[any]) },
+            Call::Batch { task, kind, extension, handles: kept(&[]) },
+            Call::Batch { task, kind, extension, handles: kept(&[any; 33]) },
         ]);
         self.list.push(call);
     }
@@ -289,9 +302,9 @@ impl Plan {
     pub fn go_out(&mut self) -> usize {
         match self.random.below(5) {
             0 => self.use_gone(),
-            1 => self.one_block_more(1..=32, 64),
-            2 => self.one_block_more(33..=256, 32),
-            3 => self.one_expiration_more(),
+            1 if self.can_fill(Store::Small) => self.one_block_more(Store::Small, [1, 32]),
+            2 if self.can_fill(Store::Large) => self.one_block_more(Store::Large, [33, 256]),
+            1..=3 => self.one_expiration_more(),
             _ => self.batch_without_room(),
         }
         self.list.len() - 1
@@ -300,7 +313,7 @@ impl Plan {
     /// Gone by time, or by its release.
     fn use_gone(&mut self) {
         let (task, kind) = (self.task(), random_kind(&mut self.random));
-        let extension = self.random.below(31) as u8;
+        let extension = self.extension();
         self.make_room();
         let place = self.objects.len();
         if self.random.one_in(3) {
@@ -327,17 +340,22 @@ impl Plan {
         self.list.push(call);
     }
 
-    fn one_block_more(&mut self, lengths: RangeInclusive<u16>, blocks: usize) {
+    /// There are expirations for objects in all blocks.
+    fn can_fill(&self, store: Store) -> bool {
+        self.limits.blocks(store) <= self.limits.expirations
+    }
+
+    fn one_block_more(&mut self, store: Store, ends: [u16; 2]) {
         self.make_room();
-        while self.standing(lengths.clone()) < blocks {
-            let length = self.random.pick(&[*lengths.start(), *lengths.end()]);
-            self.make_now(0, Kind::Global, 3, length);
+        while self.standing(store) < self.limits.blocks(store) {
+            let length = self.random.pick(&ends);
+            self.make_now(0, Kind::Global, self.longest().min(3), length);
         }
-        self.list.push(Call::Make { task: 0, kind: Kind::Local, extension: 0, length: *lengths.start() });
+        self.list.push(Call::Make { task: 0, kind: Kind::Local, extension: 0, length: ends[0] });
     }
 
     fn one_expiration_more(&mut self) {
-        let handle = self.fill_up_to(256);
+        let handle = self.fill_up_to(self.limits.expirations);
         let call = self.random.pick(&[
             Call::Refresh { task: 0, kind: Kind::Local, extension: 0, handle },
             Call::Make { task: 0, kind: Kind::Local, extension: 0, length: 1 },
@@ -348,23 +366,23 @@ impl Plan {
 
     /// One object more than there is room for.
     fn batch_without_room(&mut self) {
-        let count = 1 + self.random.below(32);
-        let handle = self.fill_up_to(256 - (count - 1));
+        let count = 1 + self.random.below(LARGEST_BATCH);
+        let handle = self.fill_up_to((self.limits.expirations + 1).saturating_sub(count));
         let handles = kept(&vec![handle; count]);
         self.list.push(Call::Batch { task: 0, kind: Kind::Local, extension: 0, handles });
     }
 
-    /// Has so many expirations stand, all on one object; its handle.
+    /// Has so many expirations stand, one at least, all on one object; its handle.
     fn fill_up_to(&mut self, expirations: usize) -> u32 {
         self.make_room();
-        self.make_now(0, Kind::Local, 30, 1);
-        let place = self.objects.len() - 1;
+        self.make_now(0, Kind::Local, self.longest(), 1);
+        let (place, extension) = (self.objects.len() - 1, self.longest().min(7));
         while self.expirations.len() < expirations {
             let kind = random_kind(&mut self.random);
-            if self.expirations.len() + 32 <= expirations && self.random.one_in(4) {
-                self.batch_now(&[place; 32], 0, kind, 7);
+            if self.expirations.len() + LARGEST_BATCH <= expirations && self.random.one_in(4) {
+                self.batch_now(&[place; LARGEST_BATCH], 0, kind, extension);
             } else {
-                self.refresh_now(place, 0, kind, 7);
+                self.refresh_now(place, 0, kind, extension);
             }
         }
         self.objects[place].handle

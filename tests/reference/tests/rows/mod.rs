@@ -1,7 +1,10 @@
 //! Rows of calls: how often a line comes, the line, and its answer each time, by both ledgers.
 
+use reference::call::Model;
 use reference::indexed;
-use reference::script::{run, run_on};
+use reference::ledger::Ledger;
+use reference::limits::Limits;
+use reference::script::run_from;
 
 pub type Row = (usize, &'static str, &'static str);
 
@@ -23,10 +26,16 @@ macro_rules! eight {
 /// Stands for every accepted answer.
 pub const ACCEPTED: &str = "accepted";
 
+/// In a pool of the scope paper's figures.
+#[allow(dead_code)] // Not every test that has rows has them.
 pub fn check(name: &str, rows: &[Row]) {
+    check_in(Limits::STANDARD, name, rows);
+}
+
+pub fn check_in(limits: Limits, name: &str, rows: &[Row]) {
     let script: String = rows.iter().map(|(times, line, _)| format!("{line}\n").repeat(*times)).collect();
-    let output = String::from_utf8(run(script.as_bytes())).unwrap();
-    assert_eq!(output.as_bytes(), run_on::<indexed::Ledger>(script.as_bytes()), "{name}");
+    let output = String::from_utf8(run_from(Ledger::of(limits), script.as_bytes())).unwrap();
+    assert_eq!(output.as_bytes(), run_from(indexed::Ledger::of(limits), script.as_bytes()), "{name}");
     let mut answers = output.lines();
     for (place, (times, line, expected)) in rows.iter().enumerate() {
         for _ in 0..*times {

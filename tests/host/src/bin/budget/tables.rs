@@ -4,9 +4,10 @@ use host_tests::callgrind::Count;
 use host_tests::cases::Case;
 use host_tests::desk::{Entry, Subject};
 use host_tests::measures::Measures;
+use host_tests::sites::CABLE;
 use host_tests::stack;
 use plain::calls::ANSWER_ROOM;
-use plain::limits::{LARGE_STORE, SMALL_STORE};
+use plain::limits::Limits;
 use plain::record::RECORD;
 
 use crate::archive::Size;
@@ -21,8 +22,9 @@ const STACK: usize = 8 * 1024;
 const TYPICAL_STANDING: usize = 128;
 
 /// Each row: its call, and the case that is typical of it. The rows of a frame are by what it asks.
-const ROWS: [(&str, &str); 22] = [
+const ROWS: [(&str, &str); 23] = [
     ("fresh", "fresh"),
+    ("fresh_sized", "fresh_sized"),
     ("join", "join"),
     ("leave", "leave"),
     ("block", "block"),
@@ -46,20 +48,34 @@ const ROWS: [(&str, &str); 22] = [
     ("frame: remaining", "frame: remaining"),
 ];
 
+/// The sites whose RAM is told: the smallest that there is, a small one, and 01's.
+const SITES: [(&str, Limits); 3] =
+    [("the smallest", Limits::SMALLEST), ("a cable of four", CABLE), ("01's figures", Limits::STANDARD)];
+
 pub fn print(cases: &[Case], size: &Size, counts: &Measures<Count>) {
-    println!("## Memory, in bytes\n");
+    println!("## RAM of a site, in bytes, all of it the host's\n");
+    sites();
+    println!("\n## Other memory, in bytes\n");
     memory(size);
     println!("\n## Stack and instructions of each call\n");
     let met = calls(cases, counts);
     println!("\nThe goals are met by {} of {} rows in stack and by {} in instructions.", met.0, ROWS.len(), met.1);
 }
 
+/// The record is as long for every site, whatever its figures.
+fn sites() {
+    println!("| site | small blocks | large blocks | record | small store | large store | together |");
+    println!("|---|---:|---:|---:|---:|---:|---:|");
+    for (name, limits) in SITES {
+        let (small, large) = (limits.small_store(), limits.large_store());
+        let Limits { small_blocks, large_blocks, .. } = limits;
+        let together = RECORD + small + large;
+        println!("| {name} | {small_blocks} | {large_blocks} | {RECORD} | {small} | {large} | {together} |");
+    }
+}
+
 fn memory(size: &Size) {
     println!("| what | where | bytes |\n|---|---|---:|");
-    println!("| the record | RAM, the host's | {RECORD} |");
-    println!("| the small store | RAM, the host's | {SMALL_STORE} |");
-    println!("| the large store | RAM, the host's | {LARGE_STORE} |");
-    println!("| record and stores together | RAM, the host's | {} |", RECORD + SMALL_STORE + LARGE_STORE);
     println!("| the library's own variables | RAM | {} |", size.variables);
     println!("| room for an answer line, where frames are used | RAM, the host's | {ANSWER_ROOM} |");
     println!("| machine code of all entries, x86-64 | text | {} |", size.text);

@@ -9,7 +9,7 @@ mod svg;
 
 use super::phrases::counted;
 use super::Line;
-use crate::limits::{Store, MOST_EXPIRATIONS};
+use crate::limits::Limits;
 use bars::{bars, present, HATCHED, ROW};
 use curves::{axis, baseline, curve, frame, grid, EXPIRATIONS, GLOBAL, LARGE, SMALL};
 use scale::{Columns, Panel, LEFT, RIGHT};
@@ -19,13 +19,14 @@ use svg::{Anchor, Svg};
 const APART: f64 = 34.0;
 const TOP: f64 = 112.0;
 
-/// Standing objects, expirations and global time after each line, the tasks' states, and the refusals.
-pub fn picture(lines: &[Line]) -> String {
+/// Standing objects, expirations and global time after each line, the tasks' states, and the refusals. The figures are
+/// those of the script's pool.
+pub fn picture(limits: Limits, lines: &[Line]) -> String {
     let (mut svg, title) = (Svg::default(), title(lines));
     svg.raw(HATCHED);
     svg.text(LEFT, 28.0, 18, Anchor::Start, &title);
     svg.group("legend", |svg| legend::legend(svg, 52.0));
-    let bottom = figures(&mut svg, lines);
+    let bottom = figures(&mut svg, limits, lines);
     let bottom = tasks(&mut svg, bottom + APART, lines);
     let bottom = refusals(&mut svg, bottom + APART, lines);
     let height = line_axis(&mut svg, Columns(lines.len()), bottom);
@@ -38,17 +39,18 @@ fn title(lines: &[Line]) -> String {
 }
 
 /// The three panels of figures. This and the next ones give where they end.
-fn figures(svg: &mut Svg, lines: &[Line]) -> f64 {
+fn figures(svg: &mut Svg, limits: Limits, lines: &[Line]) -> f64 {
     let small = || lines.iter().map(|line| u64::from(line.after.figures.small));
     let large = || lines.iter().map(|line| u64::from(line.after.figures.large));
     let expirations = || lines.iter().map(|line| u64::from(line.after.figures.expirations));
     let global = || lines.iter().map(|line| line.after.global);
 
-    let (smalls, larges) = (Store::Small.blocks(), Store::Large.blocks());
-    let panel = Panel { top: TOP, height: 128.0, most: smalls as u64, step: 16 };
+    let Limits { small_blocks, large_blocks, expirations: most_expirations, .. } = limits;
+    let panel = Panel::by_quarters(TOP, 128.0, small_blocks.max(large_blocks));
     let name = format!(
-        "Standing objects (count): at most {} small of {smalls} blocks, {} large of {larges}",
+        "Standing objects (count): at most {} small of {}, {} large of {large_blocks}",
         most(small()),
+        counted(small_blocks, "block"),
         most(large())
     );
     svg.group("objects", |svg| {
@@ -57,8 +59,8 @@ fn figures(svg: &mut Svg, lines: &[Line]) -> f64 {
         curve(svg, &panel, LARGE, large());
     });
 
-    let panel = Panel { top: panel.bottom() + APART, height: 80.0, most: MOST_EXPIRATIONS as u64, step: 64 };
-    let name = format!("Expirations (count): at most {} of {MOST_EXPIRATIONS}", most(expirations()));
+    let panel = Panel::by_quarters(panel.bottom() + APART, 80.0, most_expirations);
+    let name = format!("Expirations (count): at most {} of {most_expirations}", most(expirations()));
     svg.group("expirations", |svg| {
         axis(svg, lines, &panel, &name);
         curve(svg, &panel, EXPIRATIONS, expirations());

@@ -39,6 +39,11 @@ pub struct Panel {
 }
 
 impl Panel {
+    /// Up to a figure, with four steps at most.
+    pub fn by_quarters(top: f64, height: f64, figure: usize) -> Panel {
+        Panel { top, height, most: figure as u64, step: figure.div_ceil(4) as u64 }
+    }
+
     /// With four steps at most up to a value that is not known before.
     pub fn up_to(top: f64, height: f64, value: u64) -> Panel {
         let step = round_step(value, 4);

@@ -1,0 +1,74 @@
+//! When a record is well-formed, in the words of the rules W of docs/RULES.md. Nothing here is arranged for speed.
+
+use plain::limits::{Limits, EXPIRATIONS};
+use plain::record::{length_in, Pool, ABSENT, DEPARTED, FREE, GLOBAL, LOCAL, PINNED, RUNNING};
+
+/// All of them, W18 and W19 as `past`.
+pub fn is_fit(pool: &Pool) -> bool {
+    let dates = || (0..EXPIRATIONS).filter(|&date| pool.clocks[date] != FREE);
+    let block_of = |date: usize| usize::from(pool.named[date]);
+    let used = |place: usize| pool.handles.get(place).is_some_and(|&handle| handle != 0);
+    let running = || pool.tasks.iter().filter(|task| task.state == RUNNING);
+    let named = dates().all(|date| used(block_of(date)));
+    // W16 among them: no two pinned ones of one object.
+    let blocks = (0..96).filter(|&place| used(place)).all(|place| {
+        let (handle, length) = (pool.handles[place], length_in(pool.extents[place]));
+        let range = if place < 64 { 1..=32 } else { 33..=256 };
+        dates().any(|date| block_of(date) == place)
+            && range.contains(&length)
+            && handle <= pool.given
+            && pool.handles.iter().filter(|&&other| other == handle).count() == 1
+            && dates().filter(|&date| block_of(date) == place && pool.clocks[date] == PINNED).count() <= 1
+    });
+    let known = pool.tasks.iter().all(|task| task.state <= 2 && task.ticked <= 1);
+    let marks = pool.tasks.iter().all(|task| task.ticked == 0 || task.state == RUNNING);
+    let pending = running().count() == 0 || running().any(|task| task.ticked == 0);
+    let absent = pool.tasks.iter().all(|task| task.state != ABSENT || task.clock == 0);
+    let past = (0..96).filter(|&place| used(place)).any(|place| !is_block(pool.limits, place))
+        || dates().any(|date| date >= pool.limits.expirations as usize);
+    is_allowed(pool.limits)
+        && !past
+        && named
+        && blocks
+        && dates().all(|date| is_ahead(pool, date))
+        && known
+        && marks
+        && pending
+        && absent
+}
+
+/// W17.
+fn is_allowed(limits: Limits) -> bool {
+    let Limits { small_blocks, large_blocks, expirations, extension } = limits;
+    (1..=64).contains(&small_blocks)
+        && (1..=32).contains(&large_blocks)
+        && (1..=256).contains(&expirations)
+        && (0..=30).contains(&extension)
+}
+
+/// Whether the site has this block, for W18.
+fn is_block(limits: Limits, place: usize) -> bool {
+    if place < 64 {
+        place < limits.small_blocks as usize
+    } else {
+        place < 64 + limits.large_blocks as usize
+    }
+}
+
+/// W6 to W8, W12, W14 and W15: a known clock, a setter that is there or departed, and so much left as can be; or pinned,
+/// with no time.
+fn is_ahead(pool: &Pool, date: usize) -> bool {
+    let most = u64::from(pool.limits.extension);
+    let units = |now: u32| u64::from(pool.dues[date].wrapping_sub(now));
+    let global = (1..=most + 2).contains(&units(pool.global));
+    match pool.clocks[date] {
+        clock @ LOCAL..GLOBAL => {
+            let setter = pool.tasks[usize::from(clock - LOCAL)];
+            setter.state != ABSENT && (1..=most + 1).contains(&units(setter.clock))
+        }
+        clock @ GLOBAL..DEPARTED => pool.tasks[usize::from(clock - GLOBAL)].state != ABSENT && global,
+        DEPARTED => global,
+        PINNED => pool.dues[date] == 0,
+        _ => false,
+    }
+}
