@@ -82,7 +82,7 @@ enum ramsummer_answer {
     RAMSUMMER_HANDLE_NOT_GIVEN = 11,    /* handle 0, or above the count given */
     RAMSUMMER_OBJECT_GONE = 12,         /* the object's last expiration has ended */
     RAMSUMMER_OUTSIDE_OBJECT = 13,      /* write: offset plus count above the object's length */
-    RAMSUMMER_WRONG_STORE_LENGTH = 14,  /* a store is not as long as the pool's blocks need */
+    RAMSUMMER_WRONG_STORE_LENGTH = 14,  /* a store has not exactly the length that the pool's blocks need */
     RAMSUMMER_NOT_WELL_FORMED = 15,     /* the record is damaged; only 16 to 19 and a frame's 255 are tested before */
     RAMSUMMER_NOT_HEXADECIMAL = 16,     /* frame: not all pairs of digits 0-9, A-F */
     RAMSUMMER_UNKNOWN_OPERATION = 17,   /* frame: no or an unknown operation */
@@ -181,7 +181,8 @@ uint8_t ramsummer_fresh(ramsummer_pool *pool);
 
 /* The same with limits of the site's own; its stores are RAMSUMMER_SMALL_FOR(small_blocks) and
  * RAMSUMMER_LARGE_FOR(large_blocks) long. Where one is out of its range, what is left is a record that every call refuses
- * with 15 until it is made fresh. Tests 29. */
+ * with 15 until it is made fresh, but for what is tested before 15: an unknown kind is 19, and a frame 255 or 16 to 19.
+ * Tests 29. */
 RAMSUMMER_CHECKED uint8_t ramsummer_fresh_sized(ramsummer_pool *pool, uint32_t small_blocks, uint32_t large_blocks,
                                                 uint32_t expirations, uint32_t extension);
 

@@ -13,8 +13,9 @@
 //! | 4 | CRC-32 of all bytes before it |
 //!
 //! The record has the [`Limits`] of the pool, which come back with it, and so says how long its stores are. An image comes
-//! back to stores of these lengths alone; an image of the record alone asks for none, and the first call that is lent others
-//! is refused with [`WrongStoreLength`](crate::Refusal::WrongStoreLength).
+//! back to stores of these lengths alone; an image of the record alone asks for none, and a make, a read or a write that is
+//! lent others is refused with [`WrongStoreLength`](crate::Refusal::WrongStoreLength), by its entry or as a frame. No other
+//! call looks at them.
 //!
 //! include/ramsummer_image.h is the same in C. Nothing here is proved, and the library does not rely on it: what comes
 //! back is a record that the first call tests, as it does any other.

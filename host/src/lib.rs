@@ -143,7 +143,9 @@
 //! # What is proved
 //!
 //! What the calls do is proved of the library, in the repository that this crate is part of. Of this crate nothing is
-//! proved: it passes arguments on and hands answers back, and `src/sys.rs` has all of its unsafe code.
+//! proved: its calls pass arguments on and hand answers back, and `src/sys.rs` has all of its unsafe code. [`Record::fresh`],
+//! [`Record::sized`], `Pool::new`, `Pool::sized` and [`SitePool::in_place`] make the record and decide
+//! [`LimitsOutOfRange`](Refusal::LimitsOutOfRange) themselves; a test holds them to the library's entry.
 //!
 //! The build links `libramsummer.a` from the repository's `target/staticlib`, where `rt staticlib ramsummer` writes it,
 //! or from the folder that the environment variable `RAMSUMMER_LIB` names (README.md has the rule).

@@ -42,8 +42,8 @@ pub struct TaskEntry {
 
 /// All that a pool knows, but for the objects' bytes, which are in the stores.
 ///
-/// It holds nothing but numbers, and any numbers may be in it: each call but `fresh` tests whether the record is
-/// well-formed, before all else but what is wrong with a frame itself, and refuses with
+/// It holds nothing but numbers, and any numbers may be in it: each call but `fresh` and `fresh_sized` tests whether the
+/// record is well-formed, before all else but what is wrong with a frame itself, and refuses with
 /// [`NotWellFormed`](crate::Refusal::NotWellFormed) where it is not.
 ///
 /// Store block `i` and the object in it are `handles[i]` and `extents[i]`; in every pool the small store's are numbered
@@ -137,7 +137,7 @@ impl Record {
     }
 
     /// The record as its bytes, in the order of this machine. They have no version: after an update of the library begin
-    /// with [`Record::fresh`], or keep an [`image`](crate::image), which has a version and a CRC-32.
+    /// with [`Record::fresh`] or [`Record::sized`], or keep an [`image`](crate::image), which has a version and a CRC-32.
     ///
     /// ```
     /// # use ramsummer::{Pool, Record, LARGE, SMALL};

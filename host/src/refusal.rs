@@ -43,7 +43,8 @@ pub enum Refusal {
     ObjectGone = 12,
     /// Write: offset plus count above the object's length.
     OutsideObject = 13,
-    /// A store that is not as long as the pool's blocks need ([`Limits::small_length`](crate::Limits::small_length)).
+    /// A store that has not exactly the length that the pool's blocks need
+    /// ([`Limits::small_length`](crate::Limits::small_length)).
     WrongStoreLength = 14,
     /// The record is damaged.
     NotWellFormed = 15,
@@ -124,7 +125,7 @@ impl Refusal {
             Refusal::HandleNotGiven => "the handle was never given",
             Refusal::ObjectGone => "the object is gone: its last expiration has ended",
             Refusal::OutsideObject => "the bytes reach beyond the object's end",
-            Refusal::WrongStoreLength => "a store is not as long as the pool's blocks need",
+            Refusal::WrongStoreLength => "a store has not exactly the length that the pool's blocks need",
             Refusal::NotWellFormed => "the record is not well-formed",
             Refusal::NotHexadecimal => "the frame is not hexadecimal, two digits for a byte",
             Refusal::UnknownOperation => "the frame names no known operation",

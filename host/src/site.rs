@@ -28,16 +28,28 @@ impl<const SMALL_BLOCKS: usize, const LARGE_BLOCKS: usize> SitePool<SMALL_BLOCKS
     /// ramsummer::SitePool::<65, 4>::in_place::<64, 10>(); // 65 small blocks
     /// ```
     /// ```compile_fail,E0080
+    /// ramsummer::SitePool::<0, 4>::in_place::<64, 10>(); // no small block
+    /// ```
+    /// ```compile_fail,E0080
+    /// ramsummer::SitePool::<16, 33>::in_place::<64, 10>(); // 33 large blocks
+    /// ```
+    /// ```compile_fail,E0080
     /// ramsummer::SitePool::<16, 0>::in_place::<64, 10>(); // no large block
     /// ```
     /// ```compile_fail,E0080
     /// ramsummer::SitePool::<16, 4>::in_place::<257, 10>(); // 257 expirations
     /// ```
     /// ```compile_fail,E0080
+    /// ramsummer::SitePool::<16, 4>::in_place::<0, 10>(); // no expiration
+    /// ```
+    /// ```compile_fail,E0080
     /// ramsummer::SitePool::<16, 4>::in_place::<64, 31>(); // an extension of 31
     /// ```
     /// ```compile_fail,E0080
     /// ramsummer::SitePool::<4_294_967_297, 4>::in_place::<64, 10>(); // not cut to one small block
+    /// ```
+    /// ```compile_fail,E0080
+    /// ramsummer::SitePool::<16, 4_294_967_297>::in_place::<64, 10>(); // nor to one large one
     /// ```
     pub const fn in_place<const EXPIRATIONS: u32, const EXTENSION: u32>() -> Self {
         let limits = const {

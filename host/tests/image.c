@@ -6,6 +6,8 @@
  *
  * With `alone` or `whole`: one such image. Out go faults, a byte each: of each flip of a bit, or of each fifth; of each cut;
  * and of what tests/image_c.rs lists. 255 is a fault that left something changed.
+ *
+ * With `old`: one of an earlier version. Out go its faults, alone and with stores, at its own length and with bytes after it.
  */
 #include <stdio.h>
 #include <string.h>
@@ -110,7 +112,18 @@ static int faults_whole(void) {
     return 0;
 }
 
+static int faults_old(void) {
+    size_t lengths[] = {0, sizeof image}, i;
+    lengths[0] = fread(image, 1, sizeof image, stdin);
+    for (i = 0; i < 2; i++) {
+        putchar(restored_alone(lengths[i]));
+        putchar(restored_whole(RAMSUMMER_SMALL_BLOCKS, RAMSUMMER_LARGE_BLOCKS, lengths[i]));
+    }
+    return 0;
+}
+
 int main(int count, char **arguments) {
     if (count == 1) return both_ways();
+    if (strcmp(arguments[1], "old") == 0) return faults_old();
     return strcmp(arguments[1], "alone") == 0 ? faults_alone() : faults_whole();
 }

@@ -1,11 +1,13 @@
 //! Saved images: what is saved comes back, and no damage of one bit or cut goes unnoticed.
 
 use lives::{limits, pools, pools_of, Random};
+use old::version_3;
 use ramsummer::image::{crc32, restore, restore_with_stores, save, save_with_stores, with_stores, Fault};
 use ramsummer::image::{MAGIC, RECORD_ALONE, VERSION, WITH_STORES};
-use ramsummer::{Kind, Limits, Pool, Record, Refusal, LARGE, LARGE_SIZE, RECORD, SMALL, SMALL_SIZE};
+use ramsummer::{Kind, Limits, Pool, Record, Refusal, LARGE, LARGE_SIZE, LINE, RECORD, SMALL, SMALL_SIZE};
 
 mod lives;
+mod old;
 
 /// A pool with something in all of its fields.
 fn late_pool() -> Pool {
@@ -88,15 +90,19 @@ fn an_image_comes_back_to_stores_of_its_own_limits_alone() {
     assert_eq!(record.limits, limits);
 }
 
-/// It has no stores with it: the first call that is lent others tells.
+/// It has no stores with it: a make, a read or a write that is lent others tells, and no other call.
 #[test]
 fn a_record_alone_comes_back_with_its_limits() {
     let limits = Limits { small_blocks: 16, large_blocks: 4, expirations: 64, extension: 10 };
     let record = restore(&image_of(&Record::sized(limits).unwrap())).unwrap();
     assert_eq!(record.limits, limits);
     let mut pool = Pool::over(record, [0; SMALL], [0; LARGE]);
-    pool.join(0).unwrap();
+    assert_eq!(pool.frame(b"0100", &mut [0; LINE]).outcome, Ok(()));
     assert_eq!(pool.make(0, Kind::Local, 0, 4), Err(Refusal::WrongStoreLength));
+    assert_eq!(pool.read(0, 1.into(), &mut [0; 4]), Err(Refusal::WrongStoreLength));
+    assert_eq!(pool.write(0, 1.into(), 0, &[]), Err(Refusal::WrongStoreLength));
+    assert_eq!(pool.frame(b"060000000004", &mut [0; LINE]).outcome, Err(Refusal::WrongStoreLength));
+    assert_eq!(pool.tick(0), Ok(true));
 }
 
 /// Numbers so large that 32 bits could not say how long a store or the image would be.
@@ -231,6 +237,23 @@ fn other_versions_and_the_other_kind_are_told() {
     for erased in [[0; RECORD_ALONE], [0xFF; RECORD_ALONE]] {
         assert_eq!(restore(&erased), Err(Fault::Magic));
         assert_eq!(restored(&erased).err(), Some(Fault::Magic));
+    }
+}
+
+/// It has no limits, and so is shorter than any of this version: where nothing stands after it, that is told first.
+#[test]
+fn an_image_of_version_3_is_too_short_at_its_own_length() {
+    let old = version_3();
+    assert_eq!(old.len(), 2456);
+    assert_eq!(restore(&old), Err(Fault::TooShort));
+    assert_eq!(restored(&old).err(), Some(Fault::TooShort));
+    for after in [0, 0xFF] {
+        let mut sector = [after; 4096];
+        sector[..old.len()].copy_from_slice(&old);
+        assert_eq!(restore(&sector), Err(Fault::Version));
+        assert_eq!(restore(&sector[..RECORD_ALONE]), Err(Fault::Version));
+        assert_eq!(restore(&sector[..RECORD_ALONE - 1]), Err(Fault::TooShort));
+        assert_eq!(restored(&sector).err(), Some(Fault::Version));
     }
 }
 

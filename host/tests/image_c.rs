@@ -2,14 +2,16 @@
 
 use in_c::{built, host, scratch};
 use lives::{limits, Random};
+use old::version_3;
 use ramsummer::image::{restore, restore_with_stores, save, save_with_stores, with_stores};
 use ramsummer::image::{Fault, RECORD_ALONE, VERSION, WITH_STORES};
-use ramsummer::{Limits, Record, LARGE_SIZE, RECORD, SMALL_SIZE};
+use ramsummer::{Limits, Record, LARGE, LARGE_SIZE, RECORD, SMALL, SMALL_SIZE};
 use std::fs::{self, File};
 use std::process::Command;
 
 mod in_c;
 mod lives;
+mod old;
 
 /// So many bytes of chance.
 fn bytes(length: usize, random: &mut Random) -> Vec<u8> {
@@ -116,6 +118,22 @@ fn both_tell_the_same_faults_of_an_image_with_stores() {
     assert!(told[..faults.len()] == faults);
     let rest = [Some(Fault::Length), None, Some(Fault::TooShort), Some(Fault::StoreLength), Some(Fault::StoreLength)];
     assert_eq!(told[faults.len()..], rest.map(|fault| fault.map_or(0, Fault::number)));
+}
+
+/// At its own length, and with bytes after it: as a record alone, and with stores.
+#[test]
+fn both_tell_the_same_faults_of_an_image_of_version_3() {
+    let mut image = version_3();
+    let Some(told) = told("image_old", &image, &["old"]) else { return };
+    let mut faults = Vec::new();
+    for length in [image.len(), WITH_STORES] {
+        image.resize(length, 0);
+        faults.push(number(restore(&image)));
+        faults.push(number(restore_with_stores(&image, &mut [0; SMALL], &mut [0; LARGE])));
+    }
+    assert_eq!(told, faults);
+    let (short, old) = (Fault::TooShort.number(), Fault::Version.number());
+    assert_eq!(faults, [short, short, old, old]);
 }
 
 /// `TooShort` as the header has it: `RAMSUMMER_FAULT_TOO_SHORT`.

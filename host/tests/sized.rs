@@ -1,7 +1,7 @@
 //! Pools with limits of the site's own: which are allowed, what is refused by them, and that no call changes them.
 
 use lives::{limits, pools_of, Random};
-use ramsummer::{Handle, Kind, Limits, Pool, Record, Refusal, SitePool, LARGE_SIZE, RECORD, SMALL_SIZE};
+use ramsummer::{Handle, Kind, Limits, Pool, Record, Refusal, SitePool, LARGE_SIZE, LINE, RECORD, SMALL_SIZE};
 
 mod lives;
 
@@ -54,6 +54,10 @@ fn assert_not_well_formed(pool: &mut Pool) {
     refused(pool, Refusal::NotWellFormed, |pool| pool.report());
     refused(pool, Refusal::NotWellFormed, |pool| pool.remaining(0, handle));
     refused(pool, Refusal::NotWellFormed, |pool| pool.awaited());
+    for line in [&b"0100"[..], b"060000000001", b"0A"] {
+        refused(pool, Refusal::NotWellFormed, |pool| pool.frame(line, &mut [0; LINE]).outcome);
+    }
+    assert_eq!(pool.frame(b"0A", &mut [0; LINE]).line, b"0F\n");
 }
 
 #[test]

@@ -193,12 +193,28 @@ static void fits(void) {
         REFUSED(6, ramsummer_refresh(&w.pool, RUNS, RAMSUMMER_LOCAL, n, stands));
 }
 
-/* A pool with limits out of their range: 29, and then 15. */
+/* After line n there is no pool: all is 15 but what is tested before it, a kind or a frame that is none, and nothing changes. */
+static void expect_no_pool(int n) {
+    static const uint8_t report[] = "0A", none[] = "FF", told[] = "0F\n";
+    static uint8_t out[RAMSUMMER_LINE];
+    uint16_t expirations = 7;
+    uint32_t given = 7;
+    size_t count = 0;
+    before = w;
+    REFUSED(15, ramsummer_join(&w.pool, RUNS));
+    REFUSED(15, ramsummer_make(POOL, RUNS, RAMSUMMER_LOCAL, 0, 4, &w.handle));
+    REFUSED(19, ramsummer_make(POOL, RUNS, RAMSUMMER_PINNED + 1, 0, 4, &w.handle));
+    REFUSED(15, ramsummer_report(&w.pool, &w.local, &w.global, &expirations, &given));
+    DONE((expirations != 7 || given != 7));
+    REFUSED(17, ramsummer_frame(POOL, none, 2, out, sizeof out, &count));
+    REFUSED(15, ramsummer_frame(POOL, report, 2, out, sizeof out, &count));
+    DONE((count != 3 || memcmp(out, told, 3) != 0));
+}
+
+/* A pool with limits out of their range: 29, and then there is none. */
 static void expect_none(int line, uint8_t answer) {
-    uint8_t next = ramsummer_join(&w.pool, RUNS);
-    if (answer == 29 && next == 15) return;
-    printf("line %d: answered %d and not 29, then %d and not 15\n", line, answer, next);
-    faults++;
+    if (answer != 29) printf("line %d: answered %d and not 29\n", line, answer), faults++;
+    expect_no_pool(line);
 }
 
 /* Small blocks, large blocks, expirations and extension of a pool that there is not, and of one that there is. */

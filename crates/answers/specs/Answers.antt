@@ -1,7 +1,7 @@
 -- The rules F27 to F32: the line of an answer.
 use Prim.Native.Nat.{ℕ, _+_, _*_}
 use mathlib.Core.List.{List, [], _∷_, _++_}
-use Rattle.text.specs.Fields.{inFields, total}
+use Rattle.text.specs.Fields.{inFields, widthOf}
 use Rattle.text.specs.Hex.{hexOf}
 use Rattle.ledger.specs.Numbers.{answerNumber, answerValues}
 use Rattle.ledger.specs.declared.Answer.{Answer}
@@ -35,4 +35,4 @@ answerLine answer bytes = hexOf (answerHead answer ++ bytes) ++ (10 ∷ [])
 
 -- room for any answer's line: two digits a byte of the widest head, which is report's, and of the largest object, and the LF
 abbrev pub longestAnswer : ℕ
-longestAnswer = 2 * (1 + total reportWidths + largeSize) + 1
+longestAnswer = 2 * (1 + widthOf reportWidths + largeSize) + 1

@@ -31,7 +31,7 @@ use Rattle.expirations.specs.Setting.{Sets}
 use Rattle.expirations.specs.Setting.{entryFor as newEntry}
 use Rattle.expirations.specs.Standing.{standingOf}
 use Rattle.calls.specs.Contract.{Ready, Makes}
-use Rattle.calls.specs.Engine.{withGiven, outcomeOf}
+use Rattle.calls.specs.Engine.{withGiven}
 use Rattle.calls.proofs.Lent.{tables-of, lent-allowed, lent-typed}
 use Rattle.expirations.proofs.Counting.{standing-of}
 use Rattle.calls.proofs.MadeLent.{made-left}
@@ -54,7 +54,7 @@ module _ {h : Head} (hs ls cs : List ℕ) {ns ds : List ℕ} (types : HeadTyped 
       (sym (make-planned hs ls (sized .blocks .of-handles) (sized .blocks .of-extents) h (entriesOf cs ns ds) task kind extension size))
 
   pub make-refused-lent : {why : Refusal} → plan .verdict ≡ Refused why
-      → Makes task kind extension size (pooled h hs ls cs ns ds) small large (outcomeOf (record { answer = RefusedAnswer why; head = h }) hs ls cs ns ds) small large
+      → Makes task kind extension size (pooled h hs ls cs ns ds) small large (RefusedAnswer why) (pooled h hs ls cs ns ds) small large
   make-refused-lent {why} v = make-kept of-entries ready why (verdict-of ∙ v)
 
   module _ (v : plan .verdict ≡ Accepted) where
@@ -111,7 +111,7 @@ module _ {h : Head} (hs ls cs : List ℕ) {ns ds : List ℕ} (types : HeadTyped 
         let ls′ = set ls (plan .place) (extentOf size 0) in
         Sized hs′ ls′ cs′ ns′ ds′
         × Makes task kind extension size (pooled h hs ls cs ns ds) small large
-        (outcomeOf (record { answer = Handle (h .given + 1); head = withGiven h (h .given + 1) }) hs′ ls′ cs′ ns′ ds′) small′ large′)
+        (Handle (h .given + 1)) (pooled (withGiven h (h .given + 1)) hs′ ls′ cs′ ns′ ds′) small′ large′)
     make-set-lent sets s l = (
       record {
         blocks = record { of-handles = rw length-set (sized .blocks .of-handles); of-extents = rw length-set (sized .blocks .of-extents) };

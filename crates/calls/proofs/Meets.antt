@@ -35,7 +35,6 @@ use Rattle.record.proofs.Exists.{every-fit-record-reads}
 use Rattle.record.specs.Codes.{freeBlock}
 use Rattle.steps.proofs.Chosen.{make-takes, write-begins, read-sum}
 use Rattle.calls.specs.Contract.{areWhole, Ready, Obeys, Makes, Locates, ReadsBack, summed, Writes}
-use Rattle.calls.proofs.Promises.{isRefusal}
 use Rattle.calls.proofs.Outcomes.{make-refused, make-done, read-refused, read-done, write-refused, write-done}
 
 -- both stores, each by itself
@@ -51,19 +50,6 @@ limits-of p = refl
 pub table-halves : (p : Pool) (small large : List ℕ) → areWhole (p .limits) small large ≡ true
     → (isWholeSmall (tablesOf p .limits) small ≡ true) × (isWholeLarge (tablesOf p .limits) large ≡ true)
 table-halves p small large whole = rw (limits-of p) (halves (p .limits) small large whole)
-
--- a make that is refused takes no block
-pub refused-makes : (task : ℕ) (kind : Kind) (extension size : ℕ) (p : Pool) (small large : List ℕ) (r : Refusal)
-    → Obeys (Use (Make task kind extension size)) [] p small large (plain (RefusedAnswer r)) p small large
-    → Makes task kind extension size p small large (record { answer = RefusedAnswer r; pool = p }) small large
-refused-makes task kind extension size p small large r o = record { obeys = o; placed = λ handle h. absurd (true≢false (ap isRefusal h)) }
-
--- a write that is refused changes nothing
-pub refused-writes : (task handle offset : ℕ) (new : List ℕ) (p : Pool) (small large : List ℕ) (r : Refusal)
-    → Obeys (Use (Write task handle offset)) new p small large (plain (RefusedAnswer r)) p small large
-    → Writes task handle offset new p small large (RefusedAnswer r) p small large
-refused-writes task handle offset new p small large r o =
-    record { obeys = o; written = λ d. absurd (true≢false (ap isRefusal d)) }
 
 -- a read that is refused finds no block
 pub refused-locates : (task handle : ℕ) (p : Pool) (small large : List ℕ) (r : Refusal)
@@ -97,30 +83,19 @@ module _ {task : ℕ} {kind : Kind} {extension size : ℕ} {p : Pool} {small lar
 
   -- refused: no block is taken
   pub make-kept : (why : Refusal) → makeVerdict task kind extension size (tablesOf p) ≡ Refused why
-      → Makes task kind extension size p small large (record { answer = RefusedAnswer why; pool = p }) small large
-  make-kept why v =
-      refused-makes task kind extension size p small large why (make-refused p types (ready .fit) small large (ready .whole refl) task kind extension size why v)
+      → Makes task kind extension size p small large (RefusedAnswer why) p small large
+  make-kept why v = make-refused p types (ready .fit) small large (ready .whole refl) task kind extension size why v
 
   -- accepted: the block is cleared
   pub make-cleared : {p′ : Pool} (place : ℕ) → place ≡ freePlace (p .limits) size (tablesOf p .blocks) → getD (p .handles) place 0 ≡ 0 → getD (p′ .handles) place 0 ≡ p .given + 1
       → tablesOf p′ ≡ madePool task kind extension size (tablesOf p)
       → makeVerdict task kind extension size (tablesOf p) ≡ Accepted → {small′ large′ : List ℕ}
       → small′ ≡ smallAfter place 0 (replicate (sizeOf place) 0) small → large′ ≡ largeAfter place 0 (replicate (sizeOf place) 0) large
-      → Makes task kind extension size p small large (record { answer = Handle (p .given + 1); pool = p′ }) small′ large′
+      → Makes task kind extension size p small large (Handle (p .given + 1)) p′ small′ large′
   make-cleared {p′} place at free holds left v s l =
-      record {
-        obeys = rw (s, l, at) (rw (limits-of p) at (make-done p types (ready .fit) small large (ready .whole refl) task kind extension size left v));
-        placed = λ handle h. (
-          place,
-          record {
-            known = rw at (place-known v);
-            free = free;
-            holds = rw holds cc;
-            smallCleared = s;
-            largeCleared = l;
-          },
-        );
-      }
+      rw (s, l, at)
+      (rw (limits-of p) at
+      (make-done p types (ready .fit) small large (ready .whole refl) task kind extension size left v (rw (limits-of p) (place-known v)) (rw (limits-of p, ← at) free) (rw (limits-of p, ← at) holds)))
 
 -- an object that is found, or why not
 module _ {task handle : ℕ} {p : Pool} {small large : List ℕ} (types : Typed (tablesOf p)) (ready : Ready (Use (Read task handle)) p small large) where
@@ -150,8 +125,7 @@ module _ {task handle offset : ℕ} {p : Pool} {small large : List ℕ} (types :
   module _ (f : FoundBytes) (so : f ≡ bytesIn (writeVerdict task handle offset (length new) small large) handle (tablesOf p)) where
     pub write-kept : (why : Refusal) → f ≡ RefusedBytes why → Writes task handle offset new p small large (RefusedAnswer why) p small large
     write-kept why g =
-        refused-writes task handle offset new p small large why
-        (write-refused p types (ready .fit) small large (ready .whole refl) task handle offset new why (bytes-refused handle (tablesOf p) _ (sym so ∙ g)))
+        write-refused p types (ready .fit) small large (ready .whole refl) task handle offset new why (bytes-refused handle (tablesOf p) _ (sym so ∙ g))
 
     module _ {block count sum : ℕ} (g : f ≡ At block count sum) where
       accepted : (writeVerdict task handle offset (length new) small large (tablesOf p) ≡ Accepted) × (placeOf handle (tablesOf p .blocks) ≡ block)
@@ -183,7 +157,6 @@ module _ {task handle offset : ℕ} {p : Pool} {small large : List ℕ} (types :
           → Writes task handle offset new p small large Done p′ (smallAfter block offset new small) (largeAfter block offset new large)
       write-found {p′} left same =
           let place : placeIn handle (p .handles) ≡ block = here ∙ accepted .1 in
-          record {
-            obeys = rw (← accepted .1) (write-done p types (ready .fit) small large (ready .whole refl) task handle offset new left (accepted .0));
-            written = λ d. record { inSmall = rw place; inLarge = rw place; inRecord = rw (place, sum-left) same };
-          }
+          rw (← accepted .1)
+          (write-done p types (ready .fit) small large (ready .whole refl) task handle offset new left (accepted .0)
+          (rw (accepted .1) (record { inSmall = rw place; inLarge = rw place; inRecord = rw (place, sum-left) same })))

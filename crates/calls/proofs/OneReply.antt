@@ -17,7 +17,7 @@ one-reply request new p small large types y y₂ p′ p″ small′ small″ lar
     by-ledger : isWellFormed p ≡ true → (isStored request ≡ true → areWhole (p .limits) small large ≡ true) → y ≡ y₂
     by-ledger fit whole =
         let (L, reads) = every-fit-record-reads p types fit small large in
-        o .answers fit whole L reads ∙ sym (o₂ .answers fit whole L reads)
+        o .answers (record { fit = fit; whole = whole }) L reads ∙ sym (o₂ .answers (record { fit = fit; whole = whole }) L reads)
 
     by-stores : isWellFormed p ≡ true → isStored request ≡ true → y ≡ y₂
     by-stores fit stored =

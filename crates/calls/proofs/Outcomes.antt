@@ -4,7 +4,7 @@ use native.Mathlib.Omega.{arith}
 use mathlib.Core.Bool.{true, false≢true, and-eq-true-iff}
 use mathlib.Core.List.{List, []}
 use mathlib.Core.Path.{_≡_, refl, ap, _∙_}
-use lib.ListN.{length, replicate}
+use lib.ListN.{getD, length, replicate}
 use Rattle.ledger.specs.Objects.{plain, replyTo, memoryAfter, expirationsAfter, handlesOf}
 use Rattle.ledger.specs.Ledger.{Ledger}
 use Rattle.ledger.specs.Refusals.{asRefusal}
@@ -19,6 +19,7 @@ use Rattle.stores.specs.Places.{smallAfter, largeAfter}
 use Rattle.record.specs.Reading.{isWholeSmall, isWholeLarge, blockBytes, Typed, sizeOf}
 use Rattle.record.specs.Tables.{tablesBy, tablesOf}
 use Rattle.record.specs.Pools.{isWellFormed, Reads}
+use Rattle.record.specs.WellFormed.{isBlock}
 use Rattle.record.specs.declared.Pool.{Pool}
 use Rattle.record.proofs.Facts.{fit-parts}
 use Rattle.record.proofs.Exists.{every-fit-record-reads}
@@ -31,7 +32,7 @@ use Rattle.steps.proofs.Verdicts.{make-verdict, refresh-verdict, read-verdict, 
 use Rattle.steps.proofs.ObjectsFollow.{same-given, make-fits, make-reads, refresh-fits, refresh-reads, read-bytes, write-fits, write-sizes, write-reads}
 use Rattle.steps.proofs.Batches.{batch-fits, batch-reads, batch-stays}
 use Rattle.steps.proofs.Releases.{release-fits, release-reads, release-stays}
-use Rattle.calls.specs.Contract.{areWhole, Obeys}
+use Rattle.calls.specs.Contract.{areWhole, Obeys, Written}
 use Rattle.calls.proofs.Promises.{refused-obeys, carried-obeys}
 
 module _ (p : Pool) (types : Typed (tablesOf p)) (w : isWellFormed p ≡ true) (small large : List ℕ) where
@@ -55,7 +56,7 @@ module _ (p : Pool) (types : Typed (tablesOf p)) (w : isWellFormed p ≡ true) (
         carried-obeys _ [] p small large w (λ s. absurd (false≢true s)) (plain Done) p′ small large refl
         (λ L reads. refresh-verdict types (fit-parts (tablesOf p) w) reads task kind extension handle [] ∙ ap asRefusal v)
         (λ L reads. refl) (λ L reads. rw left (refresh-reads w types reads task kind extension handle v))
-        (rw left (refresh-fits w types (some .1) task kind extension handle v)) (rw left (refresh-stays task kind extension handle (tablesOf p))) (refl, refl)
+        (rw left (refresh-fits w types (some .1) task kind extension handle v)) (rw left (refresh-stays task kind extension handle (tablesOf p))) (refl, refl) (refl, refl)
 
   -- batch, whatever the stores
   module _ (task : ℕ) (kind : Kind) (extension : ℕ) (new : List ℕ) where
@@ -73,7 +74,7 @@ module _ (p : Pool) (types : Typed (tablesOf p)) (w : isWellFormed p ≡ true) (
         carried-obeys _ new p small large w (λ s. absurd (false≢true s)) (plain Done) p′ small large refl
         (λ L reads. batch-verdict types (fit-parts (tablesOf p) w) reads task kind extension new ∙ ap asRefusal v)
         (λ L reads. refl) (λ L reads. rw left (batch-reads w types reads task kind extension new v))
-        (rw left (batch-fits w types (some .1) task kind extension new v)) (rw left (batch-stays task kind extension (handlesOf new) (tablesOf p))) (refl, refl)
+        (rw left (batch-fits w types (some .1) task kind extension new v)) (rw left (batch-stays task kind extension (handlesOf new) (tablesOf p))) (refl, refl) (refl, refl)
 
   -- release, whatever the stores
   module _ (task handle : ℕ) where
@@ -90,7 +91,7 @@ module _ (p : Pool) (types : Typed (tablesOf p)) (w : isWellFormed p ≡ true) (
         carried-obeys _ [] p small large w (λ s. absurd (false≢true s)) (plain Done) p′ small large refl
         (λ L reads. release-verdict types (fit-parts (tablesOf p) w) reads task handle [] ∙ ap asRefusal v)
         (λ L reads. refl) (λ L reads. rw left (release-reads w types reads task handle v))
-        (rw left (release-fits w types (some .1) task handle v)) (rw left (release-stays handle (tablesOf p))) (refl, refl)
+        (rw left (release-fits w types (some .1) task handle v)) (rw left (release-stays handle (tablesOf p))) (refl, refl) (refl, refl)
 
   -- the calls that test 14 first
   module _ (whole : areWhole (p .limits) small large ≡ true) where
@@ -111,11 +112,12 @@ module _ (p : Pool) (types : Typed (tablesOf p)) (w : isWellFormed p ≡ true) (
 
       pub make-done : {p′ : Pool} → tablesOf p′ ≡ madePool task kind extension size (tablesOf p)
           → makeVerdict task kind extension size (tablesOf p) ≡ Accepted
-          → (let zeros : List ℕ = replicate (sizeOf (freePlace (tablesOf p .limits) size (tablesOf p .blocks))) 0 in
-          Obeys (Use (Make task kind extension size)) [] p small large (plain (Handle (p .given + 1))) p′
-          (smallAfter (freePlace (tablesOf p .limits) size (tablesOf p .blocks)) 0 zeros small) (largeAfter (freePlace (tablesOf p .limits) size (tablesOf p .blocks)) 0 zeros large))
+          → (let place = freePlace (tablesOf p .limits) size (tablesOf p .blocks) in
+          isBlock (tablesOf p .limits) place ≡ true → getD (p .handles) place 0 ≡ 0 → getD (p′ .handles) place 0 ≡ p .given + 1
+          → (let zeros : List ℕ = replicate (sizeOf place) 0 in
+          Obeys (Use (Make task kind extension size)) [] p small large (plain (Handle (p .given + 1))) p′ (smallAfter place 0 zeros small) (largeAfter place 0 zeros large)))
       unfolding replyTo tablesOf tablesBy
-      make-done {p′} left v =
+      make-done {p′} left v known free holds =
           let fit = fit-parts (tablesOf p) w in
           let taken = make-takes task kind extension size (tablesOf p) fit types v in
           let bytes = made-bytes (tablesOf p .limits) (fit .allowed) small large small-whole large-whole _ (taken .block .its) in
@@ -125,6 +127,7 @@ module _ (p : Pool) (types : Typed (tablesOf p)) (w : isWellFormed p ≡ true) (
           (λ L reads. rw left (make-reads w types reads small-whole large-whole task kind extension size v))
           (rw left (make-fits w types (some .1) task kind extension size v)) (rw left (make-stays task kind extension size (tablesOf p) (taken .block .listed)))
           (bytes .small-size, bytes .large-size)
+          (_, record { known = known; free = free; holds = holds; smallCleared = refl; largeCleared = refl })
 
     module _ (task handle : ℕ) where
       pub read-refused : (r : Refusal) → readVerdict task handle small large (tablesOf p) ≡ Refused r
@@ -141,7 +144,7 @@ module _ (p : Pool) (types : Typed (tablesOf p)) (w : isWellFormed p ≡ true) (
           carried-obeys _ [] p small large w (λ s. whole) _ p small large refl
           (λ L reads. read-verdict types (fit-parts (tablesOf p) w) reads small-whole large-whole task handle [] ∙ ap asRefusal v)
           (λ L reads. rw (read-bytes w types reads small-whole large-whole task handle v))
-          (λ L reads. rw (every-object-stands (fit-parts (tablesOf p) w) reads) reads) w (same-stays refl refl refl) (refl, refl)
+          (λ L reads. rw (every-object-stands (fit-parts (tablesOf p) w) reads) reads) w (same-stays refl refl refl) (refl, refl) (refl, (refl, refl))
 
       module _ (offset : ℕ) (new : List ℕ) where
         pub write-refused : (r : Refusal) → writeVerdict task handle offset (length new) small large (tablesOf p) ≡ Refused r
@@ -152,12 +155,14 @@ module _ (p : Pool) (types : Typed (tablesOf p)) (w : isWellFormed p ≡ true) (
 
         pub write-done : {p′ : Pool} → tablesOf p′ ≡ writtenPool handle offset new small large (tablesOf p)
             → writeVerdict task handle offset (length new) small large (tablesOf p) ≡ Accepted
+            → Written handle offset new p small large p′
+            (smallAfter (placeOf handle (tablesOf p .blocks)) offset new small) (largeAfter (placeOf handle (tablesOf p .blocks)) offset new large)
             → Obeys (Use (Write task handle offset)) new p small large (plain Done) p′
             (smallAfter (placeOf handle (tablesOf p .blocks)) offset new small) (largeAfter (placeOf handle (tablesOf p .blocks)) offset new large)
         unfolding replyTo
-        write-done {p′} left v =
+        write-done {p′} left v done =
             carried-obeys _ new p small large w (λ s. whole) (plain Done) p′ _ _ refl
             (λ L reads. write-verdict types (fit-parts (tablesOf p) w) reads small-whole large-whole task handle offset new ∙ ap asRefusal v)
             (λ L reads. refl) (λ L reads. rw left (write-reads w types reads small-whole large-whole task handle offset new v))
             (rw left (write-fits w types (some .1) handle offset new)) (rw left (write-stays handle offset new small large (tablesOf p)))
-            (write-sizes w types (some .1) small-whole large-whole task handle offset new v)
+            (write-sizes w types (some .1) small-whole large-whole task handle offset new v) done

@@ -10,31 +10,36 @@ use Rattle.ledger.specs.Objects.{Reply, plain, replyTo}
 use Rattle.ledger.specs.Ledger.{Ledger, verdictOn, reply, next, replyToRequest, afterRequest}
 use Rattle.ledger.specs.declared.Answer.{Answer}
 use Rattle.ledger.specs.declared.Answer.the-variants.{Refused, Done, Advanced, Handle, Bytes, Counted, Lasts}
+use Rattle.ledger.specs.Numbers.{isRefusal}
 use Rattle.ledger.specs.declared.Call.{Call}
 use Rattle.ledger.specs.declared.Refusal.{Refusal}
 use Rattle.ledger.specs.declared.Refusal.the-variants.{WrongStoreLength, NotWellFormed}
 use Rattle.ledger.specs.declared.Request.{Request}
-use Rattle.ledger.specs.declared.Request.the-variants.{Use}
+use Rattle.ledger.specs.declared.Call.the-variants.{Schedule, Make, Refresh, Read, Write, Batch, Release}
+use Rattle.ledger.specs.declared.Request.the-variants.{Use, Report, Remaining}
 use Rattle.record.specs.Tables.{tablesOf}
 use Rattle.record.specs.Pools.{isWellFormed, Reads}
 use Rattle.record.specs.declared.Pool.{Pool}
 use Rattle.steps.specs.Staying.{Stays}
 use Rattle.steps.proofs.ObjectsFollow.{carried}
 use Rattle.steps.proofs.Staying.{same-stays}
-use Rattle.calls.specs.Contract.{isStored, areWhole, TellsWhole, Ready, Refuses, Obeys, Follows}
-
-abbrev pub isRefusal : Answer → Bool
-isRefusal (Refused r) = true
-isRefusal Done = false
-isRefusal (Advanced b) = false
-isRefusal (Handle h) = false
-isRefusal Bytes = false
-isRefusal (Counted u) = false
-isRefusal (Lasts life) = false
+use Rattle.calls.specs.Contract.{Leaves, isStored, areWhole, TellsWhole, Ready, Refuses, Obeys, Follows}
 
 -- what was refused for one reason was not for another
 kept : (p : Pool) (small large : List ℕ) (r why : Refusal) → Refused r ≡ Refused why → Refuses why p small large (plain (Refused r)) p small large
 kept p small large r why e = record { refused = ap plain e; samePool = refl; sameSmall = refl; sameLarge = refl }
+
+-- a refusal leaves record and stores
+pub nothing : (request : Request) (new : List ℕ) (p : Pool) (small large : List ℕ) (why : Refusal) → Leaves request new p small large (Refused why) p small large
+nothing (Use (Schedule event task)) new p small large why = (refl, refl)
+nothing (Use (Make task kind extension size)) new p small large why = (refl, (refl, refl))
+nothing (Use (Refresh task kind extension handle)) new p small large why = (refl, refl)
+nothing (Use (Read task handle)) new p small large why = (refl, (refl, refl))
+nothing (Use (Write task handle offset)) new p small large why = (refl, (refl, refl))
+nothing (Use (Batch task kind extension)) new p small large why = (refl, refl)
+nothing (Use (Release task handle)) new p small large why = (refl, refl)
+nothing Report new p small large why = (refl, (refl, refl))
+nothing (Remaining task handle) new p small large why = (refl, (refl, refl))
 
 module _ (request : Request) (new : List ℕ) (p : Pool) (small large : List ℕ) where
   pub unfit-obeys : isWellFormed p ≡ false → Obeys request new p small large (plain (Refused NotWellFormed)) p small large
@@ -42,12 +47,13 @@ module _ (request : Request) (new : List ℕ) (p : Pool) (small large : List ℕ
       record {
         unfit = λ e. kept p small large NotWellFormed NotWellFormed refl;
         wrong = λ w s e. absurd (true≢false (sym w ∙ u));
-        answers = λ w s L reads. absurd (true≢false (sym w ∙ u));
-        leaves = λ w s L reads. absurd (true≢false (sym w ∙ u));
+        answers = λ r L reads. absurd (true≢false (sym (r .fit) ∙ u));
+        leaves = λ r L reads. absurd (true≢false (sym (r .fit) ∙ u));
         fits = λ w. w;
         keeps = kept p small large NotWellFormed;
         stays = same-stays refl refl refl;
         sizes = (refl, refl);
+        left = nothing request new p small large NotWellFormed;
       }
 
 -- the two tests, as the code makes them: of the record, then of stores that the request touches
@@ -61,12 +67,13 @@ module _ {request : Request} {p : Pool} {small large : List ℕ} {fit stored who
       record {
         unfit = λ u. absurd (true≢false (sym w ∙ u));
         wrong = λ v t e. kept p small large WrongStoreLength WrongStoreLength refl;
-        answers = λ v known L reads. absurd (true≢false (sym (known (sym s ∙ touched)) ∙ n));
-        leaves = λ v known L reads. absurd (true≢false (sym (known (sym s ∙ touched)) ∙ n));
+        answers = λ r L reads. absurd (true≢false (sym (r .whole (sym s ∙ touched)) ∙ n));
+        leaves = λ r L reads. absurd (true≢false (sym (r .whole (sym s ∙ touched)) ∙ n));
         fits = λ v. v;
         keeps = kept p small large WrongStoreLength;
         stays = same-stays refl refl refl;
         sizes = (refl, refl);
+        left = nothing request _ p small large WrongStoreLength;
       }
 
   pub ready : stored && not whole ≡ false → Ready request p small large
@@ -85,12 +92,13 @@ module _ (call : Call) (new : List ℕ) (p : Pool) (small large : List ℕ) (w :
       record {
         unfit = λ u. absurd (true≢false (sym w ∙ u));
         wrong = λ x s n. absurd (true≢false (sym (whole s) ∙ n));
-        answers = λ x s L reads. rw (v L reads);
-        leaves = λ x s L reads. rw (v L reads) reads;
+        answers = λ r L reads. rw (v L reads);
+        leaves = λ r L reads. rw (v L reads) reads;
         fits = λ x. w;
         keeps = kept p small large r;
         stays = same-stays refl refl refl;
         sizes = (refl, refl);
+        left = nothing (Use call) new p small large r;
       }
 
   pub carried-obeys : (y : Reply) (p′ : Pool) (small′ large′ : List ℕ) → isRefusal (y .answer) ≡ false
@@ -98,31 +106,35 @@ module _ (call : Call) (new : List ℕ) (p : Pool) (small large : List ℕ) (w :
       → ((L : Ledger) → Reads p small large L → y ≡ replyTo call (L .memory))
       → ((L : Ledger) → Reads p small large L → Reads p′ small′ large′ (carried call new L))
       → isWellFormed p′ ≡ true → Stays (tablesOf p) (tablesOf p′) → (length small′ ≡ length small) × (length large′ ≡ length large)
+      → Leaves (Use call) new p small large (y .answer) p′ small′ large′
       → Obeys (Use call) new p small large y p′ small′ large′
   unfolding reply next
-  carried-obeys y p′ small′ large′ accepted v answers leaves fits stays sizes =
+  carried-obeys y p′ small′ large′ accepted v answers leaves fits stays sizes left =
       record {
         unfit = λ u. absurd (true≢false (sym w ∙ u));
         wrong = λ x s n. absurd (true≢false (sym (whole s) ∙ n));
-        answers = λ x s L reads. rw (v L reads) (answers L reads);
-        leaves = λ x s L reads. rw (v L reads) (leaves L reads);
+        answers = λ r L reads. rw (v L reads) (answers L reads);
+        leaves = λ r L reads. rw (v L reads) (leaves L reads);
         fits = λ x. fits;
         keeps = λ why e. absurd (false≢true (sym accepted ∙ ap isRefusal e));
         stays = stays;
         sizes = sizes;
+        left = left;
       }
 
 -- a request that touches no store and changes nothing: what it tells is the ledger's
 pub tells-obeys : (request : Request) (p : Pool) → isWellFormed p ≡ true → isStored request ≡ false → ((L : Ledger) → afterRequest L request [] ≡ L) → (answer : Answer)
-    → ((small large : List ℕ) (L : Ledger) → Reads p small large L → plain answer ≡ replyToRequest L request []) → Follows request p answer p
-tells-obeys request p w unstored same answer answers small large =
+    → ((small large : List ℕ) (L : Ledger) → Reads p small large L → plain answer ≡ replyToRequest L request [])
+    → ((small large : List ℕ) → Leaves request [] p small large answer p small large) → Follows request p answer p
+tells-obeys request p w unstored same answer answers left small large =
     record {
       unfit = λ u. absurd (true≢false (sym w ∙ u));
       wrong = λ x s n. absurd (false≢true (sym unstored ∙ s));
-      answers = λ x s L reads. answers small large L reads;
-      leaves = λ x s L reads. rw (same L) reads;
+      answers = λ r L reads. answers small large L reads;
+      leaves = λ r L reads. rw (same L) reads;
       fits = λ x. w;
       keeps = λ why e. record { refused = ap plain e; samePool = refl; sameSmall = refl; sameLarge = refl };
       stays = same-stays refl refl refl;
       sizes = (refl, refl);
+      left = left small large;
     }

@@ -27,17 +27,17 @@ use Rattle.calls.proofs.Promises.{tells-obeys}
 
 pub report-obeys : (p : Pool) → isWellFormed p ≡ true → Follows Report p (Counted (usageOf (tablesOf p))) p
 report-obeys p w =
-    tells-obeys Report p w refl (λ L. refl) _ (λ small large L reads. rw (usage-alike (fit-parts (tablesOf p) w) reads))
+    tells-obeys Report p w refl (λ L. refl) _ (λ small large L reads. rw (usage-alike (fit-parts (tablesOf p) w) reads)) (λ small large. (refl, (refl, refl)))
 
 -- the life that was found is the ledger's, and so is the refusal
 module _ (task handle : ℕ) {p : Pool} (types : Typed (tablesOf p)) (w : isWellFormed p ≡ true) where
   life-by : (v : Verdict) → standingVerdict task handle (tablesOf p) ≡ v → Follows (Remaining task handle) p (lifeFound (foundBy true v task handle (tablesOf p))) p
   life-by Accepted e =
       tells-obeys (Remaining task handle) p w refl (λ L. refl) _
-      (λ small large L reads. rw (standing-verdict types (fit-parts (tablesOf p) w) reads task handle, e, read-life w types reads task handle e))
+      (λ small large L reads. rw (standing-verdict types (fit-parts (tablesOf p) w) reads task handle, e, read-life w types reads task handle e)) (λ small large. (refl, (refl, refl)))
   life-by (Refused r) e =
       tells-obeys (Remaining task handle) p w refl (λ L. refl) _
-      (λ small large L reads. rw (standing-verdict types (fit-parts (tablesOf p) w) reads task handle, e))
+      (λ small large L reads. rw (standing-verdict types (fit-parts (tablesOf p) w) reads task handle, e)) (λ small large. (refl, (refl, refl)))
 
 pub life-obeys : {h : Head} {hs ls cs ns ds : List ℕ} → HeadTyped h → Sized hs ls cs ns ds → isWellFormed (pooled h hs ls cs ns ds) ≡ true → (task handle : ℕ) {f : Found}
     → f ≡ foundIn true (standingVerdict task handle) task handle (lent h hs ls cs ns ds)

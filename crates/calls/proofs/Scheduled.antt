@@ -46,7 +46,7 @@ use Rattle.endings.specs.Ending.{isEnding, endedEntry}
 use Rattle.endings.specs.declared.Passing.{Passing}
 use Rattle.calls.specs.Contract.{Obeys}
 use Rattle.calls.proofs.Passing.{passingOf, kept-as, block-keeps}
-use Rattle.calls.proofs.Promises.{isRefusal}
+use Rattle.ledger.specs.Numbers.{isRefusal}
 
 -- the ledger's reply to an event has no bytes
 no-bytes : (v : Option Refusal) (event : Event) (task : ℕ) (m : Memory)
@@ -65,13 +65,14 @@ schedule-obeys event task {p} types w small large a left keeps =
     record {
       unfit = λ u. absurd (true≢false (sym w ∙ u));
       wrong = λ x s n. absurd (false≢true s);
-      answers = λ x s L reads.
+      answers = λ r L reads.
           ap plain (a ∙ schedule-follows event task (tablesOf p) small large L w reads .0) ∙ no-bytes (verdictOn L (Schedule event task) []) event task (L .memory);
-      leaves = λ x s L reads. rw left (schedule-follows event task (tablesOf p) small large L w reads .1);
+      leaves = λ r L reads. rw left (schedule-follows event task (tablesOf p) small large L w reads .1);
       fits = λ x. rw left (schedule-fits event task (tablesOf p) types w);
       keeps = λ why e. record { refused = ap plain e; samePool = keeps why e; sameSmall = refl; sameLarge = refl };
       stays = rw left (event-stays event task (tablesOf p));
       sizes = (refl, refl);
+      left = (refl, refl);
     }
 
 -- What an event comes to is what it plans.

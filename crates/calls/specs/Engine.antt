@@ -16,7 +16,6 @@ use Rattle.objects.specs.declared.Found.{Found}
 use Rattle.objects.specs.declared.Found.the-variants.{At, Refused as RefusedFound}
 use Rattle.calls.specs.Contract.{Follows}
 use Rattle.calls.specs.declared.Step.{Step}
-use Rattle.calls.specs.declared.Outcome.{Outcome}
 
 -- what a verdict that refuses comes to
 abbrev pub refusedBy : Verdict → Head → Step
@@ -30,10 +29,6 @@ lifeFound (At block life) = Lasts life
 
 abbrev pub withGiven : Head → ℕ → Head
 withGiven h given = record { limits = h .limits; tasks = h .tasks; global = h .global; given = given }
-
--- what a caller by value is given, with the columns that were left
-abbrev pub outcomeOf : Step → List ℕ → List ℕ → List ℕ → List ℕ → List ℕ → Outcome
-outcomeOf r handles extents clocks named dues = record { answer = r .answer; pool = pooled (r .head) handles extents clocks named dues }
 
 -- A call that touches no store and no extent, whatever extents stand beside the handles.
 pub record FollowsBeside (request : Request) (h : Head) (handles clocks named dues : List ℕ) (answer : Answer) (h′ : Head) (handles′ clocks′ named′ dues′ : List ℕ)

@@ -1,4 +1,4 @@
-// Each call that changes something, and remaining life, of a well-formed record with stores of 01's lengths: what follows the tests of 15 and 14. The head goes by value, tables and stores
+// Each call that changes something, and remaining life, of a well-formed record with stores as long as its blocks need: what follows the tests of 15 and 14. The head goes by value, tables and stores
 // are lent. A call decides first, by what it only reads, and then changes: a refusal has touched nothing.
 ghost use mathlib.Core.Bool.{true};
 ghost use mathlib.Core.Path.{_≡_};
@@ -8,7 +8,7 @@ ghost use Rattle.ledger.specs.declared.Request.the-variants.{Use, Remaining};
 ghost use Rattle.record.specs.Pools.{isWellFormed};
 ghost use Rattle.record.specs.Tables.{pooled, SizedEntries, Sized, blockEntries};
 ghost use Rattle.calls.specs.Contract.{Ready, FollowsWith, Follows, Makes, Writes};
-ghost use Rattle.calls.specs.Engine.{refusedBy, withGiven, outcomeOf, FollowsBeside};
+ghost use Rattle.calls.specs.Engine.{refusedBy, withGiven, FollowsBeside};
 use endings;
 use endings::Passing;
 use endings::end;
@@ -41,20 +41,6 @@ use tasks::plan;
 pub struct Step {
     pub head: Head,
     pub answer: Answer,
-}
-
-// What is given back where the record goes by value: the answer, and the record that is left.
-pub struct Outcome {
-    pub answer: Answer,
-    pub pool: Pool,
-}
-
-// The same of any call, with where the bytes of a read are.
-pub struct Called {
-    pub answer: Answer,
-    pub pool: Pool,
-    pub block: usize,
-    pub length: u16,
 }
 
 // What a verdict that refuses comes to.
@@ -143,7 +129,7 @@ pub fn make(
     size: u16,
 ) -> Step
     requires { ⌜ Sized (now handles) (now extents) (now clocks) (now named) (now dues) × Ready (Use (Make task kind extension size)) (pooled h (now handles) (now extents) (now clocks) (now named) (now dues)) (now small) (now large) ⌝ }
-    ensures { λ r. ⌜ Sized (now (handles .exit)) (now (extents .exit)) (now (clocks .exit)) (now (named .exit)) (now (dues .exit)) × Makes task kind extension size (pooled h (now (handles .entry)) (now (extents .entry)) (now (clocks .entry)) (now (named .entry)) (now (dues .entry))) (now (small .entry)) (now (large .entry)) (outcomeOf r (now (handles .exit)) (now (extents .exit)) (now (clocks .exit)) (now (named .exit)) (now (dues .exit))) (now (small .exit)) (now (large .exit)) ⌝ }
+    ensures { λ r. ⌜ Sized (now (handles .exit)) (now (extents .exit)) (now (clocks .exit)) (now (named .exit)) (now (dues .exit)) × Makes task kind extension size (pooled h (now (handles .entry)) (now (extents .entry)) (now (clocks .entry)) (now (named .entry)) (now (dues .entry))) (now (small .entry)) (now (large .entry)) (r .answer) (pooled (r .head) (now (handles .exit)) (now (extents .exit)) (now (clocks .exit)) (now (named .exit)) (now (dues .exit))) (now (small .exit)) (now (large .exit)) ⌝ }
 {
     let plan = plan_make(h, handles, standing(clocks), task, kind, extension, size);
     let verdict = plan.verdict;

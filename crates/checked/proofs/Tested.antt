@@ -20,7 +20,6 @@ use Rattle.record.specs.declared.Head.{Head}
 use Rattle.record.specs.declared.Pool.{Pool}
 use Rattle.calls.specs.Contract.{isStored, TellsWhole, Ready, Obeys, FollowsWith, Follows, Makes, Writes}
 use Rattle.calls.specs.Engine.{FollowsBeside}
-use Rattle.calls.proofs.Meets.{refused-makes, refused-writes}
 use Rattle.calls.proofs.Promises.{unfit-obeys, wrong-obeys, ready}
 use Rattle.pool.proofs.ByValue.{fits-by-value}
 
@@ -51,13 +50,13 @@ module _ {h : Head} {hs ls cs ns ds : List ℕ} (sized : Sized hs ls cs ns ds) {
 
   pub unfit-made : {task : ℕ} {kind : Kind} {extension size : ℕ} {small large : List ℕ} → not fit ≡ true
       → Sized hs ls cs ns ds
-      × Makes task kind extension size (pooled h hs ls cs ns ds) small large (record { answer = Refused NotWellFormed; pool = pooled h hs ls cs ns ds }) small large
-  unfit-made refused = (sized, refused-makes _ _ _ _ _ _ _ _ (unfit-by-value (pooled h hs ls cs ns ds) refl f refused _ _))
+      × Makes task kind extension size (pooled h hs ls cs ns ds) small large (Refused NotWellFormed) (pooled h hs ls cs ns ds) small large
+  unfit-made refused = (sized, unfit-by-value (pooled h hs ls cs ns ds) refl f refused _ _)
 
   pub unfit-written : {task handle offset : ℕ} {new small large : List ℕ} → not fit ≡ true
       → (length ls ≡ blockEntries)
       × Writes task handle offset new (pooled h hs ls cs ns ds) small large (Refused NotWellFormed) (pooled h hs ls cs ns ds) small large
-  unfit-written refused = (sized .blocks .of-extents, refused-writes _ _ _ _ _ _ _ _ (unfit-by-value (pooled h hs ls cs ns ds) refl f refused _ _))
+  unfit-written refused = (sized .blocks .of-extents, unfit-by-value (pooled h hs ls cs ns ds) refl f refused _ _)
 
   module _ (passed : not fit ≡ false) where
     -- an event
@@ -79,10 +78,10 @@ module _ {h : Head} {hs ls cs ns ds : List ℕ} (sized : Sized hs ls cs ns ds) {
 
       pub wrong-made : {task : ℕ} {kind : Kind} {extension size : ℕ} → not whole ≡ true
           → Sized hs ls cs ns ds
-          × Makes task kind extension size (pooled h hs ls cs ns ds) small large (record { answer = Refused WrongStoreLength; pool = pooled h hs ls cs ns ds }) small large
-      wrong-made refused = (sized, refused-makes _ _ _ _ _ _ _ _ (wrong-lent refl refused))
+          × Makes task kind extension size (pooled h hs ls cs ns ds) small large (Refused WrongStoreLength) (pooled h hs ls cs ns ds) small large
+      wrong-made refused = (sized, wrong-lent refl refused)
 
       pub wrong-written : {task handle offset : ℕ} {new : List ℕ} → not whole ≡ true
           → (length ls ≡ blockEntries)
           × Writes task handle offset new (pooled h hs ls cs ns ds) small large (Refused WrongStoreLength) (pooled h hs ls cs ns ds) small large
-      wrong-written refused = (sized .blocks .of-extents, refused-writes _ _ _ _ _ _ _ _ (wrong-lent refl refused))
+      wrong-written refused = (sized .blocks .of-extents, wrong-lent refl refused)

@@ -5,7 +5,6 @@ ghost use Rattle.ledger.specs.declared.Call.the-variants.{Schedule, Refresh, Ba
 ghost use Rattle.ledger.specs.declared.Request.the-variants.{Use};
 ghost use Rattle.record.specs.Tables.{pooled, Sized, SizedEntries, blockEntries};
 ghost use Rattle.calls.specs.Contract.{FollowsWith, Follows, Makes, Writes};
-ghost use Rattle.calls.specs.Engine.{outcomeOf};
 use calls;
 use calls::Step;
 use fitness::is_well_formed;
@@ -56,7 +55,7 @@ pub fn make(
     size: u16,
 ) -> Step
     requires { ⌜ Sized (now handles) (now extents) (now clocks) (now named) (now dues) ⌝ }
-    ensures { λ r. ⌜ Sized (now (handles .exit)) (now (extents .exit)) (now (clocks .exit)) (now (named .exit)) (now (dues .exit)) × Makes task kind extension size (pooled h (now (handles .entry)) (now (extents .entry)) (now (clocks .entry)) (now (named .entry)) (now (dues .entry))) (now (small .entry)) (now (large .entry)) (outcomeOf r (now (handles .exit)) (now (extents .exit)) (now (clocks .exit)) (now (named .exit)) (now (dues .exit))) (now (small .exit)) (now (large .exit)) ⌝ }
+    ensures { λ r. ⌜ Sized (now (handles .exit)) (now (extents .exit)) (now (clocks .exit)) (now (named .exit)) (now (dues .exit)) × Makes task kind extension size (pooled h (now (handles .entry)) (now (extents .entry)) (now (clocks .entry)) (now (named .entry)) (now (dues .entry))) (now (small .entry)) (now (large .entry)) (r .answer) (pooled (r .head) (now (handles .exit)) (now (extents .exit)) (now (clocks .exit)) (now (named .exit)) (now (dues .exit))) (now (small .exit)) (now (large .exit)) ⌝ }
 {
     if !is_well_formed(h, handles, extents, clocks, named, dues) {
         return Step {

@@ -27,7 +27,7 @@ use Rattle.objects.specs.declared.FoundBytes.the-variants.{At, Refused}
 use Rattle.objects.proofs.Laws.{usage-of}
 use Rattle.calls.specs.Contract.{Ready, FollowsWith, Follows, Makes, Locates, Writes}
 use Rattle.calls.specs.Served.{Serves}
-use Rattle.calls.specs.Engine.{outcomeOf, FollowsBeside}
+use Rattle.calls.specs.Engine.{FollowsBeside}
 use Rattle.dispatch.specs.Done.{withoutBytes, whereFound, givenBack}
 use Rattle.calls.specs.declared.Step.{Step}
 use Rattle.dispatch.specs.declared.Done.{Done}
@@ -44,11 +44,10 @@ module _ (new : List ℕ) (h : Head) (hs ls cs ns ds small large : List ℕ) whe
   pub read-serves : (task handle : ℕ) (f : FoundBytes) → Locates task handle lentPool small large f
       → Serves (Use (Read task handle)) new lentPool small large (givenBack (whereFound f h) hs ls cs ns ds) small large
   unfolding reply next testsOf memoryAfter expirationsAfter
-  read-serves task handle (Refused why) l = serves-plain tt (whatever-bytes new (λ L. refl) (λ L. refl) (l .reads))
+  read-serves task handle (Refused why) l = serves-plain (whatever-bytes new (λ L. refl) (λ L. refl) (λ b. b) (l .reads))
   read-serves task handle (At block count sum) l =
       record {
-        obeys = whatever-bytes new (λ L. refl) (λ L. refl) (l .reads);
-        beyond = tt;
+        obeys = whatever-bytes new (λ L. refl) (λ L. refl) (λ b. b) (l .reads);
         inside = λ some. l .inside block count sum refl;
       }
 
@@ -98,10 +97,10 @@ module _ (new : List ℕ) {h : Head} {hs ls cs ns ds : List ℕ} (sized : Sized 
 
   pub make-arm : {task : ℕ} {kind : Kind} {extension size : ℕ} → call ≡ Make task kind extension size → {s : Step} {hs′ ls′ cs′ ns′ ds′ small′ large′ : List ℕ}
       → Sized hs′ ls′ cs′ ns′ ds′
-      × Makes task kind extension size (pooled h hs ls cs ns ds) small large (outcomeOf s hs′ ls′ cs′ ns′ ds′) small′ large′
+      × Makes task kind extension size (pooled h hs ls cs ns ds) small large (s .answer) (pooled (s .head) hs′ ls′ cs′ ns′ ds′) small′ large′
       → r ≡ withoutBytes (s .answer) (s .head) → Served (Use call) new h hs ls cs ns ds small large r hs′ ls′ cs′ ns′ ds′ small′ large′
   make-arm {task} {kind} {extension} {size} is (sized′, m) so =
-      rw (is, so) (sized′, make-serves new _ small large task kind extension size _ _ _ m)
+      rw (is, so) (sized′, make-serves new _ small large task kind extension size _ _ _ _ m)
 
   pub read-arm : HeadTyped h → {task handle : ℕ} → call ≡ Read task handle → {f : FoundBytes}
       → f ≡ bytesIn (readVerdict task handle small large) handle (lent h hs ls cs ns ds) → r ≡ whereFound f h

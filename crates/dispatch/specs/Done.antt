@@ -4,12 +4,12 @@ use mathlib.Core.List.{List}
 use Rattle.ledger.specs.declared.Answer.{Answer}
 use Rattle.ledger.specs.declared.Answer.the-variants.{Bytes}
 use Rattle.ledger.specs.declared.Answer.the-variants.{Refused as RefusedAnswer}
+use Rattle.calls.specs.Served.{Called}
 use Rattle.record.specs.Tables.{pooled}
 use Rattle.record.specs.declared.Head.{Head}
 use Rattle.objects.specs.declared.FoundBytes.{FoundBytes}
 use Rattle.objects.specs.declared.FoundBytes.the-variants.{At}
 use Rattle.objects.specs.declared.FoundBytes.the-variants.{Refused as RefusedBytes}
-use Rattle.calls.specs.declared.Called.{Called}
 use Rattle.dispatch.specs.declared.Done.{Done}
 
 -- what a call gives back that hands back no bytes, and one that was found or not

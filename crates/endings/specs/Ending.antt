@@ -9,7 +9,7 @@ use Rattle.lists.specs.Filled.{Filled}
 use Rattle.lists.specs.Tests.{any}
 use Rattle.lists.specs.Tables.{mapFrom}
 use Rattle.record.specs.Codes.{dueBy, dueOf, leftAt, localCode, isGlobalClock, freedEntry}
-use Rattle.record.specs.Tables.{ExpirationEntry, blocksOf, entriesOf, blockEntries, expirationEntries}
+use Rattle.record.specs.Tables.{ExpirationEntry, blocksOf, entriesOf, blockEntries, expirationEntries, groupSize}
 use Rattle.record.specs.declared.Due.{Due}
 use Rattle.record.specs.declared.Due.the-variants.{Free, Local, Global, Pinned, Unknown}
 use Rattle.record.specs.declared.GlobalTime.{GlobalTime}
@@ -18,7 +18,6 @@ use Rattle.record.specs.declared.TaskEntry.{TaskEntry}
 use Rattle.steps.specs.Events.{keptBlock}
 use Rattle.endings.specs.Late.{lateIn}
 use Rattle.expirations.specs.Places.{Asked, Changed}
-use Rattle.expirations.specs.Standing.{groupSize}
 use Rattle.endings.specs.declared.Passing.{Passing}
 
 -- an expiration ends where its time has come by the clock that has moved, or where its setter leaves

@@ -2,19 +2,18 @@
 ghost use Prim.Native.Nat.{_+_, _≤_, _<_};
 ghost use mathlib.Core.Path.{_≡_};
 ghost use lib.ListN.{length};
-ghost use Rattle.record.specs.Tables.{blockEntries, expirationEntries};
+ghost use Rattle.record.specs.Tables.{blockEntries, expirationEntries, groupSize};
 ghost use Rattle.expirations.specs.Naming.{isNamedAt};
 ghost use Rattle.expirations.specs.Places.{Asked, Changed};
-ghost use Rattle.expirations.specs.Standing.{groupSize};
 ghost use Rattle.endings.specs.Unpinning.{unpinnedClock, unpinnedAt, AllNamed, Releases};
 use super::releasing::kept_handle;
-use expirations::asking::GROUP;
-use expirations::asking::GROUP_COUNT;
 use expirations::asking::has_byte;
 use expirations::asking::is_dated;
 use expirations::pinning::is_pin;
 use record::BLOCK_COUNT;
 use record::EXPIRATION_COUNT;
+use record::GROUP;
+use record::GROUP_COUNT;
 use record::codes::FREE;
 
 // What is left of a clock.

@@ -9,11 +9,10 @@ use Rattle.ledger.specs.declared.Answer.the-variants.{Refused}
 use Rattle.ledger.specs.declared.Refusal.{Refusal}
 use Rattle.ledger.specs.declared.Request.{Request}
 use Rattle.record.specs.Reading.{blockBytes}
-use Rattle.record.specs.Tables.{Sized, headOf, pooled}
+use Rattle.record.specs.Tables.{headOf, pooled}
 use Rattle.record.specs.declared.Head.{Head}
 use Rattle.record.specs.declared.Pool.{Pool}
-use Rattle.calls.specs.Served.{withoutBytes, Serves}
-use Rattle.calls.specs.declared.Called.{Called}
+use Rattle.calls.specs.Served.{Called, withoutBytes, Serves}
 use Rattle.answers.specs.Answers.{answerLine}
 use Rattle.frames.specs.Frames.{payloadOf, Decodes}
 use Rattle.text.specs.Hex.{Puts}
@@ -56,9 +55,6 @@ module _ {line : List ℕ} {old new : List ℕ} {frame : Frame} (d : Decodes lin
 
 -- the columns of a record by value, those of bytes taken out: a line on them is a line on the record
 module _ (p : Pool) {h : Head} (e : h ≡ headOf p) {cs ns : List ℕ} (c : cs ≡ p .clocks) (n : ns ≡ p .named) where
-  pub taken-sized : Sized (p .handles) (p .extents) (p .clocks) (p .named) (p .dues) → Sized (p .handles) (p .extents) cs ns (p .dues)
-  taken-sized s = rw (c, n) s
-
   pub executes-by-value : {line small large out small′ large′ out′ : List ℕ} {r : Carried} {hs′ ls′ cs′ ns′ ds′ : List ℕ}
       → Executes line (pooled h (p .handles) (p .extents) cs ns (p .dues)) small large out (executedOf r hs′ ls′ cs′ ns′ ds′) small′ large′ out′
       → {p′ : Pool} → p′ ≡ pooled (r .head) hs′ ls′ cs′ ns′ ds′

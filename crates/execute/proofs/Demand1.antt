@@ -14,8 +14,7 @@ use Rattle.ledger.specs.declared.Refusal.{Refusal}
 use Rattle.ledger.specs.declared.Request.{Request}
 use Rattle.record.specs.declared.Pool.{Pool}
 use Rattle.calls.specs.Contract.{Refuses}
-use Rattle.calls.specs.Served.{replyOf}
-use Rattle.calls.specs.declared.Called.{Called}
+use Rattle.calls.specs.Served.{Called, replyOf}
 use Rattle.text.specs.Fields.{fieldsAt}
 use Rattle.text.specs.Hex.{isWithin, isHex, bytesOf}
 use Rattle.frames.specs.Frames.{Operation, operations, operationIn, widthsOf, isSizeOf, requestOf, frameWith, frameAs, frameBy, frameIn, frameOf, payloadOf}

@@ -9,8 +9,7 @@ use Rattle.ledger.specs.Objects.{Reply}
 use Rattle.record.specs.Reading.{Typed}
 use Rattle.record.specs.Tables.{tablesOf}
 use Rattle.record.specs.declared.Pool.{Pool}
-use Rattle.calls.specs.Served.{replyOf}
-use Rattle.calls.specs.declared.Called.{Called}
+use Rattle.calls.specs.Served.{Called, replyOf}
 use Rattle.calls.proofs.OneReply.{one-reply}
 use Rattle.answers.specs.Answers.{answerLine}
 use Rattle.frames.specs.Frames.{frameOf, payloadOf}

@@ -16,8 +16,7 @@ use Rattle.stores.specs.Places.{InBlock}
 use Rattle.stores.proofs.Places.{most-bytes}
 use Rattle.record.specs.Reading.{isSmallBlock, isWholeSmall, isWholeLarge, blockBytes}
 use Rattle.record.specs.declared.Pool.{Pool}
-use Rattle.calls.specs.Served.{Serves}
-use Rattle.calls.specs.declared.Called.{Called}
+use Rattle.calls.specs.Served.{Called, Serves}
 use Rattle.answers.specs.Answers.{answerLine, longestAnswer}
 use Rattle.text.specs.Hex.{Puts}
 use Rattle.answers.proofs.AnswerLines.{line-within}

@@ -14,8 +14,7 @@ use Rattle.record.specs.Reading.{blockBytes, Typed}
 use Rattle.record.specs.Tables.{tablesOf, pooled}
 use Rattle.record.specs.declared.Pool.{Pool}
 use Rattle.calls.specs.Contract.{Refuses, Obeys}
-use Rattle.calls.specs.Served.{withoutBytes, replyOf, Serves}
-use Rattle.calls.specs.declared.Called.{Called}
+use Rattle.calls.specs.Served.{Called, withoutBytes, replyOf, Serves}
 use Rattle.answers.specs.Answers.{answerLine}
 use Rattle.frames.specs.Frames.{frameOf, payloadOf}
 use Rattle.text.specs.Hex.{Puts}

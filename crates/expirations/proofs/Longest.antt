@@ -14,12 +14,11 @@ use Rattle.lists.proofs.Most.{most-append}
 use Rattle.ledger.specs.Limits.{taskCount}
 use Rattle.ledger.specs.declared.Life.{Life}
 use Rattle.record.specs.Codes.{isGlobalClock, leftAt, localCode, absentEntry, freeEntry}
-use Rattle.record.specs.Tables.{ExpirationEntry, expirationEntry, entriesOf, SizedEntries, expirationEntries, byteValues}
+use Rattle.record.specs.Tables.{ExpirationEntry, expirationEntry, entriesOf, SizedEntries, expirationEntries, byteValues, groupSize, groupCount}
 use Rattle.record.specs.declared.Head.{Head}
 use Rattle.record.proofs.Asked.{by-task-clock, by-global-clock}
 use Rattle.steps.specs.Remaining.{leftLocal, leftGlobal, lifeIn, LifeWithin}
 use Rattle.expirations.specs.Remaining.{localOn, globalOn, longest, unitsIn}
-use Rattle.expirations.specs.Standing.{groupSize, groupCount}
 use Rattle.expirations.specs.declared.remaining.Query.{Query}
 use Rattle.expirations.specs.declared.remaining.Units.{Units}
 use Rattle.expirations.proofs.Tables.{size-of, entry-of}

@@ -6,9 +6,8 @@ use lib.ListN.{getD}
 use Rattle.lists.specs.Filled.{Filled}
 use Rattle.lists.specs.Most.{most}
 use Rattle.record.specs.Codes.{leftAt}
-use Rattle.record.specs.Tables.{ExpirationEntry, byteValues}
+use Rattle.record.specs.Tables.{ExpirationEntry, byteValues, groupSize}
 use Rattle.steps.specs.Remaining.{leftLocal, leftGlobal, unitsOn}
-use Rattle.expirations.specs.Standing.{groupSize}
 use Rattle.expirations.specs.declared.remaining.Query.{Query}
 use Rattle.expirations.specs.declared.remaining.Units.{Units}
 

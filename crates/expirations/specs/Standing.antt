@@ -9,15 +9,9 @@ use Rattle.lists.specs.Tables.{firstFrom}
 use Rattle.record.specs.Tables.{expirationEntries}
 use Rattle.record.specs.Codes.{localCode, pinnedCode, isGlobalClock}
 
--- the entries of a half, whose count a byte can hold, and of a group that is asked at once; and the groups
+-- the entries of a half, whose count a byte can hold
 abbrev pub halfSize : ℕ
 halfSize = expirationEntries / 2
-
-abbrev pub groupSize : ℕ
-groupSize = 32
-
-abbrev pub groupCount : ℕ
-groupCount = expirationEntries / groupSize
 
 -- the clock of an entry in use
 abbrev pub isUsedClock : ℕ → Bool

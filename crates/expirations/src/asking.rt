@@ -3,10 +3,11 @@
 ghost use Prim.Native.Nat.{_+_, _≤_};
 ghost use mathlib.Core.Path.{_≡_};
 ghost use lib.ListN.{length, take, drop};
-ghost use Rattle.record.specs.Tables.{expirationEntries};
+ghost use Rattle.record.specs.Tables.{expirationEntries, groupSize};
 ghost use Rattle.expirations.specs.Places.{Asked, PlaceFor};
-ghost use Rattle.expirations.specs.Standing.{standingOf, freeIn, isDatedClock, isByteAt, isDatedAt, isGlobalClockAt, halfSize, groupSize};
+ghost use Rattle.expirations.specs.Standing.{standingOf, freeIn, isDatedClock, isByteAt, isDatedAt, isGlobalClockAt, halfSize};
 use record::EXPIRATION_COUNT;
+use record::GROUP;
 use record::codes::FREE;
 use record::codes::LOCAL;
 use record::codes::PINNED;
@@ -26,11 +27,6 @@ pub fn standing_in(clocks: &[u8; EXPIRATION_COUNT], from: usize) -> u8
     }
     n
 }
-
-// The entries of a group, and the groups.
-pub const GROUP: usize = 32;
-
-pub const GROUP_COUNT: usize = EXPIRATION_COUNT / GROUP;
 
 // Whether one of these places of a column has this byte: a clock, or the number of a block.
 pub fn has_byte(column: &[u8; EXPIRATION_COUNT], byte: u8, from: usize, to: usize) -> bool

@@ -2,16 +2,15 @@
 ghost use Prim.Native.Nat.{_+_, _≤_};
 ghost use mathlib.Core.Path.{_≡_};
 ghost use lib.ListN.{length};
-ghost use Rattle.record.specs.Tables.{expirationEntries};
+ghost use Rattle.record.specs.Tables.{expirationEntries, groupSize};
 ghost use Rattle.expirations.specs.Naming.{slotBy, Slots, isSlotAt, Marks, Flags};
-ghost use Rattle.expirations.specs.Standing.{groupSize};
-use super::asking::GROUP;
-use super::asking::GROUP_COUNT;
 use super::asking::any_dated;
 use super::asking::is_dated;
 use super::asking::place_for;
 use record::BYTE_VALUES;
 use record::EXPIRATION_COUNT;
+use record::GROUP;
+use record::GROUP_COUNT;
 
 // The flag that an entry sets that has no expiration: no block's.
 const NO_BLOCK: u8 = 255;

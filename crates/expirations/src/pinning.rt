@@ -2,14 +2,13 @@
 ghost use Prim.Native.Nat.{_+_, _≤_, _<_};
 ghost use mathlib.Core.Path.{_≡_};
 ghost use lib.ListN.{length};
-ghost use Rattle.record.specs.Tables.{blockEntries, expirationEntries};
+ghost use Rattle.record.specs.Tables.{blockEntries, expirationEntries, groupSize};
 ghost use Rattle.expirations.specs.Pinning.{isPinBy, isPinAt, Pins};
 ghost use Rattle.expirations.specs.Places.{Asked};
-ghost use Rattle.expirations.specs.Standing.{groupSize};
-use super::asking::GROUP;
-use super::asking::GROUP_COUNT;
 use super::asking::has_byte;
 use record::EXPIRATION_COUNT;
+use record::GROUP;
+use record::GROUP_COUNT;
 use record::codes::PINNED;
 
 // Whether an entry is it.

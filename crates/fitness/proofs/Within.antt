@@ -28,7 +28,7 @@ use Rattle.record.specs.declared.TaskEntry.{TaskEntry}
 use Rattle.record.proofs.Columns.{length-entries, entry-at}
 use Rattle.fitness.specs.Checks.{leftFrom, nextLocal, nextGlobal, noTime, Firsts, unitsOf, Units, isWithin, isTimely}
 use Rattle.fitness.specs.declared.times.Time.{Time}
-use Rattle.fitness.specs.declared.times.Time.the-variants.{Local, Global}
+use Rattle.fitness.specs.declared.times.Time.the-variants.{None, Local, Global}
 
 -- what is put at the clocks of tasks
 abbrev pub nextOf : List TaskEntry → ℕ → Time
@@ -131,6 +131,7 @@ module _ {local global : ℕ} {tasks : List TaskEntry} {i : ℕ} {out : List ℕ
 
 left-below : (due : ℕ) (first : Time) → leftFrom due first < counterRange
 unfolding counterRange
+left-below due (None number) = omega arith
 left-below due (Local at) = omega arith
 left-below due (Global at) = omega arith
 

@@ -18,7 +18,7 @@ use Rattle.record.specs.declared.Head.{Head}
 use Rattle.record.specs.declared.LocalTime.{LocalTime}
 use Rattle.record.specs.declared.TaskEntry.{TaskEntry}
 use Rattle.fitness.specs.declared.times.Time.{Time}
-use Rattle.fitness.specs.declared.times.Time.the-variants.{Local, Global}
+use Rattle.fitness.specs.declared.times.Time.the-variants.{None, Local, Global}
 
 -- a free entry, or one that has a code that there is and names a block that there is
 abbrev pub isCodedBy : ℕ → ℕ → Bool
@@ -91,6 +91,7 @@ pub record CodedTimes (clocks dues : List ℕ) : Type 0 where
 
 -- units from a first time on, by the clock of that time
 abbrev pub leftFrom : ℕ → Time → ℕ
+leftFrom due (None number) = leftAt due number
 leftFrom due (Local at) = leftAt due (at .0)
 leftFrom due (Global at) = leftAt due (at .0)
 
@@ -110,7 +111,7 @@ abbrev pub nextGlobal : GlobalTime → Time
 nextGlobal now = Global (record { 0 = (now .0 + 1) % counterRange })
 
 abbrev pub noTime : Time
-noTime = Local (record { 0 = 0 })
+noTime = None 0
 
 -- By each clock the first time that lies ahead, and 0 for a pinned expiration, which has none,
 pub record Firsts (tasks : List TaskEntry) (global : GlobalTime) (r : List Time) : Type 0 where

@@ -10,13 +10,6 @@ use Rattle.record.specs.Codes.{pinnedCode}
 use Rattle.record.specs.Tables.{entriesOf, expirationEntries, byteValues}
 use Rattle.record.specs.WellFormed.{isPinning, isPinnedOnce}
 
--- the entries that are asked at once, and the groups of them
-abbrev pub groupSize : ℕ
-groupSize = 32
-
-abbrev pub groupCount : ℕ
-groupCount = 8
-
 abbrev pub isUnpinned : ℕ → Bool
 isUnpinned clock = not (eqb clock pinnedCode)
 

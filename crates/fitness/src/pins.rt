@@ -3,18 +3,15 @@ ghost use Prim.Native.Nat.{_+_, _≤_};
 ghost use mathlib.Core.Path.{_≡_};
 ghost use lib.ListN.{length, take, drop};
 ghost use Rattle.lists.specs.Tests.{all};
-ghost use Rattle.record.specs.Tables.{expirationEntries};
+ghost use Rattle.record.specs.Tables.{expirationEntries, groupSize};
 ghost use Rattle.fitness.specs.Checks.{SizedCodes};
-ghost use Rattle.fitness.specs.Pins.{groupSize, isUnpinned, PinsTo, PinnedOnce};
+ghost use Rattle.fitness.specs.Pins.{isUnpinned, PinsTo, PinnedOnce};
 use super::codes::index_of;
 use record::BYTE_VALUES;
 use record::EXPIRATION_COUNT;
+use record::GROUP;
+use record::GROUP_COUNT;
 use record::codes::PINNED;
-
-// The entries of a group, and the groups.
-const GROUP: usize = 32;
-
-const GROUP_COUNT: usize = EXPIRATION_COUNT / GROUP;
 
 // It has no way out before the end, so that many bytes are compared at once.
 fn none_pinned(clocks: &[u8; EXPIRATION_COUNT], from: usize) -> bool

@@ -6,7 +6,7 @@ use mathlib.Core.Option.{Option, none, some}
 use mathlib.Core.Path.{_≡_}
 use lib.Dec.{eqb, leb}
 use lib.ListN.{length, getD, drop}
-use Rattle.text.specs.Fields.{fieldsAt, inFields, total, FitFields}
+use Rattle.text.specs.Fields.{fieldsAt, inFields, widthOf, FitFields}
 use Rattle.text.specs.Hex.{isHex, bytesOf, hexOf}
 use Rattle.lists.specs.Blocks.{overwritten}
 use Rattle.lists.specs.Tests.{All}
@@ -75,7 +75,7 @@ widthsOf release = 1 ∷ 4 ∷ []
 
 -- operation and fields
 abbrev pub headSize : Operation → ℕ
-headSize o = 1 + total (widthsOf o)
+headSize o = 1 + widthOf (widthsOf o)
 
 -- what may follow the fields: bytes up to a count, or any count of handles
 pub data Tail : Type 0 where

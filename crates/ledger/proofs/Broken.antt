@@ -15,7 +15,7 @@ use Rattle.ledger.specs.Expirations.{Expiration}
 use Rattle.ledger.specs.Objects.{Object, Memory, Reply, plain, objectAt, isIntact, written, stands, memoryAfter, expirationsAfter, handlesOf}
 use Rattle.ledger.specs.Refusals.{Test, shared, own, sumDiffers, standingTests, testsOf, verdict}
 use Rattle.ledger.specs.Ledger.{Ledger, settled, replyBy, afterBy, verdictOn, standingVerdictOn, reply, next, replyToRequest, afterRequest}
-use Rattle.ledger.specs.Noticed.{isUseOf, userOf}
+use Rattle.ledger.specs.Noticed.{userOf}
 use Rattle.ledger.specs.declared.Answer.the-variants.{Refused}
 use Rattle.ledger.specs.declared.Call.{Call}
 use Rattle.ledger.specs.declared.Call.the-variants.{Schedule, Make, Refresh, Read, Write, Batch, Release}
@@ -23,7 +23,7 @@ use Rattle.ledger.specs.declared.Refusal.{Refusal}
 use Rattle.ledger.specs.declared.Refusal.the-variants.{SumDiffers}
 use Rattle.ledger.specs.declared.Request.{Request}
 use Rattle.ledger.specs.declared.Request.the-variants.{Use, Report, Remaining}
-use Rattle.ledger.proofs.Hidden.{at-map, by-use}
+use Rattle.ledger.proofs.Hidden.{at-map, not-used, by-use}
 use Rattle.ledger.proofs.Passed.{Passed, passed}
 use Rattle.ledger.proofs.Standing.{at-standing, setsOn, stood}
 
@@ -66,21 +66,21 @@ module _ (handle : ℕ) (M : Ledger) (b : Broken handle M) where
   refused-after none N = refl
   refused-after (some r) N = refl
 
-  pub use-answered : (request : Request) (new : List ℕ) → isUseOf handle request ≡ true
-      → replyToRequest M request new ≡ replyBy (standingVerdictOn M (userOf request) handle) (plain (Refused SumDiffers))
+  pub use-answered : (request : Request) (new : List ℕ) (task : ℕ) → userOf handle request ≡ some task
+      → replyToRequest M request new ≡ replyBy (standingVerdictOn M task handle) (plain (Refused SumDiffers))
   unfolding reply testsOf
-  use-answered request new u =
-      by-use handle (λ (r : Request). replyToRequest M r new ≡ replyBy (standingVerdictOn M (userOf r) handle) (plain (Refused SumDiffers)))
-      (λ task. rw (verdict-broken task []) (refused-reply (standingVerdictOn M task handle) _))
-      (λ task offset. rw (verdict-broken task _) (refused-reply (standingVerdictOn M task handle) _))
+  use-answered request new task u =
+      by-use handle task (λ (r : Request). replyToRequest M r new ≡ replyBy (standingVerdictOn M task handle) (plain (Refused SumDiffers)))
+      (rw (verdict-broken task []) (refused-reply (standingVerdictOn M task handle) _))
+      (λ offset. rw (verdict-broken task _) (refused-reply (standingVerdictOn M task handle) _))
       request u
 
-  pub use-left : (request : Request) (new : List ℕ) → isUseOf handle request ≡ true → afterRequest M request new ≡ M
+  pub use-left : (request : Request) (new : List ℕ) (task : ℕ) → userOf handle request ≡ some task → afterRequest M request new ≡ M
   unfolding next testsOf
-  use-left request new u =
-      by-use handle (λ (r : Request). afterRequest M r new ≡ M)
-      (λ task. rw (verdict-broken task []) (refused-after (standingVerdictOn M task handle) _))
-      (λ task offset. rw (verdict-broken task _) (refused-after (standingVerdictOn M task handle) _))
+  use-left request new task u =
+      by-use handle task (λ (r : Request). afterRequest M r new ≡ M)
+      (rw (verdict-broken task []) (refused-after (standingVerdictOn M task handle) _))
+      (λ offset. rw (verdict-broken task _) (refused-after (standingVerdictOn M task handle) _))
       request u
 
 -- and every other call leaves it so
@@ -108,7 +108,7 @@ module _ (handle : ℕ) (m : Memory) (xs : List Expiration) (b : Broken handle (
             (b .differs (stood m xs call new on handle (b .given) s));
       }
 
-  carried-broken : (call : Call) (new : List ℕ) → Passed m xs call new → isUseOf handle (Use call) ≡ false
+  carried-broken : (call : Call) (new : List ℕ) → Passed m xs call new → userOf handle (Use call) ≡ none
       → Broken handle (settled (memoryAfter call new m) (expirationsAfter call new m xs))
   unfolding testsOf memoryAfter
   carried-broken (Schedule event task) new c d = stays-broken (Schedule event task) new refl (le-refl _) refl
@@ -120,13 +120,13 @@ module _ (handle : ℕ) (m : Memory) (xs : List Expiration) (b : Broken handle (
       stays-broken (Refresh task kind extension used) new (rw (not-false (stands xs used) gone)) (le-refl _) refl
   carried-broken (Read task used) new c d = stays-broken (Read task used) new refl (le-refl _) refl
   carried-broken (Write task used offset) new c d =
-      stays-broken (Write task used offset) new refl (le-refl _) (at-written handle used offset new d (m .objects))
+      stays-broken (Write task used offset) new refl (le-refl _) (at-written handle used offset new (not-used (eqb used handle) task d) (m .objects))
   carried-broken (Batch task kind extension) new c d =
       let (exists, (present, (active, (range, (lasts, (short, (given, (gone, (room, end))))))))) = c in
       stays-broken (Batch task kind extension) new (sym (not-any-not (stands xs) (handlesOf new)) ∙ ap not gone) (le-refl _) refl
   carried-broken (Release task used) new c d = stays-broken (Release task used) new refl (le-refl _) refl
 
-pub broken-after : (handle : ℕ) (M : Ledger) → Broken handle M → (request : Request) (new : List ℕ) → isUseOf handle request ≡ false
+pub broken-after : (handle : ℕ) (M : Ledger) → Broken handle M → (request : Request) (new : List ℕ) → userOf handle request ≡ none
     → Broken handle (afterRequest M request new)
 unfolding next
 broken-after handle M b Report new d = b

@@ -76,7 +76,7 @@ chosen-claim =
       fixed = fixed;
       fixedHeap = fixed-heap-all;
       rows = all→All passes passing-holds chosenEdges all-pass;
-      inside = (record { told = refl }, (record { told = refl }, tt));
+      inside = (record { told = refl }, (record { told = refl }, (record { told = refl }, (record { told = refl }, tt))));
       outside =
           (record { told = refl }, (record { told = refl }, (record { told = refl }, (record { told = refl }, (record { told = refl }, (record { told = refl }, (record { told = refl }, tt)))))));
     }

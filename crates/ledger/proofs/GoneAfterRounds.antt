@@ -15,7 +15,7 @@ use Rattle.ledger.specs.Expirations.{DueTime, byLocal, byGlobal, pinned,
 use Rattle.ledger.specs.Ledger.{Ledger, Sent, afterSent, afterAll}
 use Rattle.ledger.specs.Awaited.{globalOf}
 use Rattle.ledger.specs.Kept.{Kept}
-use Rattle.ledger.specs.Outlives.{Move, neither, happens, releases, moveIn, leftBy, leftIn, followed, isHeld, isFree, isRound, Stretch, callsOf, areRounds, whenSet, GoneAfterRounds}
+use Rattle.ledger.specs.Outlives.{Move, neither, happens, releases, moveIn, leftBy, leftIn, followed, setterWaits, neverWaits, isRound, Stretch, callsOf, areRounds, whenSet, GoneAfterRounds}
 use Rattle.ledger.specs.declared.Event.{Event}
 use Rattle.ledger.specs.declared.Event.the-variants.{Join, Leave, Block, Resume, Tick}
 use Rattle.ledger.proofs.Kept.{kept-after}
@@ -42,7 +42,7 @@ ends-latest now most pinned h = h
 
 -- the latest time of one that is left by an event: one later where an advance found its setter waiting
 abbrev latestBy : Bool → Clocks → ℕ → DueTime → ℕ
-latestBy advanced clocks most due = most + cond (advanced && isHeld clocks due) 1 0
+latestBy advanced clocks most due = most + cond (advanced && setterWaits clocks due) 1 0
 
 put-latest : (advanced : Bool) (clocks : Clocks) (most : ℕ) (due : DueTime) → Latest most due
     → Latest (latestBy advanced clocks most (putOff advanced clocks due)) (putOff advanced clocks due)
@@ -140,23 +140,23 @@ ends-on ahead (s ∷ ss) L xs h =
     let v = moveIn L (s .request) (s .bytes) in
     ends-on ahead ss (afterSent L s) (leftBy clocks v xs)
     (subst (λ (c : Clocks). AllEnd (c .global) (c .global + ahead) (leftBy clocks v xs)) (sym (clocks-moved L (s .request) (s .bytes)))
-    (all-imp (λ x k. ends-later (clocksBy clocks v .global) _ _ (x .due) (no-further clocks ahead v (isHeld (clocksBy clocks v) (x .due))) k) (leftBy clocks v xs)
+    (all-imp (λ x k. ends-later (clocksBy clocks v .global) _ _ (x .due) (no-further clocks ahead v (setterWaits (clocksBy clocks v) (x .due))) k) (leftBy clocks v xs)
     (left-ends clocks (globalOf L + ahead) v xs h)))
 
-ends-free : (most : ℕ) (ss : List Sent) (L : Ledger) (xs : List Expiration) → isFree L ss xs ≡ true → AllEnd (globalOf L) most xs
+ends-free : (most : ℕ) (ss : List Sent) (L : Ledger) (xs : List Expiration) → neverWaits L ss xs ≡ true → AllEnd (globalOf L) most xs
     → AllEnd (globalOf (afterAll L ss)) most (followed L ss xs)
-unfolding afterAll followed isFree
+unfolding afterAll followed neverWaits
 ends-free most [] L xs e h = h
 ends-free most (s ∷ ss) L xs e h =
     let clocks = L .memory .clocks in
     let v = moveIn L (s .request) (s .bytes) in
     let moved = clocks-moved L (s .request) (s .bytes) in
     let left = leftBy clocks v xs in
-    let (now, later) = and-eq-true-iff (all (λ (x : Expiration). not (isHeld (afterSent L s .memory .clocks) (x .due))) left) (isFree (afterSent L s) ss left) .0 e in
-    let free = subst (λ (c : Clocks). All (λ (x : Expiration). not (isHeld c (x .due)) ≡ true) left) moved (all-true _ left now) in
+    let (now, later) = and-eq-true-iff (all (λ (x : Expiration). not (setterWaits (afterSent L s .memory .clocks) (x .due))) left) (neverWaits (afterSent L s) ss left) .0 e in
+    let free = subst (λ (c : Clocks). All (λ (x : Expiration). not (setterWaits c (x .due)) ≡ true) left) moved (all-true _ left now) in
     ends-free most ss (afterSent L s) left later
     (subst (λ (c : Clocks). AllEnd (c .global) most left) (sym moved)
-    (all-both (λ x k f. ends-later (clocksBy clocks v .global) _ most (x .due) (not-later (advancedBy clocks v) (isHeld (clocksBy clocks v) (x .due)) most f) k) left
+    (all-both (λ x k f. ends-later (clocksBy clocks v .global) _ most (x .due) (not-later (advancedBy clocks v) (setterWaits (clocksBy clocks v) (x .due)) most f) k) left
     (left-ends clocks most v xs h) free))
 
 -- none is left of none, and of two lists one after the other the second goes on where the first ended
@@ -189,7 +189,7 @@ gone (r ∷ rs) rest L xs k h e =
     let end = afterAll start (r .round) in
     let left = followed L (r .between) xs in
     let last = followed start (r .round) left in
-    let (round, free, more) = and₃ (isRound start (r .round)) (isFree start (r .round) left) (areRounds end last rs) e in
+    let (round, free, more) = and₃ (isRound start (r .round)) (neverWaits start (r .round) left) (areRounds end last rs) e in
     let kept = kept-after (r .round) start (kept-after (r .between) L k) in
     let nearer = round-advances start (r .round) kept round in
     followed-append (r .between) (r .round ++ callsOf rs rest) L xs ∙ followed-append (r .round) (callsOf rs rest) start left
@@ -202,5 +202,5 @@ pub gone-after-rounds : GoneAfterRounds
 unfolding dueAfter
 gone-after-rounds d rs rest n e =
     let M = whenSet d in
-    let now : Ends (globalOf M) (globalOf M + length rs) (d .date .due) = rw (set-now d .1) (omega (arith, n)) in
-    gone rs rest M (d .date ∷ []) (kept-set d) (now, tt) e
+    let now : Ends (globalOf M) (globalOf M + length rs) (d .expiration .due) = rw (set-now d .1) (omega (arith, n)) in
+    gone rs rest M (d .expiration ∷ []) (kept-set d) (now, tt) e

@@ -1,10 +1,10 @@
 -- The bytes and the sum of one object hidden: every call but a read or a write of it is answered alike, and leaves the same ledger but for what is hidden.
 use Prim.Native.Nat.{ℕ, _+_, _≤_}
 use native.Mathlib.Omega.{arith}
-use mathlib.Core.Bool.{true, false, false≢true, cond}
+use mathlib.Core.Bool.{Bool, true, false, cond}
 use mathlib.Core.List.{List, [], _∷_, map, map-map, map-append}
-use mathlib.Core.Option.{Option, none, some}
-use mathlib.Core.Path.{_≡_, refl, sym, subst, _∙_}
+use mathlib.Core.Option.{Option, none, some, Option·some-injective, Option·some-ne-none, Option·none-ne-some}
+use mathlib.Core.Path.{_≡_, refl, _∙_}
 use borrow.Author.Tests.{eqb-true, ne-eqb}
 use lib.Dec.{eqb}
 use Rattle.lists.proofs.Cases.{by-test}
@@ -15,7 +15,7 @@ use Rattle.ledger.specs.Expirations.{Expiration}
 use Rattle.ledger.specs.Objects.{Object, Memory, objectAt, written, replyTo, memoryAfter, expirationsAfter, usage}
 use Rattle.ledger.specs.Refusals.{testsOf, verdict}
 use Rattle.ledger.specs.Ledger.{Ledger, settled, afterBy, verdictOn, reply, next, replyToRequest, afterRequest}
-use Rattle.ledger.specs.Noticed.{disturbed, isUseOf}
+use Rattle.ledger.specs.Noticed.{disturbed, userOf}
 use Rattle.ledger.specs.declared.Call.{Call}
 use Rattle.ledger.specs.declared.Call.the-variants.{Schedule, Make, Refresh, Read, Write, Batch, Release}
 use Rattle.ledger.specs.declared.Event.the-variants.{Join, Leave, Block, Resume, Tick}
@@ -64,18 +64,29 @@ at-map used f named same (o ∷ os) =
     (λ e. let d : eqb (f o .handle) used ≡ true = rw (named o) e in rw (d, e) (same o (eqb-true (o .handle) used e)))
     (λ e. let d : eqb (f o .handle) used ≡ false = rw (named o) e in rw (d, e) (at-map used f named same os))
 
+-- a read or a write uses the object where its handle is this one
+used-by : (b : Bool) (who task : ℕ) → cond b (some who) none ≡ some task → (b ≡ true) × (who ≡ task)
+used-by true who task u = (refl, Option·some-injective who task u)
+used-by false who task u = absurd (Option·none-ne-some _ u)
+
+pub not-used : (b : Bool) (who : ℕ) → cond b (some who) none ≡ none → b ≡ false
+not-used true who u = absurd (Option·some-ne-none who u)
+not-used false who u = refl
+
 -- what holds of each read and each write of the object with this handle holds of each use of it
-pub by-use : (handle : ℕ) (P : Request → Type 0) → ((task : ℕ) → P (Use (Read task handle))) → ((task offset : ℕ) → P (Use (Write task handle offset)))
-    → (request : Request) → isUseOf handle request ≡ true → P request
-by-use handle P f g (Use (Schedule event task)) u = absurd (false≢true u)
-by-use handle P f g (Use (Make task kind extension size)) u = absurd (false≢true u)
-by-use handle P f g (Use (Refresh task kind extension used)) u = absurd (false≢true u)
-by-use handle P f g (Use (Read task used)) u = subst (λ (h : ℕ). P (Use (Read task h))) (sym (eqb-true used handle u)) (f task)
-by-use handle P f g (Use (Write task used offset)) u = subst (λ (h : ℕ). P (Use (Write task h offset))) (sym (eqb-true used handle u)) (g task offset)
-by-use handle P f g (Use (Batch task kind extension)) u = absurd (false≢true u)
-by-use handle P f g (Use (Release task used)) u = absurd (false≢true u)
-by-use handle P f g Report u = absurd (false≢true u)
-by-use handle P f g (Remaining task used) u = absurd (false≢true u)
+pub by-use : (handle task : ℕ) (P : Request → Type 0) → P (Use (Read task handle)) → ((offset : ℕ) → P (Use (Write task handle offset)))
+    → (request : Request) → userOf handle request ≡ some task → P request
+by-use handle task P f g (Use (Schedule event who)) u = absurd (Option·none-ne-some _ u)
+by-use handle task P f g (Use (Make who kind extension size)) u = absurd (Option·none-ne-some _ u)
+by-use handle task P f g (Use (Refresh who kind extension used)) u = absurd (Option·none-ne-some _ u)
+by-use handle task P f g (Use (Read who used)) u =
+    let (own, same) = used-by (eqb used handle) who task u in rw (eqb-true used handle own, same) f
+by-use handle task P f g (Use (Write who used offset)) u =
+    let (own, same) = used-by (eqb used handle) who task u in rw (eqb-true used handle own, same) (g offset)
+by-use handle task P f g (Use (Batch who kind extension)) u = absurd (Option·none-ne-some _ u)
+by-use handle task P f g (Use (Release who used)) u = absurd (Option·none-ne-some _ u)
+by-use handle task P f g Report u = absurd (Option·none-ne-some _ u)
+by-use handle task P f g (Remaining who used) u = absurd (Option·none-ne-some _ u)
 
 -- a call that would leave something as it is when carried out leaves it so in any case: a refused one changes nothing
 unchanged : (f : Ledger → Ledger) (v : Option Refusal) {after now : Ledger} → f after ≡ f now → f (afterBy v after now) ≡ f now
@@ -99,7 +110,7 @@ module _ (handle : ℕ) where
 
   module _ (m : Memory) where
     -- tests and answers look at nothing that is hidden, but for 13, 23 and a read: these look at another object
-    verdict-hidden : (xs : List Expiration) (call : Call) (new : List ℕ) → isUseOf handle (Use call) ≡ false
+    verdict-hidden : (xs : List Expiration) (call : Call) (new : List ℕ) → userOf handle (Use call) ≡ none
         → verdict (hiddenMemory handle m) xs (testsOf call new) ≡ verdict m xs (testsOf call new)
     unfolding testsOf verdict hidden
     verdict-hidden xs (Schedule Join task) new d = refl
@@ -109,23 +120,23 @@ module _ (handle : ℕ) where
     verdict-hidden xs (Schedule Tick task) new d = refl
     verdict-hidden xs (Make task kind extension size) new d = simp count-map
     verdict-hidden xs (Refresh task kind extension used) new d = refl
-    verdict-hidden xs (Read task used) new d = rw (at-other used d (m .objects))
-    verdict-hidden xs (Write task used offset) new d = rw (at-other used d (m .objects))
+    verdict-hidden xs (Read task used) new d = rw (at-other used (not-used (eqb used handle) task d) (m .objects))
+    verdict-hidden xs (Write task used offset) new d = rw (at-other used (not-used (eqb used handle) task d) (m .objects))
     verdict-hidden xs (Batch task kind extension) new d = refl
     verdict-hidden xs (Release task used) new d = refl
 
-    reply-hidden : (call : Call) → isUseOf handle (Use call) ≡ false → replyTo call (hiddenMemory handle m) ≡ replyTo call m
+    reply-hidden : (call : Call) → userOf handle (Use call) ≡ none → replyTo call (hiddenMemory handle m) ≡ replyTo call m
     unfolding replyTo
     reply-hidden (Schedule event task) d = refl
     reply-hidden (Make task kind extension size) d = refl
     reply-hidden (Refresh task kind extension used) d = refl
-    reply-hidden (Read task used) d = rw (at-other used d (m .objects))
+    reply-hidden (Read task used) d = rw (at-other used (not-used (eqb used handle) task d) (m .objects))
     reply-hidden (Write task used offset) d = refl
     reply-hidden (Batch task kind extension) d = refl
     reply-hidden (Release task used) d = refl
 
     -- what a call makes of the memory and of the expirations; the object that a make gives is another
-    memory-hidden : handle ≤ m .given → (call : Call) (new : List ℕ) → isUseOf handle (Use call) ≡ false
+    memory-hidden : handle ≤ m .given → (call : Call) (new : List ℕ) → userOf handle (Use call) ≡ none
         → memoryAfter call new (hiddenMemory handle m) ≡ hiddenMemory handle (memoryAfter call new m)
     unfolding memoryAfter hidden
     memory-hidden g (Schedule event task) new d = refl
@@ -134,7 +145,7 @@ module _ (handle : ℕ) where
     memory-hidden g (Refresh task kind extension used) new d = refl
     memory-hidden g (Read task used) new d = refl
     memory-hidden g (Write task used offset) new d =
-        let each = map-same _ _ (m .objects) (all-every _ (other-written used offset new d) (m .objects)) in
+        let each = map-same _ _ (m .objects) (all-every _ (other-written used offset new (not-used (eqb used handle) task d)) (m .objects)) in
         rw (map-map (written used offset new) (hidden handle) (m .objects), map-map (hidden handle) (written used offset new) (m .objects), each)
     memory-hidden g (Batch task kind extension) new d = refl
     memory-hidden g (Release task used) new d = refl
@@ -156,14 +167,14 @@ module _ (handle : ℕ) where
 
   module _ (L : Ledger) where
     -- every call but a read or a write of the object is answered alike, and leaves alike
-    pub answered-alike : (request : Request) (new : List ℕ) → isUseOf handle request ≡ false
+    pub answered-alike : (request : Request) (new : List ℕ) → userOf handle request ≡ none
         → replyToRequest (hiddenIn handle L) request new ≡ replyToRequest L request new
     unfolding reply usage verdict hidden
     answered-alike (Use call) new d = rw (verdict-hidden (L .memory) (L .expirations) call new d, reply-hidden (L .memory) call d)
     answered-alike Report new d = simp count-map
     answered-alike (Remaining task used) new d = refl
 
-    carried-alike : handle ≤ L .memory .given → (call : Call) (new : List ℕ) → isUseOf handle (Use call) ≡ false → (v : Option Refusal)
+    carried-alike : handle ≤ L .memory .given → (call : Call) (new : List ℕ) → userOf handle (Use call) ≡ none → (v : Option Refusal)
         → afterBy v (settled (memoryAfter call new (hiddenMemory handle (L .memory))) (expirationsAfter call new (hiddenMemory handle (L .memory)) (L .expirations))) (hiddenIn handle L)
         ≡ hiddenIn handle (afterBy v (settled (memoryAfter call new (L .memory)) (expirationsAfter call new (L .memory) (L .expirations))) L)
     carried-alike g call new d none =
@@ -171,7 +182,7 @@ module _ (handle : ℕ) where
         (settled-hidden (memoryAfter call new (L .memory)) (expirationsAfter call new (L .memory) (L .expirations)))
     carried-alike g call new d (some r) = refl
 
-    pub left-alike : handle ≤ L .memory .given → (request : Request) (new : List ℕ) → isUseOf handle request ≡ false
+    pub left-alike : handle ≤ L .memory .given → (request : Request) (new : List ℕ) → userOf handle request ≡ none
         → afterRequest (hiddenIn handle L) request new ≡ hiddenIn handle (afterRequest L request new)
     unfolding next
     left-alike g (Use call) new d =
@@ -180,14 +191,14 @@ module _ (handle : ℕ) where
     left-alike g (Remaining task used) new d = refl
 
     -- a read or a write of it changes what is hidden alone, where all objects stand
-    pub left-unseen : Standing L → (request : Request) (new : List ℕ)
-        → isUseOf handle request ≡ true → hiddenIn handle (afterRequest L request new) ≡ hiddenIn handle L
+    pub left-unseen : Standing L → (request : Request) (new : List ℕ) (task : ℕ)
+        → userOf handle request ≡ some task → hiddenIn handle (afterRequest L request new) ≡ hiddenIn handle L
     unfolding next memoryAfter expirationsAfter written
-    left-unseen h request new u =
+    left-unseen h request new task u =
         let os = L .memory .objects in
-        by-use handle (λ (r : Request). hiddenIn handle (afterRequest L r new) ≡ hiddenIn handle L)
-        (λ task. unchanged (hiddenIn handle) (verdictOn L (Read task handle) new) (rw (filter-all _ os h)))
-        (λ task offset.
+        by-use handle task (λ (r : Request). hiddenIn handle (afterRequest L r new) ≡ hiddenIn handle L)
+        (unchanged (hiddenIn handle) (verdictOn L (Read task handle) new) (rw (filter-all _ os h)))
+        (λ offset.
         unchanged (hiddenIn handle) (verdictOn L (Write task handle offset) new)
         (rw (
           filter-all _ (map (written handle offset new) os) (all-map _ (written handle offset new) os h),

@@ -15,7 +15,7 @@ use Rattle.ledger.specs.Expirations.{Expiration, isOf, isPinOf}
 use Rattle.ledger.specs.Objects.{Object, Memory, freshMemory, stands, written, memoryAfter, expirationsAfter, handlesOf}
 use Rattle.ledger.specs.Refusals.{testsOf}
 use Rattle.ledger.specs.Ledger.{Ledger, Sent, fresh, settled, afterBy, verdictOn, next, afterRequest, afterAll}
-use Rattle.ledger.specs.Kept.{TaskKept, ClocksKept, ObjectsKept, ExpirationKept, ExpirationsKept, PinsKept, PinnedOnceKept, Kept}
+use Rattle.ledger.specs.Kept.{TaskKept, ClocksKept, ObjectsKept, ExpirationKept, ExpirationsKept, PinsKept, PinnedOnceKept, Kept, EveryLedgerKeeps}
 use Rattle.ledger.specs.declared.Call.{Call}
 use Rattle.ledger.specs.declared.Call.the-variants.{Schedule, Make, Refresh, Read, Write, Batch, Release}
 use Rattle.ledger.specs.declared.Limits.{Limits}
@@ -124,5 +124,5 @@ unfolding afterAll
 kept-after [] L k = k
 kept-after (s ∷ ss) L k = kept-after ss (afterRequest L (s .request) (s .bytes)) (kept-request L k (s .request) (s .bytes))
 
-pub kept-all : (limits : Limits) (ss : List Sent) → Kept (afterAll (fresh limits) ss)
+pub kept-all : EveryLedgerKeeps
 kept-all limits ss = kept-after ss (fresh limits) (kept-fresh limits)

@@ -30,6 +30,11 @@ pub tasks-after : (P : List Task → Type 0) → ((ts : List Task) → P ts → 
 unfolding clocksAfter tasksAfter
 tasks-after P f event task clocks h = by-test (advances event task clocks) (λ e. rw e (f _ h)) (λ e. rw e h)
 
+-- the sixteen entries are as many
+pub sixteen-after : (event : Event) (task : ℕ) (clocks : Clocks) → length (clocks .tasks) ≡ taskCount → length (clocksAfter event task clocks .tasks) ≡ taskCount
+sixteen-after event task clocks n =
+    tasks-after (λ ts. length ts ≡ taskCount) (λ ts m. length-map ts unticked ∙ m) event task clocks (rw length-set n)
+
 -- once the marks are cleared, not every running task is ticked
 cleared : (ts : List Task) → allTicked (map unticked ts) ≡ false
 unfolding allTicked
@@ -84,9 +89,7 @@ module _ (m : Memory) (xs : List Expiration) (new : List ℕ) (task : ℕ) where
       → ClocksKept (clocksAfter event task (m .clocks))
   clocks-after event c k =
       record {
-        sixteen =
-            tasks-after (λ ts. length ts ≡ taskCount) (λ ts n. length-map ts unticked ∙ n) event task (m .clocks)
-            (rw length-set (k .sixteen));
+        sixteen = sixteen-after event task (m .clocks) (k .sixteen);
         tasks =
             tasks-after (All TaskKept) (λ ts h. all-map TaskKept unticked ts (all-imp cleared-kept ts h)) event task (m .clocks)
             (all-set TaskKept (m .clocks .tasks) task (k .tasks) (moved-kept event c));

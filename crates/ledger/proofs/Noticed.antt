@@ -15,7 +15,8 @@ use Rattle.lists.proofs.Sums.{total-differs}
 use Rattle.ledger.specs.Objects.{Object, plain, objectAt, isIntact, memoryAfter, expirationsAfter, freshMemory}
 use Rattle.ledger.specs.Refusals.{verdict}
 use Rattle.ledger.specs.Ledger.{Ledger, Sent, fresh, settled, replyBy, afterBy, verdictOn, standingVerdictOn, next, replyToRequest, afterRequest, afterSent, replies, afterAll}
-use Rattle.ledger.specs.Noticed.{disturbed, Change, changed, isUseOf, userOf, noticed, noticedIn, isRefusal, Notices}
+use Rattle.ledger.specs.Noticed.{disturbed, Change, changed, userOf, noticedBy, noticed, noticedIn, Notices}
+use Rattle.ledger.specs.Numbers.{isRefusal}
 use Rattle.ledger.specs.declared.Answer.the-variants.{Refused}
 use Rattle.ledger.specs.declared.Refusal.{Refusal}
 use Rattle.ledger.specs.declared.Refusal.the-variants.{SumDiffers}
@@ -39,6 +40,11 @@ standing-after L h (Use call) new = by (verdictOn L call new)
     by none = all-left _ (memoryAfter call new (L .memory) .objects)
     by (some r) = h
 
+-- a call is a use of the object, or none
+by-user : {C : Type 0} (who : Option ℕ) → ((task : ℕ) → who ≡ some task → C) → (who ≡ none → C) → C
+by-user none f g = g refl
+by-user (some task) f g = f task refl
+
 -- The ledger without the change, and the one with it: they are the same but for what is hidden.
 record Beside (handle : ℕ) (L M : Ledger) : Type 0 where
   same : hiddenIn handle M ≡ hiddenIn handle L
@@ -55,10 +61,10 @@ module _ (handle : ℕ) (L M : Ledger) (k : Beside handle L M) where
 
   -- one call
   answered : (s : Sent) → replyToRequest M (s .request) (s .bytes) ≡ noticed handle L s
-  unfolding noticed
+  unfolding noticedBy
   answered s =
-      by-test (isUseOf handle (s .request))
-      (λ u. rw (u, use-answered handle M (k .broken) (s .request) (s .bytes) u, same-standing (userOf (s .request))))
+      by-user (userOf handle (s .request))
+      (λ task u. rw (u, use-answered handle M (k .broken) (s .request) (s .bytes) task u, same-standing task))
       (λ u. rw u
       (sym (answered-alike handle M (s .request) (s .bytes) u)
       ∙ ap (λ (N : Ledger). replyToRequest N (s .request) (s .bytes)) (k .same)
@@ -66,10 +72,10 @@ module _ (handle : ℕ) (L M : Ledger) (k : Beside handle L M) where
 
   beside-after : (s : Sent) → Beside handle (afterSent L s) (afterSent M s)
   beside-after s =
-      by-test (isUseOf handle (s .request))
-      (λ u. rw (use-left handle M (k .broken) (s .request) (s .bytes) u)
+      by-user (userOf handle (s .request))
+      (λ task u. rw (use-left handle M (k .broken) (s .request) (s .bytes) task u)
       (record {
-        same = k .same ∙ sym (left-unseen handle L (k .standing) (s .request) (s .bytes) u);
+        same = k .same ∙ sym (left-unseen handle L (k .standing) (s .request) (s .bytes) task u);
         standing = standing-after L (k .standing) (s .request) (s .bytes);
         broken = k .broken;
       }))
@@ -126,13 +132,13 @@ refused-by none = refl
 refused-by (some r) = refl
 
 pub notices : Notices
-unfolding noticed freshMemory HeapKept
+unfolding noticedBy freshMemory HeapKept
 notices =
     record {
       every = λ c ss. every-from (c .handle) ss (c .before) (changed c) (start c);
-      refused = λ c ss s u.
+      refused = λ c ss s task u.
           let k = beside-all (c .handle) ss (c .before) (changed c) (start c) in
-          rw (answered (c .handle) _ _ k s, u) (refused-by (standingVerdictOn (afterAll (c .before) ss) (userOf (s .request)) (c .handle)));
+          rw (answered (c .handle) _ _ k s, u) (refused-by (standingVerdictOn (afterAll (c .before) ss) task (c .handle)));
       others = λ c ss s u.
           let k = beside-all (c .handle) ss (c .before) (changed c) (start c) in
           rw (answered (c .handle) _ _ k s, u);

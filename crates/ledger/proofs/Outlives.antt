@@ -11,36 +11,33 @@ use Rattle.lists.proofs.All.{at-set}
 use Rattle.lists.proofs.Cases.{by-test}
 use Rattle.lists.proofs.Tests.{passes-at}
 use Rattle.ledger.specs.Tasks.{Task, Clocks, taskAt, absentTask, isAbsent, isRunning, isWaiting, isTested, moved, allTicked, unticked, tasksAfter, advances, clocksAfter}
-use Rattle.ledger.specs.Expirations.{byGlobal, Expiration, remaining, putOff, deserted, lasting}
+use Rattle.ledger.specs.Expirations.{Expiration, remaining, putOff, deserted, lasting}
 use Rattle.ledger.specs.Objects.{Memory}
 use Rattle.ledger.specs.Refusals.{testsOf}
 use Rattle.ledger.specs.Outlives.{isTickOf, isLeaveOf}
+use Rattle.ledger.specs.PutOff.{globalOne}
 use Rattle.ledger.specs.declared.Event.{Event}
 use Rattle.ledger.specs.declared.Event.the-variants.{Join, Leave, Block, Resume, Tick}
 use Rattle.ledger.specs.declared.Call.the-variants.{Schedule}
 use Rattle.ledger.proofs.Passed.{Passed}
 use Rattle.ledger.proofs.KeptTasks.{running}
 
--- a global expiration of one setter
-abbrev pub dateAt : ℕ → ℕ → ℕ → Expiration
-dateAt handle setter at = record { handle = handle; due = byGlobal setter at }
+-- 1 where the task is ticked
+abbrev flag : Task → ℕ
+flag t = cond (t .ticked) 1 0
 
--- 1 where the task has its mark
-abbrev mark : Task → ℕ
-mark t = cond (t .ticked) 1 0
-
--- The setter is there, and so many of its ticks are still to come before the date is due: with each advance a mark is used up, and with each mark a tick.
+-- The setter is there, and so many of its ticks are still to come before the expiration is due: with each advance a ticked flag is used up, and with each flag a tick.
 pub record Ahead (clocks : Clocks) (setter at ticks : ℕ) : Type 0 where
   pub present : isAbsent (taskAt clocks setter .state) ≡ false
-  pub ahead : clocks .global + 1 + mark (taskAt clocks setter) + ticks ≤ at
+  pub ahead : clocks .global + 1 + flag (taskAt clocks setter) + ticks ≤ at
 
--- so it is when the date is set, whether the setter has its mark or not
+-- so it is when the expiration is set, whether the setter is ticked or not
 pub set-ahead : (clocks : Clocks) (setter extension ticks : ℕ) → isAbsent (taskAt clocks setter .state) ≡ false → ticks ≤ extension
     → Ahead clocks setter (clocks .global + extension + 2) ticks
 set-ahead clocks setter extension ticks there few =
     record { present = there; ahead = by-test (taskAt clocks setter .ticked) (λ e. rw e (omega arith)) (λ e. rw e (omega arith)) }
 
--- and it is kept by an advance: who runs then gives up the mark, and for who waits the date is put off
+-- and it is kept by an advance: who runs then gives up the flag, and for who waits the expiration is put off
 ahead-on : (advanced waits : Bool) (now at old new tick ticks : ℕ) → now + 1 + old + (tick + ticks) ≤ at → new ≤ old + tick
     → (advanced ≡ true → waits ≡ false → 1 ≤ new)
     → cond advanced (now + 1) now + 1 + cond advanced 0 new + ticks ≤ at + cond (advanced && waits) 1 0
@@ -52,8 +49,8 @@ ahead-on false waits now at old new tick ticks h l f = omega arith
 abbrev pub isDone : Task → Bool
 isDone t = not (isRunning (t .state)) || t .ticked
 
-marked : (t : Task) → isAbsent (t .state) ≡ false → isWaiting (t .state) ≡ false → isDone t ≡ true → 1 ≤ mark t
-marked t a w e = let d : t .ticked ≡ true = rw (running (t .state) a w) at e in rw d (omega arith)
+flagged : (t : Task) → isAbsent (t .state) ≡ false → isWaiting (t .state) ≡ false → isDone t ≡ true → 1 ≤ flag t
+flagged t a w e = let d : t .ticked ≡ true = rw (running (t .state) a w) at e in rw d (omega arith)
 
 pub all-ticked : (ts : List Task) → allTicked ts ≡ true → (task : ℕ) → isDone (getD ts task absentTask) ≡ true
 unfolding allTicked
@@ -70,9 +67,9 @@ module _ (m : Memory) (xs : List Expiration) (new : List ℕ) (task setter : ℕ
   abbrev after : Event → Clocks
   after event = clocksAfter event task (m .clocks)
 
-  -- the event leaves the setter there, and marks it only by a tick
+  -- the event leaves the setter there, and sets its flag only by a tick
   abbrev Fine : Event → Task → Type 0
-  Fine event t = (isAbsent (t .state) ≡ false) × (mark t ≤ mark before + cond (isTickOf setter event task) 1 0)
+  Fine event t = (isAbsent (t .state) ≡ false) × (flag t ≤ flag before + cond (isTickOf setter event task) 1 0)
 
   own : (event : Event) → Passed m xs (Schedule event task) new → isLeaveOf setter event task ≡ false → setter ≡ task → isAbsent (before .state) ≡ false
       → Fine event (moved event (taskAt (m .clocks) task))
@@ -97,22 +94,22 @@ module _ (m : Memory) (xs : List Expiration) (new : List ℕ) (task setter : ℕ
   state-after : (event : Event) → taskAt (after event) setter .state ≡ moving event .state
   state-after event = rw (entry-after event) (by-test (advances event task (m .clocks)) (λ e. rw e) (λ e. rw e))
 
-  mark-after : (event : Event) → mark (taskAt (after event) setter) ≡ cond (advances event task (m .clocks)) 0 (mark (moving event))
-  mark-after event = rw (entry-after event) (by-test (advances event task (m .clocks)) (λ e. rw e) (λ e. rw e))
+  flag-after : (event : Event) → flag (taskAt (after event) setter) ≡ cond (advances event task (m .clocks)) 0 (flag (moving event))
+  flag-after event = rw (entry-after event) (by-test (advances event task (m .clocks)) (λ e. rw e) (λ e. rw e))
 
   global-after : (event : Event) → after event .global ≡ cond (advances event task (m .clocks)) (m .clocks .global + 1) (m .clocks .global)
   unfolding clocksAfter
   global-after event = refl
 
-  -- at an advance it is marked, unless it waits
+  -- at an advance it is ticked, unless it waits
   used : (event : Event) → isAbsent (moving event .state) ≡ false → advances event task (m .clocks) ≡ true → isWaiting (moving event .state) ≡ false
-      → 1 ≤ mark (moving event)
+      → 1 ≤ flag (moving event)
   unfolding advances
   used event present e w =
       let ticked = and-eq-true-iff (isTested event) (allTicked (tasksAfter event task (m .clocks))) .0 e .1 in
-      marked (moving event) present w (all-ticked (tasksAfter event task (m .clocks)) ticked setter)
+      flagged (moving event) present w (all-ticked (tasksAfter event task (m .clocks)) ticked setter)
 
-  -- when the date is due after the event
+  -- when the expiration is due after the event
   abbrev pub dueThen : Event → ℕ → ℕ
   dueThen event at = at + cond (advances event task (m .clocks) && isWaiting (taskAt (after event) setter .state)) 1 0
 
@@ -123,16 +120,16 @@ module _ (m : Memory) (xs : List Expiration) (new : List ℕ) (task setter : ℕ
       record {
         present = rw (state-after event) present;
         ahead =
-            rw (mark-after event, global-after event, state-after event)
+            rw (flag-after event, global-after event, state-after event)
             (ahead-on (advances event task (m .clocks)) (isWaiting (moving event .state)) (m .clocks .global) at _ _ _ ticks (k .ahead) few (used event present));
       }
 
   -- so it is left, due then
   pub one-left : (event : Event) (handle at : ℕ) → isLeaveOf setter event task ≡ false → 1 ≤ dueThen event at - after event .global
-      → lasting event task (advances event task (m .clocks)) (after event) (dateAt handle setter at ∷ []) ≡ dateAt handle setter (dueThen event at) ∷ []
+      → lasting event task (advances event task (m .clocks)) (after event) (globalOne handle setter at ∷ []) ≡ globalOne handle setter (dueThen event at) ∷ []
   unfolding lasting putOff deserted remaining advances
-  one-left Join handle at stays h = ap (λ (n : ℕ). dateAt handle setter n ∷ []) (omega arith)
-  one-left Resume handle at stays h = ap (λ (n : ℕ). dateAt handle setter n ∷ []) (omega arith)
+  one-left Join handle at stays h = ap (λ (n : ℕ). globalOne handle setter n ∷ []) (omega arith)
+  one-left Resume handle at stays h = ap (λ (n : ℕ). globalOne handle setter n ∷ []) (omega arith)
   one-left Block handle at stays h = rw (lt-ltb 0 _ h)
   one-left Tick handle at stays h = rw (lt-ltb 0 _ h)
   one-left Leave handle at stays h = rw (stays, lt-ltb 0 _ h)

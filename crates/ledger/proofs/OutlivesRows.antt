@@ -14,28 +14,28 @@ use Rattle.ledger.specs.Expirations.{byGlobal, dueAfter, remaining, putO
 use Rattle.ledger.specs.Objects.{freshMemory, objectAt, written, memoryAfter, expirationsAfter, handlesOf}
 use Rattle.ledger.specs.Refusals.{testsOf, verdict}
 use Rattle.ledger.specs.Ledger.{fresh, next, afterAll}
-use Rattle.ledger.specs.Outlives.{moveOf, moveIn, setIn, followed, isTickOf, countOf, Setting, isRound, isFree, Stretch, areRounds}
-use Rattle.ledger.specs.OutlivesRows.{Part, Trial, trials, sorts, allCalls, datesOf, ledgerOf, TrialHolds, TrialsHold, ClaimsApply}
+use Rattle.ledger.specs.Outlives.{moveOf, moveIn, setIn, followed, isTickOf, countOf, Setting, isRound, neverWaits, Stretch, areRounds}
+use Rattle.ledger.specs.OutlivesRows.{Part, Trial, trials, sorts, allCalls, setBy, ledgerOf, TrialHolds, TrialsHold, ClaimsApply}
 use Rattle.ledger.specs.Rows.{join, tick, make}
 use Rattle.ledger.specs.declared.Kind.the-variants.{Global}
 
 -- a trial's four equations as a test
 passes : Trial → Bool
 passes t =
-    eqb (length (datesOf t)) (t .set)
-    && (sameBy eqb (sorts (ledgerOf t) (datesOf t) (t .parts)) (map (λ (r : Part). r .sort) (t .parts))
-    && (eqb (countOf (isTickOf 0) (ledgerOf t) (allCalls t)) (t .ticks) && eqb (length (followed (ledgerOf t) (allCalls t) (datesOf t))) (t .left)))
+    eqb (length (setBy t)) (t .set)
+    && (sameBy eqb (sorts (ledgerOf t) (setBy t) (t .parts)) (map (λ (r : Part). r .sort) (t .parts))
+    && (eqb (countOf (isTickOf 0) (ledgerOf t) (allCalls t)) (t .ticks) && eqb (length (followed (ledgerOf t) (allCalls t) (setBy t))) (t .left)))
 
 passing-holds : (t : Trial) → T (passes t) → TrialHolds t
 unfolding passes
 passing-holds t p =
-    let (set, rest) = both (eqb (length (datesOf t)) (t .set)) _ p in
-    let (parts, figures) = both (sameBy eqb (sorts (ledgerOf t) (datesOf t) (t .parts)) (map (λ (r : Part). r .sort) (t .parts))) _ rest in
+    let (set, rest) = both (eqb (length (setBy t)) (t .set)) _ p in
+    let (parts, figures) = both (sameBy eqb (sorts (ledgerOf t) (setBy t) (t .parts)) (map (λ (r : Part). r .sort) (t .parts))) _ rest in
     let (ticks, left) = both (eqb (countOf (isTickOf 0) (ledgerOf t) (allCalls t)) (t .ticks)) _ figures in
     record { set = eqb→eq _ _ set; parts = sameBy→eq eqb eqb→eq _ _ parts; ticks = eqb→eq _ _ ticks; left = eqb→eq _ _ left }
 
 all-pass : T (all passes trials)
-unfolding passes trials fresh next afterAll testsOf verdict moveOf moveIn setIn followed countOf isRound isFree
+unfolding passes trials fresh next afterAll testsOf verdict moveOf moveIn setIn followed countOf isRound neverWaits
     freshMemory objectAt written overwritten total memoryAfter expirationsAfter handlesOf setOnEach dueAfter remaining putOff deserted lasting released
     freshClocks moved allTicked tasksAfter advances clocksAfter
     standard lastHandle
@@ -55,7 +55,7 @@ setting =
       call = make 0 Global 1 4;
       setter = 0;
       extension = 1;
-      date = record { handle = 1; due = byGlobal 0 3 };
+      expiration = record { handle = 1; due = byGlobal 0 3 };
       due = refl;
       front = [];
       back = [];
@@ -63,7 +63,7 @@ setting =
     }
 
 pub claims-apply : ClaimsApply
-unfolding setting fresh next afterAll testsOf verdict moveOf moveIn setIn followed countOf isRound isFree areRounds
+unfolding setting fresh next afterAll testsOf verdict moveOf moveIn setIn followed countOf isRound neverWaits areRounds
     freshMemory memoryAfter expirationsAfter dueAfter remaining putOff lasting
     freshClocks moved allTicked tasksAfter advances clocksAfter
     standard lastHandle

@@ -10,14 +10,15 @@ use Rattle.ledger.specs.Expirations.{DueTime, Expiration, dueAfter, rele
 use Rattle.ledger.specs.Objects.{stands}
 use Rattle.ledger.specs.Ledger.{Ledger, Sent, afterSent}
 use Rattle.ledger.specs.Outlives.{Move, neither, happens, releases, moveIn, leftBy, followed, isTickOf, isLeaveOf, isOne, countOf, whenSet, OutlivesTicks}
+use Rattle.ledger.specs.PutOff.{globalOne}
 use Rattle.ledger.proofs.Following.{clocksBy, MovePassed, clocks-moved, move-passed}
 use Rattle.ledger.proofs.Setting.{set-now, object-stands}
-use Rattle.ledger.proofs.Outlives.{dateAt, Ahead, set-ahead, dueThen, kept-ahead, one-left}
+use Rattle.ledger.proofs.Outlives.{Ahead, set-ahead, dueThen, kept-ahead, one-left}
 
 -- one call, by its event
 step : (L : Ledger) (new : List ℕ) (v : Move) → MovePassed L new v → (handle setter at ticks : ℕ) → isOne (isLeaveOf setter) v ≡ false
     → Ahead (L .memory .clocks) setter at (cond (isOne (isTickOf setter) v) 1 0 + ticks)
-    → (then : ℕ) × (leftBy (L .memory .clocks) v (dateAt handle setter at ∷ []) ≡ dateAt handle setter then ∷ []) × Ahead (clocksBy (L .memory .clocks) v) setter then ticks
+    → (then : ℕ) × (leftBy (L .memory .clocks) v (globalOne handle setter at ∷ []) ≡ globalOne handle setter then ∷ []) × Ahead (clocksBy (L .memory .clocks) v) setter then ticks
 unfolding released
 step L new neither c handle setter at ticks stays k = (at, refl, record { present = k .present; ahead = omega (arith, k .ahead) })
 step L new (happens event task) c handle setter at ticks stays k =
@@ -36,7 +37,7 @@ none-first false n e = (refl, omega arith)
 
 -- every list
 outlived : (handle setter : ℕ) (ss : List Sent) (L : Ledger) (at : ℕ) → countOf (isLeaveOf setter) L ss ≡ 0
-    → Ahead (L .memory .clocks) setter at (countOf (isTickOf setter) L ss) → (then : ℕ) × (followed L ss (dateAt handle setter at ∷ []) ≡ dateAt handle setter then ∷ [])
+    → Ahead (L .memory .clocks) setter at (countOf (isTickOf setter) L ss) → (then : ℕ) × (followed L ss (globalOne handle setter at ∷ []) ≡ globalOne handle setter then ∷ [])
 unfolding countOf followed
 outlived handle setter [] L at e k = (at, refl)
 outlived handle setter (s ∷ ss) L at e k =
@@ -52,8 +53,8 @@ unfolding dueAfter
 outlives-ticks d ss stays few =
     let M = whenSet d in
     let (there, due) = set-now d in
-    let date : d .date ≡ dateAt (d .date .handle) (d .setter) (M .memory .clocks .global + d .extension + 2) = ap (λ (u : DueTime). record { handle = d .date .handle; due = u }) due in
-    let (then, left) = outlived (d .date .handle) (d .setter) ss M _ stays (set-ahead (M .memory .clocks) (d .setter) (d .extension) _ there few) in
-    let e : stands (followed M ss (d .date ∷ [])) (d .date .handle) ≡ true =
-    ap (λ (xs : List Expiration). stands xs (d .date .handle)) (ap (λ (x : Expiration). followed M ss (x ∷ [])) date ∙ left) ∙ rw (eq-eqb (d .date .handle) (d .date .handle) refl) in
+    let same : d .expiration ≡ globalOne (d .expiration .handle) (d .setter) (M .memory .clocks .global + d .extension + 2) = ap (λ (u : DueTime). record { handle = d .expiration .handle; due = u }) due in
+    let (then, left) = outlived (d .expiration .handle) (d .setter) ss M _ stays (set-ahead (M .memory .clocks) (d .setter) (d .extension) _ there few) in
+    let e : stands (followed M ss (d .expiration ∷ [])) (d .expiration .handle) ≡ true =
+    ap (λ (xs : List Expiration). stands xs (d .expiration .handle)) (ap (λ (x : Expiration). followed M ss (x ∷ [])) same ∙ left) ∙ rw (eq-eqb (d .expiration .handle) (d .expiration .handle) refl) in
     (e, object-stands d ss e)

@@ -11,15 +11,16 @@ use Rattle.lists.specs.Tests.{any}
 use Rattle.lists.proofs.Cases.{by-test, or-right, or-false-parts}
 use Rattle.lists.proofs.Counts.{any-left}
 use Rattle.lists.proofs.Implied.{any-none}
-use Rattle.ledger.specs.Limits.{taskCount}
-use Rattle.ledger.specs.Tasks.{taskAt, isAbsent, isWaiting}
-use Rattle.ledger.specs.Expirations.{Expiration, isPinned, isOf, isPinOf}
-use Rattle.ledger.specs.Objects.{Memory, Reply, objectAt, isIntact, stands, pinnedBy, replyTo, memoryAfter, expirationsAfter}
+use Rattle.ledger.specs.Limits.{taskCount, standard, lastHandle}
+use Rattle.ledger.specs.Tasks.{taskAt, isAbsent, isWaiting, freshClocks, moved, allTicked, tasksAfter, advances, clocksAfter}
+use Rattle.ledger.specs.Expirations.{Expiration, isPinned, isOf, isPinOf, dueAfter, putOff, lasting, released}
+use Rattle.ledger.specs.Objects.{Memory, Reply, freshMemory, objectAt, isIntact, stands, pinnedBy, replyTo, memoryAfter, expirationsAfter}
 use Rattle.ledger.specs.Refusals.{isNotGiven, testsOf, verdict}
 use Rattle.ledger.specs.Ledger.{Ledger, Sent, fresh, settled, replyBy, afterBy, verdictOn, reply, next, afterRequest, afterSent, afterAll}
 use Rattle.ledger.specs.Kept.{Kept}
 use Rattle.ledger.specs.Outlives.{neither, moveOf, moveIn}
-use Rattle.ledger.specs.Pinned.{PinnedMake, madeBy, whenMade, isReleaseOf, isReleased, StandsUntilReleased, pinnedEdges, PinnedClaim}
+use Rattle.ledger.specs.Pinned.{PinnedMake, madeBy, whenMade, isReleaseOf, isReleased, StandsUntilReleased, sparing, PinnedApplies, pinnedEdges, PinnedClaim}
+use Rattle.ledger.specs.Rows.{join}
 use Rattle.ledger.specs.declared.Answer.the-variants.{Refused, Handle, Bytes}
 use Rattle.ledger.specs.declared.Call.{Call}
 use Rattle.ledger.specs.declared.Call.the-variants.{Schedule, Make, Refresh, Read, Write, Batch, Release}
@@ -122,6 +123,16 @@ stands-until p ss e =
     let here = pinned-stands (p .object) (afterAll M ss) k (pinned-all (p .object) ss M e (made p)) in
     (here, λ task. read-stands (afterAll M ss) task (p .object) here)
 
+-- task 0 makes object 1
+first-pinned : PinnedMake
+unfolding fresh reply next afterAll testsOf verdict replyTo freshMemory memoryAfter expirationsAfter lasting freshClocks moved advances tasksAfter clocksAfter standard lastHandle
+first-pinned = record { limits = standard; earlier = join 0 ∷ []; task = 0; extension = 0; size = 4; bytes = []; object = 1; answered = refl }
+
+pinned-applies : PinnedApplies
+unfolding first-pinned sparing isReleased moveOf moveIn fresh next afterAll testsOf verdict
+    freshMemory memoryAfter expirationsAfter dueAfter putOff lasting released freshClocks moved allTicked advances tasksAfter clocksAfter standard lastHandle
+pinned-applies = record { made = first-pinned; object = refl; unreleased = refl; standing = refl; released = refl; gone = refl }
+
 pub pinned-claim : PinnedClaim
 unfolding pinnedEdges
-pinned-claim = record { until = stands-until; five = refl; rows = pinned-edges-hold }
+pinned-claim = record { until = stands-until; applies = pinned-applies; five = refl; rows = pinned-edges-hold }

@@ -1,25 +1,30 @@
 -- Waiting eats none of a task's global expirations.
 use Prim.Native.Nat.{ℕ, _+_, _-_, _≤_}
 use native.Mathlib.Omega.{arith}
-use mathlib.Core.Bool.{Bool, true, false, true≢false, cond, _&&_}
+use mathlib.Core.Bool.{Bool, true, false, true≢false, cond}
 use mathlib.Core.List.{List, [], _∷_}
 use mathlib.Core.Path.{_≡_, refl, sym, _∙_}
 use borrow.Author.Tests.{lt-ltb, le-ltb, ltb-false, eqb-true, eq-eqb}
 use lib.Dec.{eqb, ltb}
-use lib.ListN.{length, getD, set, List·getD-eq-default, List·getD-map}
+use lib.ListN.{length, getD, List·getD-eq-default, List·getD-map}
 use Rattle.lists.proofs.Cases.{by-test}
 use Rattle.lists.proofs.Tables.{getD-set}
-use Rattle.ledger.specs.Tasks.{Clocks, taskAt, absentTask, isWaiting, moved, unticked, tasksAfter, advances, clocksAfter}
-use Rattle.ledger.specs.Expirations.{byGlobal, departed, Expiration, remaining, putOff, deserted, lasting}
+use Rattle.ledger.specs.Limits.{taskCount}
+use Rattle.ledger.specs.Tasks.{Task, Clocks, taskAt, absentTask, isWaiting, moved, unticked, tasksAfter, advances, clocksAfter}
+use Rattle.ledger.specs.Expirations.{departed, Expiration, remaining, putOff, deserted, lasting}
 use Rattle.ledger.specs.Kept.{ClocksKept}
-use Rattle.ledger.specs.PutOff.{waitingEdges, globalOne, leftOfOne, LeftWith, waitsAfter, WaitingEatsNothing}
+use Rattle.ledger.specs.PutOff.{waitingEdges, globalOne, leftOfOne, LeftWith, waitsAfter, AdvanceLeaves, WaitingEatsNothing}
 use Rattle.ledger.specs.declared.Event.{Event}
 use Rattle.ledger.specs.declared.Event.the-variants.{Join, Leave, Block, Resume, Tick}
 use Rattle.ledger.proofs.Edges.{waiting-edges-hold}
-use Rattle.ledger.proofs.KeptTasks.{tasks-after}
+use Rattle.ledger.proofs.KeptTasks.{tasks-after, sixteen-after}
 
-gone : (clocks : Clocks) → ClocksKept clocks → isWaiting (taskAt clocks departed .state) ≡ false
-gone clocks k = rw (List·getD-eq-default (clocks .tasks) absentTask {n = departed} (omega (arith, k .sixteen)))
+-- no task has the number of the departed
+no-departed : (tasks : List Task) → length tasks ≡ taskCount → isWaiting (getD tasks departed absentTask .state) ≡ false
+no-departed tasks n = rw (List·getD-eq-default tasks absentTask {n = departed} (omega (arith, n)))
+
+departed-after : (event : Event) (task : ℕ) (clocks : Clocks) → ClocksKept clocks → waitsAfter event task clocks departed ≡ false
+departed-after event task clocks k = no-departed (clocksAfter event task clocks .tasks) (sixteen-after event task clocks (k .sixteen))
 
 -- the setter that an event leaves
 abbrev setterAfter : Event → ℕ → ℕ → ℕ
@@ -64,14 +69,14 @@ waits-on Block task clocks setter waits w d = w
 waits-on Resume task clocks setter waits w d = w
 waits-on Tick task clocks setter waits w d = w
 
-module _ (event : Event) (task : ℕ) (clocks : Clocks) (handle setter at : ℕ) (advanced : advances event task clocks ≡ true)
-    (departs : waitsAfter event task clocks departed ≡ false) where
+-- At an advance:
+module _ (event : Event) (task : ℕ) (clocks : Clocks) (kept : ClocksKept clocks) (advanced : advances event task clocks ≡ true) where
   -- the time after it is one later
   later : clocksAfter event task clocks .global ≡ clocks .global + 1
   unfolding clocksAfter
   later = rw advanced
 
-  module _ (waits : Bool) (w : waitsAfter event task clocks setter ≡ waits) where
+  module _ (handle setter at : ℕ) (waits : Bool) (w : waitsAfter event task clocks setter ≡ waits) where
     one : Expiration
     one = globalOne handle (setterAfter event task setter) (at + cond waits 1 0)
 
@@ -81,26 +86,25 @@ module _ (event : Event) (task : ℕ) (clocks : Clocks) (handle setter at : ℕ)
 
     judged : leftOfOne event task clocks (globalOne handle setter at) ≡ cond (ltb 0 (remaining (clocksAfter event task clocks) (one .due))) (one ∷ []) []
     unfolding one
-    judged = left-one event task clocks handle setter at advanced ∙ rw (waits-on event task clocks setter waits w departs)
+    judged = left-one event task clocks handle setter at advanced ∙ rw (waits-on event task clocks setter waits w (departed-after event task clocks kept))
 
     left-with : (n : ℕ) → remaining (clocksAfter event task clocks) (one .due) ≡ n → 1 ≤ n → LeftWith event task clocks (globalOne handle setter at) n
     unfolding one
     left-with n units some =
         record { one = one; left = judged ∙ rw (lt-ltb 0 (remaining (clocksAfter event task clocks) (one .due)) (omega (arith, units, some))); object = refl; units = units }
 
+  advance-leaves : AdvanceLeaves event task clocks
+  unfolding remaining
+  advance-leaves =
+      record {
+        waits = λ handle setter at w some. left-with handle setter at true w _ (units-of handle setter at true w ∙ omega arith) some;
+        counts = λ handle setter at w two. left-with handle setter at false w _ (units-of handle setter at false w ∙ omega arith) (omega (arith, two));
+        ends = λ handle setter at w last.
+            judged handle setter at false w
+            ∙ rw (le-ltb 0 (remaining (clocksAfter event task clocks) (one handle setter at false w .due)) (omega (arith, units-of handle setter at false w, last)));
+      }
+
 pub waiting-eats-nothing : WaitingEatsNothing
-unfolding remaining waitingEdges
+unfolding waitingEdges
 waiting-eats-nothing =
-    record {
-      waits = λ event task clocks handle setter at a w d some.
-          left-with event task clocks handle setter at a d true w _ (units-of event task clocks handle setter at a d true w ∙ omega arith) some;
-      counts = λ event task clocks handle setter at a w d two.
-          left-with event task clocks handle setter at a d false w _ (units-of event task clocks handle setter at a d false w ∙ omega arith) (omega (arith, two));
-      ends = λ event task clocks handle setter at a w d last.
-          judged event task clocks handle setter at a d false w
-          ∙ rw (le-ltb 0 (remaining (clocksAfter event task clocks) (one event task clocks handle setter at a d false w .due))
-          (omega (arith, units-of event task clocks handle setter at a d false w, last)));
-      gone = gone;
-      four = refl;
-      rows = waiting-edges-hold;
-    }
+    record { every = advance-leaves; gone = λ clocks k. no-departed (clocks .tasks) (k .sixteen); four = refl; rows = waiting-edges-hold }

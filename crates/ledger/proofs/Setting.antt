@@ -74,10 +74,10 @@ all-middle P (y ∷ ys) x back (h, hs) = all-middle P ys x back hs
 
 -- when it is set: its setter is there, and the clocks are as they were
 pub set-now : (d : Setting) → (isAbsent (taskAt (whenSet d .memory .clocks) (d .setter) .state) ≡ false)
-    × (d .date .due ≡ dueAfter (whenSet d .memory .clocks) (d .setter) Global (d .extension))
+    × (d .expiration .due ≡ dueAfter (whenSet d .memory .clocks) (d .setter) Global (d .extension))
 set-now d =
     let L = afterAll (fresh (d .limits)) (d .earlier) in
-    let (there, still) = all-middle _ (d .front) (d .date) (d .back) (rw (d .among) at (new-in L (d .call .request) (d .call .bytes))) (d .setter) (d .extension) (d .due) in
+    let (there, still) = all-middle _ (d .front) (d .expiration) (d .back) (rw (d .among) at (new-in L (d .call .request) (d .call .bytes))) (d .setter) (d .extension) (d .due) in
     rw (clocks-moved L (d .call .request) (d .call .bytes), still) (there, d .due)
 
 pub kept-set : (d : Setting) → Kept (whenSet d)
@@ -101,14 +101,14 @@ module _ (p : Expiration → Bool) where
       rw (following .apart L ss (front ++ (x ∷ back)) rest, following .apart L ss front (x ∷ back), following .apart L ss (x ∷ []) back, any-append, any-append, any-append, e, or-true)
 
 -- where the one that was set stands, its object does
-pub object-stands : (d : Setting) (ss : List Sent) → stands (followed (whenSet d) ss (d .date ∷ [])) (d .date .handle) ≡ true
-    → isOwned (afterAll (whenSet d) ss .memory .objects) (d .date) ≡ true
+pub object-stands : (d : Setting) (ss : List Sent) → stands (followed (whenSet d) ss (d .expiration ∷ [])) (d .expiration .handle) ≡ true
+    → isOwned (afterAll (whenSet d) ss .memory .objects) (d .expiration) ≡ true
 object-stands d ss e =
     let L = afterAll (fresh (d .limits)) (d .earlier) in
     let M = whenSet d in
     let N = afterAll M ss in
-    let h : any (isOf (d .date .handle)) (N .expirations) ≡ true =
-    inside (isOf (d .date .handle)) ss M
+    let h : any (isOf (d .expiration .handle)) (N .expirations) ≡ true =
+    inside (isOf (d .expiration .handle)) ss M
     (rw (following .parts L (d .call .request) (d .call .bytes), d .among)
-    (among (isOf (d .date .handle)) M ss (d .front) (d .date) (d .back) (leftIn L (d .call .request) (d .call .bytes) (L .expirations)) e)) in
-    owned-by (N .memory) (N .expirations) (kept-after ss M (kept-set d)) (d .date .handle) h
+    (among (isOf (d .expiration .handle)) M ss (d .front) (d .expiration) (d .back) (leftIn L (d .call .request) (d .call .bytes) (L .expirations)) e)) in
+    owned-by (N .memory) (N .expirations) (kept-after ss M (kept-set d)) (d .expiration .handle) h

@@ -51,7 +51,7 @@ pub record ChosenClaim : Type 0 where
   pub fixedHeap : (m : Memory) (us : List Used) → heapAfterAll m us .limits ≡ m .limits
   -- C5
   pub rows : All RowHolds chosenEdges
-  -- C3: the ends of each range, 01's figures (C4) among them; and one past each end
-  pub inside : All (Allowing true) (standard ∷ chosen 1 1 1 0 ∷ [])
+  -- C3: the ends of each range, 01's figures (C4) among them, and some between; and one past each end
+  pub inside : All (Allowing true) (standard ∷ chosen 1 1 1 0 ∷ chosen 1 2 4 5 ∷ chosen 16 4 64 10 ∷ [])
   pub outside : All (Allowing false)
       (chosen 0 1 1 0 ∷ chosen 65 1 1 0 ∷ chosen 1 0 1 0 ∷ chosen 1 33 1 0 ∷ chosen 1 1 0 0 ∷ chosen 1 1 257 0 ∷ chosen 1 1 1 31 ∷ [])

@@ -35,7 +35,7 @@ leftOf clocks pinned = pinnedLeft
 abbrev pub shown : Clocks → Expiration → Shown
 shown clocks x = record { handle = x .handle; left = leftOf clocks (x .due) }
 
--- L7: bytes only where the store is whole; isWhole says of a size whether its store has 01's length
+-- L7: bytes only where the store is whole; isWhole says of a size whether its store is as long as the blocks need
 abbrev pub shownObject : (ℕ → Bool) → Object → Object
 shownObject isWhole o = record { handle = o .handle; size = o .size; bytes = cond (isWhole (o .size)) (o .bytes) []; sum = o .sum }
 

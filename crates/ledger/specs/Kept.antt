@@ -10,7 +10,7 @@ use Rattle.ledger.specs.Limits.{taskCount, largeSize, lastHandle, blockS
 use Rattle.ledger.specs.Tasks.{Task, Clocks, taskAt, isAbsent, isRunning, allTicked}
 use Rattle.ledger.specs.Expirations.{DueTime, byLocal, byGlobal, pinned, departed, Expiration, remaining, isLive, isOf, isPinOf}
 use Rattle.ledger.specs.Objects.{Object, isIntact, stands, smallOnes, largeOnes}
-use Rattle.ledger.specs.Ledger.{Ledger}
+use Rattle.ledger.specs.Ledger.{Ledger, Sent, fresh, afterAll}
 use Rattle.ledger.specs.declared.Limits.{Limits}
 
 -- W9, W11: who is ticked runs, and an absent task has local time 0
@@ -87,3 +87,7 @@ pub record Kept (L : Ledger) : Type 0 where
   pub once : PinnedOnceKept (L .expirations)
   -- W2: each object has an expiration
   pub standing : All (λ (o : Object). stands (L .expirations) (o .handle) ≡ true) (L .memory .objects)
+
+-- D8: whatever the figures, from fresh on every ledger keeps all of it
+abbrev pub EveryLedgerKeeps : Type 0
+EveryLedgerKeeps = (limits : Limits) (ss : List Sent) → Kept (afterAll (fresh limits) ss)

@@ -1,4 +1,4 @@
--- Document 01's figures, each written once.
+-- Document 01's figures and the ranges of those that a site chooses, each written once.
 use Prim.Native.Nat.{ℕ}
 use mathlib.Core.Bool.{Bool, cond, _&&_}
 use lib.Dec.{leb}

@@ -18,7 +18,7 @@ moreEdges =
     read 0 1 ⇒ contents (0 ∷ 165 ∷ 0 ∷ 0 ∷ []) ⨾
     read 0 2 ⇒ zeros 4
     clockReads 0 ∷
-    -- A leaver's common date counts on.
+    -- A leaver's global expiration counts on.
     fresh standard runs
     join 0 ⇒ done ⨾
     join 1 ⇒ done ⨾
@@ -29,7 +29,7 @@ moreEdges =
     tick 0 ⇒ advanced ⨾
     read 0 1 ⇒ refused 12
     clockReads 2 ∷
-    -- A task that waits keeps its clock and its dates. Resumed it has no mark: the tick of 1 alone makes no advance.
+    -- A task that waits keeps its local time and its expirations. Resumed it is not ticked: the tick of 1 alone makes no advance.
     fresh standard runs
     join 0 ⇒ done ⨾
     join 1 ⇒ done ⨾
@@ -42,7 +42,7 @@ moreEdges =
     tick 0 ⇒ advanced ⨾
     read 1 1 ⇒ refused 12
     clockReads 2 ∷
-    -- A task that waits may leave: its own dates go, no advance follows, and when it joins again its clock is 0.
+    -- A task that waits may leave: its local expirations go, no advance follows, and when it joins again its local time is 0.
     fresh standard runs
     join 0 ⇒ done ⨾
     join 1 ⇒ done ⨾
@@ -53,7 +53,7 @@ moreEdges =
     read 1 1 ⇒ refused 12 ⨾
     join 0 ⇒ done
     clockReads 0 ∷
-    -- Remaining life: the longest date of either kind counts, an own one for its setter alone and a common one for all. Straight after it is set e + 1 ticks or e + 2
+    -- Remaining life: the longest expiration of either kind counts, a local one for its setter alone and a global one for all. Straight after it is set e + 1 ticks or e + 2
     -- advances are left, and each goes by its own time.
     fresh standard runs
     join 0 ⇒ done ⨾
@@ -86,7 +86,7 @@ moreEdges =
     tick 0 ⇒ advanced ⨾
     remaining 0 1 ⇒ refused 12
     clockReads 1 ∷
-    -- A batch: each object gets its date, one that is named twice gets two. 20 comes before 6; one object that was never made gives 11 before another that is gone gives 12; and
+    -- A batch: each object gets its expiration, one that is named twice gets two. 20 comes before 6; one object that was never made gives 11 before another that is gone gives 12; and
     -- then no object gets any.
     fresh standard runs
     join 0 ⇒ done ⨾

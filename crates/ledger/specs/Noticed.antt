@@ -4,6 +4,7 @@ use Prim.Native.Nat.{ℕ, _≤_, _<_}
 use mathlib.Core.Bool.{Bool, true, false, cond}
 use mathlib.Core.List.{List, [], _∷_, map}
 use mathlib.Core.Logic.{_≢_}
+use mathlib.Core.Option.{Option, none, some}
 use mathlib.Core.Path.{_≡_}
 use lib.Dec.{eqb}
 use lib.ListN.{length, getD}
@@ -12,6 +13,7 @@ use Rattle.lists.specs.Tests.{any, All}
 use Rattle.ledger.specs.Objects.{Object, Reply, freshMemory, plain, objectAt, isIntact, stands}
 use Rattle.ledger.specs.Ledger.{Ledger, Sent, fresh, replyBy, standingVerdictOn, replyToRequest, afterSent, replies, afterAll}
 use Rattle.ledger.specs.Heap.{Used, heapReplies}
+use Rattle.ledger.specs.Numbers.{isRefusal}
 use Rattle.ledger.specs.declared.Answer.{Answer}
 use Rattle.ledger.specs.declared.Answer.the-variants.{Refused, Done, Advanced, Handle, Bytes, Counted, Lasts}
 use Rattle.ledger.specs.declared.Call.the-variants.{Schedule, Make, Refresh, Read, Write, Batch, Release}
@@ -55,59 +57,40 @@ pub record Change : Type 0 where
 abbrev pub changed : Change → Ledger
 changed c = disturbedIn (c .handle) (c .at) (c .value) (c .before)
 
--- N3: a read or a write of an object
-abbrev pub isUseOf : ℕ → Request → Bool
-isUseOf handle (Use (Schedule event task)) = false
-isUseOf handle (Use (Make task kind extension size)) = false
-isUseOf handle (Use (Refresh task kind extension used)) = false
-isUseOf handle (Use (Read task used)) = eqb used handle
-isUseOf handle (Use (Write task used offset)) = eqb used handle
-isUseOf handle (Use (Batch task kind extension)) = false
-isUseOf handle (Use (Release task used)) = false
-isUseOf handle Report = false
-isUseOf handle (Remaining task used) = false
+-- N3: a use of an object is a read or a write of it: the task that uses it by this request, if any
+abbrev pub userOf : ℕ → Request → Option ℕ
+userOf handle (Use (Schedule event task)) = none
+userOf handle (Use (Make task kind extension size)) = none
+userOf handle (Use (Refresh task kind extension used)) = none
+userOf handle (Use (Read task used)) = cond (eqb used handle) (some task) none
+userOf handle (Use (Write task used offset)) = cond (eqb used handle) (some task) none
+userOf handle (Use (Batch task kind extension)) = none
+userOf handle (Use (Release task used)) = none
+userOf handle Report = none
+userOf handle (Remaining task used) = none
 
--- the task of such a call
-abbrev pub userOf : Request → ℕ
-userOf (Use (Schedule event task)) = task
-userOf (Use (Make task kind extension size)) = task
-userOf (Use (Refresh task kind extension used)) = task
-userOf (Use (Read task used)) = task
-userOf (Use (Write task used offset)) = task
-userOf (Use (Batch task kind extension)) = task
-userOf (Use (Release task used)) = task
-userOf Report = 0
-userOf (Remaining task used) = task
-
--- N4: what a call is answered once the object with this handle was changed, by the ledger without the change: such a use is refused, by 23 where no earlier test of
+-- N4: what a call is answered once the object with this handle was changed, by the ledger without the change: a use of it is refused, by 23 where no earlier test of
 -- its task and of the object refuses it; any other call is answered as that ledger does
-unfoldable pub noticed : ℕ → Ledger → Sent → Reply
-noticed handle L s =
-    cond (isUseOf handle (s .request)) (replyBy (standingVerdictOn L (userOf (s .request)) handle) (plain (Refused SumDiffers)))
-    (replyToRequest L (s .request) (s .bytes))
+unfoldable pub noticedBy : Option ℕ → ℕ → Ledger → Sent → Reply
+noticedBy none handle L s = replyToRequest L (s .request) (s .bytes)
+noticedBy (some task) handle L s = replyBy (standingVerdictOn L task handle) (plain (Refused SumDiffers))
+
+abbrev pub noticed : ℕ → Ledger → Sent → Reply
+noticed handle L s = noticedBy (userOf handle (s .request)) handle L s
 
 -- and a list of calls, the ledger without the change going on beside
 unfoldable pub noticedIn : ℕ → Ledger → List Sent → List Reply
 noticedIn handle L [] = []
 noticedIn handle L (s ∷ ss) = noticed handle L s ∷ noticedIn handle (afterSent L s) ss
 
-abbrev pub isRefusal : Answer → Bool
-isRefusal (Refused why) = true
-isRefusal Done = false
-isRefusal (Advanced b) = false
-isRefusal (Handle handle) = false
-isRefusal Bytes = false
-isRefusal (Counted usage) = false
-isRefusal (Lasts life) = false
-
 pub record Notices : Type 0 where
   -- N5: after such a change every list of calls is answered so;
   pub every : (c : Change) (ss : List Sent) → replies (changed c) ss ≡ noticedIn (c .handle) (c .before) ss
   -- after whatever calls, each read and each write of the object is refused,
-  pub refused : (c : Change) (ss : List Sent) (s : Sent) → isUseOf (c .handle) (s .request) ≡ true
+  pub refused : (c : Change) (ss : List Sent) (s : Sent) (task : ℕ) → userOf (c .handle) (s .request) ≡ some task
       → isRefusal (replyToRequest (afterAll (changed c) ss) (s .request) (s .bytes) .answer) ≡ true
   -- and every other call is answered as the ledger without the change says.
-  pub others : (c : Change) (ss : List Sent) (s : Sent) → isUseOf (c .handle) (s .request) ≡ false
+  pub others : (c : Change) (ss : List Sent) (s : Sent) → userOf (c .handle) (s .request) ≡ none
       → replyToRequest (afterAll (changed c) ss) (s .request) (s .bytes) ≡ replyToRequest (afterAll (c .before) ss) (s .request) (s .bytes)
   -- N6: with no change from outside no call is ever answered 23, and the heap never gives it
   pub never : (limits : Limits) (ss : List Sent) → All (λ (y : Reply). y .answer ≢ Refused SumDiffers) (replies (fresh limits) ss)

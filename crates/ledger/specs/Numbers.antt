@@ -1,6 +1,6 @@
 -- The number of documents 01 and 02 for each refusal, and the number and values of each answer.
 use Prim.Native.Nat.{ℕ}
-use mathlib.Core.Bool.{cond}
+use mathlib.Core.Bool.{Bool, true, false, cond}
 use mathlib.Core.List.{List, [], _∷_}
 use lib.Dec.{ltb}
 use Rattle.ledger.specs.declared.Refusal.{Refusal}
@@ -38,6 +38,15 @@ numberOf LimitsOutOfRange = 29
 -- the same by the place in that list
 abbrev pub numberAt : ℕ → ℕ
 numberAt place = cond (ltb place 24) place 29
+
+abbrev pub isRefusal : Answer → Bool
+isRefusal (Refused why) = true
+isRefusal Done = false
+isRefusal (Advanced b) = false
+isRefusal (Handle handle) = false
+isRefusal Bytes = false
+isRefusal (Counted usage) = false
+isRefusal (Lasts life) = false
 
 -- the number of an answer: 0 where the call was carried out
 abbrev pub answerNumber : Answer → ℕ

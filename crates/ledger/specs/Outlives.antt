@@ -104,11 +104,11 @@ pub record Setting : Type 0 where
   pub call : Sent
   pub setter : ℕ
   pub extension : ℕ
-  pub date : Expiration
-  pub due : date .due ≡ dueAfter (afterAll (fresh limits) earlier .memory .clocks) setter Global extension
+  pub expiration : Expiration
+  pub due : expiration .due ≡ dueAfter (afterAll (fresh limits) earlier .memory .clocks) setter Global extension
   pub front : List Expiration
   pub back : List Expiration
-  pub among : setIn (afterAll (fresh limits) earlier) (call .request) (call .bytes) ≡ front ++ (date ∷ back)
+  pub among : setIn (afterAll (fresh limits) earlier) (call .request) (call .bytes) ≡ front ++ (expiration ∷ back)
 
 abbrev pub whenSet : Setting → Ledger
 whenSet d = afterSent (afterAll (fresh (d .limits)) (d .earlier)) (d .call)
@@ -117,7 +117,7 @@ whenSet d = afterSent (afterAll (fresh (d .limits)) (d .earlier)) (d .call)
 abbrev pub OutlivesTicks : Type 0
 OutlivesTicks =
     (d : Setting) (ss : List Sent) → countOf (isLeaveOf (d .setter)) (whenSet d) ss ≡ 0 → countOf (isTickOf (d .setter)) (whenSet d) ss ≤ d .extension
-    → (stands (followed (whenSet d) ss (d .date ∷ [])) (d .date .handle) ≡ true) × (isOwned (afterAll (whenSet d) ss .memory .objects) (d .date) ≡ true)
+    → (stands (followed (whenSet d) ss (d .expiration ∷ [])) (d .expiration .handle) ≡ true) × (isOwned (afterAll (whenSet d) ss .memory .objects) (d .expiration) ≡ true)
 
 -- U7: A round: nobody joins or resumes in it, some task runs at its end, and every task that runs then has ticked in it.
 unfoldable pub isRound : Ledger → List Sent → Bool
@@ -127,17 +127,18 @@ isRound L ss =
     && any (λ (t : Task). isRunning (t .state)) tasks
     && allFrom 0 (λ (task : ℕ) (t : Task). not (isRunning (t .state)) || ltb 0 (countOf (isTickOf task) L ss)) tasks
 
--- U8: The setter is waiting. One that has left is departed (E21) and does not wait, whoever has its number since. Free are calls after none of which one waits.
-abbrev pub isHeld : Clocks → DueTime → Bool
-isHeld clocks (byLocal setter at) = isWaiting (taskAt clocks setter .state)
-isHeld clocks (byGlobal setter at) = isWaiting (taskAt clocks setter .state)
-isHeld clocks pinned = false
+-- U8: The setter waits. One that has left is departed (E21) and does not wait, whoever has its number since.
+abbrev pub setterWaits : Clocks → DueTime → Bool
+setterWaits clocks (byLocal setter at) = isWaiting (taskAt clocks setter .state)
+setterWaits clocks (byGlobal setter at) = isWaiting (taskAt clocks setter .state)
+setterWaits clocks pinned = false
 
-unfoldable pub isFree : Ledger → List Sent → List Expiration → Bool
-isFree L [] xs = true
-isFree L (s ∷ ss) xs =
+-- the setter of what is left waits after none of these calls
+unfoldable pub neverWaits : Ledger → List Sent → List Expiration → Bool
+neverWaits L [] xs = true
+neverWaits L (s ∷ ss) xs =
     let left = leftIn L (s .request) (s .bytes) xs in
-    all (λ (x : Expiration). not (isHeld (afterSent L s .memory .clocks) (x .due))) left && isFree (afterSent L s) ss left
+    all (λ (x : Expiration). not (setterWaits (afterSent L s .memory .clocks) (x .due))) left && neverWaits (afterSent L s) ss left
 
 -- U9: rounds that do not overlap, each after any calls; in none of them is the setter waiting
 pub record Stretch : Type 0 where
@@ -153,10 +154,10 @@ areRounds L xs [] = true
 areRounds L xs (r ∷ rs) =
     let start = afterAll L (r .between) in
     let left = followed L (r .between) xs in
-    isRound start (r .round) && isFree start (r .round) left && areRounds (afterAll start (r .round)) (followed start (r .round) left) rs
+    isRound start (r .round) && neverWaits start (r .round) left && areRounds (afterAll start (r .round)) (followed start (r .round) left) rs
 
 -- U10, the second claim: after e + 2 of them this expiration is gone, and stays so.
 abbrev pub GoneAfterRounds : Type 0
 GoneAfterRounds =
-    (d : Setting) (rs : List Stretch) (rest : List Sent) → length rs ≡ d .extension + 2 → areRounds (whenSet d) (d .date ∷ []) rs ≡ true
-    → followed (whenSet d) (callsOf rs rest) (d .date ∷ []) ≡ []
+    (d : Setting) (rs : List Stretch) (rest : List Sent) → length rs ≡ d .extension + 2 → areRounds (whenSet d) (d .expiration ∷ []) rs ≡ true
+    → followed (whenSet d) (callsOf rs rest) (d .expiration ∷ []) ≡ []

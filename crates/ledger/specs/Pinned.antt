@@ -1,7 +1,7 @@
 -- The claim of E22 to E24 (order 5 of document 02), over every list of calls: an object that was made pinned (02: kept) stands until a release of it is accepted; and five rows.
 use Prim.Native.Nat.{ℕ}
 use mathlib.Core.Bool.{Bool, true, false, _||_}
-use mathlib.Core.List.{List, [], _∷_}
+use mathlib.Core.List.{List, [], _∷_, _++_}
 use mathlib.Core.Path.{_≡_}
 use lib.Dec.{eqb}
 use lib.ListN.{length}
@@ -50,6 +50,19 @@ StandsUntilReleased =
     (p : PinnedMake) (ss : List Sent) → isReleased (p .object) (whenMade p) ss ≡ false
     → (stands (afterAll (whenMade p) ss .expirations) (p .object) ≡ true)
     × ((task : ℕ) → reply (afterAll (whenMade p) ss) (Read task (p .object)) [] .answer ≡ Refused ObjectGone → ⊥)
+
+-- Calls none of which is such a release of object 1: ticks, the make and the release of another object, and one of it that is refused, task 1 being absent
+unfoldable pub sparing : List Sent
+sparing = tick 0 ∷ make 0 Pinned 0 4 ∷ release 0 2 ∷ release 1 1 ∷ tick 0 ∷ []
+
+-- The claim is not empty, and ends where it says: there is such a make of object 1, which stands after these calls, and after one more, its release, does not.
+pub record PinnedApplies : Type 0 where
+  pub made : PinnedMake
+  pub object : made .object ≡ 1
+  pub unreleased : isReleased 1 (whenMade made) sparing ≡ false
+  pub standing : stands (afterAll (whenMade made) sparing .expirations) 1 ≡ true
+  pub released : isReleased 1 (whenMade made) (sparing ++ (release 0 1 ∷ [])) ≡ true
+  pub gone : stands (afterAll (whenMade made) (sparing ++ (release 0 1 ∷ [])) .expirations) 1 ≡ false
 
 unfoldable pub pinnedEdges : List Row
 pinnedEdges =
@@ -129,5 +142,6 @@ pinnedEdges =
 
 pub record PinnedClaim : Type 0 where
   pub until : StandsUntilReleased
+  pub applies : PinnedApplies
   pub five : length pinnedEdges ≡ 5
   pub rows : All RowHolds pinnedEdges

@@ -97,19 +97,21 @@ pub record LeftWith (event : Event) (task : ℕ) (clocks : Clocks) (x : Expirati
 abbrev pub waitsAfter : Event → ℕ → Clocks → ℕ → Bool
 waitsAfter event task clocks who = isWaiting (taskAt (clocksAfter event task clocks) who .state)
 
-pub record WaitingEatsNothing : Type 0 where
-  -- E20: at an advance, whoever brings it, a global expiration whose setter waits then keeps all its units,
-  pub waits : (event : Event) (task : ℕ) (clocks : Clocks) (handle setter at : ℕ) → advances event task clocks ≡ true
-      → waitsAfter event task clocks setter ≡ true → waitsAfter event task clocks departed ≡ false → 1 ≤ remaining clocks (byGlobal setter at)
+-- What an advance leaves of a global expiration:
+pub record AdvanceLeaves (event : Event) (task : ℕ) (clocks : Clocks) : Type 0 where
+  -- one whose setter waits then keeps all its units,
+  pub waits : (handle setter at : ℕ) → waitsAfter event task clocks setter ≡ true → 1 ≤ remaining clocks (byGlobal setter at)
       → LeftWith event task clocks (globalOne handle setter at) (remaining clocks (byGlobal setter at))
   -- and any other has one less, or ends with its last.
-  pub counts : (event : Event) (task : ℕ) (clocks : Clocks) (handle setter at : ℕ) → advances event task clocks ≡ true
-      → waitsAfter event task clocks setter ≡ false → waitsAfter event task clocks departed ≡ false → 2 ≤ remaining clocks (byGlobal setter at)
+  pub counts : (handle setter at : ℕ) → waitsAfter event task clocks setter ≡ false → 2 ≤ remaining clocks (byGlobal setter at)
       → LeftWith event task clocks (globalOne handle setter at) (remaining clocks (byGlobal setter at) - 1)
-  pub ends : (event : Event) (task : ℕ) (clocks : Clocks) (handle setter at : ℕ) → advances event task clocks ≡ true
-      → waitsAfter event task clocks setter ≡ false → waitsAfter event task clocks departed ≡ false → remaining clocks (byGlobal setter at) ≡ 1
+  pub ends : (handle setter at : ℕ) → waitsAfter event task clocks setter ≡ false → remaining clocks (byGlobal setter at) ≡ 1
       → leftOfOne event task clocks (globalOne handle setter at) ≡ []
-  -- E21: no departed setter waits, from fresh on
+
+pub record WaitingEatsNothing : Type 0 where
+  -- E20: so does every advance, whoever brings it, where the clocks are as a ledger keeps them;
+  pub every : (event : Event) (task : ℕ) (clocks : Clocks) → ClocksKept clocks → advances event task clocks ≡ true → AdvanceLeaves event task clocks
+  -- E21: by such clocks no departed setter waits.
   pub gone : (clocks : Clocks) → ClocksKept clocks → isWaiting (taskAt clocks departed .state) ≡ false
   pub four : length waitingEdges ≡ 4
   pub rows : All RowHolds waitingEdges

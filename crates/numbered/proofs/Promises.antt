@@ -22,7 +22,7 @@ use Rattle.numbered.specs.Entries.{DoesWith, Does, MakesOne}
 use Rattle.numbered.specs.declared.Numbered.{Numbered}
 use Rattle.numbered.proofs.Replies.{carriedOut, by-reply}
 
--- an answer by its number, and the record that is left: what `put_together` and `refused` give
+-- an answer by its number, and the record that is left: what `give_back` and `refused` give
 abbrev pub Gave : Answer → Pool → Numbered → Type 0
 Gave answer p′ r = (r .number ≡ answerNumber answer) × (r .pool ≡ p′)
 
@@ -77,7 +77,7 @@ module _ {p : Pool} {vs : List Val} (is : Is the-row p vs) {q : Pool} (same : q 
   refreshes-each f = does-silently (λ L. refl) f
 
   pub makes : {task : ℕ} {kind : Kind} {extension size : ℕ} {small large small′ large′ : List ℕ} {old new : ℕ}
-      → Makes task kind extension size q small large (record { answer = answer; pool = p′ }) small′ large′ → new ≡ handleOr old answer
+      → Makes task kind extension size q small large answer p′ small′ large′ → new ≡ handleOr old answer
       → MakesOne task kind extension size p small large (old ∷ []) (r .number) (r .pool) small′ large′ (new ∷ [])
   makes f n =
-      let m = rw same at f in rw n (record { answer = answer; makes = rw (gave .1) m; told = told answer (gave .0) (tells-handle is (m .obeys) _) })
+      let m = rw same at f in rw n (record { answer = answer; makes = rw (gave .1) m; told = told answer (gave .0) (tells-handle is m _) })

@@ -47,12 +47,12 @@ module _ {C : Type 0} {p : Pool} {vs : List Val} (is : Is the-row p vs) {new sma
       → isWellFormed p ≡ true → (isStored request ≡ true → areWhole (p .limits) small large ≡ true) → Obeys request new p small large y p′ small′ large′ → C
   unfolding reply
   by-ledger Report refused carried w whole o =
-      let (L, reads) = every-fit-record-reads p (typed p vs is) w small large in carried L (o .answers w whole L reads)
+      let (L, reads) = every-fit-record-reads p (typed p vs is) w small large in carried L (o .answers (record { fit = w; whole = whole }) L reads)
   by-ledger (Remaining task handle) refused carried w whole o =
       let (L, reads) = every-fit-record-reads p (typed p vs is) w small large in
-      by-verdict (standingVerdictOn L task handle) refused (carried L) (o .answers w whole L reads)
+      by-verdict (standingVerdictOn L task handle) refused (carried L) (o .answers (record { fit = w; whole = whole }) L reads)
   by-ledger (Use call) refused carried w whole o =
-      let (L, reads) = every-fit-record-reads p (typed p vs is) w small large in by-verdict (verdictOn L call new) refused (carried L) (o .answers w whole L reads)
+      let (L, reads) = every-fit-record-reads p (typed p vs is) w small large in by-verdict (verdictOn L call new) refused (carried L) (o .answers (record { fit = w; whole = whole }) L reads)
 
   pub by-reply : {request : Request} → Obeys request new p small large y p′ small′ large′
       → ((why : Refusal) → y ≡ plain (Refused why) → C) → ((L : Ledger) → y ≡ carriedOut request L → C) → C

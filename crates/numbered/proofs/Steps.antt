@@ -64,7 +64,7 @@ unknown n a b c d =
 make-gives : (kind : KindByte) (task extension size : ℕ) (p : Pool) (small large numbers : List ℕ) (number : ℕ) (p′ : Pool) (small′ large′ numbers′ : List ℕ)
     → MakesBy kind task extension size p small large numbers number p′ small′ large′ numbers′
     → Gives (entry (withKind kind (λ (k : Kind). Use (Make task k extension size))) []) (lent numbers) p small large (withNumber number (lent numbers′)) p′ small′ large′
-make-gives (Known kind) task extension size p small large numbers number p′ small′ large′ numbers′ m = called (m .answer) (m .makes .obeys) (m .told)
+make-gives (Known kind) task extension size p small large numbers number p′ small′ large′ numbers′ m = called (m .answer) (m .makes) (m .told)
 make-gives Unknown task extension size p small large numbers number p′ small′ large′ numbers′ (n, a, b, c, d) = unknown n a b c d
 
 refresh-gives : (kind : KindByte) (task extension handle : ℕ) (p : Pool) (number : ℕ) (p′ : Pool) (small large : List ℕ)
@@ -113,7 +113,7 @@ each-gives =
       makes = make-gives;
       refreshes = refresh-gives;
       refreshesAll = batch-gives;
-      writes = λ task handle offset bytes p small large number p′ small′ large′ w. called (w .answer) (w .writes .obeys) (w .told);
+      writes = λ task handle offset bytes p small large number p′ small′ large′ w. called (w .answer) (w .writes) (w .told);
       copies =
           λ task handle p small large loans number loans′ r.
           record {

@@ -41,7 +41,7 @@ Does request p numbers number p′ numbers′ = DoesWith request [] p numbers nu
 -- make of a known kind
 pub record MakesOne (task : ℕ) (kind : Kind) (extension size : ℕ) (p : Pool) (small large numbers : List ℕ) (number : ℕ) (p′ : Pool) (small′ large′ numbers′ : List ℕ) : Type 0 where
   pub answer : Answer
-  pub makes : Contract.Makes task kind extension size p small large (record { answer = answer; pool = p′ }) small′ large′
+  pub makes : Contract.Makes task kind extension size p small large answer p′ small′ large′
   pub told : withNumber number (lent numbers′) ≡ toldBy (plain answer) (lent numbers)
 
 -- write: the record gets the block's new sum

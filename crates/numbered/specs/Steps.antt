@@ -1,7 +1,7 @@
--- One step of a host: what it asks of an entry, what it is told, and what becomes of record and stores. Every entry's promise is such a step.
+-- One action of a host: what it does through an entry, what it is told, and what becomes of record and stores. Every entry's promise is such an action.
 use Prim.Native.Nat.{ℕ}
 use mathlib.Core.Bool.{Bool, true, false}
-use mathlib.Core.List.{List, []}
+use mathlib.Core.List.{List, [], _∷_}
 use mathlib.Core.Logic.{_≢_}
 use mathlib.Core.Option.{Option, some}
 use mathlib.Core.Path.{_≡_}
@@ -12,6 +12,9 @@ use Rattle.ledger.specs.declared.Call.the-variants.{Make, Refresh, Read, Write,
 use Rattle.ledger.specs.declared.Kind.{Kind}
 use Rattle.ledger.specs.declared.Request.{Request}
 use Rattle.ledger.specs.declared.Request.the-variants.{Use}
+use Rattle.ledger.specs.Limits.{isAllowed}
+use Rattle.ledger.specs.declared.Limits.{Limits}
+use Rattle.record.specs.Reading.{wholeSmall, wholeLarge}
 use Rattle.record.specs.declared.Pool.{Pool}
 use Rattle.answers.specs.Answers.{longestAnswer}
 use Rattle.frames.specs.Frames.{frameOf, payloadOf, frameWith, withKind}
@@ -20,7 +23,7 @@ use Rattle.frames.specs.declared.Frame.{Frame}
 use Rattle.frames.specs.declared.requests.KindByte.{KindByte}
 use Rattle.execute.specs.Execution.{IsReplyTo}
 use Rattle.numbered.specs.Told.{tooShort, Loans, lent, buffered, Told, withNumber, toldBy, toldAsLine}
-use Rattle.numbered.specs.Entries.{DoesWith, MakesBy, RefreshesBy, RefreshesAllBy, WritesTo, CopiesOut, Carries}
+use Rattle.numbered.specs.Entries.{Renews, TellsAwaited, DoesWith, MakesBy, RefreshesBy, RefreshesAllBy, WritesTo, CopiesOut, Carries}
 
 -- a call by its own entry, with the bytes of a write or a batch, or no call where its kind is none; or a line
 pub data Asked : Type 0 where
@@ -51,7 +54,30 @@ pub record Gives (asked : Asked) (loans : Loans) (p : Pool) (small large : List 
   -- whatever number it is but 0, record and stores are what they were
   pub kept : told .number ≢ 0 → (p′ ≡ p) × (small′ ≡ small) × (large′ ≡ large)
 
--- Each entry's promise gives that; of one that touches no store, whatever stores stand beside the record.
+-- A host looks for whom the global time waits, and lends a number for it: record and stores stay.
+pub record Awaits (old : ℕ) (p : Pool) (small large : List ℕ) (told : Told) (p′ : Pool) (small′ large′ : List ℕ) : Type 0 where
+  pub tasks : ℕ
+  pub awaited : TellsAwaited p old (told .number) tasks
+  pub shown : told .loans ≡ lent (tasks ∷ [])
+  pub samePool : p′ ≡ p
+  pub sameSmall : small′ ≡ small
+  pub sameLarge : large′ ≡ large
+
+-- A host asks, and lends numbers and a buffer; or it has a pool made of these figures, and from then on lends these stores, which are as long as the blocks need where a site may choose the
+-- figures; or it looks for whom the global time waits.
+pub data Action : Type 0 where
+  asks : Asked → Loans → Action
+  renews : (limits : Limits) (small large : List ℕ)
+      → (isAllowed limits ≡ true → (length small ≡ wholeSmall limits) × (length large ≡ wholeLarge limits)) → Action
+  awaits : ℕ → Action
+
+abbrev pub Acts : Action → Pool → List ℕ → List ℕ → Told → Pool → List ℕ → List ℕ → Type 0
+Acts (asks asked loans) p small large told p′ small′ large′ = Gives asked loans p small large told p′ small′ large′
+Acts (renews limits newSmall newLarge whole) p small large told p′ small′ large′ =
+    Renews limits (told .number) p′ × (told .loans ≡ lent []) × (small′ ≡ newSmall) × (large′ ≡ newLarge)
+Acts (awaits old) p small large told p′ small′ large′ = Awaits old p small large told p′ small′ large′
+
+-- Each entry's promise gives `Gives`, and those of fresh and awaited are what `Acts` says; of one that touches no store, whatever stores stand beside the record.
 pub record EachGives : Type 0 where
   pub does : (request : Request) (new : List ℕ) (p : Pool) (numbers : List ℕ) (number : ℕ) (p′ : Pool) (numbers′ small large : List ℕ)
       → DoesWith request new p numbers number p′ numbers′

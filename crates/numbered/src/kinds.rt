@@ -8,8 +8,8 @@ ghost use Rattle.numbered.specs.Told.{handleOr};
 ghost use Rattle.numbered.specs.Entries.{Does, DoesWith, MakesOne};
 use super::Numbered;
 use super::taking::clocks_of;
+use super::taking::give_back;
 use super::taking::named_of;
-use super::taking::put_together;
 use checked;
 use frames::handle_bytes;
 use ledger::Answer;
@@ -67,7 +67,7 @@ pub fn make_one(
     let answer = step.answer;
     let head = step.head;
     *handle = handle_or(*handle, answer);
-    put_together(answer, head, handles, extents, clocks, named, dues)
+    give_back(answer, head, handles, extents, clocks, named, dues)
 }
 
 pub fn refresh_one(p: Pool, task: u8, kind: Kind, extension: u8, handle: u32) -> Numbered
@@ -93,7 +93,7 @@ pub fn refresh_one(p: Pool, task: u8, kind: Kind, extension: u8, handle: u32) ->
     );
     let answer = step.answer;
     let head = step.head;
-    put_together(answer, head, handles, extents, clocks, named, dues)
+    give_back(answer, head, handles, extents, clocks, named, dues)
 }
 
 // The host's handles go on as bytes, which is what a batch brings.
@@ -123,5 +123,5 @@ pub fn refresh_each(p: Pool, task: u8, kind: Kind, extension: u8, objects: &[u32
     );
     let answer = step.answer;
     let head = step.head;
-    put_together(answer, head, handles, extents, clocks, named, dues)
+    give_back(answer, head, handles, extents, clocks, named, dues)
 }

@@ -28,7 +28,7 @@ pub fn named_of(p: Pool) -> Aligned
 }
 
 // The number of an answer, and the record put together from its head and its columns.
-pub fn put_together(
+pub fn give_back(
     answer: Answer,
     head: Head,
     handles: [u32; BLOCK_COUNT],

@@ -37,7 +37,7 @@ module _ {p : Pool} {vs : List Val} (is : Is the-row p vs) {q : Pool} (same : q 
       → WritesTo task handle offset bytes p small large (r .number) (r .pool) small′ large′
   unfolding replyTo
   writes f =
-      let w = rw same at f in record { answer = answer; writes = rw (gave .1) w; told = told answer (gave .0) (silent is (λ L. refl) (w .obeys)) }
+      let w = rw same at f in record { answer = answer; writes = rw (gave .1) w; told = told answer (gave .0) (silent is (λ L. refl) w) }
 
   pub releases : {task handle : ℕ} → Follows (Use (Release task handle)) q answer p′ → Does (Use (Release task handle)) p [] (r .number) (r .pool) []
   unfolding replyTo

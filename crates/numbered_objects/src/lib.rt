@@ -19,10 +19,10 @@ use ledger::number_of;
 use numbered::Numbered;
 use numbered::TOO_SHORT;
 use numbered::taking::clocks_of;
+use numbered::taking::give_back;
 use numbered::taking::named_of;
-use numbered::taking::put_together;
 use objects::usage;
-use reading::read_part;
+pub use reading::read_part;
 use record::Pool;
 use record::head_of;
 use stores::write_block;
@@ -83,7 +83,7 @@ pub fn write(
         offset,
         bytes,
     );
-    put_together(answer, h, handles, extents, clocks, named, dues)
+    give_back(answer, h, handles, extents, clocks, named, dues)
 }
 
 pub fn release(p: Pool, task: u8, handle: u32) -> Numbered
@@ -107,7 +107,7 @@ pub fn release(p: Pool, task: u8, handle: u32) -> Numbered
     );
     let answer = step.answer;
     let head = step.head;
-    put_together(answer, head, handles, extents, clocks, named, dues)
+    give_back(answer, head, handles, extents, clocks, named, dues)
 }
 
 pub fn report(p: Pool, small: &mut u8, large: &mut u8, expirations: &mut u16, given: &mut u32) -> u8

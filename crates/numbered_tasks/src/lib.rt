@@ -21,8 +21,8 @@ use ledger::is_allowed;
 use ledger::number_of;
 use numbered::Numbered;
 use numbered::taking::clocks_of;
+use numbered::taking::give_back;
 use numbered::taking::named_of;
-use numbered::taking::put_together;
 use pool::columns;
 use record::Pool;
 use record::fresh;
@@ -111,7 +111,7 @@ pub fn leave(p: Pool, task: u8, advanced: &mut u8) -> Numbered
     let answer = step.answer;
     let head = step.head;
     *advanced = advance_or(*advanced, answer);
-    put_together(answer, head, handles, extents, clocks, named, dues)
+    give_back(answer, head, handles, extents, clocks, named, dues)
 }
 
 pub fn block(p: Pool, task: u8, advanced: &mut u8) -> Numbered
@@ -136,7 +136,7 @@ pub fn block(p: Pool, task: u8, advanced: &mut u8) -> Numbered
     let answer = step.answer;
     let head = step.head;
     *advanced = advance_or(*advanced, answer);
-    put_together(answer, head, handles, extents, clocks, named, dues)
+    give_back(answer, head, handles, extents, clocks, named, dues)
 }
 
 pub fn resume(p: Pool, task: u8) -> Numbered
@@ -188,7 +188,7 @@ pub fn tick(p: Pool, task: u8, advanced: &mut u8) -> Numbered
     let answer = step.answer;
     let head = step.head;
     *advanced = advance_or(*advanced, answer);
-    put_together(answer, head, handles, extents, clocks, named, dues)
+    give_back(answer, head, handles, extents, clocks, named, dues)
 }
 
 // For whom the global time waits. It is no call of the ledger: it changes nothing, and no frame asks it.

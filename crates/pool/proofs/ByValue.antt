@@ -3,13 +3,17 @@ use Prim.Native.Nat.{ℕ}
 use mathlib.Core.Bool.{Bool}
 use mathlib.Core.List.{List}
 use mathlib.Core.Path.{_≡_}
+use denote.Laws.{Is}
+use mir.Val.{Val}
 use Rattle.ledger.specs.declared.Request.{Request}
-use Rattle.record.specs.Tables.{lent, headOf, tablesOf, pooled}
+use Rattle.record.specs.Tables.{lent, Sized, headOf, tablesOf, pooled}
 use Rattle.record.specs.WellFormed as WellFormed
 use Rattle.record.specs.Pools.{isWellFormed}
 use Rattle.record.specs.declared.Head.{Head}
 use Rattle.record.specs.declared.Pool.{Pool}
+use Rattle.record.proofs.Pool.{the-row}
 use Rattle.calls.specs.Contract.{Ready}
+use Rattle.pool.proofs.Sizes.{columns-sized}
 
 module _ (p : Pool) {h : Head} (e : h ≡ headOf p) where
   pub fits-by-value : {r : Bool} → r ≡ WellFormed.isWellFormed (lent h (p .handles) (p .extents) (p .clocks) (p .named) (p .dues)) → r ≡ isWellFormed p
@@ -19,3 +23,11 @@ module _ (p : Pool) {h : Head} (e : h ≡ headOf p) where
   pub ready-by-value : {request : Request} {small large : List ℕ} → Ready request p small large
       → Ready request (pooled h (p .handles) (p .extents) (p .clocks) (p .named) (p .dues)) small large
   ready-by-value r = rw e r
+
+-- with the two columns of bytes as `taken_out` gives them
+module _ (p : Pool) {cs ns : List ℕ} (c : cs ≡ p .clocks) (n : ns ≡ p .named) where
+  pub out-sized : (vs : List Val) → Is the-row p vs → Sized (p .handles) (p .extents) cs ns (p .dues)
+  out-sized vs is = rw (c, n) (columns-sized p vs is)
+
+  pub out-whole : {h : Head} → h ≡ headOf p → pooled h (p .handles) (p .extents) cs ns (p .dues) ≡ p
+  out-whole e = rw (e, c, n)

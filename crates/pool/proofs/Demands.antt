@@ -15,13 +15,23 @@ use Rattle.steps.proofs.Staying.{same-stays, stays-on}
 use Rattle.record.specs.Reading.{freshPool}
 use Rattle.record.specs.Tables.{tablesBy, tablesOf}
 use Rattle.steps.specs.Staying.{Stays}
-use Rattle.calls.specs.Contract.{areWhole}
+use Rattle.calls.specs.Contract.{areWhole, Obeys}
 use Rattle.pool.specs.Demands.{Runs, done, call, Demand2, PoolDemand3, ObjectsStay}
 
 -- no call changes the figures
 pub limits-stay : (p p′ : Pool) → Stays (tablesOf p) (tablesOf p′) → p′ .limits ≡ p .limits
 unfolding tablesOf tablesBy
 limits-stay p p′ s = s .limits
+
+-- nor the length of a store
+whole-after : {p p′ : Pool} {small small′ large large′ : List ℕ} {s : Sent} {y : Reply} → Obeys (s .request) (s .bytes) p small large y p′ small′ large′
+    → areWhole (p .limits) small large ≡ true → areWhole (p′ .limits) small′ large′ ≡ true
+whole-after o whole = rw (o .sizes .0, o .sizes .1, limits-stay _ _ (o .stays)) whole
+
+pub runs-whole : {p p′ : Pool} {small small′ large large′ : List ℕ} {ss : List Sent} {ys : List Reply} → Runs p small large ss ys p′ small′ large′
+    → areWhole (p .limits) small large ≡ true → areWhole (p′ .limits) small′ large′ ≡ true
+runs-whole done whole = whole
+runs-whole (call {s = s} o rest) whole = runs-whole rest (whole-after {s = s} o whole)
 
 -- from any well-formed record that reads as a ledger, with whole stores
 pub runs-follow : {p p′ : Pool} {small small′ large large′ : List ℕ} {ss : List Sent} {ys : List Reply} → Runs p small large ss ys p′ small′ large′
@@ -30,8 +40,8 @@ pub runs-follow : {p p′ : Pool} {small small′ large large′ : List ℕ} {ss
 unfolding replies afterAll
 runs-follow done w whole L reads = (refl, reads, w)
 runs-follow (call {s = s} o rest) w whole L reads =
-    let (same, left, fit) = runs-follow rest (o .fits w) (rw (o .sizes .0, o .sizes .1, limits-stay _ _ (o .stays)) whole) (afterRequest L (s .request) (s .bytes)) (o .leaves w (λ e. whole) L reads) in
-    (ap₂ _∷_ (o .answers w (λ e. whole) L reads) same, left, fit)
+    let (same, left, fit) = runs-follow rest (o .fits w) (whole-after {s = s} o whole) (afterRequest L (s .request) (s .bytes)) (o .leaves (record { fit = w; whole = λ e. whole }) L reads) in
+    (ap₂ _∷_ (o .answers (record { fit = w; whole = λ e. whole }) L reads) same, left, fit)
 
 pub demand2 : Demand2
 unfolding freshPool

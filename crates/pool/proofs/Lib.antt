@@ -1,7 +1,9 @@
 pub mod Sizes
 pub mod ByValue
 pub mod Demands
+pub mod Runs
 pub mod Outlives
 pub mod Pinned
 pub mod PutOff
 pub mod Noticed
+pub mod Awaited

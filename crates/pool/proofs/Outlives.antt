@@ -5,12 +5,15 @@ use mathlib.Core.List.{List, [], _∷_, _++_, append-assoc, List·Permᴰ, List�
 use mathlib.Core.Path.{_≡_, refl, sym, ap, subst, _∙_}
 use native.Mathlib.Omega.{arith}
 use lib.Dec.{eqb}
+use lib.ListN.{replicate, length-replicate}
+use Rattle.lists.proofs.All.{all-replicate}
 use Rattle.lists.proofs.Cases.{by-test}
 use Rattle.lists.proofs.Counts.{any-append, any-map}
 use Rattle.lists.proofs.Permutations.{exchange-perm, any-perm, map-perm}
+use Rattle.ledger.specs.Limits.{taskCount, counterRange}
 use Rattle.ledger.specs.Expirations.{Expiration, isOf}
 use Rattle.ledger.specs.Objects.{Object, Reply, stands}
-use Rattle.ledger.specs.Ledger.{Ledger, Sent, fresh, afterSent, afterAll}
+use Rattle.ledger.specs.Ledger.{Ledger, Sent, fresh, afterSent, replies, afterAll}
 use Rattle.ledger.specs.Compared.{viewOf, shown, shownObject}
 use Rattle.ledger.specs.Outlives.{setIn, leftIn, followed, Setting, whenSet, callsOf}
 use Rattle.ledger.specs.declared.Answer.the-variants.{Refused}
@@ -21,13 +24,54 @@ use Rattle.ledger.proofs.Following.{following}
 use Rattle.ledger.proofs.OutlivesTicks.{outlives-ticks}
 use Rattle.ledger.proofs.GoneAfterRounds.{gone-after-rounds}
 use Rattle.ledger.proofs.Pinned.{read-stands}
-use Rattle.record.specs.Reading.{isWhole}
+use Rattle.record.specs.Codes.{absentEntry}
+use Rattle.record.specs.Reading.{isWhole, freshPool, wholeSmall, wholeLarge}
 use Rattle.record.specs.Tables.{tablesOf}
-use Rattle.record.specs.Pools.{Reads}
+use Rattle.record.specs.Pools.{isWellFormed, Reads}
 use Rattle.record.specs.declared.Pool.{Pool}
+use Rattle.steps.proofs.EventTypes.{InRange}
 use Rattle.calls.specs.Contract.{areWhole}
-use Rattle.pool.specs.Outlives.{FreshRun, StandsIn, followedNew, beside, othersOf, PoolFollows, PoolOutlivesTicks, PoolGoneAfterRounds}
+use Rattle.pool.specs.Demands.{OfType}
+use Rattle.pool.specs.Outlives.{EveryListFromFresh, FreshRun, StandsIn, followedNew, beside, othersOf, PoolFollows, PoolOutlivesTicks, PoolGoneAfterRounds}
 use Rattle.pool.proofs.Demands.{demand2}
+use Rattle.pool.proofs.Runs.{every-list-runs}
+
+-- every list of calls can be run from fresh
+fresh-of-type : (limits : Limits) → OfType (freshPool limits)
+unfolding freshPool counterRange
+fresh-of-type limits =
+    record {
+      head = record { tasks = refl; clocks = all-replicate InRange taskCount {a = absentEntry} (omega arith); global = omega arith; given = omega arith };
+      sized = record { blocks = record { of-handles = refl; of-extents = refl }; entries = record { of-clocks = refl; of-named = refl; of-dues = refl } };
+    }
+
+pub every-list-from-fresh : EveryListFromFresh
+every-list-from-fresh limits may ss =
+    let small : List ℕ = replicate (wholeSmall limits) 0 in
+    let large : List ℕ = replicate (wholeLarge limits) 0 in
+    let r = every-list-runs (freshPool limits) (fresh-of-type limits) small large ss in
+    record {
+      pool = r .pool;
+      small = r .smallAfter;
+      large = r .largeAfter;
+      run =
+          record {
+            allowed = may;
+            small = small;
+            large = large;
+            smallWhole = length-replicate (wholeSmall limits) 0;
+            largeWhole = length-replicate (wholeLarge limits) 0;
+            replies = r .replies;
+            runs = r .runs;
+          };
+      typed = r .typed;
+    }
+
+-- and the pool follows the ledger, by demand 2
+pub fresh-follows : {limits : Limits} {ss : List Sent} {p′ : Pool} {small′ large′ : List ℕ} (r : FreshRun limits ss p′ small′ large′)
+    → (r .replies ≡ replies (fresh limits) ss) × Reads p′ small′ large′ (afterAll (fresh limits) ss) × (isWellFormed p′ ≡ true)
+fresh-follows {limits} {ss} {p′} {small′} {large′} r =
+    demand2 limits (r .allowed) (r .small) (r .large) (r .smallWhole) (r .largeWhole) ss (r .replies) p′ small′ large′ (r .runs)
 
 -- a list of calls after another
 pub after-append : (ss more : List Sent) (L : Ledger) → afterAll L (ss ++ more) ≡ afterAll (afterAll L ss) more
@@ -43,7 +87,7 @@ pub stands-in : (limits : Limits) (ss : List Sent) (p′ : Pool) (small′ large
     → (handle : ℕ) → stands (afterAll (fresh limits) ss .expirations) handle ≡ true → StandsIn handle p′ small′ large′
 unfolding viewOf
 stands-in limits ss p′ small′ large′ r handle here =
-    let (same, reads, fit) = demand2 limits (r .allowed) (r .small) (r .large) (r .smallWhole) (r .largeWhole) ss (r .replies) p′ small′ large′ (r .runs) in
+    let (_, reads, fit) = fresh-follows r in
     let N = afterAll (fresh limits) ss in
     record {
       has =
@@ -52,7 +96,7 @@ stands-in limits ss p′ small′ large′ r handle here =
           ∙ owned-by (N .memory) (N .expirations) (kept-all limits ss) handle here;
       reads = λ task y p″ small″ large″ o e.
           by-test (areWhole (p′ .limits) small′ large′)
-          (λ w. read-stands N task handle here (ap (λ (y : Reply). y .answer) (sym (o .answers fit (λ u. w) N reads)) ∙ e))
+          (λ w. read-stands N task handle here (ap (λ (y : Reply). y .answer) (sym (o .answers (record { fit = fit; whole = λ u. w }) N reads)) ∙ e))
           (λ w. wrong-store (sym (ap (λ (y : Reply). y .answer) (o .wrong fit refl w .refused)) ∙ e));
     }
 
@@ -79,36 +123,35 @@ whole (s ∷ ss) L =
 
 -- in some order, what is left of the one that was set, and the others
 with-others : (d : Setting) (ss : List Sent)
-    → List·Permᴰ (afterAll (whenSet d) ss .expirations) (followed (whenSet d) ss (d .date ∷ []) ++ othersOf d ss)
+    → List·Permᴰ (afterAll (whenSet d) ss .expirations) (followed (whenSet d) ss (d .expiration ∷ []) ++ othersOf d ss)
 with-others d ss =
     let L = afterAll (fresh (d .limits)) (d .earlier) in
     let M = whenSet d in
     let F : List Expiration → List Expiration = followed M ss in
     let new = followedNew M ss in
-    let one = F (d .date ∷ []) in
-    let stood : M .expirations ≡ d .front ++ ((d .date ∷ []) ++ beside d) =
+    let one = F (d .expiration ∷ []) in
+    let stood : M .expirations ≡ d .front ++ ((d .expiration ∷ []) ++ beside d) =
     following .parts L (d .call .request) (d .call .bytes)
     ∙ ap (λ (xs : List Expiration). xs ++ leftIn L (d .call .request) (d .call .bytes) (L .expirations)) (d .among)
-    ∙ append-assoc (d .front) (d .date ∷ d .back) _ in
-    let apart : F (d .front ++ ((d .date ∷ []) ++ beside d)) ≡ F (d .front) ++ (one ++ F (beside d)) =
-    following .apart M ss (d .front) ((d .date ∷ []) ++ beside d) ∙ ap (λ (xs : List Expiration). F (d .front) ++ xs) (following .apart M ss (d .date ∷ []) (beside d)) in
+    ∙ append-assoc (d .front) (d .expiration ∷ d .back) _ in
+    let apart : F (d .front ++ ((d .expiration ∷ []) ++ beside d)) ≡ F (d .front) ++ (one ++ F (beside d)) =
+    following .apart M ss (d .front) ((d .expiration ∷ []) ++ beside d) ∙ ap (λ (xs : List Expiration). F (d .front) ++ xs) (following .apart M ss (d .expiration ∷ []) (beside d)) in
     subst (λ (xs : List Expiration). List·Permᴰ xs (one ++ othersOf d ss)) (sym (whole ss M ∙ ap (λ (xs : List Expiration). new ++ xs) (ap F stood ∙ apart)))
     (rw (following .apart M ss (d .front) (beside d)) (arranged new (F (d .front)) one (F (beside d))))
 
 pub pool-follows : PoolFollows
 unfolding viewOf
 pool-follows d ss p′ small′ large′ r =
-    let reads = demand2 (d .limits) (r .allowed) (r .small) (r .large) (r .smallWhole) (r .largeWhole) (d .earlier ++ (d .call ∷ ss)) (r .replies) p′ small′ large′ (r .runs) .1 in
     let N = afterAll (whenSet d) ss in
-    let at-end : Reads p′ small′ large′ N = subst (λ (L : Ledger). Reads p′ small′ large′ L) (after-set d ss) reads in
+    let at-end : Reads p′ small′ large′ N = subst (λ (L : Ledger). Reads p′ small′ large′ L) (after-set d ss) (fresh-follows r .1) in
     List·Permᴰ·trans (at-end .alike .expirations) (map-perm (shown (N .memory .clocks)) (with-others d ss))
 
 pub pool-outlives-ticks : PoolOutlivesTicks
 pool-outlives-ticks d ss p′ small′ large′ r stays few =
-    let handle = d .date .handle in
+    let handle = d .expiration .handle in
     let left = outlives-ticks d ss stays few .0 in
     let here : stands (afterAll (whenSet d) ss .expirations) handle ≡ true =
-    any-perm (isOf handle) (with-others d ss) ∙ any-append (isOf handle) (followed (whenSet d) ss (d .date ∷ [])) (othersOf d ss) ∙ rw left in
+    any-perm (isOf handle) (with-others d ss) ∙ any-append (isOf handle) (followed (whenSet d) ss (d .expiration ∷ [])) (othersOf d ss) ∙ rw left in
     record {
       left = left;
       shows = pool-follows d ss p′ small′ large′ r;

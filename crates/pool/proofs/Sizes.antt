@@ -11,6 +11,7 @@ use Rattle.record.specs.Tables.{Sized, headOf}
 use Rattle.record.specs.declared.Pool.{Pool}
 use Rattle.record.proofs.Pool.{the-row}
 use Rattle.record.proofs.Types.{each-all}
+use Rattle.pool.specs.Demands.{OfType}
 
 pub head-typed : (p : Pool) (vs : List Val) → Is the-row p vs → HeadTyped (headOf p)
 unfolding counterRange
@@ -35,3 +36,6 @@ columns-sized p vs t =
             of-dues = sym (length-map (p .dues) _) ∙ dues .1 .0 .1;
           };
     }
+
+pub of-type : (p : Pool) (vs : List Val) → Is the-row p vs → OfType p
+of-type p vs t = record { head = head-typed p vs t; sized = columns-sized p vs t }

@@ -10,9 +10,9 @@ use Rattle.ledger.specs.Ledger.{Sent, fresh, replies, afterAll}
 use Rattle.ledger.specs.Limits.{isAllowed}
 use Rattle.ledger.specs.Heap.{Used, sent, heapReplies, allInTimeAndBounds}
 use Rattle.ledger.specs.declared.Limits.{Limits}
-use Rattle.record.specs.Reading.{freshPool, wholeSmall, wholeLarge}
+use Rattle.record.specs.Reading.{freshPool, wholeSmall, wholeLarge, HeadTyped}
 use Rattle.record.specs.Pools.{isWellFormed, Reads}
-use Rattle.record.specs.Tables.{tablesOf}
+use Rattle.record.specs.Tables.{Sized, headOf, tablesOf}
 use Rattle.record.specs.declared.Pool.{Pool}
 use Rattle.steps.specs.Staying.{Stays}
 use Rattle.calls.specs.Contract.{Obeys}
@@ -23,6 +23,23 @@ pub data Runs : Pool → List ℕ → List ℕ → List Sent → List Reply → 
   call : {p p′ p″ : Pool} {small small′ small″ large large′ large″ : List ℕ} {s : Sent} {ss : List Sent} {y : Reply} {ys : List Reply}
       → Obeys (s .request) (s .bytes) p small large y p′ small′ large′ → Runs p′ small′ large′ ss ys p″ small″ large″
       → Runs p small large (s ∷ ss) (y ∷ ys) p″ small″ large″
+
+-- What the record's type gives of every value: the lengths of its columns and the range of its counters. Its tables are then `Typed`.
+pub record OfType (p : Pool) : Type 0 where
+  pub head : HeadTyped (headOf p)
+  pub sized : Sized (p .handles) (p .extents) (p .clocks) (p .named) (p .dues)
+
+-- D13: Every list of calls can be run, from every record and with any stores, and leaves a record again: no statement about runs is empty.
+pub record Run (p : Pool) (small large : List ℕ) (ss : List Sent) : Type 0 where
+  pub replies : List Reply
+  pub pool : Pool
+  pub smallAfter : List ℕ
+  pub largeAfter : List ℕ
+  pub runs : Runs p small large ss replies pool smallAfter largeAfter
+  pub typed : OfType pool
+
+abbrev pub EveryListRuns : Type 0
+EveryListRuns = (p : Pool) → OfType p → (small large : List ℕ) (ss : List Sent) → Run p small large ss
 
 -- Demand 2: for all figures that a site may choose and for every list of all calls from a fresh pool, with stores as long as the blocks need and any bytes in them, each answer is the ledger's, record and
 -- stores then read as the ledger, and the record is fit. (Every beginning of a list is a list: so it is after each call.)

@@ -3,3 +3,4 @@ pub mod Outlives
 pub mod Pinned
 pub mod PutOff
 pub mod Noticed
+pub mod Awaited

@@ -21,7 +21,7 @@ use Rattle.record.specs.Reading.{freshPool, wholeSmall, wholeLarge, recordView}
 use Rattle.record.specs.Tables.{tablesOf}
 use Rattle.record.specs.declared.Pool.{Pool}
 use Rattle.calls.specs.Contract.{Obeys}
-use Rattle.pool.specs.Demands.{Runs}
+use Rattle.pool.specs.Demands.{Runs, OfType}
 
 -- A list of calls from a fresh pool of allowed figures, with stores as long as the blocks need
 pub record FreshRun (limits : Limits) (ss : List Sent) (p′ : Pool) (small′ large′ : List ℕ) : Type 0 where
@@ -32,6 +32,17 @@ pub record FreshRun (limits : Limits) (ss : List Sent) (p′ : Pool) (small′ l
   pub largeWhole : length large ≡ wholeLarge limits
   pub replies : List Reply
   pub runs : Runs (freshPool limits) small large ss replies p′ small′ large′
+
+-- There is one for every list of calls and all figures that a site may choose: no statement about such runs is empty.
+pub record SomeRun (limits : Limits) (ss : List Sent) : Type 0 where
+  pub pool : Pool
+  pub small : List ℕ
+  pub large : List ℕ
+  pub run : FreshRun limits ss pool small large
+  pub typed : OfType pool
+
+abbrev pub EveryListFromFresh : Type 0
+EveryListFromFresh = (limits : Limits) → isAllowed limits ≡ true → (ss : List Sent) → SomeRun limits ss
 
 -- one of them sets a global expiration, and more follow
 abbrev pub SetRun : Setting → List Sent → Pool → List ℕ → List ℕ → Type 0
@@ -67,16 +78,16 @@ Shows p small large L xs = List·Permᴰ (recordView (tablesOf p) small large .e
 abbrev pub PoolFollows : Type 0
 PoolFollows =
     (d : Setting) (ss : List Sent) (p′ : Pool) (small′ large′ : List ℕ) → SetRun d ss p′ small′ large′
-    → Shows p′ small′ large′ (afterAll (whenSet d) ss) (followed (whenSet d) ss (d .date ∷ []) ++ othersOf d ss)
+    → Shows p′ small′ large′ (afterAll (whenSet d) ss) (followed (whenSet d) ss (d .expiration ∷ []) ++ othersOf d ss)
 
 -- What it is to have outlived these calls:
 pub record Outlived (d : Setting) (ss : List Sent) (p′ : Pool) (small′ large′ : List ℕ) : Type 0 where
   -- this very expiration is left,
-  pub left : stands (followed (whenSet d) ss (d .date ∷ [])) (d .date .handle) ≡ true
+  pub left : stands (followed (whenSet d) ss (d .expiration ∷ [])) (d .expiration .handle) ≡ true
   -- the record has it, beside the others,
-  pub shows : Shows p′ small′ large′ (afterAll (whenSet d) ss) (followed (whenSet d) ss (d .date ∷ []) ++ othersOf d ss)
+  pub shows : Shows p′ small′ large′ (afterAll (whenSet d) ss) (followed (whenSet d) ss (d .expiration ∷ []) ++ othersOf d ss)
   -- and the object stands.
-  pub object : StandsIn (d .date .handle) p′ small′ large′
+  pub object : StandsIn (d .expiration .handle) p′ small′ large′
 
 -- So the first claim (U6): an expiration outlives all calls while its setter has not left and has made at most e ticks since,
 abbrev pub PoolOutlivesTicks : Type 0
@@ -89,5 +100,5 @@ PoolOutlivesTicks =
 abbrev pub PoolGoneAfterRounds : Type 0
 PoolGoneAfterRounds =
     (d : Setting) (rs : List Stretch) (rest : List Sent) (p′ : Pool) (small′ large′ : List ℕ) → SetRun d (callsOf rs rest) p′ small′ large′
-    → length rs ≡ d .extension + 2 → areRounds (whenSet d) (d .date ∷ []) rs ≡ true
+    → length rs ≡ d .extension + 2 → areRounds (whenSet d) (d .expiration ∷ []) rs ≡ true
     → Shows p′ small′ large′ (afterAll (whenSet d) (callsOf rs rest)) (othersOf d (callsOf rs rest))

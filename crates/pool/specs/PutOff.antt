@@ -1,6 +1,6 @@
 -- E20 of the pool, over lists of calls: waiting eats none of a task's global expirations in the record.
 use Prim.Native.Nat.{ℕ, _-_, _≤_}
-use mathlib.Core.Bool.{true, false}
+use mathlib.Core.Bool.{Bool, true, false}
 use mathlib.Core.List.{List, [], _∷_, _++_}
 use mathlib.Core.Path.{_≡_}
 use Rattle.ledger.specs.Tasks.{Clocks, advances}
@@ -11,7 +11,7 @@ use Rattle.ledger.specs.PutOff.{globalOne, LeftWith, waitsAfter}
 use Rattle.ledger.specs.declared.Event.{Event}
 use Rattle.ledger.specs.declared.Limits.{Limits}
 use Rattle.record.specs.declared.Pool.{Pool}
-use Rattle.pool.specs.Outlives.{FreshRun, Shows}
+use Rattle.pool.specs.Outlives.{FreshRun, SomeRun, Shows}
 
 -- Calls from fresh on, and then an accepted event that makes the global time advance; before it a global expiration stood, between these others.
 pub record AtAdvance : Type 0 where
@@ -50,10 +50,25 @@ pub record ShownWith (a : AtAdvance) (p′ : Pool) (small′ large′ : List ℕ
   pub left : LeftWith (a .event) (a .task) (clocksBefore a) (globalOne (a .handle) (a .setter) (a .at)) count
   pub shows : Shows p′ small′ large′ (afterSent (before a) (a .call)) (left .one ∷ othersAt a)
 
+-- all these calls, the event the last of them, and whether the setter waits then
+abbrev pub callsTo : AtAdvance → List Sent
+callsTo a = a .earlier ++ (a .call ∷ [])
+
+abbrev pub waitsThen : AtAdvance → Bool
+waitsThen a = waitsAfter (a .event) (a .task) (clocksBefore a) (a .setter)
+
 pub record PoolWaitingEatsNothing : Type 0 where
   -- where its setter waits after the event it has all the units that it had,
-  pub waits : (a : AtAdvance) (p′ : Pool) (small′ large′ : List ℕ) → FreshRun (a .limits) (a .earlier ++ (a .call ∷ [])) p′ small′ large′
-      → waitsAfter (a .event) (a .task) (clocksBefore a) (a .setter) ≡ true → ShownWith a p′ small′ large′ (unitsBefore a)
-  -- and else one less
-  pub counts : (a : AtAdvance) (p′ : Pool) (small′ large′ : List ℕ) → FreshRun (a .limits) (a .earlier ++ (a .call ∷ [])) p′ small′ large′
-      → waitsAfter (a .event) (a .task) (clocksBefore a) (a .setter) ≡ false → 2 ≤ unitsBefore a → ShownWith a p′ small′ large′ (unitsBefore a - 1)
+  pub waits : (a : AtAdvance) (p′ : Pool) (small′ large′ : List ℕ) → FreshRun (a .limits) (callsTo a) p′ small′ large′
+      → waitsThen a ≡ true → ShownWith a p′ small′ large′ (unitsBefore a)
+  -- and else one less, or it ends with its last: the record has the others alone.
+  pub counts : (a : AtAdvance) (p′ : Pool) (small′ large′ : List ℕ) → FreshRun (a .limits) (callsTo a) p′ small′ large′
+      → waitsThen a ≡ false → 2 ≤ unitsBefore a → ShownWith a p′ small′ large′ (unitsBefore a - 1)
+  pub ends : (a : AtAdvance) (p′ : Pool) (small′ large′ : List ℕ) → FreshRun (a .limits) (callsTo a) p′ small′ large′
+      → waitsThen a ≡ false → unitsBefore a ≡ 1 → Shows p′ small′ large′ (afterSent (before a) (a .call)) (othersAt a)
+
+-- None of the three is empty: a run comes to such an advance.
+pub record AdvancesApply : Type 0 where
+  pub waits : (a : AtAdvance) × SomeRun (a .limits) (callsTo a) × (waitsThen a ≡ true)
+  pub counts : (a : AtAdvance) × SomeRun (a .limits) (callsTo a) × (waitsThen a ≡ false) × (unitsBefore a ≡ 2)
+  pub ends : (a : AtAdvance) × SomeRun (a .limits) (callsTo a) × (waitsThen a ≡ false) × (unitsBefore a ≡ 1)

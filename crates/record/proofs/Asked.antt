@@ -7,11 +7,9 @@ use borrow.Author.Tests.{eqb-true, eqb-false, eq-eqb, ne-eqb, leb-true, le-leb, 
 use lib.Dec.{eqb, leb, ltb}
 use Rattle.lists.proofs.Cases.{by-test}
 use Rattle.ledger.specs.Limits.{taskCount}
-use Rattle.record.specs.Codes.{isGlobalClock, dueBy, leftAt, isDueLocal, isDueGlobal, localCode, globalCode, pinnedCode}
+use Rattle.record.specs.Codes.{isGlobalClock, dueBy, localCode, globalCode, pinnedCode}
 use Rattle.record.specs.declared.Due.{Due}
 use Rattle.record.specs.declared.Due.the-variants.{Free, Local, Global, Pinned, Unknown}
-use Rattle.record.specs.declared.GlobalTime.{GlobalTime}
-use Rattle.record.specs.declared.LocalTime.{LocalTime}
 
 -- a clock of the global time is none of the tasks', nor free
 pub global-code : (clock : ℕ) → isGlobalClock clock ≡ true → eqb clock 0 ≡ false
@@ -63,13 +61,3 @@ module _ {ℓ} {A : Type ℓ} (f : Due → A) (h : Bool → A) (clock due : ℕ)
       (λ l.
       let other = other-code clock task known l in
       by-test (eqb clock pinnedCode) (λ p. rw (z, g, l, p, other, pinned)) (λ p. rw (z, g, l, p, other, unknown)))))
-
--- whether it is due
-pub asked-global : (clock due : ℕ) (now : GlobalTime) → (isGlobalClock clock && eqb (leftAt due (now .0)) 0) ≡ isDueGlobal now (dueBy clock due)
-asked-global clock due now =
-    by-global-clock (isDueGlobal now) (λ b. b && eqb (leftAt due (now .0)) 0) clock due refl refl refl (λ s. refl) (λ s. refl)
-
-pub asked-local : (clock due task : ℕ) (now : LocalTime) → task < taskCount
-    → (eqb clock (localCode + task) && eqb (leftAt due (now .0)) 0) ≡ isDueLocal task now (dueBy clock due)
-asked-local clock due task now known =
-    by-task-clock (isDueLocal task now) (λ b. b && eqb (leftAt due (now .0)) 0) clock due refl refl refl task known (λ s. refl) (λ s. refl)

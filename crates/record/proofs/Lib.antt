@@ -9,3 +9,4 @@ pub mod Types
 pub mod States
 pub mod Times
 pub mod Awaited
+pub mod FitRows

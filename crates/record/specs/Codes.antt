@@ -9,8 +9,6 @@ use Rattle.ledger.specs.declared.State.{State}
 use Rattle.ledger.specs.declared.State.the-variants.{Absent, Running, Waiting}
 use Rattle.record.specs.declared.TaskEntry.{TaskEntry}
 use Rattle.record.specs.Tables.{BlockEntry, ExpirationEntry}
-use Rattle.record.specs.declared.GlobalTime.{GlobalTime}
-use Rattle.record.specs.declared.LocalTime.{LocalTime}
 use Rattle.record.specs.declared.Due.{Due}
 use Rattle.record.specs.declared.Due.the-variants.{Free, Local, Global, Pinned, Unknown}
 
@@ -82,21 +80,6 @@ setterOf Unknown = 0
 -- E6: what remains (01: units left), by counters that wrap (T8)
 abbrev pub leftAt : ℕ → ℕ → ℕ
 leftAt due now = (due + (counterRange - now)) % counterRange
-
--- due now, by this task's clock or by the global time
-abbrev pub isDueLocal : ℕ → LocalTime → Due → Bool
-isDueLocal task now Free = false
-isDueLocal task now (Local setter at) = eqb setter task && eqb (leftAt (at .0) (now .0)) 0
-isDueLocal task now (Global setter at) = false
-isDueLocal task now (Pinned due) = false
-isDueLocal task now Unknown = false
-
-abbrev pub isDueGlobal : GlobalTime → Due → Bool
-isDueGlobal now Free = false
-isDueGlobal now (Local setter at) = false
-isDueGlobal now (Global setter at) = eqb (leftAt (at .0) (now .0)) 0
-isDueGlobal now (Pinned due) = false
-isDueGlobal now Unknown = false
 
 -- what an entry past the end of a table reads as
 abbrev pub absentEntry : TaskEntry

@@ -3,3 +3,4 @@ pub mod Codes
 pub mod Reading
 pub mod WellFormed
 pub mod Pools
+pub mod FitRows

@@ -13,7 +13,7 @@ use Rattle.ledger.specs.Compared.{Shown, localLeft, globalLeft, pinnedLeft, sho
 use Rattle.ledger.specs.Kept.{Ascending, PinsKept}
 use Rattle.ledger.specs.Ledger.{Ledger}
 use Rattle.ledger.specs.declared.Limits.{Limits}
-use Rattle.record.specs.Codes.{taskOf, dueOf, leftAt, absentEntry, freeBlock, freeEntry}
+use Rattle.record.specs.Codes.{taskOf, dueOf, leftAt, absentEntry, freeBlock}
 use Rattle.record.specs.declared.TaskEntry.{TaskEntry}
 use Rattle.record.specs.Tables.{blockEntries, expirationEntries, BlockEntry, ExpirationEntry, Tables}
 use Rattle.record.specs.declared.GlobalTime.{GlobalTime}

@@ -19,6 +19,13 @@ blockEntries = capacity .small + capacity .large
 abbrev pub expirationEntries : ℕ
 expirationEntries = capacity .expirations
 
+-- those that are asked at once, and the groups of them
+abbrev pub groupSize : ℕ
+groupSize = 32
+
+abbrev pub groupCount : ℕ
+groupCount = expirationEntries / groupSize
+
 -- the numbers that a byte can be: a table by clocks or blocks as they come has a place for each
 abbrev pub byteValues : ℕ
 byteValues = 256

@@ -1,10 +1,7 @@
 // What the numbers of an entry mean, and what remains of an expiration (01: units left) by counters that wrap (T8).
-ghost use Prim.Native.Nat.{_<_};
 ghost use mathlib.Core.Path.{_≡_};
-ghost use Rattle.ledger.specs.Limits.{taskCount};
 ghost use Rattle.record.specs.Tables.{lengthIn, sumIn, extentOf};
-ghost use Rattle.record.specs.Codes.{stateOf, isGlobalClock, dueBy, leftAt, isDueLocal, isDueGlobal};
-use super::Due;
+ghost use Rattle.record.specs.Codes.{stateOf, isGlobalClock, leftAt};
 use super::GlobalTime;
 use super::LocalTime;
 use ledger::State;
@@ -70,46 +67,6 @@ pub fn is_global(clock: u8) -> bool
     ensures { λ r. ⌜ r ≡ isGlobalClock clock ⌝ }
 {
     (GLOBAL <= clock) & (clock <= DEPARTED)
-}
-
-// The one place where a number of the table becomes a time, by the clock that it goes by.
-pub fn due_by(clock: u8, due: u32) -> Due
-    ensures { λ r. ⌜ r ≡ dueBy clock due ⌝ }
-{
-    if clock == FREE {
-        return Due::Free;
-    }
-    if is_global(clock) {
-        return Due::Global {
-            setter: clock - GLOBAL,
-            at: GlobalTime(due),
-        };
-    }
-    if (LOCAL <= clock) & (clock < GLOBAL) {
-        return Due::Local {
-            setter: clock - LOCAL,
-            at: LocalTime(due),
-        };
-    }
-    if clock == PINNED {
-        return Due::Pinned(due);
-    }
-    Due::Unknown
-}
-
-// What due_by reads, asked at once: whether an expiration goes by this task's clock and is due,
-pub fn is_due_local(clock: u8, at: LocalTime, task: u8, now: LocalTime) -> bool
-    requires { ⌜ task < taskCount ⌝ }
-    ensures { λ r. ⌜ r ≡ isDueLocal task now (dueBy clock (at .0)) ⌝ }
-{
-    (clock == LOCAL + task) & (local_left(at, now) == 0)
-}
-
-// and whether it goes by the global time and is due.
-pub fn is_due_global(clock: u8, at: GlobalTime, now: GlobalTime) -> bool
-    ensures { λ r. ⌜ r ≡ isDueGlobal now (dueBy clock (at .0)) ⌝ }
-{
-    is_global(clock) & (global_left(at, now) == 0)
 }
 
 // E6: what remains of a local expiration.

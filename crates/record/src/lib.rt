@@ -21,6 +21,11 @@ pub const BLOCK_COUNT: usize = SMALL_COUNT + CAPACITY.large as usize;
 // The entries of the expiration table.
 pub const EXPIRATION_COUNT: usize = CAPACITY.expirations as usize;
 
+// The entries of that table that are asked at once, and the groups of them.
+pub const GROUP: usize = 32;
+
+pub const GROUP_COUNT: usize = EXPIRATION_COUNT / GROUP;
+
 // The numbers that a byte can be: a table by clocks or blocks as they come has a place for each.
 pub const BYTE_VALUES: usize = 256;
 
@@ -66,7 +71,7 @@ pub struct Head {
     pub limits: Limits,
 }
 
-// T6, E19, E22: when an expiration is due, and who set it; a time by one clock cannot be tested against the other. The number of a pinned one is no time.
+// T6, E19, E22: what specifications read an entry as: when an expiration is due, and who set it. A time by one clock cannot be tested against the other; the number of a pinned one is no time.
 pub enum Due {
     Free,
     Local { setter: u8, at: LocalTime },
@@ -96,7 +101,7 @@ pub fn head_of(p: Pool) -> Head
     }
 }
 
-// T5, O9: a fresh pool of these figures.
+// T5, O9: a fresh pool of these figures, whatever they are: 29 (R29) is told where a host has a pool made.
 pub fn fresh(limits: Limits) -> Pool
     ensures { λ r. ⌜ r ≡ freshPool limits ⌝ }
 {

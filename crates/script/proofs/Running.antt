@@ -2,8 +2,8 @@
 use Prim.Native.Nat.{ℕ, _+_, _-_, _≤_, _<_}
 use native.Mathlib.Omega.{arith}
 use mathlib.Core.Bool.{Bool, true, false, true≢false, _&&_, and-eq-true-iff}
-use mathlib.Core.List.{List, [], _++_, append-assoc}
-use mathlib.Core.Path.{_≡_, refl, sym, ap, _∙_}
+use mathlib.Core.List.{List, [], _∷_, _++_, append-assoc, append-nil}
+use mathlib.Core.Path.{_≡_, refl, sym, _∙_}
 use borrow.Author.Tests.{eq-eqb, lt-ltb, ltb-true, ltb-false, le-leb, leb-true}
 use lib.Dec.{leb, ltb}
 use lib.ListN.{length, take, drop}
@@ -12,30 +12,27 @@ use Rattle.lists.proofs.Blocks.{length-overwritten}
 use Rattle.lists.proofs.Cases.{by-test}
 use Rattle.ledger.specs.Limits.{largeSize}
 use Rattle.ledger.specs.Objects.{Reply}
-use Rattle.ledger.specs.Ledger.{Ledger}
 use Rattle.ledger.specs.declared.Answer.the-variants.{Refused}
 use Rattle.ledger.specs.declared.Refusal.{Refusal}
 use Rattle.ledger.specs.declared.Request.{Request}
-use Rattle.record.specs.Reading.{blockBytes}
-use Rattle.record.specs.Pools.{isWellFormed, Reads}
 use Rattle.record.specs.Tables.{headOf, pooled}
 use Rattle.record.specs.declared.Head.{Head}
 use Rattle.record.specs.declared.Pool.{Pool}
 use Rattle.calls.specs.Contract.{areWhole, Ready}
-use Rattle.pool.proofs.Demands.{limits-stay}
-use Rattle.calls.specs.Served.{Serves}
-use Rattle.calls.specs.declared.Called.{Called}
+use Rattle.calls.specs.Served.{Called, replyOf, Serves}
 use Rattle.answers.specs.Answers.{answerLine, longestAnswer}
-use Rattle.frames.specs.Frames.{Decodes}
+use Rattle.frames.specs.Frames.{frameOf, payloadOf, Decodes}
 use Rattle.text.specs.Hex.{Puts}
 use Rattle.text.specs.Lines.{linesOf, lineAt}
 use Rattle.frames.specs.declared.Frame.{Frame}
 use Rattle.text.proofs.Puts.{puts-on}
 use Rattle.frames.proofs.Payloads.{payload-front}
 use Rattle.text.proofs.Scripts.{lines-on, next-within}
-use Rattle.script.specs.Output.{answerTo, afterLine, answersTo, lineIn, Runnable, Continues}
+use Rattle.execute.specs.Execution.{IsReplyTo}
+use Rattle.script.specs.Output.{answerLines, lineIn, Runnable, LinesRun, done, carried, Continues}
+use Rattle.script.proofs.Lines.{Keeps, lines-keep, runs-on, answer-lines-on}
 
--- the stores have 01's lengths
+-- the stores are as long as the blocks need
 stores-whole : {p : Pool} {small large script : List ℕ} {at : ℕ} → Runnable p small large script at → areWhole (p .limits) small large ≡ true
 stores-whole r = rw (eq-eqb _ _ (r .smallWhole), eq-eqb _ _ (r .largeWhole))
 
@@ -46,70 +43,52 @@ ready request r = record { fit = r .fit; whole = λ e. stores-whole r }
 abbrev pub goesOn : ℕ → List ℕ → ℕ → List ℕ → Bool
 goesOn at script written out = ltb at (length script) && leb longestAnswer (length out - written)
 
--- What a line makes of a record with its stores, and the line of its answer.
-pub record Turn (line : List ℕ) (p : Pool) (small large : List ℕ) (p′ : Pool) (small′ large′ answer : List ℕ) : Type 0 where
-  pub fit : isWellFormed p ≡ true → isWellFormed p′ ≡ true
-  pub limits : p′ .limits ≡ p .limits
-  pub sizes : (length small′ ≡ length small) × (length large′ ≡ length large)
-  pub leaves : (L : Ledger) → Reads p small large L → Reads p′ small′ large′ (afterLine L line)
-  pub answers : (L : Ledger) → Reads p small large L → answer ≡ answerTo L line
-
+-- a line that was read: a run of one
 module _ {line old new : List ℕ} {frame : Frame} (d : Decodes line old frame new) {p : Pool} {small large : List ℕ} where
-  pub refused-turn : {why : Refusal} → frame ≡ Frame.Refused why → {none : List ℕ} → none ≡ []
-      → Turn line p small large p small large (answerLine (Refused why) none)
-  refused-turn e z =
-      let f = sym (d .frame) ∙ e in
-      record {
-        fit = λ w. w;
-        limits = refl;
-        sizes = (refl, refl);
-        leaves = λ L reads. rw f reads;
-        answers = λ L reads. rw (z, f);
-      }
+  one-run : {f : Frame} → frame ≡ f → {y : Reply} {p′ : Pool} {small′ large′ : List ℕ} → IsReplyTo f (payloadOf line) p small large y p′ small′ large′
+      → LinesRun p small large (line ∷ []) (y ∷ []) p′ small′ large′
+  one-run e {y} {p′} {small′} {large′} o =
+      let replied : IsReplyTo (frameOf line) (payloadOf line) p small large y p′ small′ large′ = rw (← d .frame, e) o in carried replied done
 
-  pub served-turn : {script : List ℕ} {at : ℕ} → Runnable p small large script at → {request : Request} {count : ℕ} → frame ≡ Frame.Request request count
+  pub refused-run : {why : Refusal} → frame ≡ Frame.Refused why → {none : List ℕ} → none ≡ []
+      → LinesRun p small large (line ∷ []) (record { answer = Refused why; bytes = none } ∷ []) p small large
+  refused-run e z = one-run e (record { refused = rw z; samePool = refl; sameSmall = refl; sameLarge = refl })
+
+  pub served-run : {request : Request} {count : ℕ} → frame ≡ Frame.Request request count
       → {r : Called} {small′ large′ : List ℕ} → Serves request (take count new) p small large r small′ large′
-      → Turn line p small large (r .pool) small′ large′ (answerLine (r .answer) (blockBytes small′ large′ (r .block) (r .length)))
-  served-turn run {request} e {r} {small′} {large′} s =
-      let f = sym (d .frame) ∙ e in
-      let o = rw (payload-front (rw e at d)) at (s .obeys) in
-      record {
-        fit = o .fits;
-        limits = limits-stay _ _ (o .stays);
-        sizes = o .sizes;
-        leaves = λ L reads. rw f (o .leaves (run .fit) (λ x. stores-whole run) L reads);
-        answers = λ L reads. rw f (ap (λ (y : Reply). answerLine (y .answer) (y .bytes)) (o .answers (run .fit) (λ x. stores-whole run) L reads));
-      }
+      → LinesRun p small large (line ∷ []) (replyOf r small′ large′ ∷ []) (r .pool) small′ large′
+  served-run e s = one-run e (rw (payload-front (rw e at d)) at (s .obeys))
 
 -- What holds before each line.
 pub record Running (p₀ : Pool) (small₀ large₀ script : List ℕ) (start : ℕ) (out₀ : List ℕ) (p : Pool) (small large out bytes : List ℕ) (at written : ℕ) : Type 0 where
-  pub runnable : Runnable p small large script at
-  pub done : List ℕ
-  pub put : Puts 0 done out₀ out written
+  pub begun : Runnable p₀ small₀ large₀ script start
+  pub lines : List (List ℕ)
+  pub replies : List Reply
+  pub run : LinesRun p₀ small₀ large₀ lines replies p small large
+  pub between : linesOf (drop start script) ≡ lines ++ linesOf (drop at script)
+  pub put : Puts 0 (answerLines replies) out₀ out written
   pub size : length out ≡ length out₀
-  pub limits : p .limits ≡ p₀ .limits
-  pub stores : (length small ≡ length small₀) × (length large ≡ length large₀)
   pub fits : written ≤ length out
-  pub answers : (L : Ledger) → Reads p₀ small₀ large₀ L → (L′ : Ledger) × Reads p small large L′
-      × (answersTo L (linesOf (drop start script)) ≡ done ++ answersTo L′ (linesOf (drop at script)))
   pub from : start ≤ at
+  pub within : at ≤ length script
   pub unmoved : at ≡ start → written ≡ 0
   pub buffer : length bytes ≡ largeSize
 
 pub run-starts : {p : Pool} {small large script : List ℕ} {start : ℕ} (out bytes : List ℕ) → Runnable p small large script start → length bytes ≡ largeSize
     → Running p small large script start out p small large out bytes start 0
-unfolding overwritten
+unfolding overwritten answerLines
 run-starts out bytes r b =
     record {
-      runnable = r;
-      done = [];
+      begun = r;
+      lines = [];
+      replies = [];
+      run = done;
+      between = refl;
       put = record { bytes = refl; next = refl };
       size = refl;
-      limits = refl;
-      stores = (refl, refl);
       fits = omega arith;
-      answers = λ L reads. (L, reads, refl);
       from = omega arith;
+      within = r .within;
       unmoved = λ e. refl;
       buffer = b;
     }
@@ -122,6 +101,18 @@ run-starts-lent out bytes r b e = rw e (run-starts out bytes r b)
 
 module _ {p₀ : Pool} {small₀ large₀ script : List ℕ} {start : ℕ} {out₀ : List ℕ} {p : Pool} {small large out bytes : List ℕ} {at written : ℕ}
     (run : Running p₀ small₀ large₀ script start out₀ p small large out bytes at written) where
+  pub run-keeps : Keeps p₀ small₀ large₀ p small large
+  run-keeps = lines-keep (run .run)
+
+  pub run-runnable : Runnable p small large script at
+  run-runnable =
+      record {
+        fit = run-keeps .fit (run .begun .fit);
+        smallWhole = rw (run-keeps .limits) (run-keeps .sizes .0 ∙ run .begun .smallWhole);
+        largeWhole = rw (run-keeps .limits) (run-keeps .sizes .1 ∙ run .begun .largeWhole);
+        within = run .within;
+      }
+
   -- the test holds: there is a line
   module _ (goes : goesOn at script written out ≡ true) where
     tested : (ltb at (length script) ≡ true) × (leb longestAnswer (length out - written) ≡ true)
@@ -136,33 +127,29 @@ module _ {p₀ : Pool} {small₀ large₀ script : List ℕ} {start : ℕ} {out�
     pub run-nears : {next : ℕ} → next ≡ lineAt script at .next → length script - next < length script - at
     run-nears e = omega (arith, e, next-within script at run-line, run-line)
 
-  pub run-turns : at < length script → {p′ : Pool} {small′ large′ answer : List ℕ} → Turn (lineIn script at) p small large p′ small′ large′ answer
-      → written + length answer ≤ length out → {out′ : List ℕ} {written′ : ℕ} → Puts written answer out out′ written′
+  pub run-turns : at < length script → {y : Reply} {p′ : Pool} {small′ large′ : List ℕ}
+      → LinesRun p small large (lineIn script at ∷ []) (y ∷ []) p′ small′ large′
+      → written + length (answerLine (y .answer) (y .bytes)) ≤ length out
+      → {out′ : List ℕ} {written′ : ℕ} → Puts written (answerLine (y .answer) (y .bytes)) out out′ written′
       → {next : ℕ} → next ≡ lineAt script at .next → {bytes′ : List ℕ} → length bytes′ ≡ largeSize
       → Running p₀ small₀ large₀ script start out₀ p′ small′ large′ out′ bytes′ next written′
-  unfolding answersTo
-  run-turns more {p′} {small′} {large′} {answer} turn room {out′} put {next} e b =
+  unfolding answerLines
+  run-turns more {y} one room {out′} put {next} e b =
+      let answer = answerLine (y .answer) (y .bytes) in
       let on = next-within script at more in
       let same : length out′ ≡ length out = rw (put .bytes) (length-overwritten written answer out room) in
       let far = run .put .next in
       record {
-        runnable =
-            record {
-              fit = turn .fit (run .runnable .fit);
-              smallWhole = rw (turn .limits) (turn .sizes .0 ∙ run .runnable .smallWhole);
-              largeWhole = rw (turn .limits) (turn .sizes .1 ∙ run .runnable .largeWhole);
-              within = rw e (on .1);
-            };
-        done = run .done ++ answer;
-        put = puts-on (run .put) put (omega (arith, far, run .size));
+        begun = run .begun;
+        lines = run .lines ++ (lineIn script at ∷ []);
+        replies = run .replies ++ (y ∷ []);
+        run = runs-on (run .run) one;
+        between = run .between ∙ rw (lines-on script at more, e, append-assoc);
+        put = rw (answer-lines-on (run .replies) (y ∷ []), append-nil) (puts-on (run .put) put (omega (arith, far, run .size)));
         size = same ∙ run .size;
-        limits = turn .limits ∙ run .limits;
-        stores = (turn .sizes .0 ∙ run .stores .0, turn .sizes .1 ∙ run .stores .1);
         fits = omega (arith, put .next, same);
-        answers = λ L reads.
-            let (L′, reads′, so) = run .answers L reads in
-            (afterLine L′ (lineIn script at), turn .leaves L′ reads′, so ∙ rw (lines-on script at more, ← turn .answers L′ reads′, e, append-assoc));
         from = omega (arith, run .from, on .0, e);
+        within = rw e (on .1);
         unmoved = λ f. absurd (omega (arith, run .from, on .0, e));
         buffer = b;
       }
@@ -171,11 +158,12 @@ module _ {p₀ : Pool} {small₀ large₀ script : List ℕ} {start : ℕ} {out�
       → Continues p₀ small₀ large₀ script start (record { pool = p; next = at; written = written }) small large out₀ out
   run-ends stop =
       record {
-        runnable = run .runnable;
-        limits = run .limits;
-        written = run .done;
+        runnable = run-runnable;
+        lines = run .lines;
+        replies = run .replies;
+        run = run .run;
+        between = run .between;
         put = run .put;
-        answers = run .answers;
         moves = λ more room.
             by-test (ltb start at) (λ e. ltb-true start at e)
             (λ e. let same : at ≡ start = omega (arith, ltb-false start at e, run .from) in

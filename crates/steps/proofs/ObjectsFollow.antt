@@ -95,7 +95,7 @@ module _ {p : Tables} {small large : List ℕ} {L : Ledger} (w : isWellFormed p 
       refreshed-reads p small large L (fit-parts p w) types reads kind task extension _ _ (renewed .may) (renewed .entry) handle
       (place-found handle (renewed .found) .its) (renewed .plain)
 
-  -- with both stores of 01's lengths
+  -- with both stores as long as the blocks need
   module _ (small-whole : isWholeSmall (p .limits) small ≡ true) (large-whole : isWholeLarge (p .limits) large ≡ true) where
     pub make-reads : (task : ℕ) (kind : Kind) (extension size : ℕ) → makeVerdict task kind extension size p ≡ Accepted
         → (let place = freePlace (p .limits) size (p .blocks) in

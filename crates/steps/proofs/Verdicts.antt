@@ -162,7 +162,7 @@ module _ {p : Tables} {small large : List ℕ} {L : Ledger} (typed : Typed p) (f
   unfolding standingVerdict
   standing-verdict task handle = task-tests task (test-alike (given-test handle) (λ given. last-alike (gone-test handle given))) .so
 
-  -- with both stores of 01's lengths
+  -- with both stores as long as the blocks need
   module _ (small-whole : isWholeSmall (p .limits) small ≡ true) (large-whole : isWholeLarge (p .limits) large ≡ true) where
     -- 23, of a handle whose object is not gone
     sum-test : (handle : ℕ) → isUngiven (p .given) handle ≡ false → isMissing (p .blocks) handle ≡ false

@@ -8,7 +8,7 @@ use lib.ListN.{length, getD, length-append}
 use lib.Seq.{getD-at}
 use Rattle.lists.specs.Tests.{All}
 use Rattle.lists.proofs.All.{all-append}
-use Rattle.text.specs.Fields.{fieldAt, fieldsAt, inBytes, inFields, total, FitFields}
+use Rattle.text.specs.Fields.{fieldAt, fieldsAt, inBytes, inFields, widthOf, FitFields}
 
 -- a field of one byte
 pub field-one : (at : ℕ) (bytes : List ℕ) → fieldAt at 1 bytes ≡ getD bytes at 0
@@ -18,7 +18,7 @@ length-in-bytes : (width value : ℕ) → length (inBytes width value) ≡ width
 length-in-bytes zero value = refl
 length-in-bytes (suc width) value = rw (length-append, length-in-bytes width (value / 256)) (omega arith)
 
-pub length-in-fields : (widths values : List ℕ) → FitFields widths values → length (inFields widths values) ≡ total widths
+pub length-in-fields : (widths values : List ℕ) → FitFields widths values → length (inFields widths values) ≡ widthOf widths
 length-in-fields [] values h = refl
 length-in-fields (w ∷ ws) [] h = absurd h
 length-in-fields (w ∷ ws) (v ∷ vs) (h, hs) = rw (length-append, length-in-bytes w v, length-in-fields ws vs hs)

@@ -24,10 +24,10 @@ inFields [] values = []
 inFields (width ∷ widths) [] = []
 inFields (width ∷ widths) (value ∷ values) = inBytes width value ++ inFields widths values
 
--- the bytes of fields
-abbrev pub total : List ℕ → ℕ
-total [] = 0
-total (width ∷ widths) = width + total widths
+-- the bytes of fields: a sum that computes where it stands, as the lengths of frames have to
+abbrev pub widthOf : List ℕ → ℕ
+widthOf [] = 0
+widthOf (width ∷ widths) = width + widthOf widths
 
 -- values that fit fields of these widths
 abbrev pub FitFields : List ℕ → List ℕ → Type 0

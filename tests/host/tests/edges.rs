@@ -79,11 +79,12 @@ fn write(memory: &mut Memory, (small, large): (usize, usize), task: u8) -> u8 {
     number
 }
 
-/// One line, with these stores and this room for the answer.
+/// One line, with these stores and this room for the answer. None that is asked here makes or writes, so the stores stay.
 fn frame(memory: &mut Memory, (small, large): (usize, usize), line: &[u8], room: usize) -> (u8, Vec<u8>) {
     let (mut small, mut large) = (vec![7; small], vec![7; large]);
     let (mut out, mut count) = (vec![9; room], COUNT_UNTOLD);
     let number = Library::frame(&mut memory.pool, &mut small, &mut large, line, &mut out, &mut count);
+    assert!(small.iter().chain(&large).all(|&byte| byte == 7), "{line:?} changes a store");
     if number == 255 {
         assert!(count == COUNT_UNTOLD && out.iter().all(|&byte| byte == 9));
         return (number, Vec::new());

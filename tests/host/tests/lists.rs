@@ -1,6 +1,6 @@
 //! Long lists of calls, on the library, the plain pool and both ledgers at once: the same answers and, from time to
 //! time, the same state; of sites of all figures after each call. The lists are the reference's scripts; lines that hold no
-//! call go to the entry for frames.
+//! call go to the entry for frames. In some a pool is made anew on the way.
 
 mod census;
 
@@ -8,7 +8,7 @@ use census::{is_due_across, Census, NUMBERS};
 use host_tests::entries::{Entries, Plain};
 use host_tests::host::{Host, Told};
 use host_tests::library::Library;
-use host_tests::memory::{bytes_mut, Memory};
+use host_tests::memory::{bytes, bytes_mut, Memory};
 use host_tests::reading::{of_ledger, of_record, Ahead};
 use host_tests::sites;
 use plain::record::PINNED;
@@ -31,6 +31,14 @@ const STATE: usize = 50;
 /// How many sites there are, and the size of the list of each.
 const SITES: u64 = 200;
 const SITE_SIZE: usize = 60_000;
+
+/// How many lists there are in which a pool is made anew, how often in each, and the size of what comes between.
+const ANEW: u64 = 100;
+const TIMES: usize = 6;
+const PART_SIZE: usize = 10_000;
+
+const NOT_WELL_FORMED: u8 = 15;
+const LIMITS_OUT_OF_RANGE: u8 = 29;
 
 /// Everything that makes the same calls.
 struct Company {
@@ -59,10 +67,7 @@ impl Company {
     fn of(limits: Limits, seed: u64, late: bool) -> Company {
         let mut random = Random::new(seed);
         let memory = Memory::sized(sites::of(limits), &mut random);
-        let mut ahead = Ahead::default();
-        if late {
-            ahead.global = u32::MAX - random.below(200) as u32;
-        }
+        let ahead = Ahead { global: first_global(late, &mut random), ..Ahead::default() };
         Company {
             ledger: Ledger::of(limits),
             indexed: indexed::Ledger::of(limits),
@@ -79,6 +84,11 @@ impl Company {
     }
 
     fn run(mut self, script: &[u8]) -> Census {
+        self.go_on(script);
+        self.census
+    }
+
+    fn go_on(&mut self, script: &[u8]) {
         let mut room = vec![0; script.len()];
         for (count, line) in lines(script).enumerate() {
             let call = decode(line, &mut room);
@@ -95,7 +105,58 @@ impl Company {
             }
         }
         self.compare_states();
-        self.census
+    }
+
+    /// A pool of these figures in the place of that which stood there: by all, or all say 29 and there is none.
+    fn make_anew(&mut self, limits: Limits) -> u8 {
+        let made = Ledger::sized(limits).map(|ledger| self.ledger = ledger);
+        assert_eq!(indexed::Ledger::sized(limits).map(|ledger| self.indexed = ledger), made, "{limits:?}");
+        let number = made.err().map_or(0, |refusal| refusal as u8);
+        let (library, plain) = (&mut self.library.memory.pool, &mut self.plain.memory.pool);
+        assert_eq!(Library::fresh_sized(library, sites::of(limits)), number, "{limits:?}");
+        assert_eq!(Plain::fresh_sized(plain, sites::of(limits)), number, "{limits:?}, plain");
+        assert_eq!(bytes(library), bytes(plain), "{limits:?}");
+        if number == 0 {
+            self.begin_anew(limits);
+        }
+        number
+    }
+
+    /// Stores of these figures are lent from now on, and nothing of the former pool is remembered.
+    fn begin_anew(&mut self, limits: Limits) {
+        let Memory { small, large, .. } = Memory::sized(sites::of(limits), &mut self.random);
+        let global = first_global(self.late, &mut self.random);
+        for memory in [&mut self.library.memory, &mut self.plain.memory] {
+            memory.small.clone_from(&small);
+            memory.large.clone_from(&large);
+            memory.pool.global = global;
+        }
+        self.ahead = Ahead { global, ..Ahead::default() };
+        self.global_before = global;
+        self.changes = self.changes.is_some().then(|| Changes::new(self.random.number()));
+        self.compare_states();
+    }
+
+    /// After 29 there is nothing that a ledger could be asked: each call is 15, by its entry or as a frame.
+    fn go_on_without_a_pool(&mut self, script: &[u8]) {
+        let mut room = vec![0; script.len()];
+        for line in lines(script) {
+            let Ok(call) = decode(line, &mut room) else {
+                self.ask(line, None);
+                continue;
+            };
+            self.census.refused[usize::from(NOT_WELL_FORMED)] += 1;
+            if self.random.one_in(5) {
+                self.census.frames += 1;
+                let told = (NOT_WELL_FORMED, &b"0F\n"[..]);
+                assert_eq!(self.library.line(line, Some(&call)), told, "{call:?}");
+                assert_eq!(self.plain.line(line, Some(&call)), told, "{call:?}, plain");
+            } else {
+                self.census.calls += 1;
+                assert_eq!(self.library.call(&call), Err(NOT_WELL_FORMED), "{call:?}");
+                assert_eq!(self.plain.call(&call), Err(NOT_WELL_FORMED), "{call:?}, plain");
+            }
+        }
     }
 
     /// What something outside does before this call, the same to all.
@@ -193,6 +254,15 @@ impl Company {
     }
 }
 
+/// What global time reads when a pool is made.
+fn first_global(late: bool, random: &mut Random) -> u32 {
+    if late {
+        u32::MAX - random.below(200) as u32
+    } else {
+        0
+    }
+}
+
 /// A pool whose record was made by its entry, whatever stood there, with the figures that it is to have.
 fn begun<E: Entries>(mut memory: Memory, global: u32) -> Host<E> {
     let limits = memory.pool.limits;
@@ -251,13 +321,30 @@ fn of_records_whose_counters_go_round() {
     assert!(census.calls + census.frames > 1_000_000);
 }
 
-/// A list on a pool of the figures of a seed. Of each third the counters go round, and of each other third something outside
-/// changes the stores. After each call the whole state is compared.
+/// Of each third the counters go round, and of each other third something outside changes the stores. After each call the
+/// whole state is compared.
+fn at_site(limits: Limits, seed: u64) -> Company {
+    let changes = (seed % 3 == 1).then(|| Changes::new(seed));
+    Company { step: 1, changes, ..Company::of(limits, seed, seed % 3 == 2) }
+}
+
+/// A list on a pool of the figures of a seed.
 fn run_site(limits: Limits, seed: u64) -> Census {
     let only = PROFILES.get(seed as usize % (2 * PROFILES.len() + 1)).copied();
-    let changes = (seed % 3 == 1).then(|| Changes::new(seed));
-    let company = Company { step: 1, changes, ..Company::of(limits, seed, seed % 3 == 2) };
-    company.run(&sized_script_of(limits, only, seed, SITE_SIZE))
+    at_site(limits, seed).run(&sized_script_of(limits, only, seed, SITE_SIZE))
+}
+
+/// Figures of which one is out of its range.
+fn refused_limits(random: &mut Random) -> Limits {
+    let mut limits = generate::limits(random.number());
+    let far = random.pick(&[1 << 10, 1 << 16, u32::MAX as usize]) - random.below(100);
+    match random.below(4) {
+        0 => limits.small_blocks = random.pick(&[0, 65, far]),
+        1 => limits.large_blocks = random.pick(&[0, 33, far]),
+        2 => limits.expirations = random.pick(&[0, 257, far]),
+        _ => limits.extension = random.pick(&[31, 32, far]),
+    }
+    limits
 }
 
 /// Figures of all sizes, the smallest and 01's among them: 6, 9 and 10 come by them, and no more stands than they allow.
@@ -290,6 +377,42 @@ fn of_sites_of_all_figures() {
         assert!(census.refused[number] > 500, "{number}");
     }
     assert!(census.calls + census.frames > 500_000);
+}
+
+/// A pool is made anew on the way, of other figures and with stores of their lengths, and now and then of figures that are
+/// refused: then all is 15 until it is made anew again.
+#[test]
+fn of_pools_that_are_made_anew() {
+    let (mut census, mut made, mut refused) = (Census::default(), 0, 0);
+    for seed in 0..ANEW {
+        let (mut random, mut limits) = (Random::new(seed), generate::limits(seed));
+        let mut company = at_site(limits, seed);
+        for _ in 0..TIMES {
+            company.go_on(&sized_script_of(limits, None, random.number(), PART_SIZE));
+            let met = std::mem::take(&mut company.census);
+            let (small, large, expirations) = met.most;
+            assert!(usize::from(small) <= limits.small_blocks && usize::from(large) <= limits.large_blocks);
+            assert!(usize::from(expirations) <= limits.expirations);
+            census.add(&met);
+            if random.one_in(3) {
+                let none = refused_limits(&mut random);
+                assert_eq!(company.make_anew(none), LIMITS_OUT_OF_RANGE, "{none:?}");
+                company.go_on_without_a_pool(&sized_script_of(limits, None, random.number(), PART_SIZE / 4));
+                refused += 1;
+            }
+            limits = generate::limits(random.number());
+            assert_eq!(company.make_anew(limits), 0, "{limits:?}");
+            made += 1;
+        }
+        census.add(&company.census);
+    }
+    census.print();
+    println!("made anew {made} times, refused {refused} times");
+    assert!(made > 500 && refused > 100 && census.refused[usize::from(NOT_WELL_FORMED)] > 5_000);
+    assert!(census.accepted.iter().all(|&count| count > 500));
+    for number in (1..=7).chain(9..=13).chain(15..=23) {
+        assert!(census.refused[number] > 100, "{number}");
+    }
 }
 
 /// One byte, two that cancel out or two of chance, put back now and then: reads and writes are refused by all or by none, and

@@ -490,18 +490,32 @@ fn the_program_reads_standard_input() {
     assert_eq!(output.stdout, in_words(&explained(&script)).as_bytes());
 }
 
+/// What the program prints to these arguments, and its picture.
+fn told(arguments: &[&str], script: &[u8]) -> (String, String) {
+    let file = Path::new(env!("CARGO_TARGET_TMPDIR")).join("figures.svg");
+    let svg = [arguments, &["--svg", file.to_str().unwrap()]].concat();
+    let printed = [arguments, &svg].map(|arguments| {
+        let output = run_program(Command::new(EXPLAIN).args(arguments), script).unwrap();
+        assert!(output.status.success(), "{arguments:?}");
+        String::from_utf8(output.stdout).unwrap()
+    });
+    assert_eq!(printed[0], printed[1], "{arguments:?}");
+    (printed[0].clone(), fs::read_to_string(file).unwrap())
+}
+
+/// Some of chance, the smallest, and the scope paper's, with which it prints what it does without.
 #[test]
 fn the_program_takes_figures() {
-    let (limits, script) = (limits(5), sized_script(limits(5), 5));
-    let Limits { small_blocks, large_blocks, expirations, extension } = limits;
-    let figures = format!("{small_blocks},{large_blocks},{expirations},{extension}");
-    let output = run_program(Command::new(EXPLAIN).args(["--figures", &figures]), &script).unwrap();
-    assert!(output.status.success());
-    assert_eq!(output.stdout, in_words(&explain(limits, &script)).as_bytes());
-    let file = Path::new(env!("CARGO_TARGET_TMPDIR")).join("figures.svg");
-    let arguments = ["--figures", &figures, "--svg", file.to_str().unwrap()];
-    assert!(run_program(Command::new(EXPLAIN).args(arguments), &script).unwrap().status.success());
-    assert_eq!(fs::read_to_string(file).unwrap(), picture(limits, &explain(limits, &script)));
+    let Limits { small_blocks, large_blocks, expirations, extension } = limits(5);
+    let any = format!("{small_blocks},{large_blocks},{expirations},{extension}");
+    for figures in [&any, "1,1,1,0", "64,32,256,30"] {
+        let limits = figures.parse().unwrap();
+        let script = sized_script(limits, 5);
+        let explained = explain(limits, &script);
+        let expected = (in_words(&explained), picture(limits, &explained));
+        assert!(told(&["--figures", figures], &script) == expected, "{figures}");
+        assert_eq!(told(&[], &script) == expected, limits == Limits::STANDARD, "{figures}");
+    }
 }
 
 /// With the number 29, and nothing is explained.

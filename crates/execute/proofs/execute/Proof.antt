@@ -1,7 +1,7 @@
 -- The line on the columns.
 use borrow.Author.Needs.{needs}
-use Rattle.pool.proofs.Sizes.{columns-sized}
-use Rattle.execute.proofs.Carrying.{taken-sized, executes-by-value}
+use Rattle.pool.proofs.ByValue.{out-sized}
+use Rattle.execute.proofs.Carrying.{executes-by-value}
 use Rattle.execute.proofs.execute.Statement.{statement}
 use Rattle.execute.proofs.execute.Tie as tie
 
@@ -10,7 +10,7 @@ execute-lent-requires c κs =
     let named = c .before .before .before .before .before .before .before .before .before in
     let head = named .before .before .before .before .before .before in
     let start = head .before .before .before .before .before in
-    (taken-sized (start .args .p) (head .head-of .ensures) (named .before .before .taken-out .ensures) (named .taken-out2 .ensures) (columns-sized (start .args .p) _ (start .good .0)), start .pre)
+    (out-sized (start .args .p) (named .before .before .taken-out .ensures) (named .taken-out2 .ensures) _ (start .good .0), start .pre)
 
 returns : tie.Need-returns
 returns c =

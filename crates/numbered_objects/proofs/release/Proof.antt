@@ -1,6 +1,6 @@
 -- The release on the columns.
 use borrow.Author.Needs.{needs}
-use Rattle.numbered.proofs.ByValue.{out-sized, out-whole}
+use Rattle.pool.proofs.ByValue.{out-sized, out-whole}
 use Rattle.numbered_objects.proofs.Promises.{releases}
 use Rattle.numbered_objects.proofs.release.Statement.{statement}
 use Rattle.numbered_objects.proofs.release.Tie as tie
@@ -20,7 +20,7 @@ returns c =
     let made = clocks .before .before .before in
     let start = made .before in
     let whole = out-whole (start .args .p) (clocks .clocks-of .ensures) (named .named-of .ensures) (made .head-of .ensures) in
-    releases (start .good .0) whole (c .put-together .ensures) (called .release .ensures .1)
+    releases (start .good .0) whole (c .give-back .ensures) (called .release .ensures .1)
 
 pub release-spec : {M : Type 1} → statement M
 release-spec =

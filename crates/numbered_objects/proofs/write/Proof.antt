@@ -1,6 +1,6 @@
 -- The write on the columns.
 use borrow.Author.Needs.{needs}
-use Rattle.numbered.proofs.ByValue.{out-sized, out-whole}
+use Rattle.pool.proofs.ByValue.{out-sized, out-whole}
 use Rattle.numbered_objects.proofs.Promises.{writes}
 use Rattle.numbered_objects.proofs.write.Statement.{statement}
 use Rattle.numbered_objects.proofs.write.Tie as tie
@@ -20,7 +20,7 @@ returns c =
     let made = clocks .before .before .before in
     let start = made .before .before .before .before in
     let whole = out-whole (start .args .p) (clocks .clocks-of .ensures) (named .named-of .ensures) (made .head-of .ensures) in
-    writes (start .good .0) whole (c .put-together .ensures) (called .write .ensures .1)
+    writes (start .good .0) whole (c .give-back .ensures) (called .write .ensures .1)
 
 pub write-spec : {M : Type 1} → statement M
 write-spec =

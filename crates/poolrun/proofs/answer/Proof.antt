@@ -11,6 +11,7 @@ use Rattle.ledger.proofs.Figures.{standard-allowed}
 use Rattle.record.specs.Reading.{freshPool, wholeSmall, wholeLarge}
 use Rattle.record.proofs.FreshReads.{fresh-well-formed}
 use Rattle.script.specs.Output.{Runnable}
+use Rattle.script.proofs.Lines.{lines-keep}
 use Rattle.execute.proofs.Showing.{puts-within}
 use Rattle.poolrun.proofs.answer.Statement.{statement}
 use Rattle.poolrun.proofs.answer.Tie as tie
@@ -57,7 +58,7 @@ loop-less c =
 loop-again : tie.Need-loop-again Inv-loop μ-loop
 loop-again c =
     let ran = c .before .before .before .before .before .before .before in
-    (ran .run-on .ensures .runnable, search needs, ran .run-on .ensures .limits ∙ ran .before .before .before .before .before .loop .inv .2)
+    (ran .run-on .ensures .runnable, search needs, lines-keep (ran .run-on .ensures .run) .limits ∙ ran .before .before .before .before .before .loop .inv .2)
 
 pub answer-spec : {M : Type 1} → statement M
 answer-spec =

@@ -1,21 +1,22 @@
 -- Each line turns the run on: refused with nothing changed, or carried out by the one dispatch.
 use Prim.Native.Nat.{ℕ, _+_, _-_, _≤_, _<_}
 use native.Mathlib.Omega.{arith}
-use mathlib.Core.List.{List, []}
+use mathlib.Core.List.{List, [], _∷_}
 use mathlib.Core.Path.{_≡_, refl, sym, _∙_}
 use borrow.Author.Needs.{needs}
 use lib.ListN.{length}
 use lib.Seq.{length-take-le}
+use Rattle.ledger.specs.Objects.{Reply}
 use Rattle.ledger.specs.declared.Answer.{Answer}
 use Rattle.record.specs.Tables.{Sized, pooled}
 use Rattle.record.specs.declared.Pool.{Pool}
 use Rattle.pool.proofs.Sizes.{columns-sized}
 use Rattle.answers.specs.Answers.{answerLine, longestAnswer}
 use Rattle.text.specs.Hex.{Puts}
-use Rattle.script.specs.Output.{lineIn}
+use Rattle.script.specs.Output.{lineIn, LinesRun}
 use Rattle.execute.proofs.Showing.{serves-showable, short-line}
 use Rattle.execute.proofs.Carrying.{bytes-in}
-use Rattle.script.proofs.Running.{Running, Turn, ready, refused-turn, served-turn, run-starts-lent, run-line, run-room, run-nears, run-turns, run-ends}
+use Rattle.script.proofs.Running.{Running, ready, refused-run, served-run, run-starts-lent, run-keeps, run-runnable, run-line, run-room, run-nears, run-turns, run-ends}
 use Rattle.script.proofs.run_on.Statement.{statement}
 use Rattle.script.proofs.run_on.Tie as tie
 
@@ -53,14 +54,14 @@ module _ (r : tie.After-next-frame Inv-loop μ-loop) where
   abbrev before : Pool
   before = pooled (loop .loop .head) (loop .loop .handles) (loop .loop .extents) (loop .loop .clocks) (loop .loop .named) (loop .loop .dues)
 
-  turns : {p′ : Pool} {small′ large′ answer : List ℕ}
-      → Turn (lineIn (start .args .script .now) (loop .loop .at)) before (loop .loop .small) (loop .loop .large) p′ small′ large′ answer
-      → loop .loop .written + length answer ≤ length (loop .loop .out) → {out′ : List ℕ} {written′ : ℕ}
-      → Puts (loop .loop .written) answer (loop .loop .out) out′ written′
+  turns : {y : Reply} {p′ : Pool} {small′ large′ : List ℕ}
+      → LinesRun before (loop .loop .small) (loop .loop .large) (lineIn (start .args .script .now) (loop .loop .at) ∷ []) (y ∷ []) p′ small′ large′
+      → loop .loop .written + length (answerLine (y .answer) (y .bytes)) ≤ length (loop .loop .out) → {out′ : List ℕ} {written′ : ℕ}
+      → Puts (loop .loop .written) (answerLine (y .answer) (y .bytes)) (loop .loop .out) out′ written′
       → Running (start .args .p) (start .args .small .now) (start .args .large .now) (start .args .script .now) (start .args .start) (start .args .out .now)
       p′ small′ large′ out′ (r .next-frame .last .1 .1 .0) (r .next-frame .result .next) written′
-  turns t fits put =
-      run-turns (loop .loop .inv .0) (run-line (loop .loop .inv .0) (r .before .before .loop-test .taken)) t fits put (r .next-frame .ensures .next)
+  turns one fits put =
+      run-turns (loop .loop .inv .0) (run-line (loop .loop .inv .0) (r .before .before .loop-test .taken)) one fits put (r .next-frame .ensures .next)
       (r .next-frame .ensures .size ∙ loop .loop .inv .0 .buffer)
 
 next-frame-requires : tie.Need-next-frame-requires Inv-loop μ-loop
@@ -74,7 +75,7 @@ loop-again : tie.Need-loop-again Inv-loop μ-loop
 loop-again c =
     let r = c .before .before .before .before .before .before .before .before .before .before in
     let none = c .before .before .before .before .no-part .ensures in (
-      turns r (refused-turn (r .next-frame .ensures .decodes) (c .before .before .before .before .before .before .refusal-of .ensures) none) (told r _ _ none) (c .before .before .put-answer .ensures),
+      turns r (refused-run (r .next-frame .ensures .decodes) (c .before .before .before .before .before .before .refusal-of .ensures) none) (told r _ _ none) (c .before .before .put-answer .ensures),
       loop r .loop .inv .1,
     )
 
@@ -83,7 +84,7 @@ array-share-prefix-bytes : tie.Need-array-share-prefix-bytes Inv-loop μ-loop
 array-share-prefix-bytes c = bytes-in (c .before .before .before .before .before .before .before .before .before .before .before .next-frame .ensures .decodes) (c .before .before .before .before .before .before .before .before .frame .given .1)
 
 call-requires : tie.Need-call-requires Inv-loop μ-loop
-call-requires c κs = let l = c .before .before .before .before .before .before .before .before .before .before .before .before .before .before .before .loop in (l .inv .1, ready _ (l .inv .0 .runnable))
+call-requires c κs = let l = c .before .before .before .before .before .before .before .before .before .before .before .before .before .before .before .loop in (l .inv .1, ready _ (run-runnable (l .inv .0)))
 
 show-requires : tie.Need-show-requires Inv-loop μ-loop
 show-requires c κs = serves-showable (c .before .before .before .before .before .before .before .before .call .ensures .1) _ _ (room (c .before .before .before .before .before .before .before .before .before .before .before .before .before .before .before .before .before .before .before .before .before))
@@ -92,8 +93,8 @@ loop-again-2 : tie.Need-loop-again-2 Inv-loop μ-loop
 loop-again-2 c =
     let r = c .before .before .before .before .before .before .before .before .before .before .before .before .before .before .before .before .before .before .before .before .before .before .before .before in
     let served = c .before .before .before .before .before .before .before .before .before .before .before .call .ensures in
-    let turn = served-turn (r .next-frame .ensures .decodes) (loop r .loop .inv .0 .runnable) (c .before .before .before .before .before .before .before .before .before .before .before .before .before .before .before .before .before .before .before .before .before .frame .given .1) (served .1) in (
-      turns r turn (serves-showable (served .1) (loop r .loop .out) (loop r .loop .written) (room r) .room) (c .before .before .show .ensures),
+    let one = served-run (r .next-frame .ensures .decodes) (c .before .before .before .before .before .before .before .before .before .before .before .before .before .before .before .before .before .before .before .before .before .frame .given .1) (served .1) in (
+      turns r one (serves-showable (served .1) (loop r .loop .out) (loop r .loop .written) (room r) .room) (c .before .before .show .ensures),
       served .0,
     )
 
@@ -124,7 +125,7 @@ run-on-spec =
     show-requires
     (λ c. nears (c .before .before .before .before .before .before .before .before .before .before .before .before .before .before .before .before .before .before .before .before .before .before .before .before))
     loop-again-2
-    (λ c. c .before .before .before .before .loop .inv .0 .stores .0)
-    (λ c. c .before .before .before .before .loop .inv .0 .stores .1)
+    (λ c. run-keeps (c .before .before .before .before .loop .inv .0) .sizes .0)
+    (λ c. run-keeps (c .before .before .before .before .loop .inv .0) .sizes .1)
     (λ c. c .before .before .before .before .loop .inv .0 .size)
     returns)

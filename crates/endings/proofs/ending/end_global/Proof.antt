@@ -2,8 +2,8 @@
 use Prim.Native.Nat.{_*_, _≤_, _-_}
 use native.Mathlib.Omega.{arith}
 use mathlib.Core.Path.{_∙_}
+use Rattle.record.specs.Tables.{groupSize, groupCount}
 use Rattle.endings.specs.Ending.{isGlobalOverAt, EndedBy}
-use Rattle.expirations.specs.Standing.{groupSize, groupCount}
 use Rattle.endings.proofs.Ended.{ended-start, ended-join, ended-end}
 use Rattle.endings.proofs.ending.end_global.Statement.{statement}
 use Rattle.endings.proofs.ending.end_global.Tie as tie

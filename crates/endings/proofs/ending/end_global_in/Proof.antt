@@ -4,9 +4,9 @@ use native.Mathlib.Omega.{arith}
 use mathlib.Core.Bool.{and-eq-true-iff}
 use borrow.Author.Needs.{needs}
 use borrow.Author.Tests.{not-true}
+use Rattle.record.specs.Tables.{groupSize}
 use Rattle.record.specs.declared.GlobalTime.{GlobalTime}
 use Rattle.endings.specs.Ending.{isGlobalOverAt, Over, EndedBy}
-use Rattle.expirations.specs.Standing.{groupSize}
 use Rattle.endings.proofs.Ended.{ended-start, ended-none, ended-turn, ended-end}
 use Rattle.expirations.proofs.Places.{asked-unless}
 use Rattle.endings.proofs.ending.end_global_in.Statement.{statement}

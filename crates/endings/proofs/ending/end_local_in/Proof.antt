@@ -4,8 +4,8 @@ use native.Mathlib.Omega.{arith}
 use mathlib.Core.Bool.{and-eq-true-iff}
 use borrow.Author.Needs.{needs}
 use borrow.Author.Tests.{not-true}
+use Rattle.record.specs.Tables.{groupSize}
 use Rattle.record.specs.declared.LocalTime.{LocalTime}
-use Rattle.expirations.specs.Standing.{groupSize}
 use Rattle.expirations.proofs.Places.{asked-unless}
 use Rattle.endings.specs.Ending.{isOwnOverAt, Over, EndedBy}
 use Rattle.endings.proofs.Ended.{ended-start, ended-none, ended-turn, ended-end}

@@ -4,10 +4,10 @@ use native.Mathlib.Omega.{arith}
 use mathlib.Core.Bool.{false}
 use mathlib.Core.Path.{_≡_}
 use borrow.Author.Needs.{needs}
+use Rattle.record.specs.Tables.{groupSize}
 use Rattle.lists.specs.Filled.{Filled}
 use Rattle.lists.proofs.Filling.{filled-start, filled-turn, filled-end}
 use Rattle.endings.specs.Ending.{isOverAt}
-use Rattle.expirations.specs.Standing.{groupSize}
 use Rattle.endings.proofs.ending.global_over.Statement.{statement}
 use Rattle.endings.proofs.ending.global_over.Tie as tie
 

@@ -4,9 +4,9 @@ use native.Mathlib.Omega.{arith}
 use mathlib.Core.Path.{_∙_}
 use borrow.Author.Needs.{needs}
 use borrow.Author.Tests.{not-true, not-false}
+use Rattle.record.specs.Tables.{groupSize, groupCount}
 use Rattle.endings.specs.Late.{putOffBy}
 use Rattle.expirations.specs.Places.{Changed}
-use Rattle.expirations.specs.Standing.{groupSize, groupCount}
 use Rattle.expirations.proofs.Places.{changed-none, changed-start, changed-same, changed-join, changed-end}
 use Rattle.endings.proofs.PutOff.{none-put-off, put-off-global}
 use Rattle.endings.proofs.late.put_off.Statement.{statement}

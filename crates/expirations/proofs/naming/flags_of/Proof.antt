@@ -3,8 +3,8 @@ use Prim.Native.Nat.{_*_, _≤_, _-_}
 use native.Mathlib.Omega.{arith}
 use borrow.Author.Needs.{needs}
 use borrow.Author.Tests.{not-true}
+use Rattle.record.specs.Tables.{groupSize, groupCount}
 use Rattle.expirations.specs.Naming.{isSlotAt, Marks}
-use Rattle.expirations.specs.Standing.{groupSize, groupCount}
 use Rattle.expirations.proofs.Flags.{marks-start, marks-skip, marks-end, marks-same, slot-named, slot-none}
 use Rattle.expirations.proofs.naming.flags_of.Statement.{statement}
 use Rattle.expirations.proofs.naming.flags_of.Tie as tie

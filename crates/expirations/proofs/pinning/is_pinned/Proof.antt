@@ -2,9 +2,9 @@
 use Prim.Native.Nat.{_*_, _≤_, _-_}
 use native.Mathlib.Omega.{arith}
 use borrow.Author.Needs.{needs}
+use Rattle.record.specs.Tables.{groupSize, groupCount}
 use Rattle.expirations.specs.Pinning.{isPinAt}
 use Rattle.expirations.specs.Places.{Asked}
-use Rattle.expirations.specs.Standing.{groupSize, groupCount}
 use Rattle.expirations.proofs.Pins.{pins-all}
 use Rattle.expirations.proofs.Places.{asked-start, asked-join, asked-end}
 use Rattle.expirations.proofs.pinning.is_pinned.Statement.{statement}

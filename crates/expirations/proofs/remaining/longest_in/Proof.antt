@@ -3,8 +3,7 @@ use Prim.Native.Nat.{_-_, _<_}
 use native.Mathlib.Omega.{arith}
 use borrow.Author.Needs.{needs}
 use borrow.Author.Tests.{not-true}
-use Rattle.record.specs.Tables.{entriesOf}
-use Rattle.expirations.specs.Standing.{groupSize}
+use Rattle.record.specs.Tables.{entriesOf, groupSize}
 use Rattle.expirations.proofs.Longest.{Longest, units, longest-start, longest-turn, longest-end, longest-past}
 use Rattle.expirations.proofs.remaining.longest_in.Statement.{statement}
 use Rattle.expirations.proofs.remaining.longest_in.Tie as tie

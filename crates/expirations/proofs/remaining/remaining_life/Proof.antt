@@ -4,9 +4,8 @@ use native.Mathlib.Omega.{arith}
 use mathlib.Core.Path.{_≡_, refl}
 use borrow.Author.Needs.{needs}
 use lib.ListN.{take}
-use Rattle.record.specs.Tables.{entriesOf}
+use Rattle.record.specs.Tables.{entriesOf, groupSize, groupCount}
 use Rattle.expirations.specs.Remaining.{unitsIn}
-use Rattle.expirations.specs.Standing.{groupSize, groupCount}
 use Rattle.expirations.proofs.Longest.{groups-turn, life-end}
 use Rattle.expirations.proofs.remaining.remaining_life.Statement.{statement}
 use Rattle.expirations.proofs.remaining.remaining_life.Tie as tie

@@ -1,7 +1,8 @@
 -- Group by group.
 use Prim.Native.Nat.{_*_, _≤_, _-_}
 use native.Mathlib.Omega.{arith}
-use Rattle.fitness.specs.Pins.{groupSize, groupCount, PinsTo}
+use Rattle.record.specs.Tables.{groupSize, groupCount}
+use Rattle.fitness.specs.Pins.{PinsTo}
 use Rattle.fitness.proofs.Once.{pins-start, pins-end, pinned-end}
 use Rattle.fitness.proofs.pins.pinned_once.Statement.{statement}
 use Rattle.fitness.proofs.pins.pinned_once.Tie as tie

@@ -1,6 +1,6 @@
 -- The make on the columns, and its handle.
 use borrow.Author.Needs.{needs}
-use Rattle.numbered.proofs.ByValue.{out-sized, out-whole}
+use Rattle.pool.proofs.ByValue.{out-sized, out-whole}
 use Rattle.numbered.proofs.Promises.{makes}
 use Rattle.numbered.proofs.kinds.make_one.Statement.{statement}
 use Rattle.numbered.proofs.kinds.make_one.Tie as tie
@@ -20,7 +20,7 @@ returns c =
     let made = clocks .before .before .before in
     let start = made .before .before .before in
     let whole = out-whole (start .args .p) (clocks .clocks-of .ensures) (named .named-of .ensures) (made .head-of .ensures) in
-    makes (start .good .0) whole (c .put-together .ensures) (called .make .ensures .1) (c .before .handle-or .ensures)
+    makes (start .good .0) whole (c .give-back .ensures) (called .make .ensures .1) (c .before .handle-or .ensures)
 
 pub make-one-spec : {M : Type 1} → statement M
 make-one-spec =

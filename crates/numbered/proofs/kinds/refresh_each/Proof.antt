@@ -2,7 +2,8 @@
 use mathlib.Core.Path.{sym}
 use borrow.Author.Needs.{needs}
 use lib.Seq.{length-take-le}
-use Rattle.numbered.proofs.ByValue.{handles-sent, out-sized, out-whole}
+use Rattle.pool.proofs.ByValue.{out-sized, out-whole}
+use Rattle.numbered.proofs.ByValue.{handles-sent}
 use Rattle.numbered.proofs.Promises.{refreshes-each}
 use Rattle.numbered.proofs.kinds.refresh_each.Statement.{statement}
 use Rattle.numbered.proofs.kinds.refresh_each.Tie as tie
@@ -22,7 +23,7 @@ returns c =
     let made = clocks .before .before .before in
     let start = made .before .before .before .before in
     let whole = out-whole (start .args .p) (clocks .clocks-of .ensures) (named .named-of .ensures) (made .head-of .ensures) in
-    refreshes-each (start .good .0) whole (c .put-together .ensures) (handles-sent (made .before .before .handle-bytes .ensures) (called .batch .ensures .1))
+    refreshes-each (start .good .0) whole (c .give-back .ensures) (handles-sent (made .before .before .handle-bytes .ensures) (called .batch .ensures .1))
 
 pub refresh-each-spec : {M : Type 1} → statement M
 refresh-each-spec =

@@ -1,6 +1,6 @@
 -- The refresh on the columns.
 use borrow.Author.Needs.{needs}
-use Rattle.numbered.proofs.ByValue.{out-sized, out-whole}
+use Rattle.pool.proofs.ByValue.{out-sized, out-whole}
 use Rattle.numbered.proofs.Promises.{refreshes}
 use Rattle.numbered.proofs.kinds.refresh_one.Statement.{statement}
 use Rattle.numbered.proofs.kinds.refresh_one.Tie as tie
@@ -20,7 +20,7 @@ returns c =
     let made = clocks .before .before .before in
     let start = made .before in
     let whole = out-whole (start .args .p) (clocks .clocks-of .ensures) (named .named-of .ensures) (made .head-of .ensures) in
-    refreshes (start .good .0) whole (c .put-together .ensures) (called .refresh .ensures .1)
+    refreshes (start .good .0) whole (c .give-back .ensures) (called .refresh .ensures .1)
 
 pub refresh-one-spec : {M : Type 1} → statement M
 refresh-one-spec =
