@@ -1,4 +1,5 @@
-# What set-up, test and the gate share; to be sourced at the root. `left_out` has a line for each thing that was not done because a program is not here.
+# What set-up, test and the gate share; to be sourced at the root. `left_out` has a line for each thing that was not done because a program
+# is not here.
 left_out=()
 # has PROGRAM WHAT: the program may be one of cargo's own, such as cargo clippy, which its --version tells.
 has() { $1 --version >/dev/null 2>&1 || { left_out+=("$1 is not here: left out $2"); return 1; }; }
@@ -39,7 +40,8 @@ lints() { cargo clippy --quiet --offline --all-targets --manifest-path "$1/Cargo
 reference() { cargo run --quiet --release --offline --manifest-path tests/reference/Cargo.toml --bin "$@"; }
 measure() { cargo run --quiet --release --offline --manifest-path tests/host/Cargo.toml --bin "$@"; }
 
-# progress COUNT: of what rt writes a line for each crate, numbered, and what else rt itself says; none of the prover's notes, which target/log has.
+# progress COUNT: of what rt writes a line for each crate, numbered, and what else rt itself says; none of the prover's notes, which are in
+# target/log.
 progress() {
     local line number=0
     while IFS= read -r line; do
@@ -69,7 +71,8 @@ depends() {
     for name in $(sed -n "s/^$1: *//p" crates.txt); do if [ -d "crates/$name" ]; then echo "$name"; fi; done
 }
 
-# `rt staticlib` proves its crate each time. So a stamp beside the library tells from what it was made: where that is as it was, so is the library.
+# `rt staticlib` proves its crate each time. So a stamp beside the library tells from what it was made: where that is as it was, so is the
+# library.
 library() {
     local made=target/staticlib/ramsummer.made
     if [ -f "$made" ] && [ "$(cat "$made")" = "$(library_stamp)" ]; then
@@ -96,8 +99,12 @@ test_ledgers() {
     named "tests/reference: two ledgers in Rust, frames, scripts, words and pictures" tests tests/reference
     named "tests/plain: a pool in plain Rust against the ledgers" tests tests/plain
 }
-test_program() { named "compare: poolrun against both ledgers on 1,000 scripts and the longest" reference compare -- target/bin/poolrun 1000; }
+test_program() {
+    named "compare: poolrun against both ledgers on 1,000 scripts and the longest" reference compare -- target/bin/poolrun 1000
+}
 test_library() {
-    for options in "${features[@]}"; do named "host: the Rust crate and the headers over the library (${options:-with std})" tests host $options; done
+    for options in "${features[@]}"; do
+        named "host: the Rust crate and the headers over the library (${options:-with std})" tests host $options
+    done
     named "tests/host: the library against the ledgers, on millions of calls and damaged records" tests tests/host
 }

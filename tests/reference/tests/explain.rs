@@ -532,7 +532,10 @@ fn pictures_name_the_refusals() {
     };
     assert_eq!(labels(b"0500\n"), ["1 x refusal 3: task absent"]);
     assert_eq!(labels(b"0500\n0500\nx\n"), ["2 x refusal 3: task absent", "1 x refusal 16: not hexadecimal"]);
-    assert_eq!(labels(&b"0500\nx\n".repeat(900))[0], "3, 16");
+    let many = b"0500\nx\n".repeat(900);
+    assert_eq!(labels(&many)[0], "3, 16");
+    let name = "Refusals (number): 900 x refusal 3: task absent, 900 x refusal 16: not hexadecimal<";
+    assert!(group(&pictured(&many), "refusals").contains(name));
     assert_eq!(labels(b"0100\n"), [""; 0]);
 }
 

@@ -91,25 +91,28 @@ struct Placed {
     words: String,
 }
 
-/// The labels: in words, each in the first row that has room for it, or else in numbers.
-pub struct Labels(Vec<Placed>);
+/// The labels: in words, each in the first row that has room for it, or else in numbers; and the name above them.
+pub struct Labels {
+    pub name: String,
+    placed: Vec<Placed>,
+}
 
 impl Labels {
     pub fn of(lines: &[Line]) -> Labels {
-        in_words(lines).unwrap_or_else(|| {
-            let near = labels(lines, true).into_iter();
-            Labels(near.map(|label| Placed { start: label.start, row: 0, words: label.numbers() }).collect())
-        })
+        match in_words(lines) {
+            Some(placed) => Labels { name: "Refusals (number)".into(), placed },
+            None => Labels { name: format!("Refusals (number): {}", commonest(lines)), placed: in_numbers(lines) },
+        }
     }
 
     /// How high they are, with the crosses.
     pub fn height(&self) -> f64 {
-        19.0 + ROW * (1 + self.0.iter().map(|label| label.row).max().unwrap_or(0)) as f64
+        19.0 + ROW * (1 + self.placed.iter().map(|label| label.row).max().unwrap_or(0)) as f64
     }
 }
 
 /// None where there is no room.
-fn in_words(lines: &[Line]) -> Option<Labels> {
+fn in_words(lines: &[Line]) -> Option<Vec<Placed>> {
     let (mut ends, mut placed) = ([0.0; ROWS], Vec::new());
     for label in labels(lines, false) {
         let words = label.words();
@@ -119,7 +122,22 @@ fn in_words(lines: &[Line]) -> Option<Labels> {
         ends[row] = start + width + GAP;
         placed.push(Placed { start, row, words });
     }
-    Some(Labels(placed))
+    Some(placed)
+}
+
+fn in_numbers(lines: &[Line]) -> Vec<Placed> {
+    let labels = labels(lines, true).into_iter();
+    labels.map(|label| Placed { start: label.start, row: 0, words: label.numbers() }).collect()
+}
+
+/// The two refusals that come most often, in words.
+fn commonest(lines: &[Line]) -> String {
+    let mut all: Vec<_> = refusals(lines).map(|(_, refusal)| refusal).collect();
+    all.sort_by_key(|&refusal| refusal as u8);
+    let mut counts: Vec<_> = all.chunk_by(|a, b| a == b).map(|same| (same.len(), same[0])).collect();
+    counts.sort_by_key(|&(count, _)| std::cmp::Reverse(count));
+    let words: Vec<_> = counts.iter().take(MOST).map(|&(count, refusal)| times(count, refusal)).collect();
+    words.join(", ") + if counts.len() > MOST { ", ..." } else { "" }
 }
 
 /// The places of the crosses, one a pixel at most.
@@ -144,7 +162,7 @@ pub fn crosses(svg: &mut Svg, lines: &[Line], labels: &Labels, y: f64) {
     let mut path = Path::default();
     places(lines).into_iter().for_each(|x| path.cross((x, y)));
     svg.path(CROSS, &path);
-    for Placed { start, row, words } in &labels.0 {
+    for Placed { start, row, words } in &labels.placed {
         svg.text(*start, y + 18.0 + ROW * *row as f64, SIZE, Anchor::Start, words);
     }
 }

@@ -139,7 +139,7 @@ fn tasks(svg: &mut Svg, top: f64, sheet: &Sheet) -> f64 {
 fn refused(svg: &mut Svg, top: f64, lines: &[Line]) -> f64 {
     let labels = Labels::of(lines);
     svg.group("refusals", |svg| {
-        svg.text(LEFT, top - 8.0, 13, Anchor::Start, "Refusals (number)");
+        svg.text(LEFT, top - 8.0, 13, Anchor::Start, &labels.name);
         marks::crosses(svg, lines, &labels, top + 10.0);
         baseline(svg, top + labels.height());
     });
