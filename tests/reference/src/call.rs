@@ -78,6 +78,17 @@ impl Call<'_> {
         }
     }
 
+    /// Who calls; nobody for a report.
+    pub fn task(&self) -> Option<u8> {
+        match *self {
+            Call::Join { task } | Call::Leave { task } | Call::Block { task } | Call::Resume { task } => Some(task),
+            Call::Tick { task } | Call::Make { task, .. } | Call::Refresh { task, .. } => Some(task),
+            Call::Read { task, .. } | Call::Write { task, .. } => Some(task),
+            Call::Remaining { task, .. } | Call::Batch { task, .. } | Call::Release { task, .. } => Some(task),
+            Call::Report => None,
+        }
+    }
+
     /// The objects that it names.
     pub fn objects(&self) -> Vec<u32> {
         match *self {

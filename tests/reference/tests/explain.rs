@@ -1,4 +1,4 @@
-//! Scripts in words and as pictures.
+//! Scripts in words, summed up, as tables and as pictures.
 
 mod svg;
 
@@ -7,7 +7,7 @@ use std::path::{Path, PathBuf};
 use std::process::{Command, Output};
 
 use reference::call::{Model, Refusal};
-use reference::explain::{explain, in_words, picture, Line};
+use reference::explain::{explain, in_words, picture, summary, table, Line, Story};
 use reference::generate::{limits, script, sized_script};
 use reference::ledger::Ledger;
 use reference::limits::Limits;
@@ -22,7 +22,17 @@ fn explained(script: &[u8]) -> Vec<Line> {
 }
 
 fn pictured(script: &[u8]) -> String {
-    picture(Limits::STANDARD, &explained(script))
+    plain_picture(Limits::STANDARD, &explained(script))
+}
+
+/// Without a story.
+fn plain_picture(limits: Limits, lines: &[Line]) -> String {
+    picture(limits, &Story::default(), lines)
+}
+
+/// All that the program writes.
+fn written(limits: Limits, lines: &[Line]) -> String {
+    format!("{}\n{}", in_words(lines), summary(limits, lines))
 }
 
 /// A script without LFs, and the words of its last line.
@@ -352,22 +362,108 @@ fn every_line_has_its_number_and_what_became_of_it() {
     assert_eq!(in_words(&explained(b"")), "");
 }
 
+#[test]
+fn a_script_is_summed_up() {
+    // Task 4 never ticks; of five objects of task 3 one is pinned, two go, and one is refused.
+    let frames = "0103 0104 060302000040 060300000004 060300000004 060101000004 0503 060401000004 0503 080300000009";
+    let lines = explained(&script_of(frames));
+    let expected = [
+        "A script of 10 lines, 2 refused",
+        "small objects: at most 2 of 64, first at line 5",
+        "large objects: at most 1 of 32, first at line 3",
+        "expirations: at most 3 of 256, first at line 5",
+        "1 x refusal 3: task absent, at line 6",
+        "1 x refusal 11: handle not given, at line 10",
+        "global time: longest at 0, 10 lines from 1 to 10, at last for task 4",
+        "blocks of task 3: 3 made, at most 3 at a time, 1 at the end",
+        "blocks of task 4: 1 made, at most 1 at a time, 1 at the end",
+    ];
+    assert_eq!(summary(Limits::STANDARD, &lines).lines().collect::<Vec<_>>(), expected);
+}
+
+#[test]
+fn what_a_summary_says_of_time_and_refusals() {
+    let says = |frames: &str, words: &str| {
+        let summary = summary(Limits::STANDARD, &explained(&script_of(frames)));
+        assert!(summary.lines().any(|line| line == words), "{frames}: {summary}");
+    };
+    says("0103 0503 0503 060300000004 0503", "global time: longest at 2, 2 lines from 3 to 4, at last for task 3");
+    says("0A 0A", "global time: longest at 0, 2 lines from 1 to 2, at last no task ran");
+    says("0203 0A 0403", "2 x refusal 3: task absent, at lines 1 to 3");
+    says("0A", "small objects: none of 64");
+    let nothing = summary(Limits::STANDARD, &[]);
+    assert_eq!(nothing.lines().next_back(), Some("global time: no line"));
+}
+
+#[test]
+fn a_script_as_a_table() {
+    let frames = "0103 x 060301000004 060300000040 0A 0503 080300000009";
+    let expected = [
+        "line,task,operation,answer,small,large,expirations,global",
+        "1,3,join,0,0,0,0,0",
+        "2,,,16,0,0,0,0",
+        "3,3,make,0,1,0,1,0",
+        "4,3,make,0,1,1,2,0",
+        "5,,report,0,1,1,2,0",
+        "6,3,tick,0,1,0,1,1",
+        "7,3,read,11,1,0,1,1",
+    ];
+    assert_eq!(table(&explained(&script_of(frames))).lines().collect::<Vec<_>>(), expected);
+}
+
+const GROUPS: [&str; 10] = [
+    "story",
+    "legend",
+    "marks",
+    "small-objects",
+    "large-objects",
+    "expirations",
+    "global-time",
+    "tasks",
+    "refusals",
+    "lines",
+];
+
+const LEGEND: [&str; 11] = [
+    "small objects",
+    "large objects",
+    "expirations",
+    "global time",
+    "of them pinned",
+    "refused",
+    "task absent",
+    "running, its tick awaited",
+    "running, ticked",
+    "waiting",
+    "tick",
+];
+
+const AXES: [&str; 5] = [
+    "Small objects (count)",
+    "Large objects (count)",
+    "Expirations (count)",
+    "Global time (advances)",
+    "Tasks (number)",
+];
+
 /// Well-formed, with all parts, within its frame, and no text over another.
 fn check_picture(name: &str, picture: &str) {
     let tags = svg::tags(picture);
     let ids: Vec<_> = tags.iter().filter(|tag| tag.name == "g").map(|tag| tag.attributes["id"]).collect();
-    assert_eq!(ids, ["legend", "objects", "expirations", "global-time", "tasks", "refusals", "lines"], "{name}");
+    assert_eq!(ids, GROUPS, "{name}");
     for foreign in ["<script", "<style", "<image", "href", "font-face", "@import"] {
         assert!(!picture.contains(foreign), "{name}: {foreign}");
     }
     let texts = svg::texts(&tags);
-    for words in ["small objects", "large objects", "expirations", "global time", "refused", "task absent", "waiting"] {
+    for words in LEGEND {
         assert!(texts.iter().any(|text| text.text == words), "{name}: no {words}");
     }
-    for axis in ["Standing objects (count)", "Expirations (count)", "Global time (advances)", "Tasks (number)"] {
+    for axis in AXES {
         assert!(texts.iter().any(|text| text.text.starts_with(axis)), "{name}: no {axis}");
     }
     assert!(texts.iter().any(|text| text.text == "Line of the script (number)"), "{name}");
+    let described = |name: &str| tags.iter().any(|tag| tag.name == name && !tag.text.is_empty());
+    assert!(described("title") && described("desc"), "{name}");
     let (width, height) = (tags[0].number("width"), tags[0].number("height"));
     assert_eq!(width, 1000.0);
     for (place, text) in texts.iter().enumerate() {
@@ -397,25 +493,83 @@ fn pictures_can_be_read() {
     }
 }
 
-/// The scale goes by the figures: as many steps as they need, and up to the larger store.
+/// The scale goes by what is reached, up to the figures.
 #[test]
 fn pictures_go_by_the_figures() {
     for seed in 0..60 {
         let (limits, script) = (limits(seed), sized_script(limits(seed), seed));
-        check_picture(&format!("seed {seed}, {limits:?}"), &picture(limits, &explain(limits, &script)));
+        check_picture(&format!("seed {seed}, {limits:?}"), &plain_picture(limits, &explain(limits, &script)));
     }
-    for (figures, objects, name) in [
-        ("64,32,256,30", &["0", "16", "32", "48", "64"][..], "at most 1 small of 64 blocks, 0 large of 32"),
-        ("1,1,1,0", &["0", "1"], "at most 1 small of 1 block, 0 large of 1"),
-        ("2,7,4,5", &["0", "2", "4", "6"], "at most 1 small of 2 blocks, 0 large of 7"),
-        ("30,3,9,5", &["0", "8", "16", "24"], "at most 1 small of 30 blocks, 0 large of 3"),
+    for (figures, count, steps, name) in [
+        ("64,32,256,30", 1, &["0", "1"][..], "at most 1 of 64"),
+        ("64,32,256,30", 64, &["0", "16", "32", "48", "64"], "at most 64 of 64"),
+        ("64,32,256,30", 33, &["0", "10", "20", "30", "40"], "at most 33 of 64"),
+        ("1,1,1,0", 1, &["0", "1"], "at most 1 of 1"),
+        ("30,3,40,5", 30, &["0", "8", "16", "24"], "at most 30 of 30"),
     ] {
         let limits = figures.parse().unwrap();
-        let picture = picture(limits, &explain(limits, b"0100\n060000000004\n"));
-        let panel = picture.split("<g id=").find(|group| group.starts_with("\"objects\"")).unwrap();
-        assert!(panel.contains(&format!("Standing objects (count): {name}<")), "{figures}: {panel}");
+        let script = format!("0100\n{}", "060000000004\n".repeat(count));
+        let picture = plain_picture(limits, &explain(limits, script.as_bytes()));
+        let panel = group(&picture, "small-objects");
+        assert!(panel.contains(&format!("Small objects (count): {name}<")), "{figures}: {panel}");
         let marks: Vec<_> = panel.split("text-anchor=\"end\"").skip(1).map(text_of).collect();
-        assert_eq!(marks, objects, "{figures}");
+        assert_eq!(marks, steps, "{figures}");
+    }
+}
+
+fn group<'a>(picture: &'a str, id: &str) -> &'a str {
+    let (_, rest) = picture.split_once(&format!("<g id=\"{id}\">")).unwrap();
+    rest.split_once("</g>").unwrap().0
+}
+
+/// In words where there is room for them, else in numbers.
+#[test]
+fn pictures_name_the_refusals() {
+    let labels = |script: &[u8]| {
+        let picture = pictured(script);
+        let texts = group(&picture, "refusals").split("<text ").skip(2).map(text_of);
+        texts.map(str::to_string).collect::<Vec<_>>()
+    };
+    assert_eq!(labels(b"0500\n"), ["1 x refusal 3: task absent"]);
+    assert_eq!(labels(b"0500\n0500\nx\n"), ["2 x refusal 3: task absent", "1 x refusal 16: not hexadecimal"]);
+    let many = b"0500\nx\n".repeat(900);
+    assert_eq!(labels(&many)[0], "3, 16");
+    let name = "Refusals (number): 900 x refusal 3: task absent, 900 x refusal 16: not hexadecimal<";
+    assert!(group(&pictured(&many), "refusals").contains(name));
+    assert_eq!(labels(b"0100\n"), [""; 0]);
+}
+
+/// The tick that brings the advance has its mark too.
+#[test]
+fn pictures_have_a_mark_for_each_tick() {
+    let marks = |script: &[u8]| {
+        let picture = pictured(script);
+        let style = "stroke=\"#000000\"";
+        group(&picture, "tasks").lines().find(|line| line.contains(style)).map_or(0, |path| path.matches('M').count())
+    };
+    assert_eq!(marks(b"0100\n0101\n0500\n0501\n0500\n"), 3);
+    assert_eq!(marks(b"0100\n0501\n"), 0);
+}
+
+#[test]
+fn pictures_show_what_is_pinned() {
+    let shows = |script: &[u8], id| group(&pictured(script), id).contains("#e3c9a8");
+    assert!(shows(b"0100\n060002000004\n", "small-objects") && shows(b"0100\n060002000040\n", "large-objects"));
+    assert!(!shows(b"0100\n060002000004\n", "large-objects") && !shows(b"0100\n060000000004\n", "small-objects"));
+}
+
+/// As many captions as there may be, as long as they may be, and near each other.
+#[test]
+fn pictures_tell_a_story() {
+    let (title, words) = ("T".repeat(70), "w".repeat(90));
+    let captions: String = (1..=9).map(|line| format!("{line} {words}\n")).collect();
+    let story = Story::parse(&format!("{title}\n{captions}")).unwrap();
+    for count in [9, 300] {
+        let picture = picture(Limits::STANDARD, &story, &explained(&b"0A\n".repeat(count)));
+        check_picture(&format!("a story of {count}"), &picture);
+        assert_eq!(group(&picture, "story").matches("<circle").count(), 9);
+        assert_eq!(group(&picture, "marks").matches("<circle").count(), 9);
+        assert!(picture.contains(&format!("Line 9: {words}.")));
     }
 }
 
@@ -427,17 +581,17 @@ fn text_of(rest: &str) -> &str {
 
 #[test]
 fn a_picture_has_a_row_for_each_task_that_joins() {
-    let count = |script: &[u8]| {
-        let picture = pictured(script);
-        let (_, tasks) = picture.split_once("<g id=\"tasks\">").unwrap();
-        tasks.split_once("</g>").unwrap().0.matches("text-anchor=\"end\"").count()
-    };
+    let count = |script: &[u8]| group(&pictured(script), "tasks").matches("text-anchor=\"end\"").count();
     assert_eq!(count(b""), 0);
     assert_eq!(count(b"0100\n0107\n0200\n"), 2);
 }
 
 fn document(name: &str) -> PathBuf {
     Path::new(env!("CARGO_MANIFEST_DIR")).join("../../docs").join(name)
+}
+
+fn temporary(name: &str) -> PathBuf {
+    Path::new(env!("CARGO_TARGET_TMPDIR")).join(name)
 }
 
 fn run_explain(arguments: &[&str]) -> Output {
@@ -447,22 +601,58 @@ fn run_explain(arguments: &[&str]) -> Output {
 /// The weekend: its committed picture is what the program makes of its script, and so are the lines in its document.
 #[test]
 fn the_weekend() {
-    let (script, file) = (document("weekend.script"), Path::new(env!("CARGO_TARGET_TMPDIR")).join("weekend.svg"));
-    let output = run_explain(&["--svg", file.to_str().unwrap(), script.to_str().unwrap()]);
+    let file = temporary("weekend.svg");
+    let [script, story] = ["weekend.script", "weekend.story"].map(document);
+    let [file, script, story] = [&file, &script, &story].map(|path| path.to_str().unwrap());
+    let output = run_explain(&["--story", story, "--svg", file, script]);
     assert!(output.status.success());
-    let made = fs::read_to_string(&file).unwrap();
+    let made = fs::read_to_string(file).unwrap();
     check_picture("weekend", &made);
     let committed = fs::read_to_string(document("weekend.svg")).unwrap();
-    assert!(made == committed, "make it anew: explain --svg docs/weekend.svg docs/weekend.script");
+    assert!(
+        made == committed,
+        "make it anew: explain --story docs/weekend.story --svg docs/weekend.svg docs/weekend.script"
+    );
 
     let text = String::from_utf8(output.stdout).unwrap();
-    assert!(text.lines().count() <= 300);
     let page = fs::read_to_string(document("WEEKEND.md")).unwrap();
     let (_, words) = page.split_once("## In words").unwrap();
     let quoted: Vec<_> = words.lines().filter_map(|line| line.strip_prefix("    ")).collect();
-    assert_eq!(quoted.len(), 4);
+    assert_eq!(quoted.len(), 9);
     for line in quoted {
         assert!(text.lines().any(|written| written == line), "{line}");
+    }
+}
+
+/// Each caption of its story stands at a line of which it is true.
+#[test]
+fn the_story_of_the_weekend() {
+    let story = Story::parse(&fs::read_to_string(document("weekend.story")).unwrap()).unwrap();
+    let lines = explained(&fs::read(document("weekend.script")).unwrap());
+    let captioned: Vec<_> = story.captions.iter().map(|caption| caption.line).collect();
+    let first = |holds: &dyn Fn(&Line) -> bool| 1 + lines.iter().position(holds).unwrap();
+    let [died, full, block, back, resumed] = captioned[..] else { panic!("{captioned:?}") };
+    // The first call after the last tick of task 7 was heeded.
+    let (before, after) = lines.split_at(died - 1);
+    assert!(before.last().unwrap().words.contains("global time advances to 2"));
+    assert!(after.iter().take(full - died).all(|line| line.after.global == 2 && !line.after.tasks[7].ticked));
+    assert_eq!(full, first(&|line| line.refusal == Some(Refusal::NoFreeBlock)));
+    assert_eq!(block, first(&|line| line.words.starts_with("block of task 7: ")));
+    assert_eq!(back, block + first_place(&lines[block..], |line| line.words.contains(" are gone")));
+    assert_eq!(resumed, first(&|line| line.words.starts_with("resume of task 7: ")));
+}
+
+/// From 1.
+fn first_place(lines: &[Line], holds: impl Fn(&Line) -> bool) -> usize {
+    1 + lines.iter().position(holds).unwrap()
+}
+
+/// What it has beside its fault: a pinned object with its release, and a remaining life before the refresh of a scan.
+#[test]
+fn the_weekend_has_each_kind_of_life() {
+    let lines = explained(&fs::read(document("weekend.script")).unwrap());
+    for words in ["pinned: object 1 in the large store", "release of object 1: ", "remaining life of object 19: "] {
+        assert!(lines.iter().any(|line| line.refusal.is_none() && line.words.contains(words)), "{words}");
     }
 }
 
@@ -476,9 +666,9 @@ fn the_weekend_with_block_in_time() {
         lines.iter().filter(|line| line.refusal == Some(Refusal::NoFreeBlock)).count()
     };
     assert_eq!(full(&frames), 12);
-    let block = frames.remove(212);
+    let block = frames.remove(215);
     assert_eq!(block, "0307");
-    frames.insert(86, block);
+    frames.insert(88, block);
     assert_eq!(full(&frames), 0);
 }
 
@@ -487,12 +677,44 @@ fn the_program_reads_standard_input() {
     let script = script(3);
     let output = run_program(&mut Command::new(EXPLAIN), &script).unwrap();
     assert!(output.status.success());
-    assert_eq!(output.stdout, in_words(&explained(&script)).as_bytes());
+    assert_eq!(output.stdout, written(Limits::STANDARD, &explained(&script)).as_bytes());
+}
+
+#[test]
+fn the_program_writes_a_table() {
+    let (script, file) = (script(3), temporary("table.csv"));
+    let output = run_program(Command::new(EXPLAIN).args(["--csv", file.to_str().unwrap()]), &script).unwrap();
+    assert!(output.status.success());
+    assert_eq!(fs::read_to_string(file).unwrap(), table(&explained(&script)));
+}
+
+/// In one line, and nothing is explained.
+#[test]
+fn errors_name_the_file() {
+    let (long, wrong) = (temporary("long.script"), temporary("wrong.story"));
+    fs::write(&long, vec![b'\n'; LIMIT + 1]).unwrap();
+    fs::write(&wrong, "A title\n1 one line\nno number\n").unwrap();
+    let [long, wrong] = [&long, &wrong].map(|path| path.to_str().unwrap());
+    let script = document("weekend.script");
+    let script = script.to_str().unwrap();
+    for (arguments, told) in [
+        (&["no/such/script"][..], "no/such/script: ".to_string()),
+        (&[long], format!("{long}: script too long")),
+        (&["--svg", "no/such/folder/x", script], "no/such/folder/x: ".into()),
+        (&["--csv", "no/such/folder/x", script], "no/such/folder/x: ".into()),
+        (&["--story", "no/such/story", script], "no/such/story: ".into()),
+        (&["--story", wrong, script], format!("{wrong}, line 3: ")),
+    ] {
+        let output = run_explain(arguments);
+        let error = String::from_utf8(output.stderr).unwrap();
+        assert_eq!((output.status.code(), output.stdout), (Some(1), Vec::new()), "{arguments:?}");
+        assert!(error.starts_with(&format!("explain: {told}")) && error.lines().count() == 1, "{error}");
+    }
 }
 
 /// What the program prints to these arguments, and its picture.
 fn told(arguments: &[&str], script: &[u8]) -> (String, String) {
-    let file = Path::new(env!("CARGO_TARGET_TMPDIR")).join("figures.svg");
+    let file = temporary("figures.svg");
     let svg = [arguments, &["--svg", file.to_str().unwrap()]].concat();
     let printed = [arguments, &svg].map(|arguments| {
         let output = run_program(Command::new(EXPLAIN).args(arguments), script).unwrap();
@@ -512,7 +734,7 @@ fn the_program_takes_figures() {
         let limits = figures.parse().unwrap();
         let script = sized_script(limits, 5);
         let explained = explain(limits, &script);
-        let expected = (in_words(&explained), picture(limits, &explained));
+        let expected = (written(limits, &explained), plain_picture(limits, &explained));
         assert!(told(&["--figures", figures], &script) == expected, "{figures}");
         assert_eq!(told(&[], &script) == expected, limits == Limits::STANDARD, "{figures}");
     }
@@ -534,10 +756,10 @@ fn the_program_refuses_figures() {
 #[test]
 fn the_program_refuses_what_it_cannot_do() {
     let twice = ["--figures", "1,1,1,0", "--figures", "1,1,1,0"];
-    for arguments in [&["--svg"][..], &["--png", "x"], &["a", "b"], &["--svg", "a", "--svg", "b"], &twice] {
+    let unfinished = [&["--svg"][..], &["--csv"], &["--story"], &["--png", "x"], &["a", "b"]];
+    for arguments in [&unfinished[..], &[&["--svg", "a", "--svg", "b"], &twice]].concat() {
         assert_eq!(run_explain(arguments).status.code(), Some(2), "{arguments:?}");
     }
-    assert_eq!(run_explain(&["no/such/script"]).status.code(), Some(1));
     let output = run_program(&mut Command::new(EXPLAIN), &vec![b'\n'; LIMIT + 1]).unwrap();
     assert_eq!((output.status.code(), output.stdout), (Some(1), Vec::new()));
 }

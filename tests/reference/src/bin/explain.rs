@@ -1,53 +1,57 @@
-//! A script in words, one line for each of its lines: `explain [--svg FILE] [--figures S,L,D,E] [SCRIPT]`. The script
-//! is a file or standard input; with `--svg` a picture of it goes to FILE. The figures are those of its pool: small
-//! blocks, large blocks, expirations and the largest extension; without them they are the scope paper's.
+//! A script in words, one line for each of its lines, and summed up:
+//! `explain [--figures S,L,D,E] [--story FILE] [--svg FILE] [--csv FILE] [SCRIPT]`. The script is a file or standard
+//! input; with `--svg` a picture of it goes to FILE, with the title and the captions of the story where there is one, and
+//! with `--csv` a table. The figures are those of its pool: small blocks, large blocks, expirations and the largest
+//! extension; without them they are the scope paper's.
 
 use std::fs::{self, File};
 use std::io::{self, Read, Write};
 use std::process::ExitCode;
 
-use reference::explain::{explain, in_words, picture};
+use reference::explain::{explain, in_words, picture, summary, table, Line, Story};
 use reference::limits::Limits;
 use reference::program::figures;
 use reference::script::LIMIT;
 
+const USAGE: &str = "explain [--figures S,L,D,E] [--story FILE] [--svg FILE] [--csv FILE] [SCRIPT]";
+
 #[derive(Default)]
 struct Order {
     script: Option<String>,
-    picture: Option<String>,
     figures: Option<String>,
+    story: Option<String>,
+    picture: Option<String>,
+    table: Option<String>,
 }
 
 fn main() -> ExitCode {
     let Some(order) = order() else {
-        eprintln!("explain [--svg FILE] [--figures S,L,D,E] [SCRIPT]");
+        eprintln!("{USAGE}");
         return ExitCode::from(2);
     };
-    let limits = match figures(order.figures.as_deref()) {
-        Ok(limits) => limits,
-        Err(told) => {
-            eprintln!("explain: {told}");
-            return ExitCode::FAILURE;
-        }
-    };
-    match run(&order, limits) {
-        Ok(code) => code,
+    match run(&order).map(|words| io::stdout().lock().write_all(words.as_bytes())) {
+        Ok(Ok(())) => ExitCode::SUCCESS,
         // Who reads it has seen enough.
-        Err(error) if error.kind() == io::ErrorKind::BrokenPipe => ExitCode::SUCCESS,
-        Err(error) => {
-            eprintln!("explain: {error}");
-            ExitCode::FAILURE
-        }
+        Ok(Err(error)) if error.kind() == io::ErrorKind::BrokenPipe => ExitCode::SUCCESS,
+        Ok(Err(error)) => failed(&format!("standard output: {error}")),
+        Err(told) => failed(&told),
     }
 }
 
-/// Each of the three at most once.
+fn failed(told: &str) -> ExitCode {
+    eprintln!("explain: {told}");
+    ExitCode::FAILURE
+}
+
+/// Each of the five at most once.
 fn order() -> Option<Order> {
     let (mut order, mut arguments) = (Order::default(), std::env::args().skip(1));
     while let Some(word) = arguments.next() {
         let former = match word.as_str() {
-            "--svg" => order.picture.replace(arguments.next()?),
             "--figures" => order.figures.replace(arguments.next().unwrap_or_default()),
+            "--story" => order.story.replace(arguments.next()?),
+            "--svg" => order.picture.replace(arguments.next()?),
+            "--csv" => order.table.replace(arguments.next()?),
             option if option.starts_with('-') => return None,
             _ => order.script.replace(word),
         };
@@ -58,21 +62,38 @@ fn order() -> Option<Order> {
     Some(order)
 }
 
-fn run(order: &Order, limits: Limits) -> io::Result<ExitCode> {
-    let script = match &order.script {
-        Some(file) => read(File::open(file)?)?,
-        None => read(io::stdin().lock())?,
-    };
-    if script.len() > LIMIT {
-        eprintln!("script too long");
-        return Ok(ExitCode::FAILURE);
-    }
-    let lines = explain(limits, &script);
+/// Writes picture and table, and gives the words. What is wrong with a file is told with its name.
+fn run(order: &Order) -> Result<String, String> {
+    let limits = figures(order.figures.as_deref())?;
+    let lines = explain(limits, &script(order.script.as_deref())?);
+    let story = order.story.as_deref().map_or(Ok(Story::default()), |file| story(file, &lines))?;
     if let Some(file) = &order.picture {
-        fs::write(file, picture(limits, &lines))?;
+        named(file, fs::write(file, picture(limits, &story, &lines)))?;
     }
-    io::stdout().lock().write_all(in_words(&lines).as_bytes())?;
-    Ok(ExitCode::SUCCESS)
+    if let Some(file) = &order.table {
+        named(file, fs::write(file, table(&lines)))?;
+    }
+    Ok(words(limits, &lines))
+}
+
+fn words(limits: Limits, lines: &[Line]) -> String {
+    format!("{}\n{}", in_words(lines), summary(limits, lines))
+}
+
+fn named<T>(name: &str, result: io::Result<T>) -> Result<T, String> {
+    result.map_err(|error| format!("{name}: {error}"))
+}
+
+fn script(file: Option<&str>) -> Result<Vec<u8>, String> {
+    let name = file.unwrap_or("standard input");
+    let script = match file {
+        Some(file) => File::open(file).and_then(read),
+        None => read(io::stdin().lock()),
+    };
+    match named(name, script)? {
+        script if script.len() > LIMIT => Err(format!("{name}: script too long, above {LIMIT} bytes")),
+        script => Ok(script),
+    }
 }
 
 /// As much as tells whether the script is too long.
@@ -80,4 +101,14 @@ fn read(input: impl Read) -> io::Result<Vec<u8>> {
     let mut script = Vec::new();
     input.take(LIMIT as u64 + 1).read_to_end(&mut script)?;
     Ok(script)
+}
+
+/// A story of these lines.
+fn story(file: &str, lines: &[Line]) -> Result<Story, String> {
+    let text = named(file, fs::read_to_string(file))?;
+    let story = Story::parse(&text).map_err(|(number, wrong)| format!("{file}, line {number}: {wrong}"))?;
+    match story.captions.iter().find(|caption| caption.line > lines.len()) {
+        Some(caption) => Err(format!("{file}: line {} is past the script's end, {}", caption.line, lines.len())),
+        None => Ok(story),
+    }
 }

@@ -1,6 +1,6 @@
-//! Why a frame yields no call, in words.
+//! The operations by name, and why a frame yields no call, in words.
 
-use crate::call::Refusal;
+use crate::call::{Call, Refusal};
 use crate::explain::phrases::{counted, shown_line};
 
 /// By operation, from 01 on: its name and its frame's size.
@@ -22,6 +22,11 @@ const OPERATIONS: [(&str, &str); 13] = [
 
 /// The place of the kind in a frame that has one.
 const KIND: usize = 2;
+
+/// The name of a call's operation.
+pub fn operation(call: &Call) -> &'static str {
+    OPERATIONS[call.place()].0
+}
 
 /// The frame and its refusal 16 to 19.
 pub fn refused(line: &[u8], refusal: Refusal) -> String {

@@ -1,11 +1,14 @@
-//! A script in words and as a picture: what each line asks and is told, why a call is refused and what would have been
-//! needed, for whom global time waits, and when and with what an object went.
+//! A script in words, as a picture and as a table: what each line asks and is told, why a call is refused and what would
+//! have been needed, for whom global time waits, and when and with what an object went; and all of it summed up.
 
 mod answers;
 mod frames;
 mod phrases;
 mod picture;
 mod refusals;
+mod story;
+mod summary;
+mod table;
 mod trail;
 mod watch;
 
@@ -15,20 +18,54 @@ use crate::limits::{Limits, TASKS};
 use crate::script::lines;
 use crate::tasks::Task;
 pub use picture::picture;
+pub use story::Story;
+pub use summary::summary;
+pub use table::table;
 use watch::Watch;
 
 /// One line of a script, carried out.
 pub struct Line {
     pub words: String,
+    /// None where the frame yields no call.
+    pub asked: Option<Asked>,
     pub refusal: Option<Refusal>,
     pub after: Moment,
+}
+
+/// Who calls, and for what.
+pub struct Asked {
+    pub task: Option<u8>,
+    pub operation: &'static str,
 }
 
 /// What stands after a line.
 pub struct Moment {
     pub figures: Figures,
+    /// How many of the objects are pinned.
+    pub pinned: Pinned,
+    /// How many of the objects each task has made.
+    pub held: [u8; TASKS],
     pub global: u64,
     pub tasks: [Task; TASKS],
+}
+
+#[derive(Clone, Copy, Default)]
+pub struct Pinned {
+    pub small: u8,
+    pub large: u8,
+}
+
+impl Line {
+    /// The number of its answer.
+    pub fn number(&self) -> u8 {
+        self.refusal.map_or(0, |refusal| refusal as u8)
+    }
+
+    /// The task whose call of this name is accepted here.
+    fn accepted(&self, operation: &str) -> Option<usize> {
+        let asked = self.asked.as_ref().filter(|asked| self.refusal.is_none() && asked.operation == operation)?;
+        asked.task.map(usize::from)
+    }
 }
 
 /// Carries out a script on a fresh ledger of these figures.
@@ -40,11 +77,14 @@ pub fn explain(limits: Limits, script: &[u8]) -> Vec<Line> {
 
 fn one(watch: &mut Watch, line: &[u8], room: &mut [u8]) -> Line {
     watch.line += 1;
-    let (words, refusal) = match decode(line, room) {
-        Err(refusal) => (frames::refused(line, refusal), Some(refusal)),
-        Ok(call) => carry_out(watch, &call),
+    let (words, asked, refusal) = match decode(line, room) {
+        Err(refusal) => (frames::refused(line, refusal), None, Some(refusal)),
+        Ok(call) => {
+            let (words, refusal) = carry_out(watch, &call);
+            (words, Some(Asked { task: call.task(), operation: frames::operation(&call) }), refusal)
+        }
     };
-    Line { words, refusal, after: moment(watch) }
+    Line { words, asked, refusal, after: watch.moment() }
 }
 
 fn carry_out(watch: &mut Watch, call: &Call) -> (String, Option<Refusal>) {
@@ -54,11 +94,6 @@ fn carry_out(watch: &mut Watch, call: &Call) -> (String, Option<Refusal>) {
     };
     debug_assert!(watch.trail.handles().eq(watch.ledger.handles()), "the trail has the ledger's objects");
     (format!("{}: {told}", answers::asked(call)), refusal)
-}
-
-fn moment(watch: &Watch) -> Moment {
-    let tasks = watch.ledger.tasks();
-    Moment { figures: watch.ledger.figures(), global: tasks.global(), tasks: *tasks.entries() }
 }
 
 /// All lines in words, each with its number and with what became of it.

@@ -1,4 +1,4 @@
-//! Why a call is refused, and what would have been needed, in words.
+//! Why a call is refused, and what would have been needed, in words; and a name for each refusal.
 
 use crate::call::{Call, Kind, Refusal};
 use crate::explain::answers::store_name;
@@ -35,25 +35,43 @@ pub fn reason(watch: &Watch, call: &Call, refusal: Refusal) -> String {
     }
 }
 
+/// In two or three words.
+pub fn name(refusal: Refusal) -> &'static str {
+    match refusal {
+        Refusal::TaskAbove15 => "no such task",
+        Refusal::TaskNotAbsent => "task not absent",
+        Refusal::TaskAbsent => "task absent",
+        Refusal::TaskWaiting => "task waits",
+        Refusal::TaskRunning => "task runs",
+        Refusal::ExtensionTooLong => "extension too long",
+        Refusal::LengthOutOfRange => "length out of range",
+        Refusal::AllHandlesGiven => "all handles given",
+        Refusal::NoFreeBlock => "no free block",
+        Refusal::ExpirationsFull => "no free expiration",
+        Refusal::HandleNotGiven => "handle not given",
+        Refusal::ObjectGone => "object gone",
+        Refusal::RangeAboveLength => "outside the object",
+        Refusal::NotHexadecimal => "not hexadecimal",
+        Refusal::UnknownOperation => "unknown operation",
+        Refusal::WrongFrameLength => "wrong frame length",
+        Refusal::KindAbove2 => "unknown kind",
+        Refusal::BatchOutOfRange => "batch out of range",
+        Refusal::OnlyMakePins => "only a make pins",
+        Refusal::NotPinned => "not pinned",
+        Refusal::SumDiffers => "sum differs",
+        Refusal::LimitsOutOfRange => "figures out of range",
+    }
+}
+
 /// The state of the call's task, and since when.
 fn state(watch: &Watch, call: &Call) -> String {
-    let Some(task) = task_of(call) else { return "it has no task".into() };
+    let Some(task) = call.task() else { return "it has no task".into() };
     let line = watch.since[usize::from(task)];
     match watch.task(task).state {
         State::Absent if line == 0 => format!("task {task} has not joined"),
         State::Absent => format!("task {task} left at line {line}"),
         State::Running => format!("task {task} runs since line {line}"),
         State::Waiting => format!("task {task} waits since line {line}"),
-    }
-}
-
-fn task_of(call: &Call) -> Option<u8> {
-    match *call {
-        Call::Join { task } | Call::Leave { task } | Call::Block { task } | Call::Resume { task } => Some(task),
-        Call::Tick { task } | Call::Make { task, .. } | Call::Refresh { task, .. } => Some(task),
-        Call::Read { task, .. } | Call::Write { task, .. } => Some(task),
-        Call::Remaining { task, .. } | Call::Batch { task, .. } | Call::Release { task, .. } => Some(task),
-        Call::Report => None,
     }
 }
 

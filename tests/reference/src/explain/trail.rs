@@ -4,6 +4,7 @@
 use std::collections::BTreeMap;
 
 use crate::expiration::{Expiration, Setter};
+use crate::limits::TASKS;
 use crate::tasks::Tasks;
 
 /// An expiration with its origin. Lines count from 1.
@@ -33,6 +34,8 @@ pub struct Gone {
 #[derive(Debug, Default)]
 pub struct Trail {
     standing: BTreeMap<u32, Vec<Set>>,
+    /// Who made each standing object.
+    makers: BTreeMap<u32, u8>,
     gone: BTreeMap<u32, Gone>,
     released: BTreeMap<u32, usize>,
 }
@@ -62,6 +65,17 @@ impl Trail {
         self.standing.entry(handle).or_default().push(set);
     }
 
+    pub fn made(&mut self, handle: u32, maker: u8) {
+        self.makers.insert(handle, maker);
+    }
+
+    /// How many of the standing objects each task has made.
+    pub fn held(&self) -> [u8; TASKS] {
+        let mut held = [0; TASKS];
+        self.makers.values().for_each(|&maker| held[usize::from(maker)] += 1);
+        held
+    }
+
     /// From its leave on the leaver is departed. Tells how many global expirations it has set.
     pub fn depart(&mut self, leaver: u8) -> usize {
         let sets = self.standing.values_mut().flatten();
@@ -88,12 +102,13 @@ impl Trail {
     /// Ends these expirations of these objects at this line. Gives the handles of the objects that go with their last one; where several
     /// end together, the one that was set last is the last.
     pub fn end(&mut self, line: usize, ends: impl Fn(u32, &Expiration) -> bool) -> Vec<u32> {
-        let (mut went, gone) = (Vec::new(), &mut self.gone);
+        let (mut went, gone, makers) = (Vec::new(), &mut self.gone, &mut self.makers);
         self.standing.retain(|&handle, sets| {
             let newest = sets.last().copied();
             sets.retain(|set| !ends(handle, &set.expiration));
             if let (true, Some(last)) = (sets.is_empty(), newest) {
                 went.push(handle);
+                makers.remove(&handle);
                 gone.insert(handle, Gone { line, last });
             }
             !sets.is_empty()

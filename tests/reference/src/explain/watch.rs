@@ -3,8 +3,9 @@
 use crate::call::{Call, Kind, Model, Refusal};
 use crate::expiration::Expiration;
 use crate::explain::trail::{Set, Trail};
+use crate::explain::{Moment, Pinned};
 use crate::ledger::Ledger;
-use crate::limits::{Limits, TASKS};
+use crate::limits::{Limits, Store, TASKS};
 use crate::tasks::{State, Task};
 
 pub struct Watch {
@@ -64,7 +65,9 @@ impl Watch {
     fn note_expirations(&mut self, call: &Call) {
         match *call {
             Call::Make { task, kind, extension, .. } => {
-                self.note(self.ledger.figures().given, task, kind, extension);
+                let handle = self.ledger.figures().given;
+                self.trail.made(handle, task);
+                self.note(handle, task, kind, extension);
             }
             Call::Refresh { task, kind, extension, handle } => self.note(handle, task, kind, extension),
             Call::Batch { task, kind, extension, handles } => {
@@ -106,13 +109,26 @@ impl Watch {
         &self.ledger.tasks().entries()[usize::from(task)]
     }
 
-    /// The tasks that global time waits for: those that run and have not ticked.
     pub fn awaited(&self) -> Vec<u32> {
-        let is_awaited = |task: &Task| task.state == State::Running && !task.ticked;
-        (0..)
-            .zip(self.ledger.tasks().entries())
-            .filter(|(_, task)| is_awaited(task))
-            .map(|(number, _)| number)
-            .collect()
+        awaited(self.ledger.tasks().entries())
     }
+
+    /// What stands now.
+    pub fn moment(&self) -> Moment {
+        let (tasks, mut pinned) = (self.ledger.tasks(), Pinned::default());
+        for length in self.ledger.pinned().filter_map(|handle| self.ledger.length(handle)) {
+            match Store::holding(length as u16) {
+                Ok(Store::Large) => pinned.large += 1,
+                _ => pinned.small += 1,
+            }
+        }
+        let (figures, held) = (self.ledger.figures(), self.trail.held());
+        Moment { figures, pinned, held, global: tasks.global(), tasks: *tasks.entries() }
+    }
+}
+
+/// The tasks that global time waits for: those that run and have not ticked.
+pub fn awaited(tasks: &[Task; TASKS]) -> Vec<u32> {
+    let is_awaited = |task: &Task| task.state == State::Running && !task.ticked;
+    (0..).zip(tasks).filter(|(_, task)| is_awaited(task)).map(|(number, _)| number).collect()
 }

@@ -1,4 +1,4 @@
-//! The tasks' states as bars over the lines.
+//! The tasks' states as bars over the lines, and their ticks.
 
 use super::scale::{Columns, LEFT};
 use super::svg::{Anchor, Path, Svg};
@@ -7,6 +7,7 @@ use crate::tasks::{State, Task};
 
 pub const ROW: f64 = 15.0;
 const BAR: f64 = 10.0;
+pub const TICK: &str = "fill=\"none\" stroke=\"#000000\" stroke-width=\"1.6\"";
 
 /// What a bar shows. Of the running tasks, global time waits for those that have not ticked.
 #[derive(Clone, Copy, PartialEq, Eq)]
@@ -71,7 +72,7 @@ pub fn present(lines: &[Line]) -> Vec<usize> {
 pub fn bars(svg: &mut Svg, lines: &[Line], top: f64, tasks: &[usize]) {
     let (columns, mut paths) = (Columns(lines.len()), ALL.map(|_| Path::default()));
     for (row, &task) in tasks.iter().enumerate() {
-        let top = top + ROW * row as f64 + (ROW - BAR) / 2.0;
+        let top = bar_top(top, row);
         svg.text(LEFT - 8.0, top + BAR - 1.0, 11, Anchor::End, &task.to_string());
         let states: Vec<_> = lines.iter().map(|line| Shown::of(&line.after.tasks[task])).collect();
         let mut place = 0;
@@ -84,4 +85,26 @@ pub fn bars(svg: &mut Svg, lines: &[Line], top: f64, tasks: &[usize]) {
     for (shown, path) in ALL.iter().zip(&paths) {
         svg.path(shown.style(), path);
     }
+}
+
+fn bar_top(top: f64, row: usize) -> f64 {
+    top + ROW * row as f64 + (ROW - BAR) / 2.0
+}
+
+/// A mark for each tick, one a pixel at most: what a tick brings with an advance is no other bar.
+pub fn ticks(svg: &mut Svg, lines: &[Line], top: f64, tasks: &[usize]) {
+    let (columns, mut path) = (Columns(lines.len()), Path::default());
+    for (row, &task) in tasks.iter().enumerate() {
+        let is_tick = |(_, line): &(usize, &Line)| line.accepted("tick") == Some(task);
+        let mut places: Vec<_> =
+            lines.iter().enumerate().filter(is_tick).map(|(place, _)| columns.edge(place)).collect();
+        places.dedup_by_key(|x| x.round());
+        places.into_iter().for_each(|x| tick(&mut path, x, bar_top(top, row)));
+    }
+    svg.path(TICK, &path);
+}
+
+/// A little higher than the bar whose top this is.
+pub fn tick(path: &mut Path, x: f64, top: f64) {
+    path.line((x, top - 2.0), (x, top + BAR + 2.0));
 }

@@ -1,21 +1,21 @@
 //! The panels of figures over the lines.
 
-use super::marks::through;
 use super::scale::{Columns, Panel, LEFT, RIGHT};
 use super::svg::{Anchor, Path, Svg};
-use crate::explain::Line;
+use super::{captions, marks, Sheet};
 
 pub const SMALL: &str = "fill=\"none\" stroke=\"#0b3c6f\" stroke-width=\"2.2\"";
 pub const LARGE: &str = "fill=\"none\" stroke=\"#d9730d\" stroke-width=\"2.2\" stroke-dasharray=\"7 3\"";
 pub const EXPIRATIONS: &str = "fill=\"none\" stroke=\"#2b6b2b\" stroke-width=\"2.6\" stroke-dasharray=\"2 1\"";
 pub const GLOBAL: &str = "fill=\"none\" stroke=\"#9a5cc4\" stroke-width=\"3.4\"";
+pub const PINNED: &str = "fill=\"#e3c9a8\"";
 const GRID: &str = "fill=\"none\" stroke=\"#dddddd\" stroke-width=\"1\"";
 const FRAME: &str = "fill=\"none\" stroke=\"#888888\" stroke-width=\"1\"";
 
 /// The name above a panel, and its axis with the values of its steps.
-pub fn axis(svg: &mut Svg, lines: &[Line], panel: &Panel, name: &str) {
+pub fn axis(svg: &mut Svg, sheet: &Sheet, panel: &Panel, name: &str) {
     svg.text(LEFT, panel.top - 8.0, 13, Anchor::Start, name);
-    grid(svg, lines, panel.top, panel.bottom());
+    grid(svg, sheet, panel.top, panel.bottom());
     let mut across = Path::default();
     for value in (0..=panel.most).step_by(panel.step as usize) {
         let y = panel.y(value);
@@ -26,14 +26,15 @@ pub fn axis(svg: &mut Svg, lines: &[Line], panel: &Panel, name: &str) {
     frame(svg, panel.top, panel.height);
 }
 
-/// The marked lines, and those that are refused.
-pub fn grid(svg: &mut Svg, lines: &[Line], top: f64, bottom: f64) {
-    let (columns, mut grid) = (Columns(lines.len()), Path::default());
+/// The lines that the axis marks, those that are refused, and those of the story.
+pub fn grid(svg: &mut Svg, sheet: &Sheet, top: f64, bottom: f64) {
+    let (columns, mut grid) = (Columns(sheet.lines.len()), Path::default());
     for line in columns.marks() {
         grid.line((columns.middle(line - 1), top), (columns.middle(line - 1), bottom));
     }
     svg.path(GRID, &grid);
-    through(svg, lines, top, bottom);
+    marks::through(svg, sheet.lines, top, bottom);
+    captions::through(svg, sheet, top, bottom);
 }
 
 pub fn frame(svg: &mut Svg, top: f64, height: f64) {
@@ -51,6 +52,22 @@ pub fn baseline(svg: &mut Svg, y: f64) {
 
 /// One figure: after each line the value that it has then.
 pub fn curve(svg: &mut Svg, panel: &Panel, style: &str, values: impl ExactSizeIterator<Item = u64>) {
+    svg.path(style, &steps(panel, values).unwrap_or_default());
+}
+
+/// The same, filled down to 0; nothing where it never is more.
+pub fn area(svg: &mut Svg, panel: &Panel, style: &str, values: impl ExactSizeIterator<Item = u64> + Clone) {
+    if values.clone().all(|value| value == 0) {
+        return;
+    }
+    let mut path = steps(panel, values).unwrap_or_default();
+    path.along(panel.bottom());
+    path.across(LEFT);
+    svg.path(style, &path);
+}
+
+/// From the left end to the right one; none where there is no value.
+fn steps(panel: &Panel, values: impl ExactSizeIterator<Item = u64>) -> Option<Path> {
     let (columns, mut path, mut former) = (Columns(values.len()), Path::default(), None);
     for (place, value) in values.enumerate() {
         match former {
@@ -63,8 +80,6 @@ pub fn curve(svg: &mut Svg, panel: &Panel, style: &str, values: impl ExactSizeIt
         }
         former = Some(value);
     }
-    if former.is_some() {
-        path.across(RIGHT);
-    }
-    svg.path(style, &path);
+    path.across(RIGHT);
+    former.map(|_| path)
 }

@@ -1,7 +1,7 @@
 //! What the lines, bars and marks mean.
 
-use super::bars::ALL;
-use super::curves::{EXPIRATIONS, GLOBAL, LARGE, SMALL};
+use super::bars::{tick, ALL, TICK};
+use super::curves::{EXPIRATIONS, GLOBAL, LARGE, PINNED, SMALL};
 use super::marks::CROSS;
 use super::scale::LEFT;
 use super::svg::{text_width, Anchor, Path, Svg};
@@ -13,14 +13,17 @@ const SAMPLE: f64 = 28.0;
 const SIZE: u32 = 12;
 const GAP: f64 = 22.0;
 
-/// Two rows, from this middle of the first on.
-pub fn legend(svg: &mut Svg, y: f64) {
+/// Two rows, from this middle of the first on. Gives where they end.
+pub fn legend(svg: &mut Svg, y: f64) -> f64 {
     let mut x = LEFT;
     for (style, name) in CURVES {
         let mut line = Path::default();
         line.line((x, y), (x + SAMPLE, y));
         x = item(svg, x, y, style, &line, name);
     }
+    let mut area = Path::default();
+    area.rectangle(x, y - 5.0, SAMPLE, 10.0);
+    x = item(svg, x, y, PINNED, &area, "of them pinned");
     let mut cross = Path::default();
     cross.cross((x + SAMPLE / 2.0, y));
     item(svg, x, y, CROSS, &cross, "refused");
@@ -31,6 +34,10 @@ pub fn legend(svg: &mut Svg, y: f64) {
         shown.bar(&mut bar, y - 5.0, x, x + SAMPLE);
         x = item(svg, x, y, shown.style(), &bar, shown.name());
     }
+    let mut mark = Path::default();
+    tick(&mut mark, x + SAMPLE / 2.0, y - 5.0);
+    item(svg, x, y, TICK, &mark, "tick");
+    y + 10.0
 }
 
 /// A sample and its name. Gives where the next one starts.

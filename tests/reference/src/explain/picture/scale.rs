@@ -39,9 +39,13 @@ pub struct Panel {
 }
 
 impl Panel {
-    /// Up to a figure, with four steps at most.
-    pub fn by_quarters(top: f64, height: f64, figure: usize) -> Panel {
-        Panel { top, height, most: figure as u64, step: figure.div_ceil(4) as u64 }
+    /// Up to what is reached, and no further than a limit; with four steps at most.
+    pub fn within(top: f64, height: f64, value: u64, limit: usize) -> Panel {
+        let (panel, limit) = (Panel::up_to(top, height, value), limit as u64);
+        if panel.most < limit {
+            return panel;
+        }
+        Panel { most: limit, step: limit.div_ceil(4), ..panel }
     }
 
     /// With four steps at most up to a value that is not known before.
@@ -78,6 +82,16 @@ mod tests {
     fn steps() {
         let steps = [0, 4, 5, 9, 20, 21, 41].map(|value| round_step(value, 4));
         assert_eq!(steps, [1, 1, 2, 5, 5, 10, 20]);
+    }
+
+    #[test]
+    fn a_panel_goes_by_what_is_reached() {
+        let panel = |value, limit| {
+            let Panel { most, step, .. } = Panel::within(0.0, 80.0, value, limit);
+            (most, step)
+        };
+        assert_eq!([panel(0, 64), panel(3, 32), panel(82, 256)], [(1, 1), (3, 1), (100, 50)]);
+        assert_eq!([panel(64, 64), panel(61, 64), panel(7, 7), panel(0, 1)], [(64, 16), (64, 16), (7, 2), (1, 1)]);
     }
 
     #[test]

@@ -18,12 +18,15 @@ pub enum Anchor {
 pub struct Svg(String);
 
 impl Svg {
-    /// The whole file, on a white ground.
-    pub fn finish(self, height: f64, title: &str) -> String {
+    /// The whole file, on a white ground, with a title and a description for readers that do not see it.
+    pub fn finish(self, height: f64, title: &str, description: &str) -> String {
         format!(
             "<svg xmlns=\"http://www.w3.org/2000/svg\" width=\"{WIDTH}\" height=\"{height}\" viewBox=\"0 0 {WIDTH} {height}\" \
-             role=\"img\" font-family=\"sans-serif\">\n<title>{title}</title>\n\
+             role=\"img\" aria-labelledby=\"title description\" font-family=\"sans-serif\">\n\
+             <title id=\"title\">{}</title>\n<desc id=\"description\">{}</desc>\n\
              <rect width=\"{WIDTH}\" height=\"{height}\" fill=\"#ffffff\"/>\n{}</svg>\n",
+            escaped(title),
+            escaped(description),
             self.0
         )
     }
@@ -41,7 +44,6 @@ impl Svg {
         self.raw("</g>");
     }
 
-    /// Words without characters that XML would read otherwise.
     pub fn text(&mut self, x: f64, y: f64, size: u32, anchor: Anchor, words: &str) {
         let anchor = match anchor {
             Anchor::Start => "start",
@@ -49,8 +51,13 @@ impl Svg {
             Anchor::End => "end",
         };
         self.raw(&format!(
-            "<text x=\"{x:.1}\" y=\"{y:.1}\" font-size=\"{size}\" text-anchor=\"{anchor}\" fill=\"#222222\">{words}</text>"
+            "<text x=\"{x:.1}\" y=\"{y:.1}\" font-size=\"{size}\" text-anchor=\"{anchor}\" fill=\"#222222\">{}</text>",
+            escaped(words)
         ));
+    }
+
+    pub fn circle(&mut self, style: &str, (x, y): (f64, f64), radius: f64) {
+        self.raw(&format!("<circle {style} cx=\"{x:.1}\" cy=\"{y:.1}\" r=\"{radius}\"/>"));
     }
 
     /// A path in a style of `style`; nothing where it has no part.
@@ -98,7 +105,22 @@ impl Path {
     }
 }
 
+/// Words without characters that XML would read otherwise.
+fn escaped(words: &str) -> String {
+    words.replace('&', "&amp;").replace('<', "&lt;").replace('>', "&gt;")
+}
+
 /// How wide a text is at most, about.
 pub fn text_width(words: &str, size: u32) -> f64 {
     0.62 * f64::from(size) * words.chars().count() as f64
+}
+
+#[cfg(test)]
+mod tests {
+    use super::*;
+
+    #[test]
+    fn words_are_no_tags() {
+        assert_eq!(escaped("a < b & c > d"), "a &lt; b &amp; c &gt; d");
+    }
 }
