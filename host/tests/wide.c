@@ -1,7 +1,7 @@
 /*
  * The C side of tests/wide_c.rs: an int that the library's type for an argument cannot hold is refused with the number of
  * one that is too large, in its turn among the tests, and nothing changes; and so is a limit of a pool of any 64 bits, after
- * which there is no pool. Prints what was otherwise.
+ * which there is no pool. A count comes back in a size_t. Prints what was otherwise.
  */
 #include <limits.h>
 #include <stdio.h>
@@ -193,6 +193,23 @@ static void fits(void) {
         REFUSED(6, ramsummer_refresh(&w.pool, RUNS, RAMSUMMER_LOCAL, n, stands));
 }
 
+/* A count is told where bytes are written, with the answer line of a refusal too, and else stays, all 32 or 64 bits of it. */
+static void counts(void) {
+    static const uint8_t report[2] = {'0', 'A'}, unknown[2] = {'F', 'F'};
+    static uint8_t line[RAMSUMMER_LINE];
+    int n = RAMSUMMER_LINE - 1;
+    w.count = (size_t)-1;
+    before = w;
+    REFUSED(255, ramsummer_read(POOL, RUNS, longest, w.out, sizeof w.out - 1, &w.count));
+    REFUSED(255, ramsummer_frame(POOL, report, sizeof report, line, (size_t)n, &w.count));
+    DONE(ramsummer_frame(POOL, report, sizeof report, line, sizeof line, &w.count));
+    DONE((w.count != 19));
+    before.count = 3;
+    REFUSED(17, ramsummer_frame(POOL, unknown, sizeof unknown, line, sizeof line, &w.count));
+    DONE(ramsummer_read(POOL, RUNS, stands, w.out, sizeof w.out, &w.count));
+    DONE((w.count != 4));
+}
+
 /* A pool with limits out of their range: 29, and then 15. */
 static void expect_none(int line, uint8_t answer) {
     uint8_t next = ramsummer_join(&w.pool, RUNS);
@@ -249,6 +266,7 @@ int main(void) {
     for (i = 0; i < sizeof extremes / sizeof *extremes; i++) refused(extremes[i]);
     REFUSED(1, join(&w.pool, 256));
     fits();
+    counts();
     limits();
     return faults == 0 ? 0 : 1;
 }
