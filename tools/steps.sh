@@ -21,3 +21,8 @@ test_library() {
     for options in "${features[@]}"; do tests host $options; done
     tests tests/host
 }
+# The library on other processors, where their compilers and qemu are here; what that leaves out is left out of this too.
+cross_test() {
+    tools/cross --test | tee target/cross.log
+    mapfile -t -O "${#left_out[@]}" left_out < <(grep ': left out ' target/cross.log)
+}
