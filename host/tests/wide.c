@@ -22,7 +22,7 @@ typedef struct world {
     uint8_t small[RAMSUMMER_SMALL], large[RAMSUMMER_LARGE], out[RAMSUMMER_LONGEST];
     uint8_t advanced, local, global;
     uint32_t handle;
-    size_t count;
+    size_t count, behind;
 } world;
 
 static world w, before;
@@ -193,21 +193,22 @@ static void fits(void) {
         REFUSED(6, ramsummer_refresh(&w.pool, RUNS, RAMSUMMER_LOCAL, n, stands));
 }
 
-/* A count is told where bytes are written, with the answer line of a refusal too, and else stays, all 32 or 64 bits of it. */
+/* A count is told where bytes are written, with the answer line of a refusal too, and else stays, all 32 or 64 bits of it. What
+ * stands behind it stays in any case. */
 static void counts(void) {
     static const uint8_t report[2] = {'0', 'A'}, unknown[2] = {'F', 'F'};
     static uint8_t line[RAMSUMMER_LINE];
     int n = RAMSUMMER_LINE - 1;
-    w.count = (size_t)-1;
+    w.count = w.behind = (size_t)-1;
     before = w;
     REFUSED(255, ramsummer_read(POOL, RUNS, longest, w.out, sizeof w.out - 1, &w.count));
     REFUSED(255, ramsummer_frame(POOL, report, sizeof report, line, (size_t)n, &w.count));
     DONE(ramsummer_frame(POOL, report, sizeof report, line, sizeof line, &w.count));
-    DONE((w.count != 19));
+    DONE((w.count != 19 || w.behind != (size_t)-1));
     before.count = 3;
     REFUSED(17, ramsummer_frame(POOL, unknown, sizeof unknown, line, sizeof line, &w.count));
     DONE(ramsummer_read(POOL, RUNS, stands, w.out, sizeof w.out, &w.count));
-    DONE((w.count != 4));
+    DONE((w.count != 4 || w.behind != (size_t)-1));
 }
 
 /* A pool with limits out of their range: 29, and then 15. */
