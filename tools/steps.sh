@@ -117,3 +117,8 @@ test_library() {
     done
     named "tests/host: the library against the ledgers, on millions of calls and damaged records" tests tests/host
 }
+# The library on other processors, where their compilers and qemu are here; what that leaves out is left out of this too.
+cross_test() {
+    tools/cross --test | tee target/cross.log
+    mapfile -t -O "${#left_out[@]}" left_out < <(grep ': left out ' target/cross.log)
+}

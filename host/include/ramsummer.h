@@ -1,5 +1,5 @@
 /*
- * Ramsummer: the C interface of the proved memory pool, libramsummer.a (x86-64). C99, C11 and C++.
+ * Ramsummer: the C interface of the proved memory pool, libramsummer.a. C99, C11 and C++.
  *
  * What a caller owes, for every call:
  *   - each pointer is non-null and aligned, also where its count is 0, and leads to as many bytes as its length says;
@@ -8,6 +8,7 @@
  * All the rest is tested: any record, any bytes and any number may be passed, and what is wrong is refused. A task, a
  * kind, an extension, a length and an offset may be any unsigned or int: the types below are the library's own, and a
  * number that they cannot hold is refused as too large, and not cut (ramsummer_wide.h, which is included at the end).
+ * The library has lengths and counts in 64 bits on every processor; an author has them in a size_t, by the same header.
  * But a task, a kind, an extension or a handle of 64 bits is cut to 32 before the call, and -Wconversion says so; the
  * limits of ramsummer_fresh_sized are not.
  *
@@ -206,8 +207,8 @@ RAMSUMMER_CHECKED uint8_t ramsummer_tick(ramsummer_pool *pool, uint8_t task, uin
 
 /* A new object of zero bytes with one expiration, which pins it where the kind says so. Handle is set to its number.
  * Tests 19, 15, 14, 1, 3, 4, 6, 7, 8, 9, 10. */
-RAMSUMMER_CHECKED uint8_t ramsummer_make(ramsummer_pool *pool, uint8_t *small_store, size_t small_length,
-                                         uint8_t *large_store, size_t large_length, uint8_t task, uint8_t kind,
+RAMSUMMER_CHECKED uint8_t ramsummer_make(ramsummer_pool *pool, uint8_t *small_store, uint64_t small_length,
+                                         uint8_t *large_store, uint64_t large_length, uint8_t task, uint8_t kind,
                                          uint8_t extension, uint16_t length, uint32_t *handle);
 
 /* One more expiration for the object; those that it has stay. Tests 19, 15, 1, 3, 4, 21, 6, 11, 12, 10. */
@@ -218,7 +219,7 @@ RAMSUMMER_CHECKED uint8_t ramsummer_refresh(ramsummer_pool *pool, uint8_t task, 
  * is refused. An object that is named twice gets two. Tests 19, 15, 1, 3, 4, 20, 21, 6, then 11 for any of the objects,
  * 12 for any, 10 for all. */
 RAMSUMMER_CHECKED uint8_t ramsummer_refresh_all(ramsummer_pool *pool, uint8_t task, uint8_t kind, uint8_t extension,
-                                                const uint32_t *handles, size_t count);
+                                                const uint32_t *handles, uint64_t count);
 
 /* Ends what pins the object, whoever pinned it. It stands on where another expiration does, else its store block is free
  * at once. A handle that is lost can be found in the record: where clocks[i] is RAMSUMMER_CLOCK_PINNED, it is
@@ -227,15 +228,15 @@ RAMSUMMER_CHECKED uint8_t ramsummer_release(ramsummer_pool *pool, uint8_t task, 
 
 /* The object's bytes go to the start of out, and count says how many; the rest of out stays.
  * Tests 15, 14, 1, 3, 4, 11, 12, 23, 255. */
-RAMSUMMER_CHECKED uint8_t ramsummer_read(ramsummer_pool *pool, const uint8_t *small_store, size_t small_length,
-                                         const uint8_t *large_store, size_t large_length, uint8_t task, uint32_t handle,
-                                         uint8_t *out, size_t out_length, size_t *count);
+RAMSUMMER_CHECKED uint8_t ramsummer_read(ramsummer_pool *pool, const uint8_t *small_store, uint64_t small_length,
+                                         const uint8_t *large_store, uint64_t large_length, uint8_t task,
+                                         uint32_t handle, uint8_t *out, uint64_t out_length, uint64_t *count);
 
 /* Replaces count bytes of the object from offset on; the record gets the block's new sum. An offset above 255 lies outside
  * every object, also where count is 0. Tests 15, 14, 1, 3, 4, 11, 12, 23, 13. */
-RAMSUMMER_CHECKED uint8_t ramsummer_write(ramsummer_pool *pool, uint8_t *small_store, size_t small_length,
-                                          uint8_t *large_store, size_t large_length, uint8_t task, uint32_t handle,
-                                          uint8_t offset, const uint8_t *bytes, size_t count);
+RAMSUMMER_CHECKED uint8_t ramsummer_write(ramsummer_pool *pool, uint8_t *small_store, uint64_t small_length,
+                                          uint8_t *large_store, uint64_t large_length, uint8_t task, uint32_t handle,
+                                          uint8_t offset, const uint8_t *bytes, uint64_t count);
 
 /* Small and large objects that stand, expirations that stand, handles given so far. Tests 15. */
 RAMSUMMER_CHECKED uint8_t ramsummer_report(ramsummer_pool *pool, uint8_t *small_objects, uint8_t *large_objects,
@@ -254,9 +255,9 @@ RAMSUMMER_CHECKED uint8_t ramsummer_awaited(ramsummer_pool *pool, uint16_t *task
 /* Carries out one call frame. Line is without its LF; the answer line goes to the start of out with its LF, and count
  * says how many bytes. The number is the one that the answer line starts with. Tests 255, 16, 17, 18, 19, then as the
  * call does from 15 on. */
-RAMSUMMER_CHECKED uint8_t ramsummer_frame(ramsummer_pool *pool, uint8_t *small_store, size_t small_length,
-                                          uint8_t *large_store, size_t large_length, const uint8_t *line,
-                                          size_t line_length, uint8_t *out, size_t out_length, size_t *count);
+RAMSUMMER_CHECKED uint8_t ramsummer_frame(ramsummer_pool *pool, uint8_t *small_store, uint64_t small_length,
+                                          uint8_t *large_store, uint64_t large_length, const uint8_t *line,
+                                          uint64_t line_length, uint8_t *out, uint64_t out_length, uint64_t *count);
 
 #include "ramsummer_wide.h"
 

@@ -1,6 +1,6 @@
 /*
- * Ramsummer: any int or unsigned for a task, a kind, an extension, a length or an offset, and any integer for a limit.
- * Included by ramsummer.h.
+ * Ramsummer: any int or unsigned for a task, a kind, an extension, a length or an offset, any integer for a limit, and a
+ * size_t for a count. Included by ramsummer.h.
  *
  * The library takes them in eight or sixteen bits, a limit in 32, and C would cut an int to fit: task 256 would be task 0.
  * So the name of each call that takes one is here that of a function which takes the number as it comes. What the
@@ -9,6 +9,9 @@
  * negative int comes as a large unsigned. A limit is taken in 64 bits and never cut. A task, a kind or an extension of 64
  * bits is cut to 32 before the call, and -Wconversion says so. Once compiled it costs a comparison for an int, and nothing
  * for a constant or a uint8_t.
+ *
+ * The library writes a count of 64 bits, and a size_t has 32 on a small processor: a count goes to a variable here, and
+ * from there to the author's. None is above RAMSUMMER_LINE. Where nothing is written it stays as it was.
  *
  * The names are macros without parameters: a call may take its first arguments from one macro of the author's, a pointer
  * to ramsummer_join is one to the function here, and a debugger that stops at ramsummer_join stops in the library.
@@ -83,8 +86,11 @@ RAMSUMMER_CHECKED static inline uint8_t ramsummer_read_wide(ramsummer_pool *pool
                                                             size_t small_length, const uint8_t *large_store,
                                                             size_t large_length, unsigned task, uint32_t handle,
                                                             uint8_t *out, size_t out_length, size_t *count) {
-    return ramsummer_read(pool, small_store, small_length, large_store, large_length, ramsummer_to_byte(task), handle,
-                          out, out_length, count);
+    uint64_t filled = 0;
+    uint8_t answer = ramsummer_read(pool, small_store, small_length, large_store, large_length, ramsummer_to_byte(task),
+                                    handle, out, out_length, &filled);
+    if (answer == RAMSUMMER_DONE) *count = (size_t)filled;
+    return answer;
 }
 
 /* 255 may be an offset, but two bytes from there on end past every object: 13 comes in its turn. Nothing is written. */
@@ -103,6 +109,19 @@ RAMSUMMER_CHECKED static inline uint8_t ramsummer_remaining_wide(ramsummer_pool 
     return ramsummer_remaining(pool, ramsummer_to_byte(task), handle, local, global);
 }
 
+/* A refusal has an answer line too, but where there is no room for one. */
+RAMSUMMER_CHECKED static inline uint8_t ramsummer_frame_wide(ramsummer_pool *pool, uint8_t *small_store,
+                                                             size_t small_length, uint8_t *large_store,
+                                                             size_t large_length, const uint8_t *line,
+                                                             size_t line_length, uint8_t *out, size_t out_length,
+                                                             size_t *count) {
+    uint64_t filled = 0;
+    uint8_t answer = ramsummer_frame(pool, small_store, small_length, large_store, large_length, line, line_length, out,
+                                     out_length, &filled);
+    if (answer != RAMSUMMER_BUFFER_TOO_SHORT) *count = (size_t)filled;
+    return answer;
+}
+
 #define ramsummer_fresh_sized ramsummer_fresh_sized_wide
 #define ramsummer_join ramsummer_join_wide
 #define ramsummer_leave ramsummer_leave_wide
@@ -116,5 +135,6 @@ RAMSUMMER_CHECKED static inline uint8_t ramsummer_remaining_wide(ramsummer_pool 
 #define ramsummer_read ramsummer_read_wide
 #define ramsummer_write ramsummer_write_wide
 #define ramsummer_remaining ramsummer_remaining_wide
+#define ramsummer_frame ramsummer_frame_wide
 
 #endif

@@ -8,7 +8,8 @@
 use crate::record::RECORD;
 use crate::{Handle, Kind, Limits, Record, Refusal, Remaining, Report};
 
-// As in include/ramsummer.h. A reference to one value is a pointer to C; a slice is a pointer and then a length.
+// As in include/ramsummer.h. A reference to one value is a pointer to C; a slice is a pointer and then a length, of 64
+// bits on every processor.
 extern "C" {
     fn ramsummer_fresh(pool: &mut Record) -> u8;
     fn ramsummer_fresh_sized(
@@ -26,9 +27,9 @@ extern "C" {
     fn ramsummer_make(
         pool: &mut Record,
         small: *mut u8,
-        small_length: usize,
+        small_length: u64,
         large: *mut u8,
-        large_length: usize,
+        large_length: u64,
         task: u8,
         kind: u8,
         extension: u8,
@@ -42,32 +43,32 @@ extern "C" {
         kind: u8,
         extension: u8,
         handles: *const u32,
-        count: usize,
+        count: u64,
     ) -> u8;
     fn ramsummer_release(pool: &mut Record, task: u8, handle: u32) -> u8;
     fn ramsummer_read(
         pool: &mut Record,
         small: *const u8,
-        small_length: usize,
+        small_length: u64,
         large: *const u8,
-        large_length: usize,
+        large_length: u64,
         task: u8,
         handle: u32,
         out: *mut u8,
-        out_length: usize,
-        count: &mut usize,
+        out_length: u64,
+        count: &mut u64,
     ) -> u8;
     fn ramsummer_write(
         pool: &mut Record,
         small: *mut u8,
-        small_length: usize,
+        small_length: u64,
         large: *mut u8,
-        large_length: usize,
+        large_length: u64,
         task: u8,
         handle: u32,
         offset: u8,
         bytes: *const u8,
-        count: usize,
+        count: u64,
     ) -> u8;
     fn ramsummer_report(
         pool: &mut Record,
@@ -81,14 +82,14 @@ extern "C" {
     fn ramsummer_frame(
         pool: &mut Record,
         small: *mut u8,
-        small_length: usize,
+        small_length: u64,
         large: *mut u8,
-        large_length: usize,
+        large_length: u64,
         line: *const u8,
-        line_length: usize,
+        line_length: u64,
         out: *mut u8,
-        out_length: usize,
-        count: &mut usize,
+        out_length: u64,
+        count: &mut u64,
     ) -> u8;
 }
 
@@ -98,6 +99,16 @@ fn outcome(number: u8) -> Result<(), Refusal> {
         0 => Ok(()),
         _ => Err(Refusal::from_number(number).unwrap_or_else(|| panic!("the library returned {number}"))),
     }
+}
+
+/// The length of a slice as the library has it.
+fn length_of<T>(slice: &[T]) -> u64 {
+    slice.len() as u64
+}
+
+/// A count of the library, which has filled no more than the room that it was lent.
+fn filled(count: u64) -> usize {
+    count as usize
 }
 
 pub(crate) fn fresh(pool: &mut Record) {
@@ -159,9 +170,9 @@ pub(crate) fn make(
         ramsummer_make(
             pool,
             small.as_mut_ptr(),
-            small.len(),
+            length_of(small),
             large.as_mut_ptr(),
-            large.len(),
+            length_of(large),
             task,
             kind.number(),
             extension,
@@ -187,7 +198,7 @@ pub(crate) fn refresh_all(
     // SAFETY: the record is a `&mut`, so nothing overlaps it; `handles` is only read, and comes with its own length. A
     // handle is `repr(transparent)`, so that a slice of them is one of numbers.
     outcome(unsafe {
-        ramsummer_refresh_all(pool, task, kind.number(), extension, handles.as_ptr().cast(), handles.len())
+        ramsummer_refresh_all(pool, task, kind.number(), extension, handles.as_ptr().cast(), length_of(handles))
     })
 }
 
@@ -212,17 +223,17 @@ pub(crate) fn read(
         ramsummer_read(
             pool,
             small.as_ptr(),
-            small.len(),
+            length_of(small),
             large.as_ptr(),
-            large.len(),
+            length_of(large),
             task,
             handle.into(),
             out.as_mut_ptr(),
-            out.len(),
+            length_of(out),
             &mut count,
         )
     })?;
-    Ok(count)
+    Ok(filled(count))
 }
 
 pub(crate) fn write(
@@ -240,14 +251,14 @@ pub(crate) fn write(
         ramsummer_write(
             pool,
             small.as_mut_ptr(),
-            small.len(),
+            length_of(small),
             large.as_mut_ptr(),
-            large.len(),
+            length_of(large),
             task,
             handle.into(),
             offset,
             bytes.as_ptr(),
-            bytes.len(),
+            length_of(bytes),
         )
     })
 }
@@ -291,17 +302,17 @@ pub(crate) fn frame(
         ramsummer_frame(
             pool,
             small.as_mut_ptr(),
-            small.len(),
+            length_of(small),
             large.as_mut_ptr(),
-            large.len(),
+            length_of(large),
             line.as_ptr(),
-            line.len(),
+            length_of(line),
             out.as_mut_ptr(),
-            out.len(),
+            length_of(out),
             &mut count,
         )
     };
-    (outcome(number), count)
+    (outcome(number), filled(count))
 }
 
 pub(crate) fn record_bytes(record: &Record) -> &[u8; RECORD] {

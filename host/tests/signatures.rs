@@ -48,14 +48,15 @@ fn rust_form(parameter: &str) -> Vec<String> {
     vec![kind.replace('&', "*")]
 }
 
-/// `line: &[u8]` or `line: &'a [u8]`, which is passed as a pointer and a length
+/// `line: &[u8]` or `line: &'a [u8]`, which is passed as a pointer and a length; a `usize` of the proved source has 64 bits
 fn source_form(parameter: &str) -> Vec<String> {
     let (_, kind) = parameter.split_once(": ").unwrap();
     match kind.replace("&'a ", "&").as_str() {
-        "&[u8]" => vec!["*const u8".into(), "usize".into()],
-        "&[u32]" => vec!["*const u32".into(), "usize".into()],
-        "&mut [u8]" => vec!["*mut u8".into(), "usize".into()],
+        "&[u8]" => vec!["*const u8".into(), "u64".into()],
+        "&[u32]" => vec!["*const u32".into(), "u64".into()],
+        "&mut [u8]" => vec!["*mut u8".into(), "u64".into()],
         "&mut Pool" => vec!["*mut Record".into()],
+        "&mut usize" => vec!["*mut u64".into()],
         _ => rust_form(parameter),
     }
 }
@@ -85,11 +86,14 @@ fn the_header_and_the_proved_source_agree() {
     }
 }
 
-/// What a number of the library's type is taken as, so that C does not cut it: one narrower than an int, and a limit.
+/// What a number of the library's type is taken as, so that C does not cut it: one narrower than an int, and a limit; and a
+/// length or a count, which an author has in a size_t.
 fn wide_types(name: &str, narrow: &str) -> &'static [&'static str] {
     match narrow {
         "u8" | "u16" => &["c_uint", "usize"],
         "u32" if name == "fresh_sized" => &["u64"],
+        "u64" => &["usize"],
+        "*mut u64" => &["*mut usize"],
         _ => &[],
     }
 }

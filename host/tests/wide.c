@@ -1,7 +1,7 @@
 /*
  * The C side of tests/wide_c.rs: an int that the library's type for an argument cannot hold is refused with the number of
  * one that is too large, in its turn among the tests, and nothing changes; and so is a limit of a pool of any 64 bits, after
- * which there is no pool. Prints what was otherwise.
+ * which there is no pool. A count comes back in a size_t. Prints what was otherwise.
  */
 #include <limits.h>
 #include <stdio.h>
@@ -22,7 +22,7 @@ typedef struct world {
     uint8_t small[RAMSUMMER_SMALL], large[RAMSUMMER_LARGE], out[RAMSUMMER_LONGEST];
     uint8_t advanced, local, global;
     uint32_t handle;
-    size_t count;
+    size_t count, behind;
 } world;
 
 static world w, before;
@@ -193,6 +193,24 @@ static void fits(void) {
         REFUSED(6, ramsummer_refresh(&w.pool, RUNS, RAMSUMMER_LOCAL, n, stands));
 }
 
+/* A count is told where bytes are written, with the answer line of a refusal too, and else stays, all 32 or 64 bits of it. What
+ * stands behind it stays in any case. */
+static void counts(void) {
+    static const uint8_t report[2] = {'0', 'A'}, unknown[2] = {'F', 'F'};
+    static uint8_t line[RAMSUMMER_LINE];
+    int n = RAMSUMMER_LINE - 1;
+    w.count = w.behind = (size_t)-1;
+    before = w;
+    REFUSED(255, ramsummer_read(POOL, RUNS, longest, w.out, sizeof w.out - 1, &w.count));
+    REFUSED(255, ramsummer_frame(POOL, report, sizeof report, line, (size_t)n, &w.count));
+    DONE(ramsummer_frame(POOL, report, sizeof report, line, sizeof line, &w.count));
+    DONE((w.count != 19 || w.behind != (size_t)-1));
+    before.count = 3;
+    REFUSED(17, ramsummer_frame(POOL, unknown, sizeof unknown, line, sizeof line, &w.count));
+    DONE(ramsummer_read(POOL, RUNS, stands, w.out, sizeof w.out, &w.count));
+    DONE((w.count != 4 || w.behind != (size_t)-1));
+}
+
 /* After line n there is no pool: all is 15 but what is tested before it, a kind or a frame that is none, and nothing changes. */
 static void expect_no_pool(int n) {
     static const uint8_t report[] = "0A", none[] = "FF", told[] = "0F\n";
@@ -265,6 +283,7 @@ int main(void) {
     for (i = 0; i < sizeof extremes / sizeof *extremes; i++) refused(extremes[i]);
     REFUSED(1, join(&w.pool, 256));
     fits();
+    counts();
     limits();
     return faults == 0 ? 0 : 1;
 }
