@@ -111,7 +111,7 @@ static uint8_t send(unsigned turn) {
 /* All tasks join, and the rain's sensor begins. */
 static uint8_t start(void) {
     uint8_t refusal = ramsummer_fresh_sized(&pool, SMALL_BLOCKS, LARGE_BLOCKS, EXPIRATIONS, EXTENSION), advanced, task;
-    for (task = 0; task < TASKS && !refusal; task++) refusal = ramsummer_join(&pool, task);
+    for (task = 0; task < TASKS && !refusal; task++) refusal = ramsummer_join(&pool, task, RAMSUMMER_OPEN);
     if (!refusal) refusal = ramsummer_block(&pool, RAIN, &advanced);
     return refusal;
 }

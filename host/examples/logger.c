@@ -7,6 +7,9 @@
  * would be gone at the next look. Nobody refreshes the request of the task whose sensor is dead: it is put off for as long
  * as the task waits, and is there when the task comes back. And the calibration of the site must not lapse at
  * all: it is pinned, and released when the site is taken down.
+ *
+ * At the end one task is chatty, and would take all blocks. What stops it are the shares of the others, and its own: a
+ * reserve is held back for a task, and a limit is the most that it has.
  */
 #include <stdbool.h>
 #include <stdio.h>
@@ -16,7 +19,7 @@
 #include "ramsummer_text.h"
 
 /* The sensor of WAITER gives nothing in the cycles FIRST_DEAD to LAST_DEAD. */
-enum { READER = 0, WAITER = 7, CYCLES = 10, FIRST_DEAD = 3, LAST_DEAD = 8, READINGS = 4 * 16 + 6 * 15, LENGTH = 4 };
+enum { READER = 0, CHATTY = 3, WAITER = 7, CYCLES = 10, FIRST_DEAD = 3, LAST_DEAD = 8, READINGS = 4 * 16 + 6 * 15, LENGTH = 4 };
 enum { ZERO = 250 }; /* where the gauge begins, in centimetres */
 
 static ramsummer_pool pool;
@@ -167,7 +170,7 @@ static uint8_t log_all(bool with_block, unsigned *total) {
     uint8_t refusal = ramsummer_fresh(&pool), task, cycle;
     *total = 0;
     if (!refusal) refusal = ramsummer_peaks_reset(&peaks, &pool);
-    for (task = 0; task < RAMSUMMER_TASKS && !refusal; task++) refusal = ramsummer_join(&pool, task);
+    for (task = 0; task < RAMSUMMER_TASKS && !refusal; task++) refusal = ramsummer_join(&pool, task, RAMSUMMER_OPEN);
     if (!refusal) refusal = calibrate();
     for (cycle = 1; cycle <= CYCLES && !refusal; cycle++) {
         unsigned read = 0;
@@ -183,12 +186,46 @@ static uint8_t log_all(bool with_block, unsigned *total) {
     return refusal;
 }
 
-int main(void) {
+/* Small blocks: of each but CHATTY a reserve, and of CHATTY a limit. */
+static uint8_t join_all(uint8_t reserve, uint8_t limit) {
+    uint8_t refusal = ramsummer_fresh(&pool), task;
+    for (task = 0; task < RAMSUMMER_TASKS && !refusal; task++)
+        refusal = task == CHATTY ? ramsummer_join(&pool, task, 0, limit, 0, RAMSUMMER_NO_LIMIT)
+                                 : ramsummer_join(&pool, task, reserve, RAMSUMMER_NO_LIMIT, 0, RAMSUMMER_NO_LIMIT);
+    return refusal;
+}
+
+/* CHATTY makes readings until it is refused, and then each other task makes one. Whether CHATTY is refused with this
+ * number, and as many of the others find a block. */
+static bool chat(const char *shares, uint8_t reserve, uint8_t limit, uint8_t number, unsigned count) {
+    uint8_t has[6]; /* what it made, its reserve and its limit: of the small store, then of the large one */
+    uint8_t task, refusal = join_all(reserve, limit);
+    unsigned others = 0;
+    if (refusal) return false;
+    while (!refusal) refusal = write_reading(CHATTY, 1);
+    for (task = 0; task < RAMSUMMER_TASKS; task++) others += task != CHATTY && !write_reading(task, 1);
+    if (ramsummer_share(&pool, CHATTY, has, has + 1, has + 2, has + 3, has + 4, has + 5)) return false;
+    printf("%s: task %d made %d, refused with %d; the others made %u\n", shares, CHATTY, has[0], refusal, others);
+    return refusal == number && others == count;
+}
+
+/* The fault and its cure. */
+static bool weekend(void) {
     uint8_t fault, cure;
     unsigned total;
     printf("Task %d waits for its sensor without block:\n", WAITER);
     fault = log_all(false, &total);
     printf("Task %d calls block before it waits:\n", WAITER);
     cure = log_all(true, &total);
-    return fault == RAMSUMMER_NO_FREE_BLOCK && cure == RAMSUMMER_DONE && total == READINGS ? 0 : 1;
+    return fault == RAMSUMMER_NO_FREE_BLOCK && cure == RAMSUMMER_DONE && total == READINGS;
 }
+
+/* A task that talks too much, and what stops it. */
+static bool chatter(void) {
+    printf("Task %d is chatty. It makes readings until it is refused, and then each other task makes one:\n", CHATTY);
+    return chat("all join open", 0, RAMSUMMER_NO_LIMIT, RAMSUMMER_NO_FREE_BLOCK, 0)
+           && chat("a reserve of 2 for each other", 2, RAMSUMMER_NO_LIMIT, RAMSUMMER_NO_FREE_BLOCK, 15)
+           && chat("and a limit of 8 for task 3", 2, 8, RAMSUMMER_AT_LIMIT, 15);
+}
+
+int main(void) { return weekend() && chatter() ? 0 : 1; }

@@ -6,13 +6,17 @@
 //! would be gone at the next look. Nobody refreshes the request of the task whose sensor is dead: it is put off for as long
 //! as the task waits, and is there when the task comes back. And the calibration of the site must not lapse at
 //! all: it is pinned, and released when the site is taken down.
+//!
+//! At the end one task is chatty, and would take all blocks. What stops it are the shares of the others, and its own: a
+//! reserve is held back for a task, and a limit is the most that it has.
 
-use ramsummer::{Gauged, Handle, Kind, Pool, Refusal};
+use ramsummer::{Gauged, Handle, Kind, Pool, Quota, Refusal, Share};
 use std::ops::RangeInclusive;
 use std::process::ExitCode;
 
 const TASKS: u8 = 16;
 const READER: u8 = 0;
+const CHATTY: u8 = 3;
 const WAITER: u8 = 7;
 const CYCLES: u8 = 10;
 const DEAD: RangeInclusive<u8> = 3..=8; // the cycles in which the sensor of WAITER gives nothing
@@ -33,14 +37,51 @@ struct Logger {
 }
 
 fn main() -> ExitCode {
+    if weekend() && chatter() {
+        ExitCode::SUCCESS
+    } else {
+        ExitCode::FAILURE
+    }
+}
+
+/// The fault and its cure.
+fn weekend() -> bool {
     println!("Task {WAITER} waits for its sensor without block:");
     let fault = log(false);
     println!("Task {WAITER} calls block before it waits:");
     let cure = log(true);
-    match (fault, cure) {
-        (Err(Refusal::NoFreeBlock), Ok(READINGS)) => ExitCode::SUCCESS,
-        _ => ExitCode::FAILURE,
+    (fault, cure) == (Err(Refusal::NoFreeBlock), Ok(READINGS))
+}
+
+/// A task that talks too much, and what stops it.
+fn chatter() -> bool {
+    println!("Task {CHATTY} is chatty. It makes readings until it is refused, and then each other task makes one:");
+    let (reserve, limit) = (Quota { reserve: 2, ..Quota::OPEN }, Quota { limit: 8, ..Quota::OPEN });
+    let taken = chat("all join open", Quota::OPEN, Quota::OPEN);
+    let held_back = chat("a reserve of 2 for each other", reserve, Quota::OPEN);
+    let stopped = chat("and a limit of 8 for task 3", reserve, limit);
+    let told = [(Refusal::NoFreeBlock, 0), (Refusal::NoFreeBlock, 15), (Refusal::AtLimit, 15)];
+    [taken, held_back, stopped] == told.map(Ok)
+}
+
+/// CHATTY makes readings until it is refused, and then each other task makes one. They have these quotas of small blocks.
+/// Gives the refusal, and how many of the others find a block.
+fn chat(shares: &str, of_others: Quota, of_chatty: Quota) -> Result<(Refusal, usize), Refusal> {
+    let mut pool = Pool::new();
+    for task in 0..TASKS {
+        let small = if task == CHATTY { of_chatty } else { of_others };
+        pool.join(task, Share { small, ..Share::OPEN })?;
     }
+    let mut make = |task| pool.make(task, Kind::Global, 0, 4);
+    let refusal = loop {
+        if let Err(refusal) = make(CHATTY) {
+            break refusal;
+        }
+    };
+    let others = (0..TASKS).filter(|&task| task != CHATTY && make(task).is_ok()).count();
+    let (made, number) = (pool.share(CHATTY)?.small.made, refusal.number());
+    println!("{shares}: task {CHATTY} made {made}, refused with {number}; the others made {others}");
+    Ok((refusal, others))
 }
 
 /// From a fresh pool; at the end the most that stood at a time, which is what the pool has to have room for.
@@ -56,7 +97,7 @@ fn log(with_block: bool) -> Result<usize, Refusal> {
 /// All cycles, up to the first refusal. Gives the count of readings.
 fn log_all(logger: &mut Logger, with_block: bool) -> Result<usize, Refusal> {
     for task in 0..TASKS {
-        logger.pool.join(task)?;
+        logger.pool.join(task, Share::OPEN)?;
     }
     calibrate(logger)?;
     let mut total = 0;

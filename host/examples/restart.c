@@ -15,8 +15,8 @@ static ramsummer_pool pool;
 static uint8_t small[RAMSUMMER_SMALL], large[RAMSUMMER_LARGE];
 #define POOL &pool, small, sizeof small, large, sizeof large
 
-/* What outlives the restart. The tasks' handles are kept with the images, of the same moment: the record does not say
- * whose an object is. */
+/* What outlives the restart. The tasks' handles are kept with the images, of the same moment: the record says who made an
+ * object, but not which reading it is. */
 static struct {
     uint8_t images[2][RAMSUMMER_IMAGE_WITH_STORES];
     uint8_t record[RAMSUMMER_IMAGE_RECORD_ALONE];
@@ -42,8 +42,8 @@ static uint8_t reading(uint8_t task, uint8_t kind, uint8_t extension, const char
 /* Before the restart: three readings and a calibration, which is pinned, a tick of each task, and two images. */
 static uint8_t run(void) {
     uint8_t advanced, refusal = ramsummer_fresh(&pool);
-    if (!refusal) refusal = ramsummer_join(&pool, 0);
-    if (!refusal) refusal = ramsummer_join(&pool, 1);
+    if (!refusal) refusal = ramsummer_join(&pool, 0, RAMSUMMER_OPEN);
+    if (!refusal) refusal = ramsummer_join(&pool, 1, RAMSUMMER_OPEN);
     if (!refusal) refusal = reading(0, RAMSUMMER_LOCAL, 3, "12.50 m", &kept.level);
     if (!refusal) refusal = reading(1, RAMSUMMER_LOCAL, 3, "0.40 mm", &kept.rain);
     if (!refusal) refusal = reading(1, RAMSUMMER_GLOBAL, 3, "13.20 V", &kept.battery);
@@ -81,7 +81,7 @@ static uint8_t look(uint8_t task, uint32_t handle, char text[LENGTH + 1], uint8_
 /* Task 0 has its handle still, and goes on where its clock stands. */
 static uint8_t go_on(void) {
     char text[LENGTH + 1];
-    uint8_t local, global, refusal = ramsummer_join(&pool, 0);
+    uint8_t local, global, refusal = ramsummer_join(&pool, 0, RAMSUMMER_OPEN);
     printf("task 0 joins: refused with %d, %s\n", refusal, ramsummer_text(refusal));
     refusal = look(0, kept.level, text, &local, &global);
     if (!refusal) printf("task 0 goes on: %s, for %d ticks more\n", text, local);
@@ -94,7 +94,7 @@ static uint8_t go_on(void) {
 static uint8_t start_anew(void) {
     char text[LENGTH + 1];
     uint8_t advanced, local, global, gone, refusal = ramsummer_leave(&pool, 1, &advanced);
-    if (!refusal) refusal = ramsummer_join(&pool, 1);
+    if (!refusal) refusal = ramsummer_join(&pool, 1, RAMSUMMER_OPEN);
     if (refusal) return refusal;
     gone = look(1, kept.rain, text, &local, &global);
     printf("task 1 leaves and joins: its rain is refused with %d, %s\n", gone, ramsummer_text(gone));
@@ -127,7 +127,7 @@ static uint8_t lose_stores(void) {
         refusal = ramsummer_leave(&pool, task, &advanced);
         if (refusal && refusal != RAMSUMMER_TASK_ABSENT) return refusal;
     }
-    refusal = ramsummer_join(&pool, 0);
+    refusal = ramsummer_join(&pool, 0, RAMSUMMER_OPEN);
     if (!refusal) refusal = release_pinned(0);
     for (ticks = 0; ticks < 32 && !refusal; ticks++) refusal = ramsummer_tick(&pool, 0, &advanced);
     return refusal ? refusal : print_figures("all have left, one joins, releases what is pinned and ticks 32 times");

@@ -1,10 +1,10 @@
 //! A logger is restarted: one of two saved images is damaged, the tasks come back and find themselves joined; and then
 //! a record comes back without its stores. docs/RESTART.md is the recipe; examples/restart.c is the same in C.
 
-use ramsummer::{image, Handle, Kind, Pool, Record, Refusal, CLOCK_PINNED};
+use ramsummer::{image, Handle, Kind, Pool, Record, Refusal, Share, CLOCK_PINNED};
 
-/// What outlives the restart. The tasks' handles are kept with the images, of the same moment: the record does not say
-/// whose an object is.
+/// What outlives the restart. The tasks' handles are kept with the images, of the same moment: the record says who made an
+/// object, but not which reading it is.
 struct Kept {
     images: [[u8; image::WITH_STORES]; 2],
     record: [u8; image::RECORD_ALONE],
@@ -26,8 +26,8 @@ fn main() -> Result<(), Refusal> {
 /// Before the restart: three readings and a calibration, which is pinned, a tick of each task, and two images.
 fn run() -> Result<Kept, Refusal> {
     let mut pool = Pool::new();
-    pool.join(0)?;
-    pool.join(1)?;
+    pool.join(0, Share::OPEN)?;
+    pool.join(1, Share::OPEN)?;
     let level = reading(&mut pool, 0, Kind::Local, 3, b"12.50 m")?;
     let rain = reading(&mut pool, 1, Kind::Local, 3, b"0.40 mm")?;
     let battery = reading(&mut pool, 1, Kind::Global, 3, b"13.20 V")?;
@@ -68,7 +68,7 @@ fn come_back(kept: &Kept) -> Pool {
 
 /// Task 0 has its handle still, and goes on where its clock stands.
 fn go_on(pool: &mut Pool, kept: &Kept) -> Result<(), Refusal> {
-    if let Err(refusal) = pool.join(0) {
+    if let Err(refusal) = pool.join(0, Share::OPEN) {
         println!("task 0 joins: refused with {}, {refusal}", refusal.number());
     }
     let left = pool.remaining(0, kept.level)?.local;
@@ -80,7 +80,7 @@ fn go_on(pool: &mut Pool, kept: &Kept) -> Result<(), Refusal> {
 /// Task 1 starts anew: what it set by its own clock goes, what it set by global time stays.
 fn start_anew(pool: &mut Pool, kept: &Kept) -> Result<(), Refusal> {
     pool.leave(1)?;
-    pool.join(1)?;
+    pool.join(1, Share::OPEN)?;
     if let Err(refusal) = pool.read_to_vec(1, kept.rain) {
         println!("task 1 leaves and joins: its rain is refused with {}, {refusal}", refusal.number());
     }
@@ -109,7 +109,7 @@ fn lose_stores(kept: &Kept) -> Result<(), Refusal> {
             Err(refusal) => return Err(refusal),
         }
     }
-    pool.join(0)?;
+    pool.join(0, Share::OPEN)?;
     for handle in pinned(pool.record()) {
         pool.release(0, handle)?;
     }

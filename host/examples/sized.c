@@ -45,7 +45,7 @@ static uint8_t start(void) {
            EXTENSION);
     printf("%d bytes instead of %d\n", (int)(sizeof pool + sizeof small + sizeof large),
            RAMSUMMER_RECORD + RAMSUMMER_SMALL + RAMSUMMER_LARGE);
-    return ramsummer_join(&pool, TASK);
+    return ramsummer_join(&pool, TASK, RAMSUMMER_OPEN);
 }
 
 /* All small blocks and all expirations, and what is refused then. */
@@ -76,7 +76,7 @@ static uint8_t lapse(void) {
 static uint8_t begin_anew(void) {
     uint8_t refusal;
     print_refusal("65 small blocks", begin(RAMSUMMER_SMALL_BLOCKS + 1));
-    print_refusal("and a join then", ramsummer_join(&pool, TASK));
+    print_refusal("and a join then", ramsummer_join(&pool, TASK, RAMSUMMER_OPEN));
     refusal = begin(SMALL_BLOCKS);
     return refusal ? refusal : print_figures("made fresh");
 }

@@ -1,7 +1,7 @@
 //! A small site: a cable of four sensors, whose pool is as large as it needs. What is beyond its limits is refused as it is
 //! in the largest pool, and limits that no pool may have are refused when it is made. examples/sized.c is the same in C.
 
-use ramsummer::{Handle, Kind, Limits, Pool, Refusal, LARGE, RECORD, SMALL};
+use ramsummer::{Handle, Kind, Limits, Pool, Refusal, Share, LARGE, RECORD, SMALL};
 
 const TASK: u8 = 0;
 
@@ -22,7 +22,7 @@ fn start() -> Result<Pool, Refusal> {
     let bytes = RECORD + pool.small().len() + pool.large().len();
     print!("{small_blocks} small and {large_blocks} large blocks, {expirations} expirations, ");
     println!("extensions up to {extension}: {bytes} bytes instead of {}", RECORD + SMALL + LARGE);
-    pool.join(TASK)?;
+    pool.join(TASK, Share::OPEN)?;
     Ok(pool)
 }
 
@@ -62,7 +62,7 @@ fn lapse(pool: &mut Pool) -> Result<(), Refusal> {
 /// A limit out of its range: the record that is left is none, until it is made fresh.
 fn begin_anew(pool: &mut Pool) -> Result<(), Refusal> {
     print_refusal("65 small blocks", pool.fresh_sized(Limits { small_blocks: 65, ..CABLE }));
-    print_refusal("and a join then", pool.join(TASK));
+    print_refusal("and a join then", pool.join(TASK, Share::OPEN));
     pool.fresh_sized(CABLE)?;
     println!("made fresh: {}", pool.report()?);
     Ok(())

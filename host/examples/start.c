@@ -23,7 +23,7 @@ int main(void) {
     size_t count;
 
     ramsummer_fresh(&pool);
-    check(ramsummer_join(&pool, 0));
+    check(ramsummer_join(&pool, 0, RAMSUMMER_OPEN));
     /* 8 bytes, until the next tick of task 0 */
     check(ramsummer_make(&pool, small, sizeof small, large, sizeof large, 0, RAMSUMMER_LOCAL, 0, 8, &handle));
     check(ramsummer_write(&pool, small, sizeof small, large, sizeof large, 0, handle, 0, reading, 8));

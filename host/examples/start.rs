@@ -1,9 +1,9 @@
 //! The shortest way through the pool: join, make, write, read, tick. After the tick the object is gone, and a read is refused.
-use ramsummer::{Kind, Pool, Refusal};
+use ramsummer::{Kind, Pool, Refusal, Share};
 
 fn main() -> Result<(), Refusal> {
     let mut pool = Pool::new();
-    pool.join(0)?;
+    pool.join(0, Share::OPEN)?;
     let handle = pool.make(0, Kind::Local, 0, 7)?; // 7 bytes, until the next tick of task 0
     pool.write(0, handle, 0, b"12.50 m")?;
     let found = pool.read_to_vec(0, handle)?;

@@ -155,7 +155,7 @@ int main(void) {
     uint8_t tasks[RAMSUMMER_TASKS], task;
     check(ramsummer_fresh(&pool));
     /* All join before the first ticks, or global time would advance without the others. */
-    for (task = 0; task < RAMSUMMER_TASKS; task++) check(ramsummer_join(&pool, task));
+    for (task = 0; task < RAMSUMMER_TASKS; task++) check(ramsummer_join(&pool, task, RAMSUMMER_OPEN));
     pthread_mutex_lock(&lock);
     for (task = 0; task < RAMSUMMER_TASKS; task++) {
         tasks[task] = task;

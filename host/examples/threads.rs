@@ -10,7 +10,7 @@
 //! global time waits. Where each of these tasks is at a sensor it calls block for them, and the others go on. When the
 //! sensor answers, its driver calls resume.
 
-use ramsummer::{Handle, Kind, Pool, Refusal};
+use ramsummer::{Handle, Kind, Pool, Refusal, Share};
 use std::ops::Range;
 use std::sync::{Condvar, Mutex, MutexGuard};
 use std::{process, thread};
@@ -46,7 +46,7 @@ fn main() {
     let none = [None; TASKS as usize];
     let mut logger = Logger { pool: Pool::new(), scans: [none; 2], whole: 0, at_sensor: [false; 16], finished: 0 };
     // All join before the first ticks, or global time would advance without the others.
-    (0..TASKS).for_each(|task| done(logger.pool.join(task)));
+    (0..TASKS).for_each(|task| done(logger.pool.join(task, Share::OPEN)));
     let site = &Site { logger: Mutex::new(logger), changed: Condvar::new() };
     thread::scope(|scope| {
         (0..TASKS).for_each(|task| _ = scope.spawn(move || run(site, task)));

@@ -6,15 +6,15 @@
  *   - what two pointers of one call lead to does not overlap;
  *   - a pool and its stores are used by one thread or interrupt handler at a time.
  * All the rest is tested: any record, any bytes and any number may be passed, and what is wrong is refused. A task, a
- * kind, an extension, a length and an offset may be any unsigned or int: the types below are the library's own, and a
- * number that they cannot hold is refused as too large, and not cut (ramsummer_wide.h, which is included at the end).
- * The library has lengths and counts in 64 bits on every processor; an author has them in a size_t, by the same header.
- * But a task, a kind, an extension or a handle of 64 bits is cut to 32 before the call, and -Wconversion says so; the
- * limits of ramsummer_fresh_sized are not.
+ * kind, an extension, a length, an offset and the four numbers of a join may be any unsigned or int: the types below are
+ * the library's own, and a number that they cannot hold is refused, and not cut (ramsummer_wide.h, which is included at
+ * the end). The library has lengths and counts in 64 bits on every processor; an author has them in a size_t, by the same
+ * header. But a task, a kind, an extension, a handle or a number of a join of 64 bits is cut to 32 before the call, and
+ * -Wconversion says so; the limits of ramsummer_fresh_sized are not.
  *
- * No call takes a const record. Read, report, remaining and awaited are proved to leave it as it was; but every entry of
- * the library is lent the record for itself alone (`&mut` in the proved source), so that it must not lie in read-only
- * memory, and nobody may look at it meanwhile. All else that a call only reads is const.
+ * No call takes a const record. Read, report, remaining, awaited and share are proved to leave it as it was; but every
+ * entry of the library is lent the record for itself alone (`&mut` in the proved source), so that it must not lie in
+ * read-only memory, and nobody may look at it meanwhile. All else that a call only reads is const.
  *
  * The bytes of a store block in use are changed by ramsummer_write, or by a write in ramsummer_frame, alone; both keep their
  * sum in the record. Whoever else writes there makes read and write refuse the object with 23, unless the changes cancel
@@ -46,12 +46,17 @@ extern "C" {
 #define RAMSUMMER_STORE_BLOCKS 96  /* entries of the record: 64 for the small store, then 32 for the large one */
 #define RAMSUMMER_LARGEST_BATCH 32 /* the most objects that one call refreshes */
 
+/* The four numbers of a join that asks for nothing and is bounded by nothing but the pool: no reserve and no limit, of
+ * small and of large objects. 255 is above every count of blocks. */
+#define RAMSUMMER_NO_LIMIT 255
+#define RAMSUMMER_OPEN 0, RAMSUMMER_NO_LIMIT, 0, RAMSUMMER_NO_LIMIT
+
 /* Sizes in bytes. */
 #define RAMSUMMER_SMALL_SIZE 32  /* a block of the small store, for objects of 1 to 32 bytes */
 #define RAMSUMMER_LARGE_SIZE 256 /* a block of the large store, for objects of 33 to 256 bytes */
 #define RAMSUMMER_LONGEST 256    /* the longest object: room for any read */
 #define RAMSUMMER_LINE 531       /* the room that ramsummer_frame asks for; an answer line has at most 515 bytes */
-#define RAMSUMMER_RECORD 2456    /* the record, ramsummer_pool */
+#define RAMSUMMER_RECORD 2904    /* the record, ramsummer_pool */
 
 /* The stores of a pool with so many blocks, as the calls ask for them; and those of ramsummer_fresh, 2,048 and 8,192. */
 #define RAMSUMMER_SMALL_FOR(blocks) ((blocks)*RAMSUMMER_SMALL_SIZE)
@@ -78,7 +83,7 @@ enum ramsummer_answer {
     RAMSUMMER_EXTENSION_TOO_LONG = 6,   /* extension above the pool's limit, or above 0 where the kind is pinned */
     RAMSUMMER_LENGTH_OUT_OF_RANGE = 7,  /* length 0 or above 256 */
     RAMSUMMER_HANDLES_SPENT = 8,        /* all 4,294,967,295 handles are given */
-    RAMSUMMER_NO_FREE_BLOCK = 9,        /* no free block in the store for this length */
+    RAMSUMMER_NO_FREE_BLOCK = 9,        /* no block of the store is free that is not held back for other tasks' reserves */
     RAMSUMMER_NO_FREE_EXPIRATION = 10,  /* as many stand as the pool's limit, or a batch would make them more */
     RAMSUMMER_HANDLE_NOT_GIVEN = 11,    /* handle 0, or above the count given */
     RAMSUMMER_OBJECT_GONE = 12,         /* the object's last expiration has ended */
@@ -93,6 +98,9 @@ enum ramsummer_answer {
     RAMSUMMER_ONLY_MAKE_PINS = 21,      /* a refresh or a batch of kind pinned */
     RAMSUMMER_NOT_PINNED = 22,          /* release: the object stands, and is not pinned, or no longer */
     RAMSUMMER_SUM_DIFFERS = 23,         /* read, write: the bytes of the object's block were changed from outside */
+    RAMSUMMER_RESERVE_ABOVE_LIMIT = 24, /* join: a reserve is above its limit */
+    RAMSUMMER_RESERVE_NOT_FREE = 25,    /* join: too few blocks are left for a reserve */
+    RAMSUMMER_AT_LIMIT = 26,            /* make: the task has as many objects of the store as its limit */
     RAMSUMMER_LIMITS_OUT_OF_RANGE = 29, /* fresh_sized: a limit is out of its range */
     RAMSUMMER_BUFFER_TOO_SHORT = 255    /* read, frame: no room for the answer */
 };
@@ -105,12 +113,31 @@ enum ramsummer_clock {
     RAMSUMMER_CLOCK_PINNED = 49    /* none: what pins an object, and is due at 0 */
 };
 
+/* The maker of an object in the record is the task that made it, or this number once that task has left: it stays so, also
+ * where another joins by the task's number. */
+#define RAMSUMMER_MAKER_DEPARTED 16
+
+/* The parts of extents[i], the word of a store block in use: the length of its object, the object's maker, and the sum of
+ * all bytes of the block, 32 or 256 of them. */
+#define RAMSUMMER_LENGTH_IN(extent) ((uint16_t)((extent)&0xFFFF))
+#define RAMSUMMER_MAKER_IN(extent) ((uint8_t)((extent) >> 16 & 0xFF))
+#define RAMSUMMER_SUM_IN(extent) ((uint16_t)((extent) >> 48 & 0xFFFF))
+
 /* A task. State 0 is absent, 1 running, 2 waiting; ticked is 1 where it has ticked in this period of global time. */
 typedef struct ramsummer_task_entry {
     uint16_t state;
     uint16_t ticked;
     uint32_t clock;
 } ramsummer_task_entry;
+
+/* What a task asked for when it joined; all 0 of an absent one. A reserve are the blocks that are held back for it as long
+ * as it has fewer objects of the store, a limit is how many it may have. */
+typedef struct ramsummer_task_share {
+    uint8_t small_reserve;
+    uint8_t small_limit;
+    uint8_t large_reserve;
+    uint8_t large_limit;
+} ramsummer_task_share;
 
 /* How much a pool holds, and for how long: chosen when it is made (ramsummer_fresh_sized), and changed by no call. */
 typedef struct ramsummer_limits {
@@ -124,18 +151,20 @@ typedef struct ramsummer_limits {
  * The record of a pool. A fresh one is all zeros but for its limits; all zeros are none, and refused with 15.
  *
  * Store block i has the object handles[i]; handle 0 is a free one. In every pool the small store's blocks are numbered
- * from 0 on, the large one's from RAMSUMMER_SMALL_BLOCKS on. The low 16 bits of extents[i] are the object's length, the
- * high 16 the sum of all bytes of its block, 32 or 256 of them. Expiration i, below limits.expirations, belongs to the
- * object in store block named[i], and is due when the clock clocks[i] (enum ramsummer_clock) reads dues[i]. The other
- * fields of a free one of either have no meaning and may hold anything.
+ * from 0 on, the large one's from RAMSUMMER_SMALL_BLOCKS on. Of extents[i] bits 0 to 15 are the object's length, 16 to 23
+ * its maker and 48 to 63 the sum of its block (RAMSUMMER_LENGTH_IN and its like); the rest is kept for later, and may hold
+ * anything. Expiration i, below limits.expirations, belongs to the object in store block named[i], and is due when the
+ * clock clocks[i] (enum ramsummer_clock) reads dues[i]. The other fields of a free one of either have no meaning and may
+ * hold anything.
  */
 typedef struct ramsummer_pool {
     ramsummer_task_entry tasks[RAMSUMMER_TASKS];
     uint32_t global;                          /* global time */
     uint32_t given;                           /* handles given so far */
     ramsummer_limits limits;
+    ramsummer_task_share shares[RAMSUMMER_TASKS];
     uint32_t handles[RAMSUMMER_STORE_BLOCKS];
-    uint32_t extents[RAMSUMMER_STORE_BLOCKS];
+    uint64_t extents[RAMSUMMER_STORE_BLOCKS];
     uint8_t clocks[RAMSUMMER_EXPIRATIONS];    /* in no order */
     uint8_t named[RAMSUMMER_EXPIRATIONS];
     uint32_t dues[RAMSUMMER_EXPIRATIONS];
@@ -152,6 +181,10 @@ RAMSUMMER_ASSERT(sizeof(ramsummer_pool) == RAMSUMMER_RECORD);
 RAMSUMMER_ASSERT(sizeof(ramsummer_task_entry) == 8);
 RAMSUMMER_ASSERT(offsetof(ramsummer_task_entry, ticked) == 2);
 RAMSUMMER_ASSERT(offsetof(ramsummer_task_entry, clock) == 4);
+RAMSUMMER_ASSERT(sizeof(ramsummer_task_share) == 4);
+RAMSUMMER_ASSERT(offsetof(ramsummer_task_share, small_limit) == 1);
+RAMSUMMER_ASSERT(offsetof(ramsummer_task_share, large_reserve) == 2);
+RAMSUMMER_ASSERT(offsetof(ramsummer_task_share, large_limit) == 3);
 RAMSUMMER_ASSERT(sizeof(ramsummer_limits) == 16);
 RAMSUMMER_ASSERT(offsetof(ramsummer_limits, large_blocks) == 4);
 RAMSUMMER_ASSERT(offsetof(ramsummer_limits, expirations) == 8);
@@ -159,11 +192,12 @@ RAMSUMMER_ASSERT(offsetof(ramsummer_limits, extension) == 12);
 RAMSUMMER_ASSERT(offsetof(ramsummer_pool, global) == 128);
 RAMSUMMER_ASSERT(offsetof(ramsummer_pool, given) == 132);
 RAMSUMMER_ASSERT(offsetof(ramsummer_pool, limits) == 136);
-RAMSUMMER_ASSERT(offsetof(ramsummer_pool, handles) == 152);
-RAMSUMMER_ASSERT(offsetof(ramsummer_pool, extents) == 536);
-RAMSUMMER_ASSERT(offsetof(ramsummer_pool, clocks) == 920);
-RAMSUMMER_ASSERT(offsetof(ramsummer_pool, named) == 1176);
-RAMSUMMER_ASSERT(offsetof(ramsummer_pool, dues) == 1432);
+RAMSUMMER_ASSERT(offsetof(ramsummer_pool, shares) == 152);
+RAMSUMMER_ASSERT(offsetof(ramsummer_pool, handles) == 216);
+RAMSUMMER_ASSERT(offsetof(ramsummer_pool, extents) == 600);
+RAMSUMMER_ASSERT(offsetof(ramsummer_pool, clocks) == 1368);
+RAMSUMMER_ASSERT(offsetof(ramsummer_pool, named) == 1624);
+RAMSUMMER_ASSERT(offsetof(ramsummer_pool, dues) == 1880);
 #undef RAMSUMMER_ASSERT
 #endif
 
@@ -187,11 +221,16 @@ uint8_t ramsummer_fresh(ramsummer_pool *pool);
 RAMSUMMER_CHECKED uint8_t ramsummer_fresh_sized(ramsummer_pool *pool, uint32_t small_blocks, uint32_t large_blocks,
                                                 uint32_t expirations, uint32_t extension);
 
-/* Absent to running, with clock 0. Tests 15, 1, 2. */
-RAMSUMMER_CHECKED uint8_t ramsummer_join(ramsummer_pool *pool, uint8_t task);
+/* Absent to running, with clock 0 and a share of each store. As long as the task has made fewer of the small objects that
+ * stand than small_reserve, a free block is held back for each that it lacks: others are refused with 9, and no make of
+ * this task is. And it is refused with 26 while it has small_limit of them. So for the large ones. RAMSUMMER_OPEN is the
+ * four numbers of a task that asks for nothing. Tests 15, 1, 2, 24 for both stores, 25 for either. */
+RAMSUMMER_CHECKED uint8_t ramsummer_join(ramsummer_pool *pool, uint8_t task, uint8_t small_reserve, uint8_t small_limit,
+                                         uint8_t large_reserve, uint8_t large_limit);
 
 /* To absent; the local expirations that this task set go, and the global ones count on, whoever joins by its number
- * later. Advanced is 1 if global time advanced, else 0. Tests 15, 1, 3. */
+ * later. What it made and what stands on counts for nobody from then on; its share is given up. Advanced is 1 if global
+ * time advanced, else 0. Tests 15, 1, 3. */
 RAMSUMMER_CHECKED uint8_t ramsummer_leave(ramsummer_pool *pool, uint8_t task, uint8_t *advanced);
 
 /* Running to waiting: global time goes on without this task, and each advance, that of this call too, puts the global
@@ -206,7 +245,7 @@ RAMSUMMER_CHECKED uint8_t ramsummer_resume(ramsummer_pool *pool, uint8_t task);
 RAMSUMMER_CHECKED uint8_t ramsummer_tick(ramsummer_pool *pool, uint8_t task, uint8_t *advanced);
 
 /* A new object of zero bytes with one expiration, which pins it where the kind says so. Handle is set to its number.
- * Tests 19, 15, 14, 1, 3, 4, 6, 7, 8, 9, 10. */
+ * Tests 19, 15, 14, 1, 3, 4, 6, 7, 8, 26, 9, 10. */
 RAMSUMMER_CHECKED uint8_t ramsummer_make(ramsummer_pool *pool, uint8_t *small_store, uint64_t small_length,
                                          uint8_t *large_store, uint64_t large_length, uint8_t task, uint8_t kind,
                                          uint8_t extension, uint16_t length, uint32_t *handle);
@@ -251,6 +290,12 @@ RAMSUMMER_CHECKED uint8_t ramsummer_remaining(ramsummer_pool *pool, uint8_t task
 /* For whom global time waits: the tasks that run and have not ticked since it last advanced, bit t for task t. It
  * advances with the tick, block or leave that leaves no bit set while some task runs. Tests 15. */
 RAMSUMMER_CHECKED uint8_t ramsummer_awaited(ramsummer_pool *pool, uint16_t *tasks);
+
+/* What a task has of each store: how many of the objects that stand it has made, its reserve and its limit, all 0 where it
+ * is absent. Reserve less made, or 0 where that is more, is how many blocks are held back for it. Tests 15, 1. */
+RAMSUMMER_CHECKED uint8_t ramsummer_share(ramsummer_pool *pool, uint8_t task, uint8_t *small_made,
+                                          uint8_t *small_reserve, uint8_t *small_limit, uint8_t *large_made,
+                                          uint8_t *large_reserve, uint8_t *large_limit);
 
 /* Carries out one call frame. Line is without its LF; the answer line goes to the start of out with its LF, and count
  * says how many bytes. The number is the one that the answer line starts with. Tests 255, 16, 17, 18, 19, then as the

@@ -1,14 +1,15 @@
 /*
- * Ramsummer: any int or unsigned for a task, a kind, an extension, a length or an offset, any integer for a limit, and a
- * size_t for a count. Included by ramsummer.h.
+ * Ramsummer: any int or unsigned for a task, a kind, an extension, a length, an offset or a number of a join, any integer
+ * for a limit of a pool, and a size_t for a count. Included by ramsummer.h.
  *
- * The library takes them in eight or sixteen bits, a limit in 32, and C would cut an int to fit: task 256 would be task 0.
- * So the name of each call that takes one is here that of a function which takes the number as it comes. What the
+ * The library takes them in eight or sixteen bits, a pool's limit in 32, and C would cut an int to fit: task 256 would be
+ * task 0. So the name of each call that takes one is here that of a function which takes the number as it comes. What the
  * library's type cannot hold it passes on as the largest number that it can, and that is refused with the same number, in
- * the same order of tests: 255 is no task, no kind and no extension, 65,535 no length and 4,294,967,295 no limit. A
- * negative int comes as a large unsigned. A limit is taken in 64 bits and never cut. A task, a kind or an extension of 64
- * bits is cut to 32 before the call, and -Wconversion says so. Once compiled it costs a comparison for an int, and nothing
- * for a constant or a uint8_t.
+ * the same order of tests: 255 is no task, no kind and no extension, 65,535 no length and 4,294,967,295 no pool's limit. A
+ * task's limit may be 255; a join with a number above it asks for what is refused with 24. A negative int comes as a large
+ * unsigned. A pool's limit is taken in 64 bits and never cut. A task, a kind, an extension or a number of a join of 64 bits
+ * is cut to 32 before the call, and -Wconversion says so. Once compiled it costs a comparison for an int, and nothing for a
+ * constant or a uint8_t.
  *
  * The library writes a count of 64 bits, and a size_t has 32 on a small processor: a count goes to a variable here, and
  * from there to the author's. None is above RAMSUMMER_LINE. Where nothing is written it stays as it was.
@@ -37,8 +38,14 @@ RAMSUMMER_CHECKED static inline uint8_t ramsummer_fresh_sized_wide(ramsummer_poo
                                  ramsummer_to_limit(expirations), ramsummer_to_limit(extension));
 }
 
-RAMSUMMER_CHECKED static inline uint8_t ramsummer_join_wide(ramsummer_pool *pool, unsigned task) {
-    return ramsummer_join(pool, ramsummer_to_byte(task));
+/* Where one of the four is above 255 the join asks for a reserve above its limit: 24 comes in its turn. */
+RAMSUMMER_CHECKED static inline uint8_t ramsummer_join_wide(ramsummer_pool *pool, unsigned task, unsigned small_reserve,
+                                                            unsigned small_limit, unsigned large_reserve,
+                                                            unsigned large_limit) {
+    int is_wide = (small_reserve | small_limit | large_reserve | large_limit) > 0xFF;
+    if (is_wide) return ramsummer_join(pool, ramsummer_to_byte(task), 0xFF, 0, 0xFF, 0);
+    return ramsummer_join(pool, ramsummer_to_byte(task), (uint8_t)small_reserve, (uint8_t)small_limit,
+                          (uint8_t)large_reserve, (uint8_t)large_limit);
 }
 
 RAMSUMMER_CHECKED static inline uint8_t ramsummer_leave_wide(ramsummer_pool *pool, unsigned task, uint8_t *advanced) {
@@ -109,6 +116,14 @@ RAMSUMMER_CHECKED static inline uint8_t ramsummer_remaining_wide(ramsummer_pool 
     return ramsummer_remaining(pool, ramsummer_to_byte(task), handle, local, global);
 }
 
+RAMSUMMER_CHECKED static inline uint8_t ramsummer_share_wide(ramsummer_pool *pool, unsigned task, uint8_t *small_made,
+                                                             uint8_t *small_reserve, uint8_t *small_limit,
+                                                             uint8_t *large_made, uint8_t *large_reserve,
+                                                             uint8_t *large_limit) {
+    return ramsummer_share(pool, ramsummer_to_byte(task), small_made, small_reserve, small_limit, large_made,
+                           large_reserve, large_limit);
+}
+
 /* A refusal has an answer line too, but where there is no room for one. */
 RAMSUMMER_CHECKED static inline uint8_t ramsummer_frame_wide(ramsummer_pool *pool, uint8_t *small_store,
                                                              size_t small_length, uint8_t *large_store,
@@ -135,6 +150,7 @@ RAMSUMMER_CHECKED static inline uint8_t ramsummer_frame_wide(ramsummer_pool *poo
 #define ramsummer_read ramsummer_read_wide
 #define ramsummer_write ramsummer_write_wide
 #define ramsummer_remaining ramsummer_remaining_wide
+#define ramsummer_share ramsummer_share_wide
 #define ramsummer_frame ramsummer_frame_wide
 
 #endif

@@ -8,7 +8,7 @@
 //! | 4 | [`MAGIC`] |
 //! | 4 | the layout's [`VERSION`] |
 //! | 4 | the length of the image in bytes, all of it |
-//! | 2,456 | the record, field by field in the order of [`Record`] |
+//! | 2,904 | the record, field by field in the order of [`Record`] |
 //! | 32 and 256 | for each block of the small store and then of the large one, where the image has them |
 //! | 4 | CRC-32 of all bytes before it |
 //!
@@ -21,12 +21,12 @@
 //! back is a record that the first call tests, as it does any other.
 //!
 //! ```
-//! use ramsummer::{image, Limits, Pool, Record};
+//! use ramsummer::{image, Limits, Pool, Record, Share};
 //!
 //! const LIMITS: Limits = Limits { small_blocks: 16, large_blocks: 4, expirations: 64, extension: 10 };
 //!
 //! let mut pool = Pool::over(Record::sized(LIMITS)?, [0; LIMITS.small_length()], [0; LIMITS.large_length()]);
-//! pool.join(3)?;
+//! pool.join(3, Share::OPEN)?;
 //! let mut kept = [0; image::with_stores(LIMITS)];
 //! image::save_with_stores(pool.record(), pool.small(), pool.large(), &mut kept).unwrap();
 //!
@@ -42,7 +42,7 @@
 //!
 //! docs/RESTART.md of the repository says what to save and when, and what the tasks do afterwards.
 
-use crate::{Limits, Record, TaskEntry, RECORD};
+use crate::{Limits, Quota, Record, Share, TaskEntry, RECORD};
 use core::array::from_fn;
 use core::fmt;
 use core::mem::offset_of;
@@ -51,9 +51,9 @@ use core::mem::offset_of;
 pub const MAGIC: [u8; 4] = *b"RSMR";
 
 /// The version of the layout. It changes with the order or the count of the record's fields, and with what their numbers
-/// mean. Up to 1 an image did not tell who had set a global expiration, up to 2 it had no sums of blocks, and up to 3 no
-/// limits.
-pub const VERSION: u32 = 4;
+/// mean. Up to 1 an image did not tell who had set a global expiration, up to 2 it had no sums of blocks, up to 3 no limits,
+/// and up to 4 neither the tasks' shares nor the makers of objects.
+pub const VERSION: u32 = 5;
 
 /// The size of an image of the record alone, in bytes.
 pub const RECORD_ALONE: usize = HEAD + RECORD + SUM;
@@ -251,6 +251,14 @@ impl Writer<'_> {
         self.bytes(&number.to_le_bytes());
     }
 
+    fn u64(&mut self, number: u64) {
+        self.bytes(&number.to_le_bytes());
+    }
+
+    fn share(&mut self, Share { small, large }: Share) {
+        self.bytes(&[small.reserve, small.limit, large.reserve, large.limit]);
+    }
+
     fn limits(&mut self, limits: Limits) {
         self.u32(limits.small_blocks);
         self.u32(limits.large_blocks);
@@ -267,8 +275,9 @@ impl Writer<'_> {
         self.u32(record.global);
         self.u32(record.given);
         self.limits(record.limits);
+        record.shares.iter().for_each(|&share| self.share(share));
         record.handles.iter().for_each(|&handle| self.u32(handle));
-        record.extents.iter().for_each(|&extent| self.u32(extent));
+        record.extents.iter().for_each(|&extent| self.u64(extent));
         self.bytes(&record.clocks);
         self.bytes(&record.named);
         record.dues.iter().for_each(|&due| self.u32(due));
@@ -299,6 +308,15 @@ impl Reader<'_> {
         u32::from_le_bytes(self.array())
     }
 
+    fn u64(&mut self) -> u64 {
+        u64::from_le_bytes(self.array())
+    }
+
+    fn quota(&mut self) -> Quota {
+        let [reserve, limit] = self.array();
+        Quota { reserve, limit }
+    }
+
     fn limits(&mut self) -> Limits {
         Limits { small_blocks: self.u32(), large_blocks: self.u32(), expirations: self.u32(), extension: self.u32() }
     }
@@ -310,8 +328,9 @@ impl Reader<'_> {
             global: self.u32(),
             given: self.u32(),
             limits: self.limits(),
+            shares: from_fn(|_| Share { small: self.quota(), large: self.quota() }),
             handles: from_fn(|_| self.u32()),
-            extents: from_fn(|_| self.u32()),
+            extents: from_fn(|_| self.u64()),
             clocks: self.array(),
             named: self.array(),
             dues: from_fn(|_| self.u32()),

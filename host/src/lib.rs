@@ -7,10 +7,10 @@
 //!
 #![cfg_attr(feature = "alloc", doc = "```")]
 #![cfg_attr(not(feature = "alloc"), doc = "```ignore")]
-//! use ramsummer::{Kind, Pool, Refusal};
+//! use ramsummer::{Kind, Pool, Refusal, Share};
 //!
 //! let mut pool = Pool::new();
-//! pool.join(0)?;
+//! pool.join(0, Share::OPEN)?;
 //!
 //! // A reading for task 0 alone, until its next tick.
 //! let handle = pool.make(0, Kind::Local, 0, 7)?;
@@ -39,7 +39,7 @@
 //! ```
 //! use core::cell::UnsafeCell;
 //! use core::sync::atomic::{AtomicBool, Ordering};
-//! use ramsummer::{Kind, Refusal, SitePool};
+//! use ramsummer::{Kind, Refusal, Share, SitePool};
 //!
 //! /// 16 small and 4 large blocks.
 //! type Pool = SitePool<16, 4>;
@@ -70,10 +70,10 @@
 //! static POOL: Locked =
 //!     Locked { taken: AtomicBool::new(false), pool: UnsafeCell::new(Pool::in_place::<64, 10>()) };
 //!
-//! assert_eq!(POOL.with(|pool| pool.join(0)), Some(Ok(())));
+//! assert_eq!(POOL.with(|pool| pool.join(0, Share::OPEN)), Some(Ok(())));
 //! let made = POOL.with(|pool| pool.make(0, Kind::Local, 0, 4));
 //! assert_eq!(made, Some(Ok(1.into())));
-//! assert_eq!(POOL.with(|pool| pool.join(0)), Some(Err(Refusal::TaskPresent)));
+//! assert_eq!(POOL.with(|pool| pool.join(0, Share::OPEN)), Some(Err(Refusal::TaskPresent)));
 //! ```
 //!
 //! `examples/firmware` is a whole program of this sort.
@@ -93,13 +93,13 @@
 //! | begun anew | [`Pool::fresh`] | [`Pool::fresh_sized`] |
 //!
 //! ```
-//! use ramsummer::{Kind, Limits, Pool, Record, Refusal};
+//! use ramsummer::{Kind, Limits, Pool, Record, Refusal, Share};
 //!
 //! const CABLE: Limits = Limits { small_blocks: 16, large_blocks: 4, expirations: 64, extension: 10 };
 //!
 //! let (mut small, mut large) = ([0; CABLE.small_length()], [0; CABLE.large_length()]);
 //! let mut pool = Pool::over(Record::sized(CABLE)?, &mut small, &mut large);
-//! pool.join(0)?;
+//! pool.join(0, Share::OPEN)?;
 //! for _ in 0..16 {
 //!     pool.make(0, Kind::Local, 10, 32)?;
 //! }
@@ -113,6 +113,30 @@
 //!
 //! [`Peaks`] tell what a site needs.
 //!
+//! # Shares
+//!
+//! A task says when it joins what it may have of each store: its [`Share`]. A *reserve* are blocks that are held back for it
+//! as long as it has fewer objects there; a *limit* is the most that it has at a time. A task that asks for nothing joins with
+//! [`Share::OPEN`]. So one task that talks too much takes no block that another needs:
+//!
+//! ```
+//! use ramsummer::{Kind, Quota, Refusal, Share, SitePool};
+//!
+//! let mut pool = SitePool::<16, 4>::in_place::<64, 10>();
+//! pool.join(0, Share { small: Quota { reserve: 2, limit: 255 }, ..Share::OPEN })?;
+//! pool.join(1, Share::OPEN)?;
+//! let refusal = loop {
+//!     if let Err(refusal) = pool.make(1, Kind::Local, 10, 8) {
+//!         break refusal;
+//!     }
+//! };
+//! assert_eq!(refusal, Refusal::NoFreeBlock);
+//! assert_eq!(pool.share(1)?.small.made, 14);
+//! pool.make(0, Kind::Local, 10, 8)?;
+//! pool.make(0, Kind::Local, 10, 8)?;
+//! # Ok::<(), Refusal>(())
+//! ```
+//!
 //! # Bytes changed from outside
 //!
 //! The stores are the host's memory, and a fault elsewhere may write there. So the record has the sum of all bytes of each
@@ -120,10 +144,10 @@
 //! another.
 //!
 //! ```
-//! use ramsummer::{Kind, Pool, Record, Refusal, LARGE, SMALL};
+//! use ramsummer::{Kind, Pool, Record, Refusal, Share, LARGE, SMALL};
 //!
 //! let mut pool = Pool::over(Record::fresh(), [0; SMALL], [0; LARGE]);
-//! pool.join(0)?;
+//! pool.join(0, Share::OPEN)?;
 //! let handle = pool.make(0, Kind::Local, 0, 4)?;
 //! pool.write(0, handle, 0, b"12.5")?;
 //!
@@ -168,6 +192,7 @@ mod peaks;
 mod pool;
 mod record;
 mod refusal;
+mod share;
 mod site;
 mod store;
 #[allow(unsafe_code)]
@@ -181,8 +206,9 @@ pub use limits::{Limits, MAX_EXTENSION};
 pub use peaks::{Gauged, Peaks};
 pub use pool::{Pool, LARGEST_BATCH, LINE, LONGEST};
 pub use record::{Record, TaskEntry, EXPIRATIONS, RECORD, STORE_BLOCKS, TASKS};
-pub use record::{CLOCK_DEPARTED, CLOCK_GLOBAL, CLOCK_LOCAL, CLOCK_PINNED};
+pub use record::{CLOCK_DEPARTED, CLOCK_GLOBAL, CLOCK_LOCAL, CLOCK_PINNED, MAKER_DEPARTED};
 pub use refusal::Refusal;
+pub use share::{Holding, Holdings, Quota, Share};
 pub use site::SitePool;
 pub use store::{LargeStore, SmallStore, Store, LARGE, LARGE_SIZE, SMALL, SMALL_SIZE};
 pub use tasks::Tasks;

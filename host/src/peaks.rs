@@ -15,7 +15,7 @@ use core::ops::{Deref, DerefMut};
 /// # use ramsummer::*;
 /// # let mut pool = Pool::over(Record::fresh(), [0; SMALL], [0; LARGE]);
 /// let mut peaks = Peaks::default();
-/// pool.join(0)?;
+/// pool.join(0, Share::OPEN)?;
 /// for _ in 0..3 {
 ///     pool.make(0, Kind::Local, 0, 4)?;
 ///     pool.make(0, Kind::Local, 0, 40)?;
@@ -71,7 +71,7 @@ impl fmt::Display for Peaks {
 /// ```
 /// # use ramsummer::*;
 /// let mut pool = Gauged::over(Pool::over(Record::fresh(), [0; SMALL], [0; LARGE]));
-/// pool.join(0)?;
+/// pool.join(0, Share::OPEN)?;
 /// let handle = pool.make(0, Kind::Local, 0, 4)?;
 /// pool.refresh(0, Kind::Local, 0, handle)?;
 /// pool.tick(0)?;

@@ -1,6 +1,6 @@
 //! The pool: a record and two stores, owned or borrowed, and the calls on them.
 
-use crate::{sys, Answer, Handle, Kind, Limits, Record, Refusal, Remaining, Report, Tasks};
+use crate::{sys, Answer, Handle, Holdings, Kind, Limits, Record, Refusal, Remaining, Report, Share, Tasks};
 #[cfg(feature = "alloc")]
 use alloc::{boxed::Box, vec, vec::Vec};
 use core::borrow::BorrowMut;
@@ -38,10 +38,10 @@ impl Pool {
     /// A fresh pool with [`Limits::STANDARD`], its record and stores in boxes.
     ///
     /// ```
-    /// use ramsummer::{Kind, Pool, Refusal};
+    /// use ramsummer::{Kind, Pool, Refusal, Share};
     ///
     /// let mut pool = Pool::new();
-    /// pool.join(0)?;
+    /// pool.join(0, Share::OPEN)?;
     /// let handle = pool.make(0, Kind::Local, 0, 4)?;
     /// pool.write(0, handle, 1, &[0xA5])?;
     /// assert_eq!(pool.read_to_vec(0, handle)?, [0, 0xA5, 0, 0]);
@@ -57,11 +57,11 @@ impl Pool {
     /// refused with [`LimitsOutOfRange`](Refusal::LimitsOutOfRange).
     ///
     /// ```
-    /// use ramsummer::{Kind, Limits, Pool, Refusal};
+    /// use ramsummer::{Kind, Limits, Pool, Refusal, Share};
     ///
     /// let limits = Limits { small_blocks: 1, large_blocks: 1, expirations: 2, extension: 0 };
     /// let mut pool = Pool::sized(limits)?;
-    /// pool.join(0)?;
+    /// pool.join(0, Share::OPEN)?;
     /// pool.make(0, Kind::Local, 0, 32)?;
     /// assert_eq!(pool.make(0, Kind::Local, 0, 32), Err(Refusal::NoFreeBlock));
     /// pool.make(0, Kind::Local, 0, 33)?;
@@ -101,7 +101,7 @@ where
     /// A record that was kept over a restart may be damaged; a report tells.
     ///
     /// ```
-    /// use ramsummer::{Pool, Record, Refusal, LARGE, SMALL};
+    /// use ramsummer::{Pool, Record, Refusal, Share, LARGE, SMALL};
     ///
     /// let (mut record, mut small, mut large) = (Record::fresh(), [0; SMALL], [0; LARGE]);
     /// record.tasks[5].clock = 1; // damaged: task 5 is absent
@@ -109,7 +109,7 @@ where
     /// if pool.report() == Err(Refusal::NotWellFormed) {
     ///     pool.fresh();
     /// }
-    /// pool.join(5)?;
+    /// pool.join(5, Share::OPEN)?;
     /// # Ok::<(), Refusal>(())
     /// ```
     pub const fn over(record: R, small: S, large: L) -> Self {
@@ -149,27 +149,52 @@ where
     /// leaves is a record that is not well-formed: each call on it is refused, until it is made fresh.
     ///
     /// ```
-    /// # use ramsummer::{Limits, Refusal, SitePool};
+    /// # use ramsummer::{Limits, Refusal, Share, SitePool};
     /// # let mut pool = SitePool::<16, 4>::in_place::<64, 10>();
     /// let limits = Limits { small_blocks: 16, large_blocks: 4, expirations: 64, extension: 10 };
     /// let none = Limits { small_blocks: 0, ..limits };
     /// assert_eq!(pool.fresh_sized(none), Err(Refusal::LimitsOutOfRange));
-    /// assert_eq!(pool.join(0), Err(Refusal::NotWellFormed));
+    /// assert_eq!(pool.join(0, Share::OPEN), Err(Refusal::NotWellFormed));
     /// pool.fresh_sized(limits)?;
-    /// pool.join(0)?;
+    /// pool.join(0, Share::OPEN)?;
     /// # Ok::<(), Refusal>(())
     /// ```
     pub fn fresh_sized(&mut self, limits: Limits) -> Result<(), Refusal> {
         sys::fresh_sized(self.record.borrow_mut(), limits)
     }
 
-    /// Absent to running, with clock 0.
-    pub fn join(&mut self, task: u8) -> Result<(), Refusal> {
-        sys::join(self.record.borrow_mut(), task)
+    /// Absent to running, with clock 0 and this share: [`Share::OPEN`] where the task asks for nothing.
+    ///
+    /// As long as the task has made fewer of the small objects that stand than its reserve, a free block is held back for
+    /// each that it lacks: others are refused with [`NoFreeBlock`](Refusal::NoFreeBlock), and no make of this task is. And
+    /// it is refused with [`AtLimit`](Refusal::AtLimit) while it has as many as its limit. So for the large ones.
+    ///
+    /// ```
+    /// use ramsummer::{Kind, Quota, Refusal, Share, SitePool};
+    ///
+    /// let of_small = |reserve, limit| Share { small: Quota { reserve, limit }, ..Share::OPEN };
+    /// let mut pool = SitePool::<4, 1>::in_place::<16, 10>();
+    /// pool.join(0, of_small(2, 255))?;
+    /// pool.join(1, of_small(0, 1))?;
+    /// pool.join(2, Share::OPEN)?;
+    /// pool.make(1, Kind::Local, 0, 8)?;
+    /// assert_eq!(pool.make(1, Kind::Local, 0, 8), Err(Refusal::AtLimit));
+    /// pool.make(2, Kind::Local, 0, 8)?;
+    /// assert_eq!(pool.make(2, Kind::Local, 0, 8), Err(Refusal::NoFreeBlock)); // two are free, for task 0
+    /// pool.make(0, Kind::Local, 0, 8)?;
+    /// pool.make(0, Kind::Local, 0, 8)?;
+    ///
+    /// assert_eq!(pool.join(3, of_small(2, 1)), Err(Refusal::ReserveAboveLimit));
+    /// assert_eq!(pool.join(3, of_small(1, 1)), Err(Refusal::ReserveNotFree));
+    /// # Ok::<(), Refusal>(())
+    /// ```
+    pub fn join(&mut self, task: u8, share: Share) -> Result<(), Refusal> {
+        sys::join(self.record.borrow_mut(), task, share)
     }
 
     /// To absent; the local expirations that this task set go. Those by global time stay and count on, whoever joins by
-    /// its number later. Answers whether global time advanced.
+    /// its number later. What the task made and what stands on counts for nobody from then on, and its share is given up.
+    /// Answers whether global time advanced.
     pub fn leave(&mut self, task: u8) -> Result<bool, Refusal> {
         sys::leave(self.record.borrow_mut(), task)
     }
@@ -185,8 +210,8 @@ where
     /// ```
     /// # use ramsummer::*;
     /// # let mut pool = Pool::over(Record::fresh(), [0; SMALL], [0; LARGE]);
-    /// pool.join(0)?;
-    /// pool.join(1)?;
+    /// pool.join(0, Share::OPEN)?;
+    /// pool.join(1, Share::OPEN)?;
     /// let request = pool.make(1, Kind::Global, 0, 4)?;
     /// assert_eq!(pool.tick(0), Ok(false)); // task 1 has not ticked
     /// assert_eq!(pool.block(1), Ok(true)); // and need not any more
@@ -218,7 +243,7 @@ where
     /// ```
     /// # use ramsummer::*;
     /// # let mut pool = Pool::over(Record::fresh(), [0; SMALL], [0; LARGE]);
-    /// pool.join(0)?;
+    /// pool.join(0, Share::OPEN)?;
     /// for _ in 0..64 {
     ///     pool.make(0, Kind::Local, 30, 32)?;
     /// }
@@ -237,7 +262,7 @@ where
     /// ```
     /// # use ramsummer::*;
     /// # let mut pool = Pool::over(Record::fresh(), [0; SMALL], [0; LARGE]);
-    /// pool.join(0)?;
+    /// pool.join(0, Share::OPEN)?;
     /// let handle = pool.make(0, Kind::Local, 0, 4)?;
     /// pool.refresh(0, Kind::Local, 1, handle)?;
     /// pool.tick(0)?;
@@ -254,7 +279,7 @@ where
     /// ```
     /// # use ramsummer::*;
     /// # let mut pool = Pool::over(Record::fresh(), [0; SMALL], [0; LARGE]);
-    /// pool.join(0)?;
+    /// pool.join(0, Share::OPEN)?;
     /// let mut scan = [Handle::from(0); 3];
     /// for reading in &mut scan {
     ///     *reading = pool.make(0, Kind::Local, 0, 4)?;
@@ -283,8 +308,8 @@ where
     /// ```
     /// # use ramsummer::*;
     /// # let mut pool = Pool::over(Record::fresh(), [0; SMALL], [0; LARGE]);
-    /// pool.join(0)?;
-    /// pool.join(1)?;
+    /// pool.join(0, Share::OPEN)?;
+    /// pool.join(1, Share::OPEN)?;
     /// let calibration = pool.make(0, Kind::Pinned, 0, 4)?;
     /// pool.leave(0)?;
     /// for _ in 0..1000 {
@@ -308,7 +333,7 @@ where
     /// ```
     /// # use ramsummer::*;
     /// # let mut pool = Pool::over(Record::fresh(), [0; SMALL], [0; LARGE]);
-    /// pool.join(0)?;
+    /// pool.join(0, Share::OPEN)?;
     /// let handle = pool.make(0, Kind::Local, 0, 4)?;
     /// let mut room = [0; LONGEST];
     /// assert_eq!(pool.read(0, handle, &mut room)?, [0, 0, 0, 0]);
@@ -340,7 +365,7 @@ where
     /// ```
     /// # use ramsummer::*;
     /// # let mut pool = Pool::over(Record::fresh(), [0; SMALL], [0; LARGE]);
-    /// pool.join(0)?;
+    /// pool.join(0, Share::OPEN)?;
     /// pool.make(0, Kind::Global, 0, 200)?;
     /// assert_eq!(pool.report()?.to_string(), "small 0, large 1, expirations 1, given 1");
     /// # Ok::<(), Refusal>(())
@@ -355,7 +380,7 @@ where
     /// ```
     /// # use ramsummer::*;
     /// # let mut pool = Pool::over(Record::fresh(), [0; SMALL], [0; LARGE]);
-    /// pool.join(0)?;
+    /// pool.join(0, Share::OPEN)?;
     /// let handle = pool.make(0, Kind::Local, 0, 4)?;
     /// pool.refresh(0, Kind::Global, 1, handle)?;
     /// let left = pool.remaining(0, handle)?;
@@ -375,8 +400,8 @@ where
     /// ```
     /// # use ramsummer::*;
     /// # let mut pool = Pool::over(Record::fresh(), [0; SMALL], [0; LARGE]);
-    /// pool.join(3)?;
-    /// pool.join(7)?;
+    /// pool.join(3, Share::OPEN)?;
+    /// pool.join(7, Share::OPEN)?;
     /// pool.tick(3)?;
     /// assert!(pool.awaited()?.contains(7));
     /// assert!(pool.awaited()?.iter().eq([7]));
@@ -386,6 +411,25 @@ where
         sys::awaited(&mut self.record().clone()).map(Tasks::of_bits)
     }
 
+    /// What a task has of each store: how many of the objects that stand it has made, its reserve and its limit; all 0
+    /// where it is absent. As for a report, the library is lent a copy of the record.
+    ///
+    /// ```
+    /// # use ramsummer::*;
+    /// # let mut pool = Pool::over(Record::fresh(), [0; SMALL], [0; LARGE]);
+    /// pool.join(0, Share { small: Quota { reserve: 3, limit: 8 }, ..Share::OPEN })?;
+    /// pool.make(0, Kind::Local, 0, 4)?;
+    /// let small = pool.share(0)?.small;
+    /// assert_eq!((small.made, small.reserve, small.limit), (1, 3, 8));
+    /// assert_eq!(small.unmet(), 2); // so many blocks are held back for it
+    /// pool.leave(0)?;
+    /// assert_eq!(pool.share(0)?, Holdings::default());
+    /// # Ok::<(), Refusal>(())
+    /// ```
+    pub fn share(&self, task: u8) -> Result<Holdings, Refusal> {
+        sys::share(&mut self.record().clone(), task)
+    }
+
     /// Carries out one call frame: a line of hexadecimal without its LF. The answer line goes to the start of `out`,
     /// which is at least [`LINE`] long.
     ///
@@ -393,8 +437,8 @@ where
     /// # use ramsummer::*;
     /// # let mut pool = Pool::over(Record::fresh(), [0; SMALL], [0; LARGE]);
     /// let mut room = [0; LINE];
-    /// assert_eq!(pool.frame(b"0100", &mut room).line, b"00\n"); // task 0 joins
-    /// let answer = pool.frame(b"0100", &mut room); // and again
+    /// assert_eq!(pool.frame(b"010000FF00FF", &mut room).line, b"00\n"); // task 0 joins, with Share::OPEN
+    /// let answer = pool.frame(b"010000FF00FF", &mut room); // and again
     /// assert_eq!(answer.line, b"02\n");
     /// assert_eq!(answer.outcome, Err(Refusal::TaskPresent));
     /// ```

@@ -1,6 +1,6 @@
 //! The record of a pool, laid out as the library has it (`ramsummer_pool` in include/ramsummer.h).
 
-use crate::{sys, Limits, Refusal};
+use crate::{sys, Limits, Quota, Refusal, Share};
 use core::mem::{align_of, offset_of, size_of};
 
 /// Tasks are 0 to 15.
@@ -24,8 +24,11 @@ pub const CLOCK_DEPARTED: u8 = 48;
 /// In [`Record::clocks`]: none, since the expiration pins its object.
 pub const CLOCK_PINNED: u8 = 49;
 
+/// The maker of an object that has left, for [`Record::maker`]. It stays so, also where another joins by its number.
+pub const MAKER_DEPARTED: u8 = 16;
+
 /// The size of a record in bytes.
-pub const RECORD: usize = 2456;
+pub const RECORD: usize = 2904;
 
 /// A task. State 0 is absent, 1 running, 2 waiting.
 #[repr(C)]
@@ -46,8 +49,9 @@ pub struct TaskEntry {
 /// record is well-formed, before all else but what is wrong with a frame itself, and refuses with
 /// [`NotWellFormed`](crate::Refusal::NotWellFormed) where it is not.
 ///
-/// Store block `i` and the object in it are `handles[i]` and `extents[i]`; in every pool the small store's are numbered
-/// from 0 on, the large one's from 64 on. Expiration `i` is `clocks[i]`, `named[i]` and `dues[i]`; they stand in no order.
+/// Store block `i` and the object in it are `handles[i]` and `extents[i]`, of which [`length`](Record::length),
+/// [`sum`](Record::sum) and [`maker`](Record::maker) tell the parts; in every pool the small store's are numbered from 0 on,
+/// the large one's from 64 on. Expiration `i` is `clocks[i]`, `named[i]` and `dues[i]`; they stand in no order.
 /// What lies beyond the [`limits`](Record::limits) is free. The other fields of a free store block or expiration have no
 /// meaning, and may hold anything.
 #[repr(C)]
@@ -62,11 +66,14 @@ pub struct Record {
     pub given: u32,
     /// How much the pool holds, and for how long. No call changes it.
     pub limits: Limits,
+    /// What each task asked for when it joined; [`Share::NONE`] where it is absent.
+    pub shares: [Share; TASKS],
     /// The handle of the object in each store block; 0 where it is free.
     pub handles: [u32; STORE_BLOCKS],
-    /// Of each store block the length of its object, in the low 16 bits, and the sum of all its bytes, 32 or 256 of them,
-    /// in the high 16. A read and a write compare the sum with the bytes.
-    pub extents: [u32; STORE_BLOCKS],
+    /// Of each store block the [length](Record::length) of its object in bits 0 to 15, the [maker](Record::maker) of its
+    /// object in 16 to 23, and the [sum](Record::sum) of its bytes in 48 to 63. The rest is kept for later, and may hold
+    /// anything.
+    pub extents: [u64; STORE_BLOCKS],
     /// The clock that each expiration goes by, and who set it: [`CLOCK_LOCAL`] and the number of a task for the task's
     /// local time, [`CLOCK_GLOBAL`] and the number of the task that set it for global time, [`CLOCK_DEPARTED`] for global
     /// time where the setter has left since, [`CLOCK_PINNED`] for none where it is pinned, and 0 where the entry is free.
@@ -80,16 +87,20 @@ pub struct Record {
 
 // The library knows the record by these places; the header has the same numbers.
 const _: () = {
+    assert!(size_of::<Quota>() == 2 && offset_of!(Quota, reserve) == 0 && offset_of!(Quota, limit) == 1);
+    assert!(size_of::<Share>() == 4 && offset_of!(Share, small) == 0 && offset_of!(Share, large) == 2);
     assert!(size_of::<TaskEntry>() == 8);
     assert!(offset_of!(TaskEntry, state) == 0 && offset_of!(TaskEntry, ticked) == 2);
     assert!(offset_of!(TaskEntry, clock) == 4);
-    assert!(size_of::<Record>() == RECORD && align_of::<Record>() == 4);
+    assert!(size_of::<Record>() == RECORD && align_of::<Record>() == 8);
     assert!(offset_of!(Record, tasks) == 0 && offset_of!(Record, global) == 128 && offset_of!(Record, given) == 132);
-    assert!(offset_of!(Record, limits) == 136 && size_of::<Limits>() == 16);
+    assert!(offset_of!(Record, limits) == 136 && offset_of!(Record, shares) == 152 && size_of::<Limits>() == 16);
     assert!(offset_of!(Limits, small_blocks) == 0 && offset_of!(Limits, large_blocks) == 4);
     assert!(offset_of!(Limits, expirations) == 8 && offset_of!(Limits, extension) == 12);
-    assert!(offset_of!(Record, handles) == 152 && offset_of!(Record, extents) == 536);
-    assert!(offset_of!(Record, clocks) == 920 && offset_of!(Record, named) == 1176 && offset_of!(Record, dues) == 1432);
+    assert!(offset_of!(Record, handles) == 216 && offset_of!(Record, extents) == 600);
+    assert!(
+        offset_of!(Record, clocks) == 1368 && offset_of!(Record, named) == 1624 && offset_of!(Record, dues) == 1880
+    );
 };
 
 impl Record {
@@ -102,12 +113,12 @@ impl Record {
     /// [`LimitsOutOfRange`](Refusal::LimitsOutOfRange).
     ///
     /// ```
-    /// use ramsummer::{Limits, Pool, Record, Refusal};
+    /// use ramsummer::{Limits, Pool, Record, Refusal, Share};
     ///
     /// let limits = Limits { small_blocks: 16, large_blocks: 4, expirations: 64, extension: 10 };
     /// let (mut small, mut large) = ([0; 16 * 32], [0; 4 * 256]);
     /// let mut pool = Pool::over(Record::sized(limits)?, &mut small, &mut large);
-    /// pool.join(0)?;
+    /// pool.join(0, Share::OPEN)?;
     ///
     /// let none = Limits { expirations: 0, ..limits };
     /// assert_eq!(Record::sized(none), Err(Refusal::LimitsOutOfRange));
@@ -128,6 +139,7 @@ impl Record {
             global: 0,
             given: 0,
             limits,
+            shares: [Share::NONE; TASKS],
             handles: [0; STORE_BLOCKS],
             extents: [0; STORE_BLOCKS],
             clocks: [0; EXPIRATIONS],
@@ -136,13 +148,43 @@ impl Record {
         }
     }
 
+    /// The length of the object in a store block, 0 to 95. As all that is told of it, it has a meaning where the block is in
+    /// use: where its handle is not 0.
+    ///
+    /// ```
+    /// # use ramsummer::{Kind, Pool, Record, Share, LARGE, MAKER_DEPARTED, SMALL};
+    /// # let mut pool = Pool::over(Record::fresh(), [0; SMALL], [0; LARGE]);
+    /// pool.join(3, Share::OPEN)?;
+    /// let handle = pool.make(3, Kind::Pinned, 0, 4)?;
+    /// pool.write(3, handle, 0, &[250, 7])?;
+    /// let block = pool.record().handles.iter().position(|number| *number == handle.into()).unwrap();
+    /// let told = |record: &Record| (record.length(block), record.sum(block), record.maker(block));
+    /// assert_eq!(told(pool.record()), (4, 257, 3));
+    /// pool.leave(3)?;
+    /// assert_eq!(told(pool.record()), (4, 257, MAKER_DEPARTED));
+    /// # Ok::<(), ramsummer::Refusal>(())
+    /// ```
+    pub const fn length(&self, block: usize) -> u16 {
+        self.extents[block] as u16
+    }
+
+    /// The sum of all bytes of a store block, 32 or 256 of them. A read and a write compare it with the bytes.
+    pub const fn sum(&self, block: usize) -> u16 {
+        (self.extents[block] >> 48) as u16
+    }
+
+    /// The task that made the object in a store block, or [`MAKER_DEPARTED`] where it has left since.
+    pub const fn maker(&self, block: usize) -> u8 {
+        (self.extents[block] >> 16) as u8
+    }
+
     /// The record as its bytes, in the order of this machine. They have no version: after an update of the library begin
     /// with [`Record::fresh`] or [`Record::sized`], or keep an [`image`](crate::image), which has a version and a CRC-32.
     ///
     /// ```
-    /// # use ramsummer::{Pool, Record, LARGE, SMALL};
+    /// # use ramsummer::{Pool, Record, Share, LARGE, SMALL};
     /// # let mut pool = Pool::over(Record::fresh(), [0; SMALL], [0; LARGE]);
-    /// pool.join(3)?;
+    /// pool.join(3, Share::OPEN)?;
     /// let kept: [u8; ramsummer::RECORD] = *pool.record().as_bytes();
     /// assert_eq!(Record::from_bytes(&kept), *pool.record());
     /// # Ok::<(), ramsummer::Refusal>(())

@@ -33,7 +33,8 @@ pub enum Refusal {
     LengthOutOfRange = 7,
     /// All 4,294,967,295 handles are given.
     HandlesSpent = 8,
-    /// No free block in the store for this length.
+    /// No block of the store for this length is free, or the free ones are held back for other tasks'
+    /// [reserves](crate::Quota::reserve).
     NoFreeBlock = 9,
     /// As many expirations stand as the pool's [limit](crate::Limits), or a batch would make them more.
     NoFreeExpiration = 10,
@@ -64,6 +65,12 @@ pub enum Refusal {
     NotPinned = 22,
     /// Read, write: the sum of the block's bytes is another than the record's, so that they were changed from outside.
     SumDiffers = 23,
+    /// Join: a [reserve](crate::Quota::reserve) is above its limit.
+    ReserveAboveLimit = 24,
+    /// Join: too few blocks are left for a [reserve](crate::Quota::reserve).
+    ReserveNotFree = 25,
+    /// Make: the task has as many objects of the store as its [limit](crate::Quota::limit).
+    AtLimit = 26,
     /// A pool that is made with a [limit](crate::Limits) out of its range.
     LimitsOutOfRange = 29,
     /// Read, frame: no room for the answer in the caller's buffer. It is no refusal of the documents.
@@ -96,6 +103,9 @@ impl Refusal {
         Refusal::OnlyMakePins,
         Refusal::NotPinned,
         Refusal::SumDiffers,
+        Refusal::ReserveAboveLimit,
+        Refusal::ReserveNotFree,
+        Refusal::AtLimit,
         Refusal::LimitsOutOfRange,
         Refusal::BufferTooShort,
     ];
@@ -120,7 +130,9 @@ impl Refusal {
             Refusal::ExtensionTooLong => "the extension is above the pool's limit, or above 0 for what is pinned",
             Refusal::LengthOutOfRange => "the length is 0 or above 256",
             Refusal::HandlesSpent => "all handles are given",
-            Refusal::NoFreeBlock => "no block is free in the store for this length",
+            Refusal::NoFreeBlock => {
+                "no block of the store is free, or the free ones are held back for other tasks' reserves"
+            }
             Refusal::NoFreeExpiration => "no more expirations may stand in this pool",
             Refusal::HandleNotGiven => "the handle was never given",
             Refusal::ObjectGone => "the object is gone: its last expiration has ended",
@@ -135,6 +147,9 @@ impl Refusal {
             Refusal::OnlyMakePins => "only a make pins an object",
             Refusal::NotPinned => "the object is not pinned",
             Refusal::SumDiffers => "the sum differs: the block's bytes were changed from outside",
+            Refusal::ReserveAboveLimit => "a reserve is above its limit",
+            Refusal::ReserveNotFree => "too few blocks are left for a reserve",
+            Refusal::AtLimit => "the task has as many objects of the store as its limit",
             Refusal::LimitsOutOfRange => {
                 "a limit is out of its range: 1 to 64 small blocks, 1 to 32 large, 1 to 256 expirations, extension 0 to 30"
             }

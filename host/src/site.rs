@@ -5,12 +5,12 @@ use crate::{LargeStore, Limits, Pool, Record, Refusal, SmallStore, Store};
 /// A pool in place, with stores of so many small and large blocks.
 ///
 /// ```
-/// use ramsummer::{Kind, Refusal, SitePool};
+/// use ramsummer::{Kind, Refusal, Share, SitePool};
 ///
 /// // A cable of four: 16 small and 4 large blocks, 64 expirations, extensions up to 10.
 /// let mut pool = SitePool::<16, 4>::in_place::<64, 10>();
-/// assert_eq!(size_of_val(&pool), 2456 + 16 * 32 + 4 * 256);
-/// pool.join(0)?;
+/// assert_eq!(size_of_val(&pool), 2904 + 16 * 32 + 4 * 256);
+/// pool.join(0, Share::OPEN)?;
 /// pool.make(0, Kind::Local, 10, 32)?;
 /// assert_eq!(pool.make(0, Kind::Local, 11, 32), Err(Refusal::ExtensionTooLong));
 /// # Ok::<(), Refusal>(())

@@ -6,7 +6,7 @@
 //! and no memory of its own between calls.
 
 use crate::record::RECORD;
-use crate::{Handle, Kind, Limits, Record, Refusal, Remaining, Report};
+use crate::{Handle, Holding, Holdings, Kind, Limits, Record, Refusal, Remaining, Report, Share};
 
 // As in include/ramsummer.h. A reference to one value is a pointer to C; a slice is a pointer and then a length, of 64
 // bits on every processor.
@@ -19,7 +19,14 @@ extern "C" {
         expirations: u32,
         extension: u32,
     ) -> u8;
-    fn ramsummer_join(pool: &mut Record, task: u8) -> u8;
+    fn ramsummer_join(
+        pool: &mut Record,
+        task: u8,
+        small_reserve: u8,
+        small_limit: u8,
+        large_reserve: u8,
+        large_limit: u8,
+    ) -> u8;
     fn ramsummer_leave(pool: &mut Record, task: u8, advanced: &mut u8) -> u8;
     fn ramsummer_block(pool: &mut Record, task: u8, advanced: &mut u8) -> u8;
     fn ramsummer_resume(pool: &mut Record, task: u8) -> u8;
@@ -79,6 +86,16 @@ extern "C" {
     ) -> u8;
     fn ramsummer_remaining(pool: &mut Record, task: u8, handle: u32, local: &mut u8, global: &mut u8) -> u8;
     fn ramsummer_awaited(pool: &mut Record, tasks: &mut u16) -> u8;
+    fn ramsummer_share(
+        pool: &mut Record,
+        task: u8,
+        small_made: &mut u8,
+        small_reserve: &mut u8,
+        small_limit: &mut u8,
+        large_made: &mut u8,
+        large_reserve: &mut u8,
+        large_limit: &mut u8,
+    ) -> u8;
     fn ramsummer_frame(
         pool: &mut Record,
         small: *mut u8,
@@ -123,9 +140,10 @@ pub(crate) fn fresh_sized(pool: &mut Record, limits: Limits) -> Result<(), Refus
     outcome(unsafe { ramsummer_fresh_sized(pool, small_blocks, large_blocks, expirations, extension) })
 }
 
-pub(crate) fn join(pool: &mut Record, task: u8) -> Result<(), Refusal> {
+pub(crate) fn join(pool: &mut Record, task: u8, share: Share) -> Result<(), Refusal> {
+    let Share { small, large } = share;
     // SAFETY: one pointer, from a reference.
-    outcome(unsafe { ramsummer_join(pool, task) })
+    outcome(unsafe { ramsummer_join(pool, task, small.reserve, small.limit, large.reserve, large.limit) })
 }
 
 pub(crate) fn leave(pool: &mut Record, task: u8) -> Result<bool, Refusal> {
@@ -285,6 +303,16 @@ pub(crate) fn awaited(pool: &mut Record) -> Result<u16, Refusal> {
     // SAFETY: two `&mut`; the number is a variable of this function.
     outcome(unsafe { ramsummer_awaited(pool, &mut tasks) })?;
     Ok(tasks)
+}
+
+pub(crate) fn share(pool: &mut Record, task: u8) -> Result<Holdings, Refusal> {
+    let mut holdings = Holdings::default();
+    let Holdings { small, large } = &mut holdings;
+    let Holding { made, reserve, limit } = small;
+    let Holding { made: large_made, reserve: large_reserve, limit: large_limit } = large;
+    // SAFETY: seven `&mut`; the figures are six fields of a variable of this function.
+    outcome(unsafe { ramsummer_share(pool, task, made, reserve, limit, large_made, large_reserve, large_limit) })?;
+    Ok(holdings)
 }
 
 /// What became of the frame's call, and how many bytes of `out` the answer line has.

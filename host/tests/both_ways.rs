@@ -3,7 +3,9 @@
 //! document 01 and not compared. The pools are in place, as a host without an allocator has them, with the largest limits
 //! and with those of a small site.
 
-use ramsummer::{Handle, Kind, Limits, Refusal, Report, SitePool, TaskEntry, LARGEST_BATCH, LINE, LONGEST, TASKS};
+use ramsummer::{Handle, Holdings, Kind, Limits, Quota, Record, Refusal, Report, Share, SitePool, TaskEntry};
+use ramsummer::{LARGEST_BATCH, LINE, LONGEST, TASKS};
+use std::array::from_fn;
 use std::collections::BTreeSet;
 
 /// Numbers that look random and are the same in each run.
@@ -45,7 +47,10 @@ fn call<const S: usize, const L: usize>(pool: &mut SitePool<S, L>, random: &mut 
     let named = Handle::from(handle);
     let dated = format!("{task:02X}{:02X}{extension:02X}", kind.number());
     match random.below(32) {
-        0 => (format!("01{task:02X}"), line(pool.join(task), nothing)),
+        0 => {
+            let share = share(random);
+            (format!("01{task:02X}{}", shown(share)), line(pool.join(task, share), nothing))
+        }
         1 => (format!("02{task:02X}"), line(pool.leave(task), flag)),
         2 => (format!("03{task:02X}"), line(pool.block(task), flag)),
         3..=4 => (format!("04{task:02X}"), line(pool.resume(task), nothing)),
@@ -88,6 +93,21 @@ fn call<const S: usize, const L: usize>(pool: &mut SitePool<S, L>, random: &mut 
     }
 }
 
+/// Few blocks as a rule; now and then open, or any bytes.
+fn share(random: &mut Random) -> Share {
+    let mut quota = || match random.below(6) {
+        0 => Quota { reserve: random.below(256) as u8, limit: random.below(256) as u8 },
+        1..=3 => Quota { reserve: random.below(3) as u8, limit: 1 + random.below(4) as u8 },
+        _ => Quota::OPEN,
+    };
+    Share { small: quota(), large: quota() }
+}
+
+/// As a frame has it.
+fn shown(Share { small, large }: Share) -> String {
+    hexadecimal(&[small.reserve, small.limit, large.reserve, large.limit])
+}
+
 /// From this handle on down, a few as a rule; now and then none, or up to one too many of the same.
 fn batch(random: &mut Random, handle: u32) -> Vec<u32> {
     match random.below(12) {
@@ -97,10 +117,13 @@ fn batch(random: &mut Random, handle: u32) -> Vec<u32> {
     }
 }
 
-type State = ([TaskEntry; TASKS], u32, Limits, Result<Report, Refusal>);
+type Holds = [Result<Holdings, Refusal>; TASKS];
+type State = ([TaskEntry; TASKS], u32, Limits, [Share; TASKS], Result<Report, Refusal>, Holds);
 
 fn state<const S: usize, const L: usize>(pool: &SitePool<S, L>) -> State {
-    (pool.record().tasks, pool.record().global, pool.record().limits, pool.report())
+    let holds = from_fn(|task| pool.share(task as u8));
+    let Record { tasks, global, limits, shares, .. } = *pool.record();
+    (tasks, global, limits, shares, pool.report(), holds)
 }
 
 /// The first byte of every block is another, from outside.
@@ -138,7 +161,8 @@ fn has_all(refusals: &BTreeSet<String>, expected: &[&str]) -> bool {
 #[test]
 fn typed_calls_and_frames_do_the_same() {
     let refusals = compare(SitePool::<64, 32>::in_place::<256, 30>(), 20_000);
-    let expected = ["01", "02", "03", "04", "05", "06", "07", "09", "0B", "0C", "0D", "14", "15", "16", "17"];
+    let expected =
+        ["01", "02", "03", "04", "05", "06", "07", "09", "0B", "0C", "0D", "14", "15", "16", "17", "18", "19", "1A"];
     assert!(has_all(&refusals, &expected), "{refusals:?}");
 }
 
@@ -146,6 +170,6 @@ fn typed_calls_and_frames_do_the_same() {
 #[test]
 fn so_they_do_in_the_pool_of_a_small_site() {
     let refusals = compare(SitePool::<3, 2>::in_place::<7, 4>(), 20_000);
-    assert!(has_all(&refusals, &["06", "09", "0A"]), "{refusals:?}");
+    assert!(has_all(&refusals, &["06", "09", "0A", "18", "19", "1A"]), "{refusals:?}");
     compare(SitePool::<1, 1>::in_place::<4, 2>(), 20_000);
 }

@@ -2,15 +2,15 @@
 #![cfg(feature = "alloc")]
 
 use ramsummer::{
-    Handle, Kind, Limits, Pool, Record, Refusal, Remaining, EXPIRATIONS, LARGE, LARGEST_BATCH, LONGEST, RECORD, SMALL,
-    STORE_BLOCKS,
+    Handle, Holdings, Kind, Limits, Pool, Quota, Record, Refusal, Remaining, Share, EXPIRATIONS, LARGE, LARGEST_BATCH,
+    LONGEST, MAKER_DEPARTED, RECORD, SMALL, STORE_BLOCKS,
 };
 
 /// A pool in which task 0 runs, 1 waits and 2 is absent.
 fn pool() -> Pool {
     let mut pool = Pool::new();
-    pool.join(0).unwrap();
-    pool.join(1).unwrap();
+    pool.join(0, Share::OPEN).unwrap();
+    pool.join(1, Share::OPEN).unwrap();
     pool.block(1).unwrap();
     pool
 }
@@ -53,7 +53,7 @@ fn an_object_lasts_until_its_last_expiration() {
 fn a_task_is_told_how_long_an_object_stands() {
     let mut pool = pool();
     pool.resume(1).unwrap();
-    pool.join(2).unwrap();
+    pool.join(2, Share::OPEN).unwrap();
     let handle = pool.make(0, Kind::Local, 4, 4).unwrap();
     pool.refresh(0, Kind::Local, 1, handle).unwrap();
     pool.refresh(1, Kind::Local, 30, handle).unwrap();
@@ -170,11 +170,118 @@ fn only_a_make_pins() {
     refused(&mut pool, Refusal::NotPinned, |pool| pool.release(0, handle));
 }
 
+/// A share of both stores.
+fn share(small_reserve: u8, small_limit: u8, large_reserve: u8, large_limit: u8) -> Share {
+    let [small, large] =
+        [(small_reserve, small_limit), (large_reserve, large_limit)].map(|(reserve, limit)| Quota { reserve, limit });
+    Share { small, large }
+}
+
+/// What a task has made, its reserve and its limit, of each store.
+fn told(pool: &Pool, task: u8) -> [(u8, u8, u8); 2] {
+    let Holdings { small, large, .. } = pool.share(task).unwrap();
+    [small, large].map(|holding| (holding.made, holding.reserve, holding.limit))
+}
+
+/// In the order of the tests: the task, its presence, 24 for either store, 25 for either.
+#[test]
+fn a_join_may_ask_for_too_much() {
+    let mut pool = pool();
+    for asked in [share(1, 0, 0, 0), share(0, 0, 1, 0), share(255, 254, 0, 255), share(65, 65, 33, 32)] {
+        refused(&mut pool, Refusal::ReserveAboveLimit, |pool| pool.join(2, asked));
+        refused(&mut pool, Refusal::TaskPresent, |pool| pool.join(1, asked));
+        refused(&mut pool, Refusal::NoSuchTask, |pool| pool.join(16, asked));
+    }
+    for asked in [share(65, 65, 0, 0), share(0, 0, 33, 33), share(255, 255, 255, 255)] {
+        refused(&mut pool, Refusal::ReserveNotFree, |pool| pool.join(2, asked));
+        refused(&mut pool, Refusal::TaskPresent, |pool| pool.join(0, asked));
+    }
+    pool.join(2, share(64, 64, 32, 32)).unwrap();
+    refused(&mut pool, Refusal::ReserveNotFree, |pool| pool.join(3, share(1, 1, 0, 0)));
+    refused(&mut pool, Refusal::ReserveNotFree, |pool| pool.join(3, share(0, 0, 1, 1)));
+    pool.join(3, Share::NONE).unwrap();
+    assert_eq!([told(&pool, 2), told(&pool, 3)], [[(0, 64, 64), (0, 32, 32)], [(0, 0, 0); 2]]);
+}
+
+/// Task 0 has no share to speak of, and 2 has a reserve, which it keeps while it waits.
+#[test]
+fn a_reserve_is_held_back_and_a_limit_holds() {
+    for (length, blocks, asked) in [(32, 64, share(5, 9, 0, 0)), (33, 32, share(0, 0, 5, 9))] {
+        let mut pool = pool();
+        let store = usize::from(length == 33);
+        let make = move |pool: &mut Pool, task| pool.make(task, Kind::Local, 9, length);
+        pool.join(2, asked).unwrap();
+        pool.block(2).unwrap();
+        for _ in 0..blocks - 5 {
+            make(&mut pool, 0).unwrap();
+        }
+        refused(&mut pool, Refusal::NoFreeBlock, |pool| make(pool, 0));
+        pool.resume(2).unwrap();
+        for made in 1..=5 {
+            make(&mut pool, 2).unwrap();
+            assert_eq!(told(&pool, 2)[store], (made, 5, 9));
+        }
+        refused(&mut pool, Refusal::NoFreeBlock, |pool| make(pool, 2));
+        // All of task 0 go, and then there is room up to the limit.
+        for _ in 0..10 {
+            pool.tick(0).unwrap();
+        }
+        for _ in 0..4 {
+            make(&mut pool, 2).unwrap();
+        }
+        refused(&mut pool, Refusal::AtLimit, |pool| make(pool, 2));
+        assert_eq!((told(&pool, 0)[store], told(&pool, 2)[store]), ((0, 0, 255), (9, 5, 9)));
+    }
+}
+
+/// Also for whoever joins by its number.
+#[test]
+fn what_a_task_made_counts_for_nobody_once_it_has_left() {
+    let mut pool = pool();
+    pool.join(2, share(3, 3, 0, 255)).unwrap();
+    for length in [4, 4, 40] {
+        pool.make(2, Kind::Pinned, 0, length).unwrap();
+    }
+    assert_eq!(told(&pool, 2), [(2, 3, 3), (1, 0, 255)]);
+    pool.leave(2).unwrap();
+    assert_eq!(pool.share(2), Ok(Holdings::default()));
+    pool.join(2, share(0, 1, 0, 0)).unwrap();
+    assert_eq!(told(&pool, 2), [(0, 0, 1), (0, 0, 0)]);
+    pool.make(2, Kind::Local, 0, 4).unwrap();
+    refused(&mut pool, Refusal::AtLimit, |pool| pool.make(2, Kind::Local, 0, 4));
+    refused(&mut pool, Refusal::AtLimit, |pool| pool.make(2, Kind::Local, 0, 40));
+    assert_eq!(figures(&pool), (3, 1, 4, 4));
+}
+
+/// At its limit where no block is free: 26 comes before 9, and 9 before 10.
+#[test]
+fn a_limit_is_told_before_a_store_that_is_full() {
+    let limits = Limits { small_blocks: 1, large_blocks: 1, expirations: 1, extension: 0 };
+    let mut pool = Pool::sized(limits).unwrap();
+    pool.join(0, share(0, 1, 0, 1)).unwrap();
+    pool.join(1, Share::OPEN).unwrap();
+    let make = |pool: &mut Pool, task, length| pool.make(task, Kind::Local, 0, length);
+    make(&mut pool, 0, 4).unwrap();
+    refused(&mut pool, Refusal::AtLimit, |pool| make(pool, 0, 4));
+    refused(&mut pool, Refusal::NoFreeBlock, |pool| make(pool, 1, 4));
+    refused(&mut pool, Refusal::NoFreeExpiration, |pool| make(pool, 0, 40));
+}
+
+/// The four numbers, each in its place of the record.
+#[test]
+fn the_record_has_the_shares() {
+    let mut pool = pool();
+    pool.join(2, share(1, 2, 3, 4)).unwrap();
+    assert_eq!(pool.record().shares[..4], [Share::OPEN, Share::OPEN, share(1, 2, 3, 4), Share::NONE]);
+    assert_eq!(pool.record().as_bytes()[152 + 2 * 4..][..4], [1, 2, 3, 4]);
+    assert_eq!(told(&pool, 2), [(0, 1, 2), (0, 3, 4)]);
+}
+
 #[test]
 fn the_calls_say_whether_global_time_advanced() {
     let mut pool = pool();
     pool.resume(1).unwrap();
-    pool.join(2).unwrap();
+    pool.join(2, Share::OPEN).unwrap();
     assert_eq!(pool.tick(0), Ok(false));
     assert_eq!(pool.tick(1), Ok(false));
     assert_eq!(pool.block(2), Ok(true));
@@ -288,14 +395,17 @@ fn changed(pool: Pool, length: u16, change: impl Fn(&mut [u8])) -> Pool {
 fn tasks_are_tested() {
     let mut pool = pool();
     let handle = pool.make(0, Kind::Local, 0, 3).unwrap();
-    refused(&mut pool, Refusal::TaskPresent, |pool| pool.join(0));
-    refused(&mut pool, Refusal::TaskPresent, |pool| pool.join(1));
+    refused(&mut pool, Refusal::TaskPresent, |pool| pool.join(0, Share::OPEN));
+    refused(&mut pool, Refusal::TaskPresent, |pool| pool.join(1, Share::OPEN));
     refused(&mut pool, Refusal::TaskRunning, |pool| pool.resume(0));
     for (task, refusal) in [(16, Refusal::NoSuchTask), (255, Refusal::NoSuchTask), (2, Refusal::TaskAbsent)] {
         refused(&mut pool, refusal, |pool| pool.leave(task));
         refused(&mut pool, refusal, |pool| pool.resume(task));
     }
-    refused(&mut pool, Refusal::NoSuchTask, |pool| pool.join(16));
+    for task in [16, 255] {
+        refused(&mut pool, Refusal::NoSuchTask, |pool| pool.join(task, Share::OPEN));
+        refused(&mut pool, Refusal::NoSuchTask, |pool| pool.share(task));
+    }
     for (task, refusal) in [(16, Refusal::NoSuchTask), (2, Refusal::TaskAbsent), (1, Refusal::TaskWaiting)] {
         refused(&mut pool, refusal, |pool| pool.block(task));
         refused(&mut pool, refusal, |pool| pool.tick(task));
@@ -346,7 +456,7 @@ fn blocks_and_expirations_run_out() {
         refused(&mut pool, Refusal::NoFreeBlock, |pool| pool.make(0, Kind::Local, 1, length));
     }
     pool.leave(0).unwrap();
-    pool.join(0).unwrap();
+    pool.join(0, Share::OPEN).unwrap();
     let handle = pool.make(0, Kind::Local, 1, 1).unwrap();
     for _ in 1..256 {
         pool.refresh(0, Kind::Global, 30, handle).unwrap();
@@ -385,7 +495,7 @@ fn a_damaged_record_is_refused_until_it_is_fresh() {
     let damaged = Record::from_bytes(&[0xA5; RECORD]);
     let mut pool = Pool::over(damaged.into(), vec![0; SMALL].into(), vec![0; LARGE].into());
     let handle = Handle::from(1);
-    refused(&mut pool, Refusal::NotWellFormed, |pool| pool.join(16));
+    refused(&mut pool, Refusal::NotWellFormed, |pool| pool.join(16, Share::OPEN));
     refused(&mut pool, Refusal::NotWellFormed, |pool| pool.leave(16));
     refused(&mut pool, Refusal::NotWellFormed, |pool| pool.block(16));
     refused(&mut pool, Refusal::NotWellFormed, |pool| pool.resume(16));
@@ -396,12 +506,13 @@ fn a_damaged_record_is_refused_until_it_is_fresh() {
     refused(&mut pool, Refusal::NotWellFormed, |pool| pool.write(16, handle, 0, &[]));
     refused(&mut pool, Refusal::NotWellFormed, |pool| pool.report());
     refused(&mut pool, Refusal::NotWellFormed, |pool| pool.remaining(16, handle));
+    refused(&mut pool, Refusal::NotWellFormed, |pool| pool.share(16));
     refused(&mut pool, Refusal::NotWellFormed, |pool| pool.release(16, handle));
     refused(&mut pool, Refusal::NotWellFormed, |pool| pool.refresh_all(16, Kind::Local, 0, &[]));
     assert_eq!(pool.to_string(), "the record is not well-formed");
     pool.fresh();
     assert_eq!(*pool.record(), Record::fresh());
-    pool.join(15).unwrap();
+    pool.join(15, Share::OPEN).unwrap();
 }
 
 /// But for its limits a fresh record is all zeros; all zeros are none.
@@ -412,7 +523,7 @@ fn zeros_are_no_record() {
     record.limits = Limits { small_blocks: 0, large_blocks: 0, expirations: 0, extension: 0 };
     assert_eq!(*record.as_bytes(), [0; RECORD]);
     let mut pool = Pool::over(record.into(), vec![0; SMALL].into(), vec![0; LARGE].into());
-    refused(&mut pool, Refusal::NotWellFormed, |pool| pool.join(0));
+    refused(&mut pool, Refusal::NotWellFormed, |pool| pool.join(0, Share::OPEN));
 }
 
 /// Wherever the library puts an entry.
@@ -427,18 +538,20 @@ fn the_record_shows_objects_and_expirations() {
     let record = pool.record().clone();
     let block = record.handles.iter().position(|number| *number == u32::from(handle)).unwrap();
     assert!((64..96).contains(&block));
-    assert_eq!(record.extents[block], 40); // and a sum of 0
+    let told = |record: &Record| (record.length(block), record.sum(block), record.maker(block));
+    assert_eq!((told(&record), record.extents[block]), ((40, 0, 1), 1 << 16 | 40));
     let entry = |clock| record.clocks.iter().position(|other| *other == clock).unwrap();
     let (local, global) = (entry(16 + 1), entry(32));
     assert_eq!([record.named[local], record.named[global]], [block as u8; 2]);
     assert_eq!(record.dues[local], record.tasks[1].clock + 3 + 1);
     assert_eq!(record.dues[global], record.global + 4 + 2);
     pool.write(0, handle, 38, &[250, 7]).unwrap();
-    assert_eq!(pool.record().extents[block], 257 << 16 | 40);
+    assert_eq!(told(pool.record()), (40, 257, 1));
     pool.leave(1).unwrap();
     assert_eq!((pool.record().clocks[local], pool.record().clocks[global]), (0, 32));
+    assert_eq!(told(pool.record()), (40, 257, MAKER_DEPARTED));
     pool.leave(0).unwrap();
-    pool.join(0).unwrap();
+    pool.join(0, Share::OPEN).unwrap();
     assert_eq!(pool.record().clocks[global], 48);
     let pinned = pool.make(0, Kind::Pinned, 0, 4).unwrap();
     let record = pool.record().clone();
@@ -450,7 +563,7 @@ fn the_record_shows_objects_and_expirations() {
 #[test]
 fn what_a_task_has_set_by_global_time_waits_with_it() {
     let mut pool = Pool::new();
-    (0..2).for_each(|task| pool.join(task).unwrap());
+    (0..2).for_each(|task| pool.join(task, Share::OPEN).unwrap());
     let (waits, counts) = (pool.make(0, Kind::Global, 0, 4).unwrap(), pool.make(1, Kind::Global, 0, 4).unwrap());
     assert_eq!(pool.tick(1), Ok(false));
     assert_eq!(pool.block(0), Ok(true));
@@ -459,7 +572,7 @@ fn what_a_task_has_set_by_global_time_waits_with_it() {
     assert_eq!(pool.remaining(1, counts), Err(Refusal::ObjectGone));
     // It departs, and another of its number waits.
     assert_eq!(pool.leave(0), Ok(false));
-    pool.join(0).unwrap();
+    pool.join(0, Share::OPEN).unwrap();
     assert_eq!(pool.block(0), Ok(false));
     assert_eq!(pool.tick(1), Ok(true));
     assert_eq!(pool.remaining(1, waits).unwrap().global, 1);
@@ -470,9 +583,9 @@ fn what_a_task_has_set_by_global_time_waits_with_it() {
 #[test]
 fn what_else_stands_in_free_entries_has_no_meaning() {
     let mut record = Record::fresh();
-    (record.extents, record.named, record.dues) = ([u32::MAX; STORE_BLOCKS], [255; EXPIRATIONS], [7; EXPIRATIONS]);
+    (record.extents, record.named, record.dues) = ([u64::MAX; STORE_BLOCKS], [255; EXPIRATIONS], [7; EXPIRATIONS]);
     let mut pool: Pool = Pool::over(record.into(), vec![0; SMALL].into(), vec![0; LARGE].into());
-    pool.join(0).unwrap();
+    pool.join(0, Share::OPEN).unwrap();
     let handle = pool.make(0, Kind::Local, 0, 2).unwrap();
     assert_eq!(pool.read_to_vec(0, handle).unwrap(), [0, 0]);
     assert_eq!(figures(&pool), (1, 0, 1, 1));
@@ -480,7 +593,7 @@ fn what_else_stands_in_free_entries_has_no_meaning() {
         let mut record = Record::fresh();
         record.clocks[9] = clock;
         let mut pool: Pool = Pool::over(record.into(), vec![0; SMALL].into(), vec![0; LARGE].into());
-        refused(&mut pool, Refusal::NotWellFormed, |pool| pool.join(0));
+        refused(&mut pool, Refusal::NotWellFormed, |pool| pool.join(0, Share::OPEN));
     }
 }
 
@@ -488,7 +601,7 @@ fn what_else_stands_in_free_entries_has_no_meaning() {
 fn a_borrowed_pool_works_on_what_it_borrows() {
     let (mut record, mut small, mut large) = (Record::fresh(), [0xEE; SMALL], [0xEE; LARGE]);
     let mut pool = Pool::over(&mut record, &mut small, &mut large);
-    pool.join(0).unwrap();
+    pool.join(0, Share::OPEN).unwrap();
     let handle = pool.make(0, Kind::Global, 3, LONGEST as u16).unwrap();
     pool.write(0, handle, 255, &[1]).unwrap();
     assert_eq!(pool.to_string(), "global time 0, small 0, large 1, expirations 1, given 1");
@@ -508,7 +621,7 @@ fn an_owned_pool_hands_its_parts_back() {
 fn a_pool_can_be_printed_and_sent_to_a_thread() {
     let mut pool = Pool::default();
     assert!(format!("{pool:?}").starts_with("Pool { record: Record { tasks: [TaskEntry { state: 0"));
-    let pool = std::thread::spawn(move || pool.join(0).map(|()| pool)).join().unwrap().unwrap();
+    let pool = std::thread::spawn(move || pool.join(0, Share::OPEN).map(|()| pool)).join().unwrap().unwrap();
     assert_eq!(pool.to_string(), "global time 0, small 0, large 0, expirations 0, given 0");
 }
 

@@ -1,7 +1,7 @@
 //! Call frames through the safe interface: document 01's worked example, the refusals of a frame, and its room.
 #![cfg(feature = "alloc")]
 
-use ramsummer::{Kind, Pool, Record, Refusal, LARGE, LINE, SMALL};
+use ramsummer::{Kind, Limits, Pool, Record, Refusal, Share, LARGE, LINE, SMALL};
 
 /// The answer line without its LF. The outcome has to be the number that the line starts with.
 fn answer(pool: &mut Pool, line: &str) -> String {
@@ -17,7 +17,7 @@ fn answer(pool: &mut Pool, line: &str) -> String {
 fn the_worked_example() {
     let mut pool = Pool::new();
     for (frame, expected) in [
-        ("0100", "00"),
+        ("010000FF00FF", "00"),
         ("060000000004", "0000000001"),
         ("09000000000101A5", "00"),
         ("080000000001", "0000A50000"),
@@ -34,7 +34,7 @@ fn the_worked_example() {
 fn what_remains_to_an_object() {
     let mut pool = Pool::new();
     for (frame, expected) in [
-        ("0100", "00"),
+        ("010000FF00FF", "00"),
         ("060000020004", "0000000001"),
         ("0700010400000001", "00"),
         ("0B0000000001", "000306"),
@@ -51,7 +51,7 @@ fn what_remains_to_an_object() {
 fn objects_that_are_refreshed_together() {
     let mut pool = Pool::new();
     for (frame, expected) in [
-        ("0100", "00"),
+        ("010000FF00FF", "00"),
         ("060000000004", "0000000001"),
         ("060000000004", "0000000002"),
         ("0C00000200000001", "00"),
@@ -73,12 +73,38 @@ fn objects_that_are_refreshed_together() {
     assert_eq!(answer(&mut pool, &format!("0C000000{}00", "00000001".repeat(100_000))), "12");
 }
 
+/// Task 0 has a reserve of two small objects and a limit of three, task 1 no small and one large one. Once 0 has left,
+/// its object counts for nobody.
+#[test]
+fn tasks_that_have_a_share() {
+    let mut pool = Pool::sized(Limits { small_blocks: 4, large_blocks: 1, expirations: 9, extension: 1 }).unwrap();
+    for (frame, expected) in [
+        ("0100020300FF", "00"),
+        ("010102FF00FF", "00"),
+        ("010201FF00FF", "19"),
+        ("010200000001", "00"),
+        ("060200000004", "1A"),
+        ("060002000004", "0000000001"),
+        ("060000000004", "0000000002"),
+        ("060000000004", "09"),
+        ("060100000004", "0000000003"),
+        ("060200000028", "0000000004"),
+        ("060100000028", "09"),
+        ("0200", "0000"),
+        ("010001010000", "00"),
+        ("010301010000", "19"),
+        ("0A", "000201000300000004"),
+    ] {
+        assert_eq!(answer(&mut pool, frame), expected, "{frame}");
+    }
+}
+
 /// It stands over ticks, and goes with its release or, where it has another expiration, later.
 #[test]
 fn objects_that_are_pinned_until_they_are_released() {
     let mut pool = Pool::new();
     for (frame, expected) in [
-        ("0100", "00"),
+        ("010000FF00FF", "00"),
         ("060002010004", "06"),
         ("060002000004", "0000000001"),
         ("060002000004", "0000000002"),
@@ -105,12 +131,15 @@ fn refused_frames_change_nothing() {
     for (frame, expected) in [
         ("0", "10"),
         ("0a", "10"),
-        ("01 00", "10"),
-        ("0100\n", "10"),
+        ("01 0000FF00FF", "10"),
+        ("010000FF00FF\n", "10"),
         ("", "11"),
         ("00", "11"),
         ("0E", "11"),
         ("01", "12"),
+        ("0100", "12"),
+        ("010000FF00", "12"),
+        ("010000FF00FF00", "12"),
         ("0B", "12"),
         ("0B00000001", "12"),
         ("0C0000", "12"),
@@ -119,7 +148,13 @@ fn refused_frames_change_nothing() {
         ("0D000000000100", "12"),
         ("060003000004", "13"),
         ("0C000300", "13"),
-        ("0110", "01"),
+        ("011000FF00FF", "01"),
+        ("011001000000", "01"),
+        ("010001000000", "18"),
+        ("010000004100", "18"),
+        ("010041000001", "18"),
+        ("010041410000", "19"),
+        ("010000002121", "19"),
         ("0500", "03"),
     ] {
         assert_eq!(answer(&mut pool, frame), expected, "{frame}");
@@ -144,7 +179,7 @@ fn a_room_too_short_is_left_alone() {
     let mut pool = Pool::new();
     let before = pool.clone();
     let mut room = [9; LINE - 1];
-    let answer = pool.frame(b"0100", &mut room);
+    let answer = pool.frame(b"010000FF00FF", &mut room);
     assert_eq!((answer.outcome, answer.line), (Err(Refusal::BufferTooShort), &[][..]));
     assert_eq!(room, [9; LINE - 1]);
     assert!(pool == before);
@@ -153,7 +188,7 @@ fn a_room_too_short_is_left_alone() {
 #[test]
 fn the_longest_answer_has_room() {
     let mut pool = Pool::new();
-    pool.join(0).unwrap();
+    pool.join(0, Share::OPEN).unwrap();
     let handle = pool.make(0, Kind::Local, 0, 256).unwrap();
     pool.write(0, handle, 0, &[0x5C; 256]).unwrap();
     assert_eq!(answer(&mut pool, "080000000001"), format!("00{}", "5C".repeat(256)));

@@ -1,7 +1,7 @@
 //! The C headers say the same as this crate, and docs/REFUSALS.md too: sizes, places, counts, names, numbers, sentences.
 
 use in_c::{host, is_without_cpp};
-use ramsummer::{Kind, Limits, Record, Refusal, TaskEntry};
+use ramsummer::{Kind, Limits, Quota, Record, Refusal, Share, TaskEntry};
 use std::mem::{offset_of, size_of};
 use std::path::{Path, PathBuf};
 use std::process::{Command, Output};
@@ -28,6 +28,9 @@ fn c_name(name: &str) -> String {
 /// Expressions in C, and what this crate has for each.
 fn claims() -> Vec<(String, usize)> {
     let cable = Limits { small_blocks: 16, large_blocks: 4, ..Limits::STANDARD };
+    let Share { small, large } = Share::OPEN;
+    let mut record = Record::fresh();
+    record.extents[0] = 0x1122_3344_5566_7788;
     let mut claims: Vec<(String, usize)> = [
         ("RAMSUMMER_SMALL_BLOCKS", Limits::STANDARD.small_blocks as usize),
         ("RAMSUMMER_LARGE_BLOCKS", Limits::STANDARD.large_blocks as usize),
@@ -47,6 +50,12 @@ fn claims() -> Vec<(String, usize)> {
         ("RAMSUMMER_EXPIRATIONS", ramsummer::EXPIRATIONS),
         ("RAMSUMMER_MAX_EXTENSION", ramsummer::MAX_EXTENSION.into()),
         ("RAMSUMMER_LARGEST_BATCH", ramsummer::LARGEST_BATCH),
+        ("RAMSUMMER_NO_LIMIT", Quota::OPEN.limit.into()),
+        ("((const int[]){RAMSUMMER_OPEN})[0]", small.reserve.into()),
+        ("((const int[]){RAMSUMMER_OPEN})[1]", small.limit.into()),
+        ("((const int[]){RAMSUMMER_OPEN})[2]", large.reserve.into()),
+        ("((const int[]){RAMSUMMER_OPEN})[3]", large.limit.into()),
+        ("sizeof(((const int[]){RAMSUMMER_OPEN}))", 4 * size_of::<i32>()),
         ("RAMSUMMER_DONE", 0),
         ("RAMSUMMER_LOCAL", Kind::Local.number().into()),
         ("RAMSUMMER_GLOBAL", Kind::Global.number().into()),
@@ -55,12 +64,21 @@ fn claims() -> Vec<(String, usize)> {
         ("RAMSUMMER_CLOCK_GLOBAL", ramsummer::CLOCK_GLOBAL.into()),
         ("RAMSUMMER_CLOCK_DEPARTED", ramsummer::CLOCK_DEPARTED.into()),
         ("RAMSUMMER_CLOCK_PINNED", ramsummer::CLOCK_PINNED.into()),
+        ("RAMSUMMER_MAKER_DEPARTED", ramsummer::MAKER_DEPARTED.into()),
+        ("RAMSUMMER_LENGTH_IN(0x1122334455667788)", record.length(0).into()),
+        ("RAMSUMMER_MAKER_IN(0x1122334455667788)", record.maker(0).into()),
+        ("RAMSUMMER_SUM_IN(0x1122334455667788)", record.sum(0).into()),
+        ("sizeof(ramsummer_task_share)", size_of::<Share>()),
         ("sizeof(ramsummer_task_entry)", size_of::<TaskEntry>()),
         ("sizeof(ramsummer_limits)", size_of::<Limits>()),
         ("sizeof(ramsummer_pool)", size_of::<Record>()),
         ("offsetof(ramsummer_task_entry, state)", offset_of!(TaskEntry, state)),
         ("offsetof(ramsummer_task_entry, ticked)", offset_of!(TaskEntry, ticked)),
         ("offsetof(ramsummer_task_entry, clock)", offset_of!(TaskEntry, clock)),
+        ("offsetof(ramsummer_task_share, small_reserve)", offset_of!(Share, small) + offset_of!(Quota, reserve)),
+        ("offsetof(ramsummer_task_share, small_limit)", offset_of!(Share, small) + offset_of!(Quota, limit)),
+        ("offsetof(ramsummer_task_share, large_reserve)", offset_of!(Share, large) + offset_of!(Quota, reserve)),
+        ("offsetof(ramsummer_task_share, large_limit)", offset_of!(Share, large) + offset_of!(Quota, limit)),
         ("offsetof(ramsummer_limits, small_blocks)", offset_of!(Limits, small_blocks)),
         ("offsetof(ramsummer_limits, large_blocks)", offset_of!(Limits, large_blocks)),
         ("offsetof(ramsummer_limits, expirations)", offset_of!(Limits, expirations)),
@@ -69,6 +87,7 @@ fn claims() -> Vec<(String, usize)> {
         ("offsetof(ramsummer_pool, global)", offset_of!(Record, global)),
         ("offsetof(ramsummer_pool, given)", offset_of!(Record, given)),
         ("offsetof(ramsummer_pool, limits)", offset_of!(Record, limits)),
+        ("offsetof(ramsummer_pool, shares)", offset_of!(Record, shares)),
         ("offsetof(ramsummer_pool, handles)", offset_of!(Record, handles)),
         ("offsetof(ramsummer_pool, extents)", offset_of!(Record, extents)),
         ("offsetof(ramsummer_pool, clocks)", offset_of!(Record, clocks)),
@@ -133,7 +152,8 @@ fn the_headers_compile_as_c_and_as_cpp() {
 /// Fresh alone is never refused.
 #[test]
 fn the_compiler_warns_of_an_answer_that_nobody_looks_at() {
-    let calls = [("join(pool, 0)", true), ("fresh_sized(pool, 16, 4, 64, 10)", true), ("fresh(pool)", false)];
+    let calls =
+        [("join(pool, 0, RAMSUMMER_OPEN)", true), ("fresh_sized(pool, 16, 4, 64, 10)", true), ("fresh(pool)", false)];
     for (call, is_warned_of) in calls {
         let text = format!("#include \"ramsummer.h\"\nvoid f(ramsummer_pool *pool) {{ ramsummer_{call}; }}\n");
         let (name, _) = call.split_once('(').unwrap();
@@ -165,6 +185,6 @@ fn the_refusals_are_those_of_the_documents() {
 fn numbers_and_refusals_go_both_ways() {
     for number in 0..=255 {
         let back = Refusal::from_number(number).map(Refusal::number);
-        assert_eq!(back, matches!(number, 1..=23 | 29 | 255).then_some(number));
+        assert_eq!(back, matches!(number, 1..=26 | 29 | 255).then_some(number));
     }
 }

@@ -1,10 +1,10 @@
 //! Saved images: what is saved comes back, and no damage of one bit or cut goes unnoticed.
 
 use lives::{limits, pools, pools_of, Random};
-use old::version_3;
+use old::{version_3, version_4};
 use ramsummer::image::{crc32, restore, restore_with_stores, save, save_with_stores, with_stores, Fault};
 use ramsummer::image::{MAGIC, RECORD_ALONE, VERSION, WITH_STORES};
-use ramsummer::{Kind, Limits, Pool, Record, Refusal, LARGE, LARGE_SIZE, LINE, RECORD, SMALL, SMALL_SIZE};
+use ramsummer::{Kind, Limits, Pool, Record, Refusal, Share, LARGE, LARGE_SIZE, LINE, RECORD, SMALL, SMALL_SIZE};
 
 mod lives;
 mod old;
@@ -54,7 +54,7 @@ fn what_calls_lead_to_comes_back() {
         let mut back = restored(&whole_image_of(&pool)).unwrap();
         assert!(back == pool);
         assert_eq!(back.report(), pool.report());
-        assert_eq!(back.join(16), Err(Refusal::NoSuchTask)); // it answers, so it is well-formed
+        assert_eq!(back.join(16, Share::OPEN), Err(Refusal::NoSuchTask)); // it answers, so it is well-formed
         standing += u32::from(pool.report().unwrap().small);
     }
     assert!(standing > 400);
@@ -97,7 +97,7 @@ fn a_record_alone_comes_back_with_its_limits() {
     let record = restore(&image_of(&Record::sized(limits).unwrap())).unwrap();
     assert_eq!(record.limits, limits);
     let mut pool = Pool::over(record, [0; SMALL], [0; LARGE]);
-    assert_eq!(pool.frame(b"0100", &mut [0; LINE]).outcome, Ok(()));
+    assert_eq!(pool.frame(b"010000FF00FF", &mut [0; LINE]).outcome, Ok(()));
     assert_eq!(pool.make(0, Kind::Local, 0, 4), Err(Refusal::WrongStoreLength));
     assert_eq!(pool.read(0, 1.into(), &mut [0; 4]), Err(Refusal::WrongStoreLength));
     assert_eq!(pool.write(0, 1.into(), 0, &[]), Err(Refusal::WrongStoreLength));
@@ -144,8 +144,8 @@ fn the_layout_is_that_of_its_version() {
     let counted: Vec<u8> = (0..RECORD).map(|place| (place % 251) as u8).collect();
     let mut image = vec![0; RECORD_ALONE];
     image[..4].copy_from_slice(b"RSMR");
-    image[4] = 4;
-    image[8..12].copy_from_slice(&2472_u32.to_le_bytes());
+    image[4] = 5;
+    image[8..12].copy_from_slice(&2920_u32.to_le_bytes());
     image[12..12 + RECORD].copy_from_slice(&counted);
     let sum = crc32(&image[..RECORD_ALONE - 4]);
     image[RECORD_ALONE - 4..].copy_from_slice(&sum.to_le_bytes());
@@ -154,16 +154,18 @@ fn the_layout_is_that_of_its_version() {
     let Limits { small_blocks, large_blocks, expirations, extension } = record.limits;
     assert_eq!((record.global, record.given, small_blocks), (0x8382_8180, 0x8786_8584, 0x8B8A_8988));
     assert_eq!((large_blocks, expirations, extension), (0x8F8E_8D8C, 0x9392_9190, 0x9796_9594));
-    assert_eq!((record.handles[0], record.extents[0]), (0x9B9A_9998, 0x2524_2322));
-    assert_eq!((record.clocks[0], record.named[0]), ((920 % 251) as u8, (1176 % 251) as u8));
+    let Share { small, large } = record.shares[0];
+    assert_eq!([small.reserve, small.limit, large.reserve, large.limit], [152, 153, 154, 155]);
+    assert_eq!((record.handles[0], record.extents[0]), (0xDBDA_D9D8, 0x6968_6766_6564_6362));
+    assert_eq!((record.clocks[0], record.named[0]), ((1368 % 251) as u8, (1624 % 251) as u8));
     assert_eq!(image_of(&record), image);
     // The sums of fresh images, by Python's zlib.
     let cable = Limits { small_blocks: 16, large_blocks: 4, expirations: 64, extension: 10 };
-    assert_eq!(image_of(&Record::fresh())[RECORD_ALONE - 4..], 0x287C_09D4_u32.to_le_bytes());
-    assert_eq!(whole_image_of(&Pool::new())[WITH_STORES - 4..], 0x9B02_1BF4_u32.to_le_bytes());
-    assert_eq!(whole_image_of(&Pool::sized(cable).unwrap())[4008 - 4..], 0xA825_58B5_u32.to_le_bytes());
-    assert_eq!((MAGIC, VERSION, RECORD_ALONE, WITH_STORES), (*b"RSMR", 4, 2472, 12_712));
-    assert_eq!(with_stores(cable), 4008);
+    assert_eq!(image_of(&Record::fresh())[RECORD_ALONE - 4..], 0x8B2B_960E_u32.to_le_bytes());
+    assert_eq!(whole_image_of(&Pool::new())[WITH_STORES - 4..], 0x95EE_A51C_u32.to_le_bytes());
+    assert_eq!(whole_image_of(&Pool::sized(cable).unwrap())[4456 - 4..], 0xA71F_B0CF_u32.to_le_bytes());
+    assert_eq!((MAGIC, VERSION, RECORD_ALONE, WITH_STORES), (*b"RSMR", 5, 2920, 13_160));
+    assert_eq!(with_stores(cable), 4456);
 }
 
 #[test]
@@ -225,7 +227,7 @@ fn bytes_after_an_image_may_be_anything() {
 fn other_versions_and_the_other_kind_are_told() {
     let pool = late_pool();
     let mut image = image_of(pool.record());
-    for version in [0, 1, 2, 3, 5, 256, u32::MAX] {
+    for version in [0, 1, 2, 3, 4, 6, 256, u32::MAX] {
         image[4..8].copy_from_slice(&version.to_le_bytes());
         assert_eq!(restore(&image), Err(Fault::Version));
     }
@@ -240,20 +242,21 @@ fn other_versions_and_the_other_kind_are_told() {
     }
 }
 
-/// It has no limits, and so is shorter than any of this version: where nothing stands after it, that is told first.
+/// Its record is shorter than that of this version: where nothing stands after it, that is told first.
 #[test]
-fn an_image_of_version_3_is_too_short_at_its_own_length() {
-    let old = version_3();
-    assert_eq!(old.len(), 2456);
-    assert_eq!(restore(&old), Err(Fault::TooShort));
-    assert_eq!(restored(&old).err(), Some(Fault::TooShort));
-    for after in [0, 0xFF] {
-        let mut sector = [after; 4096];
-        sector[..old.len()].copy_from_slice(&old);
-        assert_eq!(restore(&sector), Err(Fault::Version));
-        assert_eq!(restore(&sector[..RECORD_ALONE]), Err(Fault::Version));
-        assert_eq!(restore(&sector[..RECORD_ALONE - 1]), Err(Fault::TooShort));
-        assert_eq!(restored(&sector).err(), Some(Fault::Version));
+fn an_image_of_an_earlier_version_is_too_short_at_its_own_length() {
+    for (old, length) in [(version_3(), 2456), (version_4(), 2472)] {
+        assert_eq!(old.len(), length);
+        assert_eq!(restore(&old), Err(Fault::TooShort));
+        assert_eq!(restored(&old).err(), Some(Fault::TooShort));
+        for after in [0, 0xFF] {
+            let mut sector = [after; 4096];
+            sector[..old.len()].copy_from_slice(&old);
+            assert_eq!(restore(&sector), Err(Fault::Version));
+            assert_eq!(restore(&sector[..RECORD_ALONE]), Err(Fault::Version));
+            assert_eq!(restore(&sector[..RECORD_ALONE - 1]), Err(Fault::TooShort));
+            assert_eq!(restored(&sector).err(), Some(Fault::Version));
+        }
     }
 }
 

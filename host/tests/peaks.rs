@@ -2,7 +2,7 @@
 
 use in_c::{built, host, scratch};
 use lives::Random;
-use ramsummer::{Gauged, Handle, Kind, Limits, Peaks, Pool, Refusal, LINE};
+use ramsummer::{Gauged, Handle, Kind, Limits, Peaks, Pool, Refusal, Share, LINE};
 use std::fs::{self, File};
 use std::process::Command;
 
@@ -18,7 +18,7 @@ fn peaks(small: u8, large: u8, expirations: u16) -> Peaks {
 #[test]
 fn each_call_that_raises_a_figure_is_noted() {
     let mut pool = Gauged::over(Pool::new());
-    pool.join(0).unwrap();
+    pool.join(0, Share::OPEN).unwrap();
     assert_eq!(pool.peaks(), Peaks::default());
     let small = pool.make(0, Kind::Local, 0, 32).unwrap();
     assert_eq!(pool.peaks(), peaks(1, 0, 1));
@@ -36,7 +36,7 @@ fn each_call_that_raises_a_figure_is_noted() {
 #[test]
 fn marks_stay_when_objects_go_until_they_are_begun_anew() {
     let mut pool = Gauged::over(Pool::new());
-    pool.join(0).unwrap();
+    pool.join(0, Share::OPEN).unwrap();
     for length in [4, 40, 4] {
         pool.make(0, Kind::Local, 0, length).unwrap();
     }
@@ -62,7 +62,7 @@ fn damage(pool: &mut Pool) {
 #[test]
 fn marks_stay_where_a_report_is_refused() {
     let mut pool = Gauged::over(Pool::new());
-    pool.join(0).unwrap();
+    pool.join(0, Share::OPEN).unwrap();
     pool.make(0, Kind::Local, 0, 4).unwrap();
     damage(&mut pool);
     assert_eq!(pool.reset_peaks(), Err(Refusal::NotWellFormed));
@@ -83,7 +83,7 @@ fn frame(pool: &Pool, random: &mut Random) -> String {
     let handle = given.saturating_sub(random.below(9));
     let timed = format!("{task:02X}{:02X}{:02X}", random.below(2), random.below(3));
     match random.below(20) {
-        0..=1 => format!("01{task:02X}"),
+        0..=1 => format!("01{task:02X}00FF00FF"),
         2 => format!("02{task:02X}"),
         3 => format!("03{task:02X}"),
         4..=5 => format!("04{task:02X}"),

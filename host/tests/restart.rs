@@ -1,7 +1,7 @@
 //! What docs/RESTART.md says of tasks that come back, held on pools that calls lead to.
 
 use lives::{limits, pools, pools_of};
-use ramsummer::{image, Handle, Kind, Limits, Pool, Record, Refusal, Report};
+use ramsummer::{image, Handle, Kind, Limits, Pool, Record, Refusal, Report, Share};
 use ramsummer::{CLOCK_LOCAL, CLOCK_PINNED, LARGE, SMALL, TASKS};
 
 mod lives;
@@ -46,10 +46,10 @@ fn a_task_that_finds_itself_joined_leaves_and_joins() {
     for pool in restarted() {
         for task in (0..TASKS as u8).filter(|&task| pool.record().tasks[usize::from(task)].state != ABSENT) {
             let Report { expirations, .. } = pool.report().unwrap();
-            assert_eq!(pool.clone().join(task), Err(Refusal::TaskPresent));
+            assert_eq!(pool.clone().join(task, Share::OPEN), Err(Refusal::TaskPresent));
             let mut anew = pool.clone();
             let advanced = anew.leave(task).unwrap();
-            anew.join(task).unwrap();
+            anew.join(task, Share::OPEN).unwrap();
             assert_eq!((local(anew.record(), task), anew.record().tasks[usize::from(task)].clock), (0, 0));
             // Only what this task set goes, unless global time advances.
             let stand = usize::from(expirations) - local(pool.record(), task);
@@ -84,10 +84,10 @@ fn a_read_without_the_stores_is_refused() {
     for pool in restarted() {
         let Some(task) = pool.record().tasks.iter().position(|task| task.state == RUNNING) else { continue };
         let mut pool = Pool::over(pool.record().clone(), [0; SMALL], [0; LARGE]);
-        let Record { handles, extents, .. } = *pool.record();
-        for (handle, extent) in handles.into_iter().zip(extents).filter(|(handle, _)| *handle != 0) {
+        let record = pool.record().clone();
+        for (block, handle) in record.handles.into_iter().enumerate().filter(|(_, handle)| *handle != 0) {
             let told = pool.read(task as u8, handle.into(), &mut [0; ramsummer::LONGEST]).err();
-            assert_eq!(told, (extent >> 16 != 0).then_some(Refusal::SumDiffers));
+            assert_eq!(told, (record.sum(block) != 0).then_some(Refusal::SumDiffers));
             refused += u32::from(told.is_some());
         }
     }
@@ -99,7 +99,7 @@ fn emptied(pool: &mut Pool) -> (usize, u32) {
     for task in 0..TASKS as u8 {
         let _ = pool.leave(task);
     }
-    pool.join(0).unwrap();
+    pool.join(0, Share::OPEN).unwrap();
     let pinned = pinned(pool.record());
     pinned.iter().for_each(|handle| pool.release(0, *handle).unwrap());
     let mut last = 0;
@@ -134,7 +134,7 @@ fn a_pool_without_its_stores_is_empty_in_time() {
 #[test]
 fn an_older_image_gives_handles_again() {
     let mut pool = Pool::new();
-    pool.join(0).unwrap();
+    pool.join(0, Share::OPEN).unwrap();
     let old = restored(pool.record());
     let first = pool.make(0, Kind::Global, 30, 8).unwrap();
     let mut back = Pool::over(old, [0; SMALL], [0; LARGE]);

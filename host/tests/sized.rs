@@ -1,7 +1,7 @@
 //! Pools with limits of the site's own: which are allowed, what is refused by them, and that no call changes them.
 
 use lives::{limits, pools_of, Random};
-use ramsummer::{Handle, Kind, Limits, Pool, Record, Refusal, SitePool, LARGE_SIZE, LINE, RECORD, SMALL_SIZE};
+use ramsummer::{Handle, Kind, Limits, Pool, Record, Refusal, Share, SitePool, LARGE_SIZE, LINE, RECORD, SMALL_SIZE};
 
 mod lives;
 
@@ -40,7 +40,7 @@ fn refused<T>(pool: &mut Pool, refusal: Refusal, call: impl FnOnce(&mut Pool) ->
 /// Whatever is called.
 fn assert_not_well_formed(pool: &mut Pool) {
     let handle = Handle::from(1);
-    refused(pool, Refusal::NotWellFormed, |pool| pool.join(0));
+    refused(pool, Refusal::NotWellFormed, |pool| pool.join(0, Share::OPEN));
     refused(pool, Refusal::NotWellFormed, |pool| pool.leave(0));
     refused(pool, Refusal::NotWellFormed, |pool| pool.block(0));
     refused(pool, Refusal::NotWellFormed, |pool| pool.resume(0));
@@ -54,7 +54,8 @@ fn assert_not_well_formed(pool: &mut Pool) {
     refused(pool, Refusal::NotWellFormed, |pool| pool.report());
     refused(pool, Refusal::NotWellFormed, |pool| pool.remaining(0, handle));
     refused(pool, Refusal::NotWellFormed, |pool| pool.awaited());
-    for line in [&b"0100"[..], b"060000000001", b"0A"] {
+    refused(pool, Refusal::NotWellFormed, |pool| pool.share(0));
+    for line in [&b"010000FF00FF"[..], b"060000000001", b"0A"] {
         refused(pool, Refusal::NotWellFormed, |pool| pool.frame(line, &mut [0; LINE]).outcome);
     }
     assert_eq!(pool.frame(b"0A", &mut [0; LINE]).line, b"0F\n");
@@ -67,7 +68,7 @@ fn a_limit_past_an_end_of_its_range_makes_no_pool() {
         assert_eq!(Record::sized(limits), Err(Refusal::LimitsOutOfRange));
         assert_eq!(Pool::sized(limits).err(), Some(Refusal::LimitsOutOfRange));
         let mut pool = Pool::new();
-        pool.join(0).unwrap();
+        pool.join(0, Share::OPEN).unwrap();
         assert_eq!(pool.fresh_sized(limits), Err(Refusal::LimitsOutOfRange));
         assert_eq!(pool.record().limits, limits);
         assert_not_well_formed(&mut pool);
@@ -82,7 +83,7 @@ fn limits_at_an_end_of_their_range_make_one() {
     for limits in ends.into_iter().chain([SMALLEST, Limits::STANDARD]) {
         assert!(limits.is_allowed(), "{limits:?}");
         let mut pool = Pool::sized(limits).unwrap();
-        pool.join(0).unwrap();
+        pool.join(0, Share::OPEN).unwrap();
         pool.make(0, Kind::Local, limits.extension as u8, 1).unwrap();
     }
 }
@@ -119,7 +120,7 @@ fn a_pool_in_place_is_the_one_in_boxes() {
     assert_eq!((IN_PLACE.small(), IN_PLACE.large()), (boxed.small(), boxed.large()));
     assert_eq!(size_of_val(&IN_PLACE), RECORD + CABLE.small_length() + CABLE.large_length());
     let (mut in_place, mut boxed) = (IN_PLACE.clone(), boxed);
-    assert_eq!(in_place.join(3), boxed.join(3));
+    assert_eq!(in_place.join(3, Share::OPEN), boxed.join(3, Share::OPEN));
     assert_eq!(in_place.make(3, Kind::Local, 10, 200), boxed.make(3, Kind::Local, 10, 200));
     assert_eq!(in_place.record(), boxed.record());
 }
@@ -140,7 +141,7 @@ fn stores_of_other_lengths_are_refused() {
         ];
         for (small, large) in others.into_iter().filter(|lengths| *lengths != (small, large)) {
             let mut pool = over(Record::sized(limits).unwrap(), small, large);
-            pool.join(0).unwrap();
+            pool.join(0, Share::OPEN).unwrap();
             refused(&mut pool, Refusal::WrongStoreLength, |pool| pool.make(0, Kind::Local, 0, 1));
             refused(&mut pool, Refusal::WrongStoreLength, |pool| pool.read_to_vec(0, Handle::from(1)));
             refused(&mut pool, Refusal::WrongStoreLength, |pool| pool.write(0, Handle::from(1), 0, &[]));
@@ -151,7 +152,7 @@ fn stores_of_other_lengths_are_refused() {
 /// Fills both stores and then the expirations, as far as these go, and lets all of it lapse.
 fn fill_and_empty(limits: Limits) {
     let mut pool = Pool::sized(limits).unwrap();
-    pool.join(0).unwrap();
+    pool.join(0, Share::OPEN).unwrap();
     let longest = limits.extension as u8;
     let mut left = limits.expirations;
     for (blocks, length) in [(limits.small_blocks, 32), (limits.large_blocks, 256)] {
@@ -202,7 +203,7 @@ fn a_pool_holds_as_much_as_its_limits_say() {
 fn the_smallest_pool_fills_and_empties() {
     let mut pool = Pool::sized(SMALLEST).unwrap();
     assert_eq!((pool.small().len(), pool.large().len()), (SMALL_SIZE, LARGE_SIZE));
-    pool.join(0).unwrap();
+    pool.join(0, Share::OPEN).unwrap();
     for length in [1, 32, 33, 256] {
         let handle = pool.make(0, Kind::Local, 0, length).unwrap();
         refused(&mut pool, Refusal::ExtensionTooLong, |pool| pool.make(0, Kind::Local, 1, 1));
@@ -239,7 +240,7 @@ fn no_call_changes_the_limits() {
 /// expiration of the first.
 fn with_two_objects() -> (Record, [usize; 2], usize) {
     let mut pool = Pool::sized(CABLE).unwrap();
-    pool.join(0).unwrap();
+    pool.join(0, Share::OPEN).unwrap();
     let handles = [4, 40].map(|length| pool.make(0, Kind::Local, 10, length).unwrap());
     let record = pool.record().clone();
     let place = |handle| record.handles.iter().position(|other| *other == u32::from(handle)).unwrap();
@@ -297,12 +298,12 @@ fn a_record_beyond_its_limits_is_refused() {
 #[test]
 fn what_else_stands_beyond_the_limits_has_no_meaning() {
     let mut record = Record::sized(SMALLEST).unwrap();
-    record.extents[1..64].fill(u32::MAX);
-    record.extents[65..].fill(u32::MAX);
+    record.extents[1..64].fill(u64::MAX);
+    record.extents[65..].fill(u64::MAX);
     record.named[1..].fill(255);
     record.dues[1..].fill(7);
     let mut pool = over(record, SMALL_SIZE, LARGE_SIZE);
-    pool.join(0).unwrap();
+    pool.join(0, Share::OPEN).unwrap();
     pool.make(0, Kind::Local, 0, 32).unwrap();
     pool.tick(0).unwrap();
     pool.make(0, Kind::Local, 0, 33).unwrap();

@@ -1,7 +1,7 @@
 //! A pool goes from thread to thread, and behind a mutex many threads share one.
 #![cfg(feature = "std")]
 
-use ramsummer::{Gauged, Kind, Pool, Record, SitePool};
+use ramsummer::{Gauged, Kind, Pool, Record, Share, SitePool};
 use std::sync::Mutex;
 use std::thread;
 
@@ -24,7 +24,7 @@ fn pools_may_be_sent_and_shared() {
 fn threads_share_a_pool() {
     const ROUNDS: u8 = 50;
     let pool = &Mutex::new(Pool::new());
-    (0..16).for_each(|task| pool.lock().unwrap().join(task).unwrap());
+    (0..16).for_each(|task| pool.lock().unwrap().join(task, Share::OPEN).unwrap());
     thread::scope(|scope| {
         for task in 0..16 {
             scope.spawn(move || {

@@ -20,7 +20,7 @@ enum { RUNS = 0, WAITS = 1, ABSENT = 2, NEVER = 99 };
 typedef struct world {
     ramsummer_pool pool;
     uint8_t small[RAMSUMMER_SMALL], large[RAMSUMMER_LARGE], out[RAMSUMMER_LONGEST];
-    uint8_t advanced, local, global;
+    uint8_t advanced, local, global, share[6];
     uint32_t handle;
     size_t count, behind;
 } world;
@@ -32,6 +32,7 @@ static int faults;
 
 #define POOL &w.pool, w.small, sizeof w.small, w.large, sizeof w.large
 #define NO_POOL &w.pool, w.small, sizeof w.small - 1, w.large, sizeof w.large
+#define SHARE w.share, w.share + 1, w.share + 2, w.share + 3, w.share + 4, w.share + 5
 
 static void expect(int line, int argument, uint8_t answer, uint8_t number) {
     if (answer == number && memcmp(&w, &before, sizeof w) == 0) return;
@@ -46,20 +47,23 @@ static void expect(int line, int argument, uint8_t answer, uint8_t number) {
 /* Three tasks and four objects: one that is gone, a short one, one of 256 bytes and one that is pinned. */
 static void begin(void) {
     ramsummer_fresh(&w.pool);
-    DONE(ramsummer_join(&w.pool, RUNS));
-    DONE(ramsummer_join(&w.pool, WAITS));
+    DONE(ramsummer_join(&w.pool, RUNS, RAMSUMMER_OPEN));
+    DONE(ramsummer_join(&w.pool, WAITS, RAMSUMMER_OPEN));
     DONE(ramsummer_block(&w.pool, WAITS, &w.advanced));
     DONE(ramsummer_make(POOL, RUNS, RAMSUMMER_LOCAL, 0, 4, &gone));
     DONE(ramsummer_tick(&w.pool, RUNS, &w.advanced));
     DONE(ramsummer_make(POOL, RUNS, RAMSUMMER_LOCAL, 30, 4, &stands));
     DONE(ramsummer_make(POOL, RUNS, RAMSUMMER_LOCAL, 30, RAMSUMMER_LONGEST, &longest));
     DONE(ramsummer_make(POOL, RUNS, RAMSUMMER_PINNED, 0, 4, &pinned));
+    memset(w.share, 7, sizeof w.share);
     before = w;
 }
 
 /* No task: 1, before all that is wrong with the arguments after it. */
 static void no_task(int n) {
-    REFUSED(1, ramsummer_join(&w.pool, n));
+    REFUSED(1, ramsummer_join(&w.pool, n, RAMSUMMER_OPEN));
+    REFUSED(1, ramsummer_join(&w.pool, n, 256, 0, 0, 0));
+    REFUSED(1, ramsummer_share(&w.pool, n, SHARE));
     REFUSED(1, ramsummer_leave(&w.pool, n, &w.advanced));
     REFUSED(1, ramsummer_block(&w.pool, n, &w.advanced));
     REFUSED(1, ramsummer_resume(&w.pool, n));
@@ -93,6 +97,18 @@ static void no_kind(int n) {
     REFUSED(19, ramsummer_refresh(&w.pool, 256, n, 256, NEVER));
     REFUSED(19, ramsummer_refresh_all(&w.pool, RUNS, n, 0, &stands, 1));
     REFUSED(19, ramsummer_refresh_all(&w.pool, 256, n, 256, &stands, 0));
+}
+
+/* 24: after the task, also where it is a limit that is too wide, and before what else is wrong with the others. */
+static void no_share(int n) {
+    REFUSED(24, ramsummer_join(&w.pool, ABSENT, n, 255, 0, 255));
+    REFUSED(24, ramsummer_join(&w.pool, ABSENT, 0, n, 0, 255));
+    REFUSED(24, ramsummer_join(&w.pool, ABSENT, 0, 255, n, 255));
+    REFUSED(24, ramsummer_join(&w.pool, ABSENT, 0, 255, 0, n));
+    REFUSED(24, ramsummer_join(&w.pool, ABSENT, 65, 255, 33, n));
+    REFUSED(24, ramsummer_join(&w.pool, ABSENT, n, n, n, n));
+    REFUSED(2, ramsummer_join(&w.pool, RUNS, 0, n, 0, n));
+    REFUSED(2, ramsummer_join(&w.pool, WAITS, n, 255, n, 255));
 }
 
 /* 6: after the task, the size of a batch and 21, before the length and the object. */
@@ -149,7 +165,8 @@ static void with_changed_bytes(int n) {
 static void on_a_damaged_record(int n) {
     w.pool.tasks[ABSENT].clock = 1;
     before = w;
-    REFUSED(15, ramsummer_join(&w.pool, n));
+    REFUSED(15, ramsummer_join(&w.pool, n, n, n, n, n));
+    REFUSED(15, ramsummer_share(&w.pool, n, SHARE));
     REFUSED(15, ramsummer_leave(&w.pool, n, &w.advanced));
     REFUSED(15, ramsummer_block(&w.pool, n, &w.advanced));
     REFUSED(15, ramsummer_resume(&w.pool, n));
@@ -170,6 +187,7 @@ static void refused(int n) {
     no_task(n);
     with_a_short_store(n);
     no_kind(n);
+    no_share(n);
     no_extension(n);
     if (n != RAMSUMMER_LONGEST) no_length(n);
     no_offset(n);
@@ -177,14 +195,28 @@ static void refused(int n) {
     on_a_damaged_record(n);
 }
 
+/* A share comes to the record as it is, and back from there. */
+static void share_fits(int small_reserve, int small_limit, int large_reserve, int large_limit) {
+    const int told[6] = {0, small_reserve, small_limit, 0, large_reserve, large_limit};
+    size_t i;
+    DONE(ramsummer_join(&w.pool, ABSENT, small_reserve, small_limit, large_reserve, large_limit));
+    DONE(ramsummer_share(&w.pool, ABSENT, SHARE));
+    for (i = 0; i < sizeof w.share; i++) DONE((w.share[i] != told[i]));
+    DONE(ramsummer_leave(&w.pool, ABSENT, &w.advanced));
+    DONE(ramsummer_share(&w.pool, ABSENT, SHARE));
+    for (i = 0; i < sizeof w.share; i++) DONE((w.share[i] != 0));
+}
+
 /* What fits goes on as it is. */
 static void fits(void) {
     int n;
+    for (n = 0; n <= 255; n++) share_fits(0, n, 0, 255 - n);
+    for (n = 0; n <= 31; n++) share_fits(n, 255, 31 - n, 31);
     for (n = 0; n <= 30; n++) DONE(ramsummer_refresh(&w.pool, RUNS, n % 2, n, stands));
     for (n = 0; n < RAMSUMMER_LONGEST; n++) DONE(ramsummer_write(POOL, RUNS, longest, n, bytes + 1, 1));
     DONE(ramsummer_read(POOL, RUNS, longest, w.out, sizeof w.out, &w.count));
     for (n = 0; n < RAMSUMMER_LONGEST; n++) DONE((w.out[n] != bytes[1]));
-    for (n = ABSENT; n < RAMSUMMER_TASKS; n++) DONE(ramsummer_join(&w.pool, n));
+    for (n = ABSENT; n < RAMSUMMER_TASKS; n++) DONE(ramsummer_join(&w.pool, n, RAMSUMMER_OPEN));
     DONE(ramsummer_release(&w.pool, n - 1, pinned));
     before = w;
     for (n = RAMSUMMER_TASKS; n <= 255; n++) no_task(n);
@@ -219,7 +251,8 @@ static void expect_no_pool(int n) {
     uint32_t given = 7;
     size_t count = 0;
     before = w;
-    REFUSED(15, ramsummer_join(&w.pool, RUNS));
+    REFUSED(15, ramsummer_join(&w.pool, RUNS, RAMSUMMER_OPEN));
+    REFUSED(15, ramsummer_share(&w.pool, RUNS, SHARE));
     REFUSED(15, ramsummer_make(POOL, RUNS, RAMSUMMER_LOCAL, 0, 4, &w.handle));
     REFUSED(19, ramsummer_make(POOL, RUNS, RAMSUMMER_PINNED + 1, 0, 4, &w.handle));
     REFUSED(15, ramsummer_report(&w.pool, &w.local, &w.global, &expirations, &given));
@@ -237,7 +270,8 @@ static void expect_none(int line, uint8_t answer) {
 
 /* Small blocks, large blocks, expirations and extension of a pool that there is not, and of one that there is. */
 #define NONE(s, l, x, e) expect_none(__LINE__, ramsummer_fresh_sized(&w.pool, s, l, x, e))
-#define SOME(s, l, x, e) do { DONE(ramsummer_fresh_sized(&w.pool, s, l, x, e)); DONE(ramsummer_join(&w.pool, 0)); } while (0)
+#define JOIN DONE(ramsummer_join(&w.pool, RUNS, RAMSUMMER_OPEN))
+#define SOME(s, l, x, e) do { DONE(ramsummer_fresh_sized(&w.pool, s, l, x, e)); JOIN; } while (0)
 
 /* No limit of any sort, whatever the type that it comes in. */
 #define NO_LIMIT(n) do { NONE(n, 1, 1, 0); NONE(1, n, 1, 0); NONE(1, 1, n, 0); NONE(1, 1, 1, n); } while (0)
@@ -275,13 +309,14 @@ static void limits(void) {
 
 int main(void) {
     static const int extremes[] = {65535, 65536, 65540, 65792, 1 << 24, INT_MAX, -1, -252, -256, -65532, INT_MIN};
-    uint8_t (*join)(ramsummer_pool *, unsigned) = ramsummer_join;
+    uint8_t (*join)(ramsummer_pool *, unsigned, unsigned, unsigned, unsigned, unsigned) = ramsummer_join;
     size_t i;
     int n;
     begin();
     for (n = 256; n < 1100; n++) refused(n);
     for (i = 0; i < sizeof extremes / sizeof *extremes; i++) refused(extremes[i]);
-    REFUSED(1, join(&w.pool, 256));
+    REFUSED(1, join(&w.pool, 256, RAMSUMMER_OPEN));
+    REFUSED(24, join(&w.pool, ABSENT, 0, 256, 0, 256));
     fits();
     counts();
     limits();

@@ -14,7 +14,7 @@ enum { RUN = 14, WAITS = 14, ABSENT = 15, SMALL = 63, MADE = 93, TYPICAL = 128, 
 
 static ramsummer_pool pool, sample;
 static uint8_t small[RAMSUMMER_SMALL], large[RAMSUMMER_LARGE], out[RAMSUMMER_LINE];
-static uint8_t first, second;
+static uint8_t first, second, has[6];
 static uint16_t tasks;
 static uint32_t number, pinned, handles[BATCH];
 static size_t count;
@@ -48,7 +48,7 @@ static void make_alike(void) {
 static void prepare(unsigned expirations, int is_alike) {
     unsigned i;
     ramsummer_fresh(&pool);
-    for (i = 0; i <= WAITS; i++) done(ramsummer_join(&pool, i));
+    for (i = 0; i <= WAITS; i++) done(ramsummer_join(&pool, i, RAMSUMMER_OPEN));
     for (i = 0; i < expirations - 1; i++) set(i);
     done(ramsummer_make(POOL, 0, RAMSUMMER_PINNED, 0, 256, &number));
     done(ramsummer_block(&pool, WAITS, &first));
@@ -62,7 +62,7 @@ static void prepare(unsigned expirations, int is_alike) {
 static uint8_t nothing(void) { return RAMSUMMER_DONE; }
 static uint8_t fresh(void) { return ramsummer_fresh(&pool); }
 static uint8_t fresh_sized(void) { return ramsummer_fresh_sized(&pool, 16, 4, 64, 10); }
-static uint8_t join(void) { return ramsummer_join(&pool, ABSENT); }
+static uint8_t join(void) { return ramsummer_join(&pool, ABSENT, RAMSUMMER_OPEN); }
 static uint8_t leave(void) { return ramsummer_leave(&pool, 0, &first); }
 static uint8_t block(void) { return ramsummer_block(&pool, 1, &first); }
 static uint8_t resume(void) { return ramsummer_resume(&pool, WAITS); }
@@ -76,6 +76,7 @@ static uint8_t write_32(void) { return ramsummer_write(POOL, 0, handles[BATCH - 
 static uint8_t report(void) { return ramsummer_report(&pool, &first, &second, &tasks, &number); }
 static uint8_t remaining(void) { return ramsummer_remaining(&pool, 0, handles[BATCH - 1], &first, &second); }
 static uint8_t awaited(void) { return ramsummer_awaited(&pool, &tasks); }
+static uint8_t share(void) { return ramsummer_share(&pool, 0, has, has + 1, has + 2, has + 3, has + 4, has + 5); }
 static uint8_t frame(void) { return ramsummer_frame(POOL, (const uint8_t *)"0501", 4, out, sizeof out, &count); }
 
 static const struct { const char *name; uint8_t (*call)(void); } rows[] = {
@@ -95,6 +96,7 @@ static const struct { const char *name; uint8_t (*call)(void); } rows[] = {
     {"report", report},
     {"remaining", remaining},
     {"awaited", awaited},
+    {"share", share},
     {"frame: tick", frame}};
 
 /* The timer of every Cortex-M: it counts down from 24 bits of ones. */

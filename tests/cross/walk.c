@@ -15,8 +15,17 @@ static ramsummer_pool pool;
 static uint8_t small[RAMSUMMER_SMALL], large[RAMSUMMER_LARGE], bytes[RAMSUMMER_LONGEST];
 
 /* The arguments of a call, as an author has them, and all that one may tell. */
-static struct { uint32_t task, kind, extension, handle, length, offset, count; size_t small, large, room; } with;
-static struct { uint8_t first, second; uint16_t tasks; uint32_t number; size_t count; uint8_t out[RAMSUMMER_LINE]; } told;
+static struct {
+    uint32_t task, kind, extension, handle, length, offset, count, small_reserve, small_limit, large_reserve, large_limit;
+    size_t small, large, room;
+} with;
+static struct {
+    uint8_t first, second, share[6];
+    uint16_t tasks;
+    uint32_t number;
+    size_t count;
+    uint8_t out[RAMSUMMER_LINE];
+} told;
 
 /* Handles that were given, old ones among them. */
 static uint32_t known[KNOWN];
@@ -53,6 +62,14 @@ static uint32_t draw_handle(void) {
     return draw(pool.given % 100000 + 3);
 }
 
+/* Of small blocks many, of large ones few; a third of all limits is none. */
+static void draw_share(void) {
+    with.small_reserve = mostly(6, 40, 300);
+    with.small_limit = draw(3) ? mostly(40, 40, 300) : RAMSUMMER_NO_LIMIT;
+    with.large_reserve = mostly(3, 40, 300);
+    with.large_limit = draw(3) ? mostly(12, 40, 300) : RAMSUMMER_NO_LIMIT;
+}
+
 /* One argument after the other: C does not say in which order a call takes them. */
 static void draw_arguments(void) {
     size_t i;
@@ -67,11 +84,15 @@ static void draw_arguments(void) {
     with.count = mostly(8, 20, 40);
     with.room = draw(9) ? sizeof told.out : draw(64);
     for (i = 0; i < with.count; i++) bytes[i] = (uint8_t)draw(256);
+    draw_share();
 }
 
 #define STORES small, with.small, large, with.large
 
-static uint8_t join(void) { return ramsummer_join(&pool, with.task); }
+static uint8_t join(void) {
+    return ramsummer_join(&pool, with.task, with.small_reserve, with.small_limit, with.large_reserve, with.large_limit);
+}
+
 static uint8_t leave(void) { return ramsummer_leave(&pool, draw(8) ? 16 : with.task, &told.first); }
 static uint8_t block(void) { return ramsummer_block(&pool, with.task, &told.first); }
 static uint8_t resume(void) { return ramsummer_resume(&pool, with.task); }
@@ -109,18 +130,27 @@ static uint8_t remaining(void) {
 
 static uint8_t awaited(void) { return ramsummer_awaited(&pool, &told.tasks); }
 
+static uint8_t share(void) {
+    uint8_t *at = told.share;
+    return ramsummer_share(&pool, with.task, at, at + 1, at + 2, at + 3, at + 4, at + 5);
+}
+
+#define BYTE(number) ((unsigned)((number)&0xFF))
+
 /* A line of an operation from 0 to 15 with the fields that it asks for, or now and then one digit or two less. */
 static size_t draw_line(char *line) {
     uint8_t operation = (uint8_t)draw(16), task = (uint8_t)with.task, kind = (uint8_t)with.kind;
     uint8_t extension = (uint8_t)with.extension;
     int length = sprintf(line, "%02X", operation);
     if (operation != 10 && operation < 14) length += sprintf(line + length, "%02X", task);
+    if (operation == 1) length += sprintf(line + length, "%02X%02X%02X%02X", BYTE(with.small_reserve),
+                                          BYTE(with.small_limit), BYTE(with.large_reserve), BYTE(with.large_limit));
     if (operation == 6 || operation == 7 || operation == 12)
         length += sprintf(line + length, "%02X%02X", kind, extension);
     if (operation == 6) length += sprintf(line + length, "%04X", (unsigned)(with.length & 0xFFFF));
     if (operation >= 7 && operation <= 13 && operation != 10)
         length += sprintf(line + length, "%08lX", (unsigned long)with.handle);
-    if (operation == 9) length += sprintf(line + length, "%02X%02X", (unsigned)(with.offset & 0xFF), bytes[0]);
+    if (operation == 9) length += sprintf(line + length, "%02X%02X", BYTE(with.offset), bytes[0]);
     return (size_t)length - (draw(20) ? 0 : draw(3));
 }
 
@@ -159,9 +189,9 @@ static uint8_t damage(void) {
 
 /* The more often one stands here, the more often it is called. */
 static uint8_t (*const calls[])(void) = {
-    join, join, leave, block, resume, resume, resume, resume, tick, tick, tick, tick, make, make, make, make, make,
+    join, join, join, leave, block, resume, resume, resume, resume, tick, tick, tick, tick, make, make, make, make, make,
     refresh, refresh, refresh_all, release, read_object, read_object, write_object, write_object, report, remaining,
-    awaited, frame, frame, begin, damage};
+    awaited, share, frame, frame, begin, damage};
 
 static uint8_t call(void) {
     draw_arguments();
@@ -173,6 +203,7 @@ static void look(uint8_t answer) {
     hash_number(answer);
     hash_number(told.first);
     hash_number(told.second);
+    hash_bytes(told.share, sizeof told.share);
     hash_number(told.tasks);
     hash_number(told.number);
     hash_number((uint32_t)told.count);

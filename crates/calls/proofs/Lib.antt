@@ -5,6 +5,7 @@ pub mod Reported
 pub mod Passing
 pub mod Scheduled
 pub mod ScheduledLent
+pub mod JoinLent
 pub mod Meets
 pub mod Served
 pub mod MadeLent

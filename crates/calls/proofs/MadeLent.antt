@@ -1,10 +1,11 @@
 -- The record that make and refresh leave on lent tables.
 use Prim.Native.Nat.{ℕ, _+_, _<_}
 use mathlib.Core.List.{List}
+use native.Mathlib.Omega.{arith}
 use mathlib.Core.Path.{_≡_}
 use lib.ListN.{set}
 use Rattle.ledger.specs.declared.Kind.{Kind}
-use Rattle.record.specs.Tables.{halfRange, extentOf, blocksOf, tablesBy, tablesOf, pooled}
+use Rattle.record.specs.Tables.{lengthRange, makerRange, extentOf, blocksOf, tablesBy, tablesOf, pooled}
 use Rattle.record.specs.declared.Head.{Head}
 use Rattle.record.proofs.Columns.{blocks-set, entry-of}
 use Rattle.steps.specs.Objects.{placeOf, freePlace, entryFor, madePool, refreshedPool}
@@ -14,11 +15,11 @@ use Rattle.calls.specs.Engine.{withGiven}
 
 module _ (h : Head) (hs ls cs ns ds : List ℕ) {cs′ ns′ ds′ : List ℕ} (kind : Kind) (task extension place : ℕ)
     (sets : Sets (newEntry (h .tasks) (h .global) kind task extension place) cs ns ds cs′ ns′ ds′) where
-  pub made-left : (size : ℕ) → size < halfRange → place ≡ freePlace (h .limits) size (blocksOf hs ls)
-      → tablesOf (pooled (withGiven h (h .given + 1)) (set hs place (h .given + 1)) (set ls place (extentOf size 0)) cs′ ns′ ds′)
+  pub made-left : (size : ℕ) → size < lengthRange → task < makerRange → place ≡ freePlace (h .limits) size (blocksOf hs ls)
+      → tablesOf (pooled (withGiven h (h .given + 1)) (set hs place (h .given + 1)) (set ls place (extentOf size 0 task)) cs′ ns′ ds′)
       ≡ madePool task kind extension size (tablesOf (pooled h hs ls cs ns ds))
   unfolding tablesOf tablesBy madePool entryFor
-  made-left size small at = rw (blocks-set hs ls place (h .given + 1) (extentOf size 0), entry-of (h .given + 1) size 0 small, sets .entries, at)
+  made-left size small few at = rw (blocks-set hs ls place (h .given + 1) (extentOf size 0 task), entry-of (h .given + 1) size 0 task small few, sets .entries, at)
 
   pub refreshed-left : (handle : ℕ) → place ≡ placeOf handle (blocksOf hs ls)
       → tablesOf (pooled h hs ls cs′ ns′ ds′) ≡ refreshedPool task kind extension handle (tablesOf (pooled h hs ls cs ns ds))

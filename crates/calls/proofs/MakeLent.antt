@@ -7,24 +7,26 @@ use mathlib.Core.Path.{_≡_, sym, ap, _∙_}
 use lib.Dec.{eqb, leb, ltb}
 use lib.ListN.{getD, set, replicate, length-set}
 use lib.Seq.{getD-set-same}
-use Rattle.ledger.specs.Limits.{isAllowed, taskCount, largeSize, lastHandle}
+use Rattle.ledger.specs.Limits.{isSmall, isAllowed, taskCount, largeSize, lastHandle}
 use Rattle.ledger.specs.declared.Answer.the-variants.{Handle}
 use Rattle.ledger.specs.declared.Answer.the-variants.{Refused as RefusedAnswer}
 use Rattle.ledger.specs.declared.Call.the-variants.{Make}
 use Rattle.ledger.specs.declared.Kind.{Kind}
 use Rattle.ledger.specs.declared.Refusal.{Refusal}
-use Rattle.ledger.specs.declared.Refusal.the-variants.{LengthOutOfRange, HandlesSpent, NoFreeBlock}
+use Rattle.ledger.specs.declared.Refusal.the-variants.{LengthOutOfRange, HandlesSpent, NoFreeBlock, AtLimit}
 use Rattle.ledger.specs.declared.Request.the-variants.{Use}
 use Rattle.ledger.specs.declared.Verdict.the-variants.{Accepted, Refused}
 use Rattle.stores.specs.Places.{InBlock, smallAfter, largeAfter}
 use Rattle.record.specs.Reading.{HeadTyped, Typed, sizeOf}
 use Rattle.record.specs.Tables.{BlockEntry, Sized, extentOf, blocksOf, entriesOf, tablesBy, tablesOf, pooled, blockEntries, expirationEntries}
+use Rattle.shares.specs.Holdings.{Holds}
+use Rattle.shares.specs.declared.Holding.{Holding}
 use Rattle.record.specs.declared.Head.{Head}
 use Rattle.record.proofs.Columns.{block-at}
 use Rattle.record.proofs.Facts.{fit-parts}
-use Rattle.steps.specs.Objects.{endFor, freePlace, freePlaceIn, refuseIf, taskVerdict, extensionVerdict, roomVerdict, makeVerdict}
+use Rattle.steps.specs.Objects.{freePlace, freePlaceIn, refuseIf, taskVerdict, extensionVerdict, roomVerdict, makeVerdict}
 use Rattle.steps.proofs.Chosen.{Taken, both-accept, make-takes}
-use Rattle.objects.specs.Outcomes.{makePlan}
+use Rattle.objects.specs.Outcomes.{isLimitedBy, isFilledBy, makePlan}
 use Rattle.objects.specs.declared.Plan.{Plan}
 use Rattle.objects.proofs.Laws.{free-place-of, make-planned}
 use Rattle.expirations.specs.Setting.{Sets}
@@ -40,7 +42,8 @@ use Rattle.calls.proofs.RefreshLent.{room-left}
 
 module _ {h : Head} (hs ls cs : List ℕ) {ns ds : List ℕ} (types : HeadTyped h) (sized : Sized hs ls cs ns ds) {small large : List ℕ}
     {task : ℕ} {kind : Kind} {extension size : ℕ} (ready : Ready (Use (Make task kind extension size)) (pooled h hs ls cs ns ds) small large)
-    {plan : Plan} (so : plan ≡ makePlan task kind extension size h (freePlaceIn (h .limits) size hs) (standingOf cs)) where
+    {holding : Holding} (holding-so : Holds (isSmall size) (h .shares) (blocksOf hs ls) holding)
+    {plan : Plan} (so : plan ≡ makePlan task kind extension size h (freePlaceIn (h .limits) size hs) holding (standingOf cs)) where
   of-entries : Typed (tablesOf (pooled h hs ls cs ns ds))
   of-entries = lent-typed h hs ls cs ns ds types (sized .blocks) (sized .entries)
 
@@ -51,7 +54,7 @@ module _ {h : Head} (hs ls cs : List ℕ) {ns ds : List ℕ} (types : HeadTyped 
   verdict-of : makeVerdict task kind extension size (tablesOf (pooled h hs ls cs ns ds)) ≡ plan .verdict
   verdict-of =
       rw (so, standing-of (sized .entries), tables-of h hs ls cs ns ds)
-      (sym (make-planned hs ls (sized .blocks .of-handles) (sized .blocks .of-extents) h (entriesOf cs ns ds) task kind extension size))
+      (sym (make-planned hs ls (sized .blocks .of-handles) (sized .blocks .of-extents) h (entriesOf cs ns ds) task kind extension size holding holding-so))
 
   pub make-refused-lent : {why : Refusal} → plan .verdict ≡ Refused why
       → Makes task kind extension size (pooled h hs ls cs ns ds) small large (RefusedAnswer why) (pooled h hs ls cs ns ds) small large
@@ -72,7 +75,8 @@ module _ {h : Head} (hs ls cs : List ℕ) {ns ds : List ℕ} (types : HeadTyped 
         let (extension-ok, v₂) = both-accept (extensionVerdict (h .limits) kind extension) _ v₁ in
         let (size-ok, v₃) = both-accept (refuseIf (eqb size 0 || ltb largeSize size) LengthOutOfRange) _ v₂ in
         let (given-ok, v₄) = both-accept (refuseIf (leb lastHandle (h .given)) HandlesSpent) _ v₃ in
-        both-accept (refuseIf (leb (endFor (h .limits) size) (freePlaceIn (h .limits) size hs)) NoFreeBlock) _ v₄ .1
+        let (limit-ok, v₅) = both-accept (refuseIf (isLimitedBy (isSmall size) (h .shares) holding task) AtLimit) _ v₄ in
+        both-accept (refuseIf (isFilledBy (isSmall size) (h .limits) (h .shares) holding task) NoFreeBlock) _ v₅ .1
 
     may : isAllowed (h .limits) ≡ true
     may = lent-allowed h hs ls cs ns ds (ready .fit)
@@ -108,7 +112,7 @@ module _ {h : Head} (hs ls cs : List ℕ) {ns ds : List ℕ} (types : HeadTyped 
         → {small′ large′ : List ℕ} → small′ ≡ smallAfter (plan .place) 0 (replicate (sizeOf (plan .place)) 0) small
         → large′ ≡ largeAfter (plan .place) 0 (replicate (sizeOf (plan .place)) 0) large
         → (let hs′ = set hs (plan .place) (h .given + 1) in
-        let ls′ = set ls (plan .place) (extentOf size 0) in
+        let ls′ = set ls (plan .place) (extentOf size 0 task) in
         Sized hs′ ls′ cs′ ns′ ds′
         × Makes task kind extension size (pooled h hs ls cs ns ds) small large
         (Handle (h .given + 1)) (pooled (withGiven h (h .given + 1)) hs′ ls′ cs′ ns′ ds′) small′ large′)
@@ -118,5 +122,5 @@ module _ {h : Head} (hs ls cs : List ℕ) {ns ds : List ℕ} (types : HeadTyped 
         entries = sets .sized;
       },
       make-cleared of-entries ready (plan .place) planned-place free holds
-          (made-left h hs ls cs ns ds kind task extension (plan .place) sets size (omega (arith, taken .block .most)) at-free) (verdict-of ∙ v) s l,
+          (made-left h hs ls cs ns ds kind task extension (plan .place) sets size (omega (arith, taken .block .most)) (omega (arith, taken .may .known)) at-free) (verdict-of ∙ v) s l,
     )

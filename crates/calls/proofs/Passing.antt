@@ -15,7 +15,7 @@ use Rattle.lists.proofs.Cases.{by-test}
 use Rattle.ledger.specs.Limits.{taskCount}
 use Rattle.ledger.specs.Tasks.{isTested, allTicked}
 use Rattle.ledger.specs.declared.Event.{Event}
-use Rattle.ledger.specs.declared.Event.the-variants.{Join, Leave, Block, Resume, Tick}
+use Rattle.ledger.specs.declared.Event.the-variants.{Leave, Block, Resume, Tick}
 use Rattle.ledger.specs.declared.Limits.{Limits}
 use Rattle.record.specs.Codes.{taskOf, dueOf, setterOf, leftAt, absentEntry, freedEntry}
 use Rattle.record.specs.Tables.{BlockEntry, ExpirationEntry}
@@ -38,7 +38,6 @@ passingOf task q = record { task = task; leaves = q .leaves; local = q .local; a
 
 -- who leaves, by the plan
 pub leaver-as : (event : Event) (task : ℕ) → cond (isLeave event) task taskCount ≡ leaverOf event task
-leaver-as Join task = refl
 leaver-as Leave task = refl
 leaver-as Block task = refl
 leaver-as Resume task = refl
@@ -46,14 +45,12 @@ leaver-as Tick task = refl
 
 -- the leaver's own go, and nobody else's
 own-leaver : (event : Event) (task : ℕ) → task < taskCount → eqb task (leaverOf event task) ≡ isLeave event
-own-leaver Join task known = ne-eqb task taskCount (λ e. omega arith)
 own-leaver Leave task known = eq-eqb task task refl
 own-leaver Block task known = ne-eqb task taskCount (λ e. omega arith)
 own-leaver Resume task known = ne-eqb task taskCount (λ e. omega arith)
 own-leaver Tick task known = ne-eqb task taskCount (λ e. omega arith)
 
 other-leaver : (event : Event) (task s : ℕ) → s < taskCount → s ≢ task → eqb s (leaverOf event task) ≡ false
-other-leaver Join task s known other = ne-eqb s taskCount (λ e. omega arith)
 other-leaver Leave task s known other = ne-eqb s task other
 other-leaver Block task s known other = ne-eqb s taskCount (λ e. omega arith)
 other-leaver Resume task s known other = ne-eqb s taskCount (λ e. omega arith)

@@ -15,7 +15,7 @@ use Rattle.ledger.specs.declared.Call.{Call}
 use Rattle.ledger.specs.declared.Refusal.{Refusal}
 use Rattle.ledger.specs.declared.Refusal.the-variants.{WrongStoreLength, NotWellFormed}
 use Rattle.ledger.specs.declared.Request.{Request}
-use Rattle.ledger.specs.declared.Call.the-variants.{Schedule, Make, Refresh, Read, Write, Batch, Release}
+use Rattle.ledger.specs.declared.Call.the-variants.{Join, Schedule, Make, Refresh, Read, Write, Batch, Release}
 use Rattle.ledger.specs.declared.Request.the-variants.{Use, Report, Remaining}
 use Rattle.record.specs.Tables.{tablesOf}
 use Rattle.record.specs.Pools.{isWellFormed, Reads}
@@ -31,6 +31,7 @@ kept p small large r why e = record { refused = ap plain e; samePool = refl; sam
 
 -- a refusal leaves record and stores
 pub nothing : (request : Request) (new : List ℕ) (p : Pool) (small large : List ℕ) (why : Refusal) → Leaves request new p small large (Refused why) p small large
+nothing (Use (Join task share)) new p small large why = (refl, refl)
 nothing (Use (Schedule event task)) new p small large why = (refl, refl)
 nothing (Use (Make task kind extension size)) new p small large why = (refl, (refl, refl))
 nothing (Use (Refresh task kind extension handle)) new p small large why = (refl, refl)

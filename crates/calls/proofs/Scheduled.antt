@@ -19,7 +19,7 @@ use Rattle.ledger.specs.Ledger.{verdictOn, replyBy, reply}
 use Rattle.ledger.specs.declared.Answer.{Answer}
 use Rattle.ledger.specs.declared.Answer.the-variants.{Refused as RefusedAnswer}
 use Rattle.ledger.specs.declared.Event.{Event}
-use Rattle.ledger.specs.declared.Event.the-variants.{Join, Leave, Block, Resume, Tick}
+use Rattle.ledger.specs.declared.Event.the-variants.{Leave, Block, Resume, Tick}
 use Rattle.ledger.specs.declared.Call.the-variants.{Schedule}
 use Rattle.ledger.specs.declared.Refusal.{Refusal}
 use Rattle.ledger.specs.declared.Refusal.the-variants.{NoSuchTask}
@@ -36,11 +36,12 @@ use Rattle.record.specs.declared.GlobalTime.{GlobalTime}
 use Rattle.record.specs.declared.Pool.{Pool}
 use Rattle.record.specs.declared.TaskEntry.{TaskEntry}
 use Rattle.record.proofs.Facts.{fit-parts}
-use Rattle.steps.specs.Events.{verdictOf, verdictAt, movedEntry, movedTasks, leaverOf, keptBlock, swept, withTimes, poolAfter, answerAfter, outcomeBy, scheduled}
+use Rattle.steps.specs.Events.{verdictOf, verdictAt, movedEntry, movedTasks, leaverOf, keptBlock, swept, withTimes, orphanedPool, movedPool, poolAfter, answerAfter, outcomeBy, scheduled}
 use Rattle.steps.proofs.EventsFollow.{schedule-follows, schedule-fits}
 use Rattle.steps.proofs.Standing.{none-freed, swept-none}
+use Rattle.steps.proofs.Orphans.{orphaned-none}
 use Rattle.steps.proofs.Staying.{event-stays}
-use Rattle.tasks.specs.Steps.{mayEnd, testedAfter, plannedAfter, plannedBy, planned}
+use Rattle.tasks.specs.Steps.{isLeave, mayEnd, testedAfter, plannedAfter, plannedBy, planned}
 use Rattle.tasks.specs.declared.Planned.{Planned}
 use Rattle.endings.specs.Ending.{isEnding, endedEntry}
 use Rattle.endings.specs.declared.Passing.{Passing}
@@ -94,6 +95,7 @@ pub record Unmoved (q : Planned) (tasks : List TaskEntry) (global : GlobalTime) 
   pub sameTasks : q .tasks ≡ tasks
   pub sameTime : q .global ≡ global
   pub still : q .ends ≡ false
+  pub nobody : q .leaves ≡ false
 
 unmoved-by : (v : Verdict) (event : Event) (task : ℕ) (tasks : List TaskEntry) (global : GlobalTime) (why : Refusal)
     → plannedBy v event task tasks global .answer ≡ RefusedAnswer why → Unmoved (plannedBy v event task tasks global) tasks global
@@ -101,7 +103,7 @@ unfolding plannedAfter
 unmoved-by Accepted event task tasks global why e =
     let carried : isRefusal (plannedBy Accepted event task tasks global .answer) ≡ false = by-test (isTested event) (λ t. rw t) (λ t. rw t) in
     absurd (false≢true (sym carried ∙ ap isRefusal e))
-unmoved-by (Refused r) event task tasks global why e = record { sameTasks = refl; sameTime = refl; still = refl }
+unmoved-by (Refused r) event task tasks global why e = record { sameTasks = refl; sameTime = refl; still = refl; nobody = refl }
 
 pub refused-unmoved : (event : Event) (task : ℕ) (tasks : List TaskEntry) (global : GlobalTime) (why : Refusal)
     → planned event task tasks global .answer ≡ RefusedAnswer why → Unmoved (planned event task tasks global) tasks global
@@ -130,7 +132,6 @@ module _ (event : Event) (task : ℕ) (p : Tables) where
 tested-still : (event : Event) (task : ℕ) (p : Tables) → Typed p → WellFormed.isWellFormed p ≡ true → task < taskCount → isTested event ≡ true
     → mayEnd event (advanced event task p) ≡ false
     → swept (leaverOf event task) (advanced event task p) (tested event task p .tasks) (tested event task p .global) p ≡ withTimes (tested event task p .tasks) (tested event task p .global) p
-tested-still Join task p types w known t s = absurd (false≢true t)
 tested-still Leave task p types w known t s = absurd (true≢false s)
 tested-still Block task p types w known t s =
     rw s
@@ -139,12 +140,34 @@ tested-still Block task p types w known t s =
 tested-still Resume task p types w known t s = absurd (false≢true t)
 tested-still Tick task p types w known t s = absurd (true≢false s)
 
+-- one that may end nothing is no leave
+nobody-leaves : (event : Event) (task : ℕ) (tasks : List TaskEntry) (global : GlobalTime) → plannedAfter event task tasks global .ends ≡ false → isLeave event ≡ false
+unfolding plannedAfter
+nobody-leaves Leave task tasks global s = absurd (true≢false s)
+nobody-leaves Block task tasks global s = refl
+nobody-leaves Resume task tasks global s = refl
+nobody-leaves Tick task tasks global s = refl
+
+leaving-by : (v : Verdict) (event : Event) (task : ℕ) (tasks : List TaskEntry) (global : GlobalTime) → plannedBy v event task tasks global .ends ≡ false
+    → plannedBy v event task tasks global .leaves ≡ false
+unfolding plannedAfter
+leaving-by Accepted event task tasks global s =
+    by-test (isTested event) (λ t. rw (t, nobody-leaves event task tasks global s)) (λ t. rw t)
+leaving-by (Refused r) event task tasks global s = refl
+
+pub still-there : (event : Event) (task : ℕ) (tasks : List TaskEntry) (global : GlobalTime) → planned event task tasks global .ends ≡ false
+    → planned event task tasks global .leaves ≡ false
+unfolding planned
+still-there event task tasks global = leaving-by (verdictAt event task tasks) event task tasks global
+
 -- An event by its plan: with nothing that may end, only tasks and times are new.
 module _ (event : Event) (task : ℕ) (p : Tables) (types : Typed p) (w : WellFormed.isWellFormed p ≡ true) where
   still-by : (v : Verdict) → (v ≡ Accepted → task < taskCount) → plannedBy v event task (p .tasks) (p .global) .ends ≡ false
       → outcomeBy v event task p .pool ≡ withTimes (plannedBy v event task (p .tasks) (p .global) .tasks) (plannedBy v event task (p .tasks) (p .global) .global) p
-  unfolding poolAfter plannedAfter
-  still-by Accepted known s = by-test (isTested event) (λ t. rw t (tested-still event task p types w (known refl) t (rw t at s))) (λ t. rw t)
+  unfolding poolAfter movedPool plannedAfter
+  still-by Accepted known s =
+      ap (λ (t : Tables). movedPool event task t) (orphaned-none event task p (nobody-leaves event task (p .tasks) (p .global) s))
+      ∙ by-test (isTested event) (λ t. rw t (tested-still event task p types w (known refl) t (rw t at s))) (λ t. rw t)
   still-by (Refused r) known s = refl
 
   pub still-planned : planned event task (p .tasks) (p .global) .ends ≡ false
@@ -156,14 +179,14 @@ module _ (event : Event) (task : ℕ) (p : Tables) (types : Typed p) (w : WellFo
 pub record Swept (event : Event) (task : ℕ) (p : Tables) (q : Planned) : Type 0 where
   pub known : task < taskCount
   pub plan : q ≡ tested event task p
-  pub left : scheduled event task p .pool ≡ swept (leaverOf event task) (advanced event task p) (q .tasks) (q .global) p
+  pub left : scheduled event task p .pool ≡ swept (leaverOf event task) (advanced event task p) (q .tasks) (q .global) (orphanedPool event task p)
 
 module _ (event : Event) (task : ℕ) (p : Tables) where
   swept-by : (v : Verdict) → (v ≡ Accepted → task < taskCount) → plannedBy v event task (p .tasks) (p .global) .ends ≡ true
       → (task < taskCount) × (plannedBy v event task (p .tasks) (p .global) ≡ tested event task p)
       × (outcomeBy v event task p .pool
-      ≡ swept (leaverOf event task) (advanced event task p) (plannedBy v event task (p .tasks) (p .global) .tasks) (plannedBy v event task (p .tasks) (p .global) .global) p)
-  unfolding poolAfter plannedAfter
+      ≡ swept (leaverOf event task) (advanced event task p) (plannedBy v event task (p .tasks) (p .global) .tasks) (plannedBy v event task (p .tasks) (p .global) .global) (orphanedPool event task p))
+  unfolding poolAfter movedPool orphanedPool plannedAfter
   swept-by Accepted known s = by-test (isTested event) (λ t. (known refl, rw t, rw t)) (λ t. absurd (false≢true (rw t at s)))
   swept-by (Refused r) known s = absurd (false≢true s)
 
@@ -178,7 +201,7 @@ unended t e n = rw n
 -- what may end something is an event of a task that exists
 pub ends-known : (event : Event) (task : ℕ) (tasks : List TaskEntry) (global : GlobalTime) {q : Planned} → q ≡ planned event task tasks global → q .ends ≡ true → task < taskCount
 ends-known event task tasks global so s =
-    swept-planned event task (record { limits = standard; tasks = tasks; global = global; given = 0; blocks = []; expirations = [] }) (rw so at s) .known
+    swept-planned event task (record { limits = standard; tasks = tasks; global = global; given = 0; shares = []; blocks = []; expirations = [] }) (rw so at s) .known
 
 -- the blocks that are left where something ends, and where nothing does
 pub blocks-left : (given : ℕ) (t : Passing) (xs : List ExpirationEntry) (blocks : List BlockEntry) → allFrom 0 (isFitBlock given xs) blocks ≡ true

@@ -1,57 +1,73 @@
 -- The calls of tasks on lent tables, by what they plan and what the expirations' part ends.
 use Prim.Native.Nat.{ℕ}
-use mathlib.Core.Bool.{true, false, cond, true≢false}
+use mathlib.Core.Bool.{Bool, true, false, cond, true≢false}
 use mathlib.Core.List.{List, map}
-use mathlib.Core.Path.{_≡_, refl, sym, ap, _∙_}
+use mathlib.Core.Path.{_≡_, refl, sym, ap, subst, _∙_}
 use lib.ListN.{length}
 use Rattle.lists.specs.Tables.{mapFrom}
 use Rattle.ledger.specs.Limits.{taskCount}
 use Rattle.ledger.specs.declared.Answer.the-variants.{Refused as RefusedAnswer}
 use Rattle.ledger.specs.declared.Call.the-variants.{Schedule}
+use Rattle.ledger.specs.Objects.{sharesAfter}
+use Rattle.ledger.specs.declared.Share.{Share}
 use Rattle.ledger.specs.declared.Event.{Event}
+use Rattle.ledger.specs.declared.Event.the-variants.{Leave, Block, Resume, Tick}
 use Rattle.ledger.specs.declared.Refusal.{Refusal}
 use Rattle.ledger.specs.declared.Request.the-variants.{Use}
 use Rattle.record.specs.Reading.{HeadTyped}
-use Rattle.record.specs.Tables.{ExpirationEntry, Tables, SizedEntries, blocksOf, entriesOf, tablesBy, tablesOf, pooled, blockEntries}
+use Rattle.record.specs.Tables.{ExpirationEntry, Tables, Sized, blocksOf, entriesOf, tablesBy, tablesOf, pooled, blockEntries}
 use Rattle.record.specs.Pools.{isWellFormed}
+use Rattle.ledger.specs.declared.Verdict.{Verdict}
+use Rattle.ledger.specs.declared.Verdict.the-variants.{Accepted, Refused}
+use Rattle.record.specs.declared.GlobalTime.{GlobalTime}
+use Rattle.record.specs.declared.TaskEntry.{TaskEntry}
 use Rattle.record.specs.declared.Head.{Head}
 use Rattle.record.specs.declared.Pool.{Pool}
 use Rattle.record.proofs.Facts.{Fit, fit-parts}
-use Rattle.steps.specs.Events.{leaverOf, lateEntry, passedEntry, keptBlock, swept, scheduled}
+use Rattle.steps.specs.Events.{leaverOf, lateEntry, passedEntry, keptBlock, swept, orphanedBlock, orphanedPool, verdictAt, scheduled}
+use Rattle.steps.proofs.Orphans.{kept-orphaned}
+use Rattle.endings.specs.Makers.{Orphans}
 use Rattle.steps.proofs.Late.{late-blocks}
-use Rattle.tasks.specs.Steps.{planned}
+use Rattle.tasks.specs.Steps.{isLeave, plannedAfter, plannedBy, planned}
 use Rattle.tasks.specs.declared.Planned.{Planned}
 use Rattle.endings.specs.Ending.{Ends}
-use Rattle.calls.specs.Engine.{FollowsBeside}
+use Rattle.calls.specs.Contract.{Follows}
+use Rattle.calls.specs.Engine.{sharesLeft, FollowsBeside, FollowsAlone}
 use Rattle.calls.proofs.Lent.{lent-typed}
 use Rattle.calls.proofs.Passing.{passingOf, leaver-as, kept-as}
-use Rattle.calls.proofs.Scheduled.{Swept, advanced, schedule-obeys, planned-answer, refused-unmoved, still-planned, swept-planned, blocks-left}
+use Rattle.calls.proofs.Scheduled.{Swept, advanced, schedule-obeys, planned-answer, refused-unmoved, still-there, still-planned, swept-planned, blocks-left}
 
 -- the head that a plan leaves
-abbrev pub headAfter : Planned → Head → Head
-headAfter q h = record { limits = h .limits; tasks = q .tasks; global = q .global; given = h .given }
+abbrev pub headAfter : ℕ → Planned → Head → Head
+headAfter task q h = record { limits = h .limits; tasks = q .tasks; global = q .global; given = h .given; shares = sharesLeft (q .leaves) task (h .shares) }
 
-module _ {h : Head} {hs cs ns ds : List ℕ} (types : HeadTyped h) (a : length hs ≡ blockEntries) (e : SizedEntries cs ns ds) (event : Event) (task : ℕ)
+shares-as : (event : Event) (task : ℕ) (shares : List Share) → sharesLeft (isLeave event) task shares ≡ sharesAfter event task shares
+unfolding sharesAfter
+shares-as Leave task shares = refl
+shares-as Block task shares = refl
+shares-as Resume task shares = refl
+shares-as Tick task shares = refl
+
+module _ {h : Head} {hs ls cs ns ds : List ℕ} (types : HeadTyped h) (z : Sized hs ls cs ns ds) (event : Event) (task : ℕ)
     {q : Planned} (so : q ≡ planned event task (h .tasks) (h .global)) where
   -- nothing may end: the tables stay
-  pub schedule-still : q .ends ≡ false → FollowsBeside (Use (Schedule event task)) h hs cs ns ds (q .answer) (headAfter q h) hs cs ns ds
+  pub schedule-still : q .ends ≡ false → FollowsBeside (Use (Schedule event task)) h hs ls cs ns ds (q .answer) (headAfter task q h) hs ls cs ns ds
   unfolding tablesOf tablesBy
   schedule-still s =
       record {
-        handlesSize = a;
-        sized = e;
-        follows = λ ls l w small large.
+        sized = z;
+        follows = λ w small large.
             let p : Pool = pooled h hs ls cs ns ds in
-            let t = lent-typed h hs ls cs ns ds types (record { of-handles = a; of-extents = l }) e in
-            schedule-obeys event task {p = p} {p′ = pooled (headAfter q h) hs ls cs ns ds} t w small large
+            let t = lent-typed h hs ls cs ns ds types (z .blocks) (z .entries) in
+            schedule-obeys event task {p = p} {p′ = pooled (headAfter task q h) hs ls cs ns ds} t w small large
             (rw so (planned-answer event task (tablesOf p)))
-            (rw so (sym (still-planned event task (tablesOf p) t w (rw so at s))))
+            (rw (so, still-there event task (h .tasks) (h .global) (rw so at s)) (sym (still-planned event task (tablesOf p) t w (rw so at s))))
             (λ why r.
             let u = refused-unmoved event task (h .tasks) (h .global) why (rw so at r) in
-            rw (so, u .sameTasks, u .sameTime) refl);
+            rw (so, u .sameTasks, u .sameTime, u .nobody) refl);
       }
 
-  module _ {hs′ cs′ ds′ : List ℕ} (s : q .ends ≡ true) (ends : Ends (passingOf task q) (q .tasks) ns ds hs cs hs′ cs′ ds′) (ls : List ℕ) (l : length ls ≡ blockEntries)
+  module _ {hs′ ls′ cs′ ds′ : List ℕ} (s : q .ends ≡ true) (ends : Ends (passingOf task q) (q .tasks) ns ds hs cs hs′ cs′ ds′) (orphans : Orphans (passingOf task q) ls ls′)
       (w : isWellFormed (pooled h hs ls cs ns ds) ≡ true) where
     abbrev before : Tables
     before = tablesBy h (blocksOf hs ls) (entriesOf cs ns ds)
@@ -75,34 +91,68 @@ module _ {h : Head} {hs cs ns ds : List ℕ} (types : HeadTyped h) (a : length h
         rw (ends .entries, plan .plan, leaver-as event task)
         (kept-as event task (h .tasks) (h .global) (types .tasks) (plan .known) (advanced event task before) (h .limits) (blocksOf hs ls) (entriesOf cs ns ds) (fit .entries))
 
-    -- and the blocks
+    -- the blocks
     freed : mapFrom 0 (keptBlock (entriesOf cs′ ns ds′)) (blocksOf hs ls) ≡ blocksOf hs′ ls
     unfolding tablesBy
     freed =
-        rw (ends .blocks ls l, ends .entries)
+        rw (ends .blocks ls (z .blocks .of-extents), ends .entries)
         (sym
         (blocks-left (h .given) (passingOf task q) late (blocksOf hs ls)
         (late-blocks (cond (q .leaves) task taskCount) (q .advanced) (q .tasks) (h .given) (entriesOf cs ns ds) (blocksOf hs ls) (fit .blocks))))
 
-    ended-left : tablesOf (pooled (headAfter q h) hs′ ls cs′ ns ds′) ≡ scheduled event task before .pool
-    unfolding tablesOf tablesBy swept
-    ended-left = sym (plan .left ∙ rw (kept, freed))
+    -- and their makers
+    left-makers : mapFrom 0 (keptBlock (entriesOf cs′ ns ds′)) (map (orphanedBlock (leaverOf event task)) (blocksOf hs ls)) ≡ blocksOf hs′ ls′
+    left-makers =
+        kept-orphaned (leaverOf event task) (entriesOf cs′ ns ds′) 0 (blocksOf hs ls) ∙ ap (map (orphanedBlock (leaverOf event task))) freed
+        ∙ ap (λ (leaver : ℕ). map (orphanedBlock leaver) (blocksOf hs′ ls)) its-leaver ∙ sym (orphans .so hs′)
+      where
+        its-leaver : leaverOf event task ≡ cond (q .leaves) task taskCount
+        its-leaver = rw (plan .plan) (sym (leaver-as event task))
+
+    ended-left : tablesOf (pooled (headAfter task q h) hs′ ls′ cs′ ns ds′) ≡ scheduled event task before .pool
+    unfolding tablesOf tablesBy swept orphanedPool
+    ended-left = sym (plan .left ∙ rw (kept, left-makers, ← shares-as event task (h .shares), plan .plan))
 
   -- what is over has ended
-  pub schedule-ended : {hs′ cs′ ds′ : List ℕ} → q .ends ≡ true → Ends (passingOf task q) (q .tasks) ns ds hs cs hs′ cs′ ds′
-      → FollowsBeside (Use (Schedule event task)) h hs cs ns ds (q .answer) (headAfter q h) hs′ cs′ ns ds′
+  pub schedule-ended : {hs′ ls′ cs′ ds′ : List ℕ} → q .ends ≡ true → Ends (passingOf task q) (q .tasks) ns ds hs cs hs′ cs′ ds′ → Orphans (passingOf task q) ls ls′
+      → FollowsBeside (Use (Schedule event task)) h hs ls cs ns ds (q .answer) (headAfter task q h) hs′ ls′ cs′ ns ds′
   unfolding tablesOf tablesBy
-  schedule-ended {hs′} {cs′} {ds′} s ends =
+  schedule-ended {hs′} {ls′} {cs′} {ds′} s ends orphans =
       record {
-        handlesSize = ends .handlesSize;
-        sized = record { of-clocks = ends .clocksSize; of-named = e .of-named; of-dues = ends .duesSize };
-        follows = λ ls l w small large.
+        sized =
+            record {
+              blocks = record { of-handles = ends .handlesSize; of-extents = orphans .size };
+              entries = record { of-clocks = ends .clocksSize; of-named = z .entries .of-named; of-dues = ends .duesSize };
+            };
+        follows = λ w small large.
             let p : Pool = pooled h hs ls cs ns ds in
-            let t = lent-typed h hs ls cs ns ds types (record { of-handles = a; of-extents = l }) e in
-            schedule-obeys event task {p = p} {p′ = pooled (headAfter q h) hs′ ls cs′ ns ds′} t w small large
+            let t = lent-typed h hs ls cs ns ds types (z .blocks) (z .entries) in
+            schedule-obeys event task {p = p} {p′ = pooled (headAfter task q h) hs′ ls′ cs′ ns ds′} t w small large
             (rw so (planned-answer event task (tablesOf p)))
-            (ended-left s ends ls l w)
+            (ended-left s ends orphans w)
             (λ why r.
             let u = refused-unmoved event task (h .tasks) (h .global) why (rw so at r) in
             absurd (true≢false (sym s ∙ rw so (u .still))));
       }
+
+-- a resume ends nothing, whatever columns stand beside it
+unended : (v : Verdict) (task : ℕ) (tasks : List TaskEntry) (global : GlobalTime)
+    → (plannedBy v Resume task tasks global .ends ≡ false) × (plannedBy v Resume task tasks global .leaves ≡ false)
+unfolding plannedAfter
+unended Accepted task tasks global = (refl, refl)
+unended (Refused r) task tasks global = (refl, refl)
+
+pub resume-alone : {h : Head} → HeadTyped h → (task : ℕ) {q : Planned} → q ≡ planned Resume task (h .tasks) (h .global)
+    → FollowsAlone (λ blocks. Unit) (Use (Schedule Resume task)) h (q .answer)
+    (record { limits = h .limits; tasks = q .tasks; global = q .global; given = h .given; shares = h .shares })
+unfolding planned
+resume-alone {h} types task {q} so =
+    let (ends, leaves) = unended (verdictAt Resume task (h .tasks)) task (h .tasks) (h .global) in
+    record {
+      follows = λ hs ls cs ns ds z known w.
+          let still = schedule-still types z Resume task so (rw so ends) .follows w in
+          let nobody : q .leaves ≡ false = rw so leaves in
+          subst (λ (b : Bool). Follows (Use (Schedule Resume task)) (pooled h hs ls cs ns ds) (q .answer)
+          (pooled (record { limits = h .limits; tasks = q .tasks; global = q .global; given = h .given; shares = sharesLeft b task (h .shares) }) hs ls cs ns ds))
+          nobody still;
+    }

@@ -10,9 +10,10 @@ use Rattle.ledger.specs.Refusals.{testsOf}
 use Rattle.ledger.specs.Ledger.{Ledger, reply, next, replyToRequest, afterRequest}
 use Rattle.ledger.specs.declared.Answer.{Answer}
 use Rattle.ledger.specs.declared.Answer.the-variants.{Refused as RefusedAnswer}
-use Rattle.ledger.specs.declared.Call.the-variants.{Schedule, Make, Refresh, Read, Write, Batch, Release}
+use Rattle.ledger.specs.declared.Call.the-variants.{Join, Schedule, Make, Refresh, Read, Write, Batch, Release}
 use Rattle.ledger.specs.declared.Event.{Event}
-use Rattle.ledger.specs.declared.Event.the-variants.{Join, Leave, Block, Resume, Tick}
+use Rattle.ledger.specs.declared.Share.{Share}
+use Rattle.ledger.specs.declared.Event.the-variants.{Leave, Block, Resume, Tick}
 use Rattle.ledger.specs.declared.Kind.{Kind}
 use Rattle.ledger.specs.declared.Refusal.{Refusal}
 use Rattle.ledger.specs.declared.Request.{Request}
@@ -48,7 +49,6 @@ whatever-bytes new same then also o =
 no-bytes-scheduled : (event : Event) (task : ℕ) (new : List ℕ) (L : Ledger)
     → (reply L (Schedule event task) [] ≡ reply L (Schedule event task) new) × (next L (Schedule event task) [] ≡ next L (Schedule event task) new)
 unfolding reply next testsOf memoryAfter expirationsAfter
-no-bytes-scheduled Join task new L = (refl, refl)
 no-bytes-scheduled Leave task new L = (refl, refl)
 no-bytes-scheduled Block task new L = (refl, refl)
 no-bytes-scheduled Resume task new L = (refl, refl)
@@ -72,6 +72,11 @@ module _ (new : List ℕ) (p : Pool) (small large : List ℕ) where
   schedule-serves event task answer p′ f =
       let same = no-bytes-scheduled event task new in
       serves-plain (whatever-bytes new (λ L. same L .0) (λ L. same L .1) (λ b. b) (f small large))
+
+  pub join-serves : (task : ℕ) (share : Share) (answer : Answer) (p′ : Pool) → Follows (Use (Join task share)) p answer p′
+      → Serves (Use (Join task share)) new p small large (withoutBytes answer p′) small large
+  unfolding reply next testsOf memoryAfter expirationsAfter
+  join-serves task share answer p′ f = serves-plain (whatever-bytes new (λ L. refl) (λ L. refl) (λ b. b) (f small large))
 
   pub refresh-serves : (task : ℕ) (kind : Kind) (extension handle : ℕ) (answer : Answer) (p′ : Pool)
       → Follows (Use (Refresh task kind extension handle)) p answer p′

@@ -11,8 +11,8 @@ use Rattle.ledger.specs.declared.Refusal.{Refusal}
 use Rattle.ledger.specs.declared.Request.the-variants.{Use}
 use Rattle.stores.specs.Places.{InBlock, smallAfter, largeAfter, sumAt, sumAfter}
 use Rattle.record.specs.Reading.{HeadTyped, Typed}
-use Rattle.record.specs.Tables.{BlockEntry, Sized, lengthIn, extentOf, blocksOf, entriesOf, tablesBy, tablesOf, lent, pooled, blockEntries}
-use Rattle.record.proofs.Columns.{block-at, extents-set, entry-of}
+use Rattle.record.specs.Tables.{BlockEntry, Sized, lengthIn, withSum, blocksOf, entriesOf, tablesBy, tablesOf, lent, pooled, blockEntries}
+use Rattle.record.proofs.Columns.{block-at, extents-set, entry-summed}
 use Rattle.record.specs.declared.Head.{Head}
 use Rattle.steps.specs.Objects.{placeIn, placeOf, readVerdict, writeVerdict, writtenPool}
 use Rattle.objects.specs.Outcomes.{bytesIn}
@@ -69,19 +69,19 @@ module _ {h : Head} {hs ls cs ns ds : List ℕ} (types : HeadTyped h) (sized : S
 
       -- the tables that are left are those of the written record
       written-left : (after : ℕ) → after ≡ sumAfter small large block offset new
-          → tablesOf (pooled h hs (set ls block (extentOf count after)) cs ns ds) ≡ writtenPool handle offset new small large (tablesOf (pooled h hs ls cs ns ds))
+          → tablesOf (pooled h hs (set ls block (withSum (getD ls block 0) after)) cs ns ds) ≡ writtenPool handle offset new small large (tablesOf (pooled h hs ls cs ns ds))
       unfolding tablesOf tablesBy writtenPool
       written-left after e =
           let (place, size) = place-count in
-          rw (extents-set hs ls block (extentOf count after), place, block-at hs ls (sized .blocks .of-handles) (sized .blocks .of-extents) block, ← e)
+          rw (extents-set hs ls block (withSum (getD ls block 0) after), place, block-at hs ls (sized .blocks .of-handles) (sized .blocks .of-extents) block, ← e)
           (ap (λ (b : BlockEntry). tablesBy h (set (blocksOf hs ls) block b) (entriesOf cs ns ds))
-          (entry-of (getD hs block 0) count after (omega (arith, size)) ∙ rw size))
+          (entry-summed (getD hs block 0) (getD ls block 0) after))
 
       pub write-done-lent : {small′ large′ : List ℕ} (after : ℕ) → after ≡ sumAfter small large block offset new
           → small′ ≡ smallAfter block offset new small → large′ ≡ largeAfter block offset new large
-          → (length (set ls block (extentOf count after)) ≡ blockEntries)
-          × Writes task handle offset new (pooled h hs ls cs ns ds) small large Done (pooled h hs (set ls block (extentOf count after)) cs ns ds) small′ large′
+          → (length (set ls block (withSum (getD ls block 0) after)) ≡ blockEntries)
+          × Writes task handle offset new (pooled h hs ls cs ns ds) small large Done (pooled h hs (set ls block (withSum (getD ls block 0) after)) cs ns ds) small′ large′
       write-done-lent after e s l = (
         rw length-set (sized .blocks .of-extents),
-        rw (s, l) (write-found of-entries ready (here handle) new f found at (written-left after e) (rw (place-count .1, ← e))),
+        rw (s, l) (write-found of-entries ready (here handle) new f found at (written-left after e) (rw (← e))),
       )

@@ -10,7 +10,7 @@ use Rattle.ledger.specs.Ledger.{Ledger, replyToRequest, afterRequest}
 use Rattle.ledger.specs.declared.Kind.{Kind}
 use Rattle.ledger.specs.declared.Answer.{Answer}
 use Rattle.ledger.specs.declared.Answer.the-variants.{Refused, Bytes}
-use Rattle.ledger.specs.declared.Call.the-variants.{Schedule, Make, Refresh, Read, Write, Batch, Release}
+use Rattle.ledger.specs.declared.Call.the-variants.{Join, Schedule, Make, Refresh, Read, Write, Batch, Release}
 use Rattle.ledger.specs.declared.Refusal.{Refusal}
 use Rattle.ledger.specs.declared.Refusal.the-variants.{WrongStoreLength, NotWellFormed}
 use Rattle.ledger.specs.declared.Request.{Request}
@@ -18,7 +18,7 @@ use Rattle.ledger.specs.declared.Request.the-variants.{Use, Report, Remaining}
 use Rattle.ledger.specs.declared.Limits.{Limits}
 use Rattle.stores.specs.Places.{InBlock, smallAfter, largeAfter, sumAt}
 use Rattle.record.specs.Reading.{isWholeSmall, isWholeLarge, blockBytes, Typed, sizeOf}
-use Rattle.record.specs.Tables.{lengthIn, extentOf, tablesOf}
+use Rattle.record.specs.Tables.{lengthIn, withSum, tablesOf}
 use Rattle.record.specs.Pools.{isWellFormed, Reads}
 use Rattle.record.specs.WellFormed.{isBlock}
 use Rattle.record.specs.declared.Pool.{Pool}
@@ -30,6 +30,7 @@ use Rattle.objects.specs.declared.FoundBytes.the-variants.{Refused as RefusedBy
 
 -- R35: the calls that test 14
 abbrev pub isStored : Request → Bool
+isStored (Use (Join task share)) = false
 isStored (Use (Schedule event task)) = false
 isStored (Use (Make task kind extension size)) = true
 isStored (Use (Refresh task kind extension handle)) = false
@@ -76,8 +77,9 @@ summed block sum p =
       tasks = p .tasks;
       global = p .global;
       given = p .given;
+      shares = p .shares;
       handles = p .handles;
-      extents = set (p .extents) block (extentOf (lengthIn (getD (p .extents) block 0)) sum);
+      extents = set (p .extents) block (withSum (getD (p .extents) block 0) sum);
       clocks = p .clocks;
       named = p .named;
       dues = p .dues;
@@ -107,6 +109,7 @@ LeavesWritten false handle offset new p small large p′ small′ large′ = Wri
 -- What a call leaves of record and stores, byte by byte: a make that is accepted clears its block, a write replaces its bytes, and no other call touches a store, whatever length it has; read,
 -- report and remaining life leave the record too.
 abbrev pub Leaves : Request → List ℕ → Pool → List ℕ → List ℕ → Answer → Pool → List ℕ → List ℕ → Type 0
+Leaves (Use (Join task share)) new p small large answer p′ small′ large′ = SameStores small large small′ large′
 Leaves (Use (Schedule event task)) new p small large answer p′ small′ large′ = SameStores small large small′ large′
 Leaves (Use (Make task kind extension size)) new p small large answer p′ small′ large′ = LeavesMade (isRefusal answer) p small large p′ small′ large′
 Leaves (Use (Refresh task kind extension handle)) new p small large answer p′ small′ large′ = SameStores small large small′ large′

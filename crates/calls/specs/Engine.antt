@@ -1,17 +1,20 @@
 -- What the calls on lent tables promise, by the record that has this head and these columns.
 use Prim.Native.Nat.{ℕ}
-use mathlib.Core.Bool.{true}
+use mathlib.Core.Bool.{Bool, true, cond}
 use mathlib.Core.List.{List}
 use mathlib.Core.Path.{_≡_}
-use lib.ListN.{length}
+use lib.ListN.{set}
 use Rattle.ledger.specs.declared.Answer.{Answer}
 use Rattle.ledger.specs.declared.Answer.the-variants.{Done as DoneAnswer, Refused as RefusedAnswer, Lasts}
 use Rattle.ledger.specs.declared.Request.{Request}
 use Rattle.ledger.specs.declared.Verdict.{Verdict}
 use Rattle.ledger.specs.declared.Verdict.the-variants.{Accepted, Refused}
-use Rattle.record.specs.Tables.{pooled, SizedEntries, blockEntries}
+use Rattle.ledger.specs.declared.Share.{Share}
+use Rattle.ledger.specs.Objects.{noShare}
+use Rattle.record.specs.Tables.{BlockEntry, blocksOf, pooled, Sized}
 use Rattle.record.specs.Pools.{isWellFormed}
 use Rattle.record.specs.declared.Head.{Head}
+use Rattle.steps.specs.Joins.{joinedEntry}
 use Rattle.objects.specs.declared.Found.{Found}
 use Rattle.objects.specs.declared.Found.the-variants.{At, Refused as RefusedFound}
 use Rattle.calls.specs.Contract.{Follows}
@@ -28,12 +31,26 @@ lifeFound (RefusedFound why) = RefusedAnswer why
 lifeFound (At block life) = Lasts life
 
 abbrev pub withGiven : Head → ℕ → Head
-withGiven h given = record { limits = h .limits; tasks = h .tasks; global = h .global; given = given }
+withGiven h given = record { limits = h .limits; tasks = h .tasks; global = h .global; given = given; shares = h .shares }
 
--- A call that touches no store and no extent, whatever extents stand beside the handles.
-pub record FollowsBeside (request : Request) (h : Head) (handles clocks named dues : List ℕ) (answer : Answer) (h′ : Head) (handles′ clocks′ named′ dues′ : List ℕ)
+-- Q2: the shares once a task has left
+abbrev pub sharesLeft : Bool → ℕ → List Share → List Share
+sharesLeft leaves task shares = cond leaves (set shares task noShare) shares
+
+-- T9, Q1: with a task that has joined
+abbrev pub joinedHead : Head → ℕ → Share → Head
+joinedHead h task share =
+    record { limits = h .limits; tasks = set (h .tasks) task joinedEntry; global = h .global; given = h .given; shares = set (h .shares) task share }
+
+-- A call that touches no store.
+pub record FollowsBeside (request : Request) (h : Head) (handles extents clocks named dues : List ℕ) (answer : Answer) (h′ : Head) (handles′ extents′ clocks′ named′ dues′ : List ℕ)
     : Type 0 where
-  pub handlesSize : length handles′ ≡ blockEntries
-  pub sized : SizedEntries clocks′ named′ dues′
-  pub follows : (extents : List ℕ) → length extents ≡ blockEntries → isWellFormed (pooled h handles extents clocks named dues) ≡ true
-      → Follows request (pooled h handles extents clocks named dues) answer (pooled h′ handles′ extents clocks′ named′ dues′)
+  pub sized : Sized handles′ extents′ clocks′ named′ dues′
+  pub follows : isWellFormed (pooled h handles extents clocks named dues) ≡ true
+      → Follows request (pooled h handles extents clocks named dues) answer (pooled h′ handles′ extents′ clocks′ named′ dues′)
+
+-- A call that changes the head alone, whatever columns stand beside it, of whose blocks so much is known.
+pub record FollowsAlone (Known : List BlockEntry → Type 0) (request : Request) (h : Head) (answer : Answer) (h′ : Head) : Type 0 where
+  pub follows : (handles extents clocks named dues : List ℕ) → Sized handles extents clocks named dues → Known (blocksOf handles extents)
+      → isWellFormed (pooled h handles extents clocks named dues) ≡ true
+      → Follows request (pooled h handles extents clocks named dues) answer (pooled h′ handles extents clocks named dues)

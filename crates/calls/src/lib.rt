@@ -1,23 +1,30 @@
 // Each call that changes something, and remaining life, of a well-formed record with stores as long as its blocks need: what follows the tests of 15 and 14. The head goes by value, tables and stores
 // are lent. A call decides first, by what it only reads, and then changes: a refusal has touched nothing.
+ghost use Prim.Native.Nat.{_<_};
 ghost use mathlib.Core.Bool.{true};
+ghost use Rattle.ledger.specs.Limits.{taskCount, isSmall};
+ghost use Rattle.ledger.specs.declared.Event.the-variants.{Resume};
 ghost use mathlib.Core.Path.{_≡_};
 ghost use lib.ListN.{length};
-ghost use Rattle.ledger.specs.declared.Call.the-variants.{Schedule, Make, Refresh, Write, Batch, Release};
+ghost use Rattle.ledger.specs.declared.Call.the-variants.{Join, Schedule, Make, Refresh, Write, Batch, Release};
 ghost use Rattle.ledger.specs.declared.Request.the-variants.{Use, Remaining};
 ghost use Rattle.record.specs.Pools.{isWellFormed};
-ghost use Rattle.record.specs.Tables.{pooled, SizedEntries, Sized, blockEntries};
+ghost use Rattle.record.specs.Tables.{pooled, blocksOf, SizedEntries, Sized, blockEntries};
+ghost use Rattle.shares.specs.Holdings.{Holds, HoldsBoth};
 ghost use Rattle.calls.specs.Contract.{Ready, FollowsWith, Follows, Makes, Writes};
-ghost use Rattle.calls.specs.Engine.{refusedBy, withGiven, FollowsBeside};
+ghost use Rattle.calls.specs.Engine.{refusedBy, withGiven, sharesLeft, joinedHead, FollowsBeside, FollowsAlone};
 use endings;
 use endings::Passing;
 use endings::end;
+use endings::orphan;
 use expirations::set;
 use expirations::set_all;
 use expirations::standing;
 use ledger::Answer;
 use ledger::Event;
 use ledger::Kind;
+use ledger::Share;
+use ledger::TASK_COUNT;
 use ledger::Verdict;
 use objects::Found;
 use objects::FoundBytes;
@@ -30,11 +37,17 @@ use objects::plan_make;
 use record::BLOCK_COUNT;
 use record::EXPIRATION_COUNT;
 use record::Head;
+use record::NO_SHARE;
 use record::Pool;
 use record::codes::extent_of;
+use record::codes::with_sum;
+use shares::Holding;
+use shares::Holdings;
 use stores::clear_place;
 use stores::sum_after;
 use stores::write_place;
+use tasks::JOINED_TASK;
+use tasks::judge_join;
 use tasks::plan;
 
 // What a call that touches tables gives back: its answer, and the head that it leaves.
@@ -66,22 +79,39 @@ fn with_given(mut h: Head, given: u32) -> Head
     h
 }
 
-// Join, leave, block, resume and tick.
+// Q2: a leaver has nothing any more.
+fn shares_left(leaves: bool, task: u8, mut shares: [Share; TASK_COUNT]) -> [Share; TASK_COUNT]
+    ensures { λ r. ⌜ r ≡ sharesLeft leaves task shares ⌝ }
+{
+    let at = task as usize;
+    if !leaves {
+        return shares;
+    }
+    if TASK_COUNT <= at {
+        return shares;
+    }
+    shares[at] = NO_SHARE;
+    shares
+}
+
+// Leave, block, resume and tick.
 pub fn schedule(
     h: Head,
     handles: &mut [u32; BLOCK_COUNT],
+    extents: &mut [u64; BLOCK_COUNT],
     clocks: &mut [u8; EXPIRATION_COUNT],
     named: &[u8; EXPIRATION_COUNT],
     dues: &mut [u32; EXPIRATION_COUNT],
     event: Event,
     task: u8,
 ) -> Step
-    requires { ⌜ (length (now handles) ≡ blockEntries) × SizedEntries (now clocks) (now named) (now dues) ⌝ }
-    ensures { λ r. ⌜ FollowsBeside (Use (Schedule event task)) h (now (handles .entry)) (now (clocks .entry)) (now (named .entry)) (now (dues .entry)) (r .answer) (r .head) (now (handles .exit)) (now (clocks .exit)) (now (named .entry)) (now (dues .exit)) ⌝ }
+    requires { ⌜ Sized (now handles) (now extents) (now clocks) (now named) (now dues) ⌝ }
+    ensures { λ r. ⌜ FollowsBeside (Use (Schedule event task)) h (now (handles .entry)) (now (extents .entry)) (now (clocks .entry)) (now (named .entry)) (now (dues .entry)) (r .answer) (r .head) (now (handles .exit)) (now (extents .exit)) (now (clocks .exit)) (now (named .entry)) (now (dues .exit)) ⌝ }
 {
     let limits = h.limits;
     let before = h.tasks;
     let time = h.global;
+    let shares = h.shares;
     let planned = plan(before, time, event, task);
     let answer = planned.answer;
     let tasks = planned.tasks;
@@ -92,6 +122,7 @@ pub fn schedule(
         tasks: tasks,
         global: global,
         given: h.given,
+        shares: shares_left(planned.leaves, task, shares),
     };
     if !planned.ends {
         return Step {
@@ -107,9 +138,61 @@ pub fn schedule(
         global: global,
     };
     end(passing, tasks, handles, clocks, named, dues);
+    orphan(passing, extents);
     Step {
         answer: answer,
         head: head,
+    }
+}
+
+// A resume alone: it touches no table.
+pub fn resume(h: Head, task: u8) -> Step
+    ensures { λ r. ⌜ FollowsAlone (λ blocks. Unit) (Use (Schedule Resume task)) h (r .answer) (r .head) ⌝ }
+{
+    let limits = h.limits;
+    let before = h.tasks;
+    let time = h.global;
+    let shares = h.shares;
+    let planned = plan(before, time, Event::Resume, task);
+    let answer = planned.answer;
+    let tasks = planned.tasks;
+    let global = planned.global;
+    Step {
+        answer: answer,
+        head: Head {
+            limits: limits,
+            tasks: tasks,
+            global: global,
+            given: h.given,
+            shares: shares,
+        },
+    }
+}
+
+fn with_joined(mut h: Head, task: u8, share: Share) -> Head
+    requires { ⌜ task < taskCount ⌝ }
+    ensures { λ r. ⌜ r ≡ joinedHead h task share ⌝ }
+{
+    let mut tasks = h.tasks;
+    let mut shares = h.shares;
+    tasks[task as usize] = JOINED_TASK;
+    shares[task as usize] = share;
+    h.tasks = tasks;
+    h.shares = shares;
+    h
+}
+
+// Join, with what the task asks for, where the tasks have this of the stores; no table changes.
+pub fn join(h: Head, holdings: Holdings, task: u8, share: Share) -> Step
+    ensures { λ r. ⌜ FollowsAlone (λ blocks. HoldsBoth (h .shares) blocks holdings) (Use (Join task share)) h (r .answer) (r .head) ⌝ }
+{
+    let verdict = judge_join(h, holdings.small.spoken, holdings.large.spoken, task, share);
+    let Verdict::Accepted = verdict else {
+        return refused_by(verdict, h);
+    };
+    Step {
+        answer: Answer::Done,
+        head: with_joined(h, task, share),
     }
 }
 
@@ -117,21 +200,31 @@ pub fn schedule(
 pub fn make(
     h: Head,
     handles: &mut [u32; BLOCK_COUNT],
-    extents: &mut [u32; BLOCK_COUNT],
+    extents: &mut [u64; BLOCK_COUNT],
     clocks: &mut [u8; EXPIRATION_COUNT],
     named: &mut [u8; EXPIRATION_COUNT],
     dues: &mut [u32; EXPIRATION_COUNT],
     small: &mut [u8],
     large: &mut [u8],
+    holding: Holding,
     task: u8,
     kind: Kind,
     extension: u8,
     size: u16,
 ) -> Step
-    requires { ⌜ Sized (now handles) (now extents) (now clocks) (now named) (now dues) × Ready (Use (Make task kind extension size)) (pooled h (now handles) (now extents) (now clocks) (now named) (now dues)) (now small) (now large) ⌝ }
+    requires { ⌜ Sized (now handles) (now extents) (now clocks) (now named) (now dues) × Ready (Use (Make task kind extension size)) (pooled h (now handles) (now extents) (now clocks) (now named) (now dues)) (now small) (now large) × Holds (isSmall size) (h .shares) (blocksOf (now handles) (now extents)) holding ⌝ }
     ensures { λ r. ⌜ Sized (now (handles .exit)) (now (extents .exit)) (now (clocks .exit)) (now (named .exit)) (now (dues .exit)) × Makes task kind extension size (pooled h (now (handles .entry)) (now (extents .entry)) (now (clocks .entry)) (now (named .entry)) (now (dues .entry))) (now (small .entry)) (now (large .entry)) (r .answer) (pooled (r .head) (now (handles .exit)) (now (extents .exit)) (now (clocks .exit)) (now (named .exit)) (now (dues .exit))) (now (small .exit)) (now (large .exit)) ⌝ }
 {
-    let plan = plan_make(h, handles, standing(clocks), task, kind, extension, size);
+    let plan = plan_make(
+        h,
+        handles,
+        holding,
+        standing(clocks),
+        task,
+        kind,
+        extension,
+        size,
+    );
     let verdict = plan.verdict;
     let place = plan.place;
     let Verdict::Accepted = verdict else {
@@ -141,7 +234,7 @@ pub fn make(
     clear_place(small, large, place);
     let handle = h.given + 1;
     handles[place] = handle;
-    extents[place] = extent_of(size, 0);
+    extents[place] = extent_of(size, 0, task);
     Step {
         answer: Answer::Handle(handle),
         head: with_given(h, handle),
@@ -152,7 +245,7 @@ pub fn make(
 pub fn refresh<'a>(
     h: Head,
     handles: &'a [u32; BLOCK_COUNT],
-    extents: &'a [u32; BLOCK_COUNT],
+    extents: &'a [u64; BLOCK_COUNT],
     clocks: &mut [u8; EXPIRATION_COUNT],
     named: &mut [u8; EXPIRATION_COUNT],
     dues: &mut [u32; EXPIRATION_COUNT],
@@ -194,7 +287,7 @@ pub fn refresh<'a>(
 pub fn release<'a>(
     h: Head,
     handles: &mut [u32; BLOCK_COUNT],
-    extents: &'a [u32; BLOCK_COUNT],
+    extents: &'a [u64; BLOCK_COUNT],
     clocks: &mut [u8; EXPIRATION_COUNT],
     named: &'a [u8; EXPIRATION_COUNT],
     dues: &'a [u32; EXPIRATION_COUNT],
@@ -223,7 +316,7 @@ pub fn release<'a>(
 pub fn batch<'a>(
     h: Head,
     handles: &'a [u32; BLOCK_COUNT],
-    extents: &'a [u32; BLOCK_COUNT],
+    extents: &'a [u64; BLOCK_COUNT],
     clocks: &mut [u8; EXPIRATION_COUNT],
     named: &mut [u8; EXPIRATION_COUNT],
     dues: &mut [u32; EXPIRATION_COUNT],
@@ -262,7 +355,7 @@ pub fn batch<'a>(
 pub fn write<'a>(
     h: Head,
     handles: &'a [u32; BLOCK_COUNT],
-    extents: &mut [u32; BLOCK_COUNT],
+    extents: &mut [u64; BLOCK_COUNT],
     clocks: &'a [u8; EXPIRATION_COUNT],
     named: &'a [u8; EXPIRATION_COUNT],
     dues: &'a [u32; EXPIRATION_COUNT],
@@ -291,11 +384,15 @@ pub fn write<'a>(
         bytes.len(),
     ) {
         FoundBytes::Refused(why) => Answer::Refused(why),
-        FoundBytes::At { block, length, sum } => {
+        FoundBytes::At {
+            block,
+            length: _,
+            sum,
+        } => {
             let offset = offset as usize;
             let after = sum_after(small, large, block, offset, bytes, sum);
             write_place(small, large, block, offset, bytes);
-            extents[block] = extent_of(length, after);
+            extents[block] = with_sum(extents[block], after);
             Answer::Done
         }
     }
@@ -305,7 +402,7 @@ pub fn write<'a>(
 pub fn remaining<'a>(
     h: Head,
     handles: &'a [u32; BLOCK_COUNT],
-    extents: &'a [u32; BLOCK_COUNT],
+    extents: &'a [u64; BLOCK_COUNT],
     clocks: &'a [u8; EXPIRATION_COUNT],
     named: &'a [u8; EXPIRATION_COUNT],
     dues: &'a [u32; EXPIRATION_COUNT],

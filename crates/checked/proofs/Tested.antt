@@ -13,15 +13,18 @@ use Rattle.ledger.specs.declared.Kind.{Kind}
 use Rattle.ledger.specs.declared.Refusal.the-variants.{NotWellFormed, WrongStoreLength}
 use Rattle.ledger.specs.declared.Request.{Request}
 use Rattle.ledger.specs.declared.Request.the-variants.{Use}
-use Rattle.record.specs.Tables.{Sized, SizedEntries, lent, headOf, pooled, blockEntries}
+use Rattle.record.specs.Tables.{BlockEntry, Sized, SizedEntries, blocksOf, lent, headOf, pooled, blockEntries}
 use Rattle.record.specs.WellFormed as WellFormed
 use Rattle.record.specs.Pools.{isWellFormed}
 use Rattle.record.specs.declared.Head.{Head}
 use Rattle.record.specs.declared.Pool.{Pool}
 use Rattle.calls.specs.Contract.{isStored, TellsWhole, Ready, Obeys, FollowsWith, Follows, Makes, Writes}
-use Rattle.calls.specs.Engine.{FollowsBeside}
+use Rattle.calls.specs.Engine.{FollowsBeside, FollowsAlone}
 use Rattle.calls.proofs.Promises.{unfit-obeys, wrong-obeys, ready}
 use Rattle.pool.proofs.ByValue.{fits-by-value}
+use Rattle.shares.specs.Holdings.{HoldsBoth}
+use Rattle.shares.specs.declared.Sharing.{Sharing}
+use Rattle.fitness.specs.Fitness.{Fitness}
 
 -- 15, by the test of the columns
 module _ (p : Pool) {h : Head} (e : h ≡ headOf p) {fit : Bool} (f : fit ≡ WellFormed.isWellFormed (lent h (p .handles) (p .extents) (p .clocks) (p .named) (p .dues))) where
@@ -37,6 +40,11 @@ module _ (p : Pool) {h : Head} (e : h ≡ headOf p) {fit : Bool} (f : fit ≡ We
 pub lent-fit : (h : Head) (hs ls cs ns ds : List ℕ) {fit : Bool} → fit ≡ WellFormed.isWellFormed (lent h hs ls cs ns ds) → not fit ≡ false
     → isWellFormed (pooled h hs ls cs ns ds) ≡ true
 lent-fit h hs ls cs ns ds f passed = fit-by-value (pooled h hs ls cs ns ds) refl f passed
+
+-- what the tasks have of the stores, by the same test
+pub held-lent : {h : Head} {hs ls cs ns ds : List ℕ} {sharing : Sharing} → Fitness h hs ls cs ns ds sharing → not (sharing .fit) ≡ false
+    → HoldsBoth (h .shares) (blocksOf hs ls) (sharing .holdings)
+held-lent {sharing = sharing} told passed = told .held (sym (told .fit) ∙ not-false (sharing .fit) passed)
 
 -- on lent columns: 15,
 module _ {h : Head} {hs ls cs ns ds : List ℕ} (sized : Sized hs ls cs ns ds) {fit : Bool} (f : fit ≡ WellFormed.isWellFormed (lent h hs ls cs ns ds)) where
@@ -60,12 +68,14 @@ module _ {h : Head} {hs ls cs ns ds : List ℕ} (sized : Sized hs ls cs ns ds) {
 
   module _ (passed : not fit ≡ false) where
     -- an event
-    pub fit-lent : {request : Request} {answer : Answer} {h′ : Head} {hs′ cs′ ns′ ds′ : List ℕ} → FollowsBeside request h hs cs ns ds answer h′ hs′ cs′ ns′ ds′
-        → Sized hs′ ls cs′ ns′ ds′ × Follows request (pooled h hs ls cs ns ds) answer (pooled h′ hs′ ls cs′ ns′ ds′)
-    fit-lent done = (
-      record { blocks = record { of-handles = done .handlesSize; of-extents = sized .blocks .of-extents }; entries = done .sized },
-      done .follows ls (sized .blocks .of-extents) (lent-fit h hs ls cs ns ds f passed),
-    )
+    pub fit-lent : {request : Request} {answer : Answer} {h′ : Head} {hs′ ls′ cs′ ns′ ds′ : List ℕ} → FollowsBeside request h hs ls cs ns ds answer h′ hs′ ls′ cs′ ns′ ds′
+        → Sized hs′ ls′ cs′ ns′ ds′ × Follows request (pooled h hs ls cs ns ds) answer (pooled h′ hs′ ls′ cs′ ns′ ds′)
+    fit-lent done = (done .sized, done .follows (lent-fit h hs ls cs ns ds f passed))
+
+    -- a call that changes the head alone
+    pub fit-alone : {Known : List BlockEntry → Type 0} {request : Request} {answer : Answer} {h′ : Head} → FollowsAlone Known request h answer h′
+        → Known (blocksOf hs ls) → Follows request (pooled h hs ls cs ns ds) answer (pooled h′ hs ls cs ns ds)
+    fit-alone done known = done .follows hs ls cs ns ds sized known (lent-fit h hs ls cs ns ds f passed)
 
     -- 14, where a store is touched
     module _ {small large : List ℕ} {whole : Bool} (tells : TellsWhole (h .limits) (length small) (length large) whole) where

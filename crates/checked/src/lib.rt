@@ -1,35 +1,63 @@
 // The calls that change the record, on lent columns: 15 first, then 14 where a store is touched, and then the call itself. Who lends them never looks at the record again.
 ghost use mathlib.Core.Path.{_≡_};
 ghost use lib.ListN.{length};
-ghost use Rattle.ledger.specs.declared.Call.the-variants.{Schedule, Refresh, Batch, Release};
+ghost use Rattle.ledger.specs.declared.Call.the-variants.{Join, Schedule, Refresh, Batch, Release};
+ghost use Rattle.ledger.specs.declared.Event.the-variants.{Resume};
 ghost use Rattle.ledger.specs.declared.Request.the-variants.{Use};
 ghost use Rattle.record.specs.Tables.{pooled, Sized, SizedEntries, blockEntries};
 ghost use Rattle.calls.specs.Contract.{FollowsWith, Follows, Makes, Writes};
 use calls;
 use calls::Step;
+use fitness::fitness_of;
 use fitness::is_well_formed;
 use ledger::Answer;
 use ledger::Event;
 use ledger::Kind;
 use ledger::Refusal;
+use ledger::SMALL_SIZE;
+use ledger::Share;
 use pool::lengths::are_whole;
 use record::BLOCK_COUNT;
 use record::EXPIRATION_COUNT;
 use record::Head;
+use shares::holding_in;
 
-// Join, leave, block, resume and tick.
-pub fn schedule<'a>(
+// Join, with what the task asks for.
+pub fn join<'a>(
     h: Head,
-    handles: &mut [u32; BLOCK_COUNT],
-    extents: &'a [u32; BLOCK_COUNT],
-    clocks: &mut [u8; EXPIRATION_COUNT],
+    handles: &'a [u32; BLOCK_COUNT],
+    extents: &'a [u64; BLOCK_COUNT],
+    clocks: &'a [u8; EXPIRATION_COUNT],
     named: &'a [u8; EXPIRATION_COUNT],
-    dues: &mut [u32; EXPIRATION_COUNT],
-    event: Event,
+    dues: &'a [u32; EXPIRATION_COUNT],
+    task: u8,
+    share: Share,
+) -> Step
+    requires { ⌜ Sized (now handles) (now extents) (now clocks) (now named) (now dues) ⌝ }
+    ensures { λ r. ⌜ Follows (Use (Join task share)) (pooled h (now (handles .entry)) (now (extents .entry)) (now (clocks .entry)) (now (named .entry)) (now (dues .entry))) (r .answer) (pooled (r .head) (now (handles .entry)) (now (extents .entry)) (now (clocks .entry)) (now (named .entry)) (now (dues .entry))) ⌝ }
+{
+    let sharing = fitness_of(h, handles, extents, clocks, named, dues);
+    if !sharing.fit {
+        return Step {
+            answer: Answer::Refused(Refusal::NotWellFormed),
+            head: h,
+        };
+    }
+    calls::join(h, sharing.holdings, task, share)
+}
+
+// A resume.
+pub fn resume<'a>(
+    h: Head,
+    handles: &'a [u32; BLOCK_COUNT],
+    extents: &'a [u64; BLOCK_COUNT],
+    clocks: &'a [u8; EXPIRATION_COUNT],
+    named: &'a [u8; EXPIRATION_COUNT],
+    dues: &'a [u32; EXPIRATION_COUNT],
     task: u8,
 ) -> Step
     requires { ⌜ Sized (now handles) (now extents) (now clocks) (now named) (now dues) ⌝ }
-    ensures { λ r. ⌜ Sized (now (handles .exit)) (now (extents .entry)) (now (clocks .exit)) (now (named .entry)) (now (dues .exit)) × Follows (Use (Schedule event task)) (pooled h (now (handles .entry)) (now (extents .entry)) (now (clocks .entry)) (now (named .entry)) (now (dues .entry))) (r .answer) (pooled (r .head) (now (handles .exit)) (now (extents .entry)) (now (clocks .exit)) (now (named .entry)) (now (dues .exit))) ⌝ }
+    ensures { λ r. ⌜ Follows (Use (Schedule Resume task)) (pooled h (now (handles .entry)) (now (extents .entry)) (now (clocks .entry)) (now (named .entry)) (now (dues .entry))) (r .answer) (pooled (r .head) (now (handles .entry)) (now (extents .entry)) (now (clocks .entry)) (now (named .entry)) (now (dues .entry))) ⌝ }
 {
     if !is_well_formed(h, handles, extents, clocks, named, dues) {
         return Step {
@@ -37,13 +65,36 @@ pub fn schedule<'a>(
             head: h,
         };
     }
-    calls::schedule(h, handles, clocks, named, dues, event, task)
+    calls::resume(h, task)
+}
+
+// Leave, block, resume and tick.
+pub fn schedule(
+    h: Head,
+    handles: &mut [u32; BLOCK_COUNT],
+    extents: &mut [u64; BLOCK_COUNT],
+    clocks: &mut [u8; EXPIRATION_COUNT],
+    named: &[u8; EXPIRATION_COUNT],
+    dues: &mut [u32; EXPIRATION_COUNT],
+    event: Event,
+    task: u8,
+) -> Step
+    requires { ⌜ Sized (now handles) (now extents) (now clocks) (now named) (now dues) ⌝ }
+    ensures { λ r. ⌜ Sized (now (handles .exit)) (now (extents .exit)) (now (clocks .exit)) (now (named .entry)) (now (dues .exit)) × Follows (Use (Schedule event task)) (pooled h (now (handles .entry)) (now (extents .entry)) (now (clocks .entry)) (now (named .entry)) (now (dues .entry))) (r .answer) (pooled (r .head) (now (handles .exit)) (now (extents .exit)) (now (clocks .exit)) (now (named .entry)) (now (dues .exit))) ⌝ }
+{
+    if !is_well_formed(h, handles, extents, clocks, named, dues) {
+        return Step {
+            answer: Answer::Refused(Refusal::NotWellFormed),
+            head: h,
+        };
+    }
+    calls::schedule(h, handles, extents, clocks, named, dues, event, task)
 }
 
 pub fn make(
     h: Head,
     handles: &mut [u32; BLOCK_COUNT],
-    extents: &mut [u32; BLOCK_COUNT],
+    extents: &mut [u64; BLOCK_COUNT],
     clocks: &mut [u8; EXPIRATION_COUNT],
     named: &mut [u8; EXPIRATION_COUNT],
     dues: &mut [u32; EXPIRATION_COUNT],
@@ -57,7 +108,8 @@ pub fn make(
     requires { ⌜ Sized (now handles) (now extents) (now clocks) (now named) (now dues) ⌝ }
     ensures { λ r. ⌜ Sized (now (handles .exit)) (now (extents .exit)) (now (clocks .exit)) (now (named .exit)) (now (dues .exit)) × Makes task kind extension size (pooled h (now (handles .entry)) (now (extents .entry)) (now (clocks .entry)) (now (named .entry)) (now (dues .entry))) (now (small .entry)) (now (large .entry)) (r .answer) (pooled (r .head) (now (handles .exit)) (now (extents .exit)) (now (clocks .exit)) (now (named .exit)) (now (dues .exit))) (now (small .exit)) (now (large .exit)) ⌝ }
 {
-    if !is_well_formed(h, handles, extents, clocks, named, dues) {
+    let sharing = fitness_of(h, handles, extents, clocks, named, dues);
+    if !sharing.fit {
         return Step {
             answer: Answer::Refused(Refusal::NotWellFormed),
             head: h,
@@ -69,6 +121,7 @@ pub fn make(
             head: h,
         };
     }
+    let holding = holding_in(sharing.holdings, size as u32 <= SMALL_SIZE);
     calls::make(
         h,
         handles,
@@ -78,6 +131,7 @@ pub fn make(
         dues,
         small,
         large,
+        holding,
         task,
         kind,
         extension,
@@ -88,7 +142,7 @@ pub fn make(
 pub fn release<'a>(
     h: Head,
     handles: &mut [u32; BLOCK_COUNT],
-    extents: &'a [u32; BLOCK_COUNT],
+    extents: &'a [u64; BLOCK_COUNT],
     clocks: &mut [u8; EXPIRATION_COUNT],
     named: &'a [u8; EXPIRATION_COUNT],
     dues: &'a [u32; EXPIRATION_COUNT],
@@ -110,7 +164,7 @@ pub fn release<'a>(
 pub fn refresh<'a>(
     h: Head,
     handles: &'a [u32; BLOCK_COUNT],
-    extents: &'a [u32; BLOCK_COUNT],
+    extents: &'a [u64; BLOCK_COUNT],
     clocks: &mut [u8; EXPIRATION_COUNT],
     named: &mut [u8; EXPIRATION_COUNT],
     dues: &mut [u32; EXPIRATION_COUNT],
@@ -145,7 +199,7 @@ pub fn refresh<'a>(
 pub fn batch<'a>(
     h: Head,
     handles: &'a [u32; BLOCK_COUNT],
-    extents: &'a [u32; BLOCK_COUNT],
+    extents: &'a [u64; BLOCK_COUNT],
     clocks: &mut [u8; EXPIRATION_COUNT],
     named: &mut [u8; EXPIRATION_COUNT],
     dues: &mut [u32; EXPIRATION_COUNT],
@@ -180,7 +234,7 @@ pub fn batch<'a>(
 pub fn write<'a>(
     h: Head,
     handles: &'a [u32; BLOCK_COUNT],
-    extents: &mut [u32; BLOCK_COUNT],
+    extents: &mut [u64; BLOCK_COUNT],
     clocks: &'a [u8; EXPIRATION_COUNT],
     named: &'a [u8; EXPIRATION_COUNT],
     dues: &'a [u32; EXPIRATION_COUNT],

@@ -9,13 +9,14 @@ use Rattle.ledger.specs.Ledger.{reply, next}
 use Rattle.ledger.specs.declared.Answer.{Answer}
 use Rattle.ledger.specs.declared.Answer.the-variants.{Counted}
 use Rattle.ledger.specs.declared.Call.{Call}
-use Rattle.ledger.specs.declared.Call.the-variants.{Schedule, Make, Refresh, Read, Write, Batch, Release}
+use Rattle.ledger.specs.declared.Call.the-variants.{Join, Schedule, Make, Refresh, Read, Write, Batch, Release}
 use Rattle.ledger.specs.declared.Event.{Event}
+use Rattle.ledger.specs.declared.Share.{Share}
 use Rattle.ledger.specs.declared.Kind.{Kind}
 use Rattle.ledger.specs.declared.Request.{Request}
 use Rattle.ledger.specs.declared.Request.the-variants.{Use, Report, Remaining}
 use Rattle.record.specs.Reading.{HeadTyped}
-use Rattle.record.specs.Tables.{SizedEntries, Sized, entriesOf, tablesOf, lent, pooled, blockEntries}
+use Rattle.record.specs.Tables.{BlockEntry, SizedEntries, Sized, blocksOf, entriesOf, tablesOf, lent, pooled, blockEntries}
 use Rattle.record.specs.declared.Head.{Head}
 use Rattle.record.specs.declared.Pool.{Pool}
 use Rattle.expirations.specs.Standing.{standingOf}
@@ -27,13 +28,18 @@ use Rattle.objects.specs.declared.FoundBytes.the-variants.{At, Refused}
 use Rattle.objects.proofs.Laws.{usage-of}
 use Rattle.calls.specs.Contract.{Ready, FollowsWith, Follows, Makes, Locates, Writes}
 use Rattle.calls.specs.Served.{Serves}
-use Rattle.calls.specs.Engine.{FollowsBeside}
+use Rattle.calls.specs.Engine.{FollowsBeside, FollowsAlone}
+use Rattle.ledger.specs.Limits.{isSmall}
+use Rattle.shares.specs.Holdings.{Holds, HoldsBoth}
+use Rattle.shares.specs.declared.Holding.{Holding}
+use Rattle.shares.specs.declared.Holdings.{Holdings}
+use Rattle.dispatch.specs.Needs.{holdingFor, HoldsFor}
 use Rattle.dispatch.specs.Done.{withoutBytes, whereFound, givenBack}
 use Rattle.calls.specs.declared.Step.{Step}
 use Rattle.dispatch.specs.declared.Done.{Done}
 use Rattle.expirations.proofs.Counting.{standing-of}
 use Rattle.calls.proofs.Reported.{report-obeys}
-use Rattle.calls.proofs.Served.{whatever-bytes, serves-plain, schedule-serves, refresh-serves, batch-serves, release-serves, make-serves, write-serves, report-serves, life-serves}
+use Rattle.calls.proofs.Served.{whatever-bytes, serves-plain, schedule-serves, join-serves, refresh-serves, batch-serves, release-serves, make-serves, write-serves, report-serves, life-serves}
 use Rattle.calls.proofs.WriteLent.{read-locates}
 
 -- a read gives back where its object is
@@ -55,6 +61,12 @@ module _ (new : List ℕ) (h : Head) (hs ls cs ns ds small large : List ℕ) whe
 pub ready-for : {request other : Request} {p : Pool} {small large : List ℕ} → Ready request p small large → request ≡ other → Ready other p small large
 ready-for ready is = rw is at ready
 
+-- and a make has the holding of its store
+pub holds-made : (shares : List Share) (blocks : List BlockEntry) (holdings : Holdings) {call : Call} {task : ℕ} {kind : Kind} {extension size : ℕ}
+    → call ≡ Make task kind extension size → HoldsFor (Use call) shares blocks holdings → {holding : Holding} → holding ≡ holdingFor holdings size
+    → Holds (isSmall size) shares blocks holding
+holds-made shares blocks holdings is holds so = rw so (rw is at holds)
+
 -- what a call on these tables and stores owes
 abbrev Served : Request → List ℕ → Head → List ℕ → List ℕ → List ℕ → List ℕ → List ℕ → List ℕ → List ℕ → Done
     → List ℕ → List ℕ → List ℕ → List ℕ → List ℕ → List ℕ → List ℕ → Type 0
@@ -64,14 +76,17 @@ Served request new h hs ls cs ns ds small large r hs′ ls′ cs′ ns′ ds′ 
 
 module _ (new : List ℕ) {h : Head} {hs ls cs ns ds : List ℕ} (sized : Sized hs ls cs ns ds) {small large : List ℕ} {call : Call}
     (ready : Ready (Use call) (pooled h hs ls cs ns ds) small large) {r : Done} where
-  pub schedule-arm : {event : Event} {task : ℕ} → call ≡ Schedule event task → {s : Step} {hs′ cs′ ds′ : List ℕ}
-      → FollowsBeside (Use (Schedule event task)) h hs cs ns ds (s .answer) (s .head) hs′ cs′ ns ds′ → r ≡ withoutBytes (s .answer) (s .head)
-      → Served (Use call) new h hs ls cs ns ds small large r hs′ ls cs′ ns ds′ small large
+  pub schedule-arm : {event : Event} {task : ℕ} → call ≡ Schedule event task → {s : Step} {hs′ ls′ cs′ ds′ : List ℕ}
+      → FollowsBeside (Use (Schedule event task)) h hs ls cs ns ds (s .answer) (s .head) hs′ ls′ cs′ ns ds′ → r ≡ withoutBytes (s .answer) (s .head)
+      → Served (Use call) new h hs ls cs ns ds small large r hs′ ls′ cs′ ns ds′ small large
   schedule-arm {event} {task} is {s} f so =
-      rw (is, so) (
-        record { blocks = record { of-handles = f .handlesSize; of-extents = sized .blocks .of-extents }; entries = f .sized },
-        schedule-serves new _ small large event task (s .answer) _ (f .follows ls (sized .blocks .of-extents) (ready .fit)),
-      )
+      rw (is, so) (f .sized, schedule-serves new _ small large event task (s .answer) _ (f .follows (ready .fit)))
+
+  pub join-arm : {task : ℕ} {share : Share} → call ≡ Join task share → {holdings : Holdings} → HoldsFor (Use call) (h .shares) (blocksOf hs ls) holdings → {s : Step}
+      → FollowsAlone (λ blocks. HoldsBoth (h .shares) blocks holdings) (Use (Join task share)) h (s .answer) (s .head) → r ≡ withoutBytes (s .answer) (s .head)
+      → Served (Use call) new h hs ls cs ns ds small large r hs ls cs ns ds small large
+  join-arm {task} {share} is holds {s} f so =
+      rw (is, so) (sized, join-serves new _ small large task share (s .answer) _ (f .follows hs ls cs ns ds sized (rw is at holds) (ready .fit)))
 
   pub refresh-arm : {task : ℕ} {kind : Kind} {extension handle : ℕ} → call ≡ Refresh task kind extension handle → {s : Step} {cs′ ns′ ds′ : List ℕ}
       → SizedEntries cs′ ns′ ds′

@@ -1,11 +1,16 @@
 // The one dispatch: a call of the thirteen by its request, on a head by value and lent tables and stores.
 ghost use mathlib.Core.Path.{_≡_};
 ghost use Rattle.ledger.specs.declared.Request.the-variants.{Use};
-ghost use Rattle.record.specs.Tables.{pooled, Sized};
+ghost use Rattle.record.specs.Tables.{pooled, blocksOf, Sized};
 ghost use Rattle.calls.specs.Contract.{Ready};
 ghost use Rattle.calls.specs.Served.{Serves};
 ghost use Rattle.dispatch.specs.Done.{withoutBytes, whereFound, givenBack};
+ghost use Rattle.dispatch.specs.Needs.{holdingFor, HoldsFor};
+
+pub mod needs;
+
 use calls::batch;
+use calls::join;
 use calls::make;
 use calls::refresh;
 use calls::release;
@@ -16,12 +21,16 @@ use expirations::standing;
 use ledger::Answer;
 use ledger::Call;
 use ledger::Request;
+use ledger::SMALL_SIZE;
 use objects::FoundBytes;
 use objects::find_for_read;
 use objects::usage;
 use record::BLOCK_COUNT;
 use record::EXPIRATION_COUNT;
 use record::Head;
+use shares::Holding;
+use shares::Holdings;
+use shares::holding_in;
 
 // What a call gives back. The bytes of a read are the first `length` of `block`; length is 0 for every other answer.
 pub struct Done {
@@ -60,24 +69,32 @@ fn where_found(found: FoundBytes, h: Head) -> Done
     }
 }
 
+// Of the store to which a size goes.
+fn holding_for(holdings: Holdings, size: u16) -> Holding
+    ensures { λ r. ⌜ r ≡ holdingFor holdings size ⌝ }
+{
+    holding_in(holdings, size as u32 <= SMALL_SIZE)
+}
+
 fn serve(
     h: Head,
     handles: &mut [u32; BLOCK_COUNT],
-    extents: &mut [u32; BLOCK_COUNT],
+    extents: &mut [u64; BLOCK_COUNT],
     clocks: &mut [u8; EXPIRATION_COUNT],
     named: &mut [u8; EXPIRATION_COUNT],
     dues: &mut [u32; EXPIRATION_COUNT],
     small: &mut [u8],
     large: &mut [u8],
+    holdings: Holdings,
     call: Call,
     bytes: &[u8],
 ) -> Done
-    requires { ⌜ Sized (now handles) (now extents) (now clocks) (now named) (now dues) × Ready (Use call) (pooled h (now handles) (now extents) (now clocks) (now named) (now dues)) (now small) (now large) ⌝ }
+    requires { ⌜ Sized (now handles) (now extents) (now clocks) (now named) (now dues) × Ready (Use call) (pooled h (now handles) (now extents) (now clocks) (now named) (now dues)) (now small) (now large) × HoldsFor (Use call) (h .shares) (blocksOf (now handles) (now extents)) holdings ⌝ }
     ensures { λ r. ⌜ Sized (now (handles .exit)) (now (extents .exit)) (now (clocks .exit)) (now (named .exit)) (now (dues .exit)) × Serves (Use call) (now (bytes .entry)) (pooled h (now (handles .entry)) (now (extents .entry)) (now (clocks .entry)) (now (named .entry)) (now (dues .entry))) (now (small .entry)) (now (large .entry)) (givenBack r (now (handles .exit)) (now (extents .exit)) (now (clocks .exit)) (now (named .exit)) (now (dues .exit))) (now (small .exit)) (now (large .exit)) ⌝ }
 {
     match call {
         Call::Schedule { event, task } => {
-            let step = schedule(h, handles, clocks, named, dues, event, task);
+            let step = schedule(h, handles, extents, clocks, named, dues, event, task);
             let answer = step.answer;
             let head = step.head;
             without_bytes(answer, head)
@@ -88,6 +105,7 @@ fn serve(
             extension,
             length,
         } => {
+            let holding = holding_for(holdings, length);
             let step = make(
                 h,
                 handles,
@@ -97,6 +115,7 @@ fn serve(
                 dues,
                 small,
                 large,
+                holding,
                 task,
                 kind,
                 extension,
@@ -191,6 +210,12 @@ fn serve(
             let head = step.head;
             without_bytes(answer, head)
         }
+        Call::Join { task, share } => {
+            let step = join(h, holdings, task, share);
+            let answer = step.answer;
+            let head = step.head;
+            without_bytes(answer, head)
+        }
     }
 }
 
@@ -198,16 +223,17 @@ fn serve(
 pub fn call(
     h: Head,
     handles: &mut [u32; BLOCK_COUNT],
-    extents: &mut [u32; BLOCK_COUNT],
+    extents: &mut [u64; BLOCK_COUNT],
     clocks: &mut [u8; EXPIRATION_COUNT],
     named: &mut [u8; EXPIRATION_COUNT],
     dues: &mut [u32; EXPIRATION_COUNT],
     small: &mut [u8],
     large: &mut [u8],
+    holdings: Holdings,
     request: Request,
     bytes: &[u8],
 ) -> Done
-    requires { ⌜ Sized (now handles) (now extents) (now clocks) (now named) (now dues) × Ready request (pooled h (now handles) (now extents) (now clocks) (now named) (now dues)) (now small) (now large) ⌝ }
+    requires { ⌜ Sized (now handles) (now extents) (now clocks) (now named) (now dues) × Ready request (pooled h (now handles) (now extents) (now clocks) (now named) (now dues)) (now small) (now large) × HoldsFor request (h .shares) (blocksOf (now handles) (now extents)) holdings ⌝ }
     ensures { λ r. ⌜ Sized (now (handles .exit)) (now (extents .exit)) (now (clocks .exit)) (now (named .exit)) (now (dues .exit)) × Serves request (now (bytes .entry)) (pooled h (now (handles .entry)) (now (extents .entry)) (now (clocks .entry)) (now (named .entry)) (now (dues .entry))) (now (small .entry)) (now (large .entry)) (givenBack r (now (handles .exit)) (now (extents .exit)) (now (clocks .exit)) (now (named .exit)) (now (dues .exit))) (now (small .exit)) (now (large .exit)) ⌝ }
 {
     match request {
@@ -220,6 +246,7 @@ pub fn call(
             dues,
             small,
             large,
+            holdings,
             c,
             bytes,
         ),

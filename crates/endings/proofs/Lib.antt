@@ -3,3 +3,4 @@ pub mod Clocks
 pub mod Tables
 pub mod Unpins
 pub mod PutOff
+pub mod Orphaned

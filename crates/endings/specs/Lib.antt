@@ -1,4 +1,5 @@
 pub mod Late
+pub mod Makers
 pub mod Ending
 pub mod Releasing
 pub mod Unpinning

@@ -8,6 +8,7 @@ ghost use Rattle.endings.specs.Ending.{Ends};
 
 mod ending;
 mod late;
+mod makers;
 mod releasing;
 mod unpinning;
 
@@ -16,6 +17,7 @@ use expirations::naming::flags_of;
 use late::desert;
 use late::put_off;
 use ledger::TASK_COUNT;
+pub use makers::orphan;
 use record::BLOCK_COUNT;
 use record::EXPIRATION_COUNT;
 use record::GlobalTime;

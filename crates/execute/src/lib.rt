@@ -93,7 +93,7 @@ pub fn show<'a>(
 fn execute_lent(
     h: Head,
     handles: &mut [u32; BLOCK_COUNT],
-    extents: &mut [u32; BLOCK_COUNT],
+    extents: &mut [u64; BLOCK_COUNT],
     clocks: &mut [u8; EXPIRATION_COUNT],
     named: &mut [u8; EXPIRATION_COUNT],
     dues: &mut [u32; EXPIRATION_COUNT],

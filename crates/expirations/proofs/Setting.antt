@@ -116,6 +116,7 @@ pub batched-set : (task : ℕ) (kind : Kind) (extension : ℕ) (handles : List �
       tasks = p .tasks;
       global = p .global;
       given = p .given;
+      shares = p .shares;
       blocks = p .blocks;
       expirations = setEach (entryFor (p .tasks) (p .global) kind task extension) (map (λ (handle : ℕ). placeOf handle (p .blocks)) handles) (p .expirations);
     }

@@ -6,3 +6,4 @@ pub mod Alone
 pub mod Once
 pub mod PastFigures
 pub mod Whole
+pub mod Judged

@@ -26,7 +26,7 @@ fn is_sized_for(block: usize, length: u16) -> bool
 }
 
 // Which blocks have a length of their store's range: those of the small store,
-fn small_sized(extents: &[u32; BLOCK_COUNT]) -> [bool; BLOCK_COUNT]
+fn small_sized(extents: &[u64; BLOCK_COUNT]) -> [bool; BLOCK_COUNT]
     requires { ⌜ length (now extents) ≡ blockEntries ⌝ }
     ensures { λ r. ⌜ SizedTo (now (extents .entry)) (capacity .small) r ⌝ }
 {
@@ -38,7 +38,7 @@ fn small_sized(extents: &[u32; BLOCK_COUNT]) -> [bool; BLOCK_COUNT]
 }
 
 // and then those of the large one.
-fn sized(extents: &[u32; BLOCK_COUNT]) -> [bool; BLOCK_COUNT]
+fn sized(extents: &[u64; BLOCK_COUNT]) -> [bool; BLOCK_COUNT]
     requires { ⌜ length (now extents) ≡ blockEntries ⌝ }
     ensures { λ r. ⌜ SizedTo (now (extents .entry)) blockEntries r ⌝ }
 {
@@ -81,7 +81,7 @@ pub fn check_blocks<'a>(
     flags: [bool; BYTE_VALUES],
     used: [bool; BLOCK_COUNT],
     handles: &'a [u32; BLOCK_COUNT],
-    extents: &'a [u32; BLOCK_COUNT],
+    extents: &'a [u64; BLOCK_COUNT],
 ) -> bool
     requires { ⌜ SizedBlocks (now handles) (now extents) × Used (now handles) used ⌝ }
     ensures { λ r. ⌜ r ≡ allFrom 0 (isFitBlockIn given flags) (blocksOf (now (handles .entry)) (now (extents .entry))) ⌝ }

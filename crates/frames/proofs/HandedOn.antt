@@ -8,7 +8,7 @@ use borrow.Author.Tests.{leb-true, leb-false}
 use lib.Dec.{leb}
 use lib.ListN.{length, drop, length-drop}
 use Rattle.lists.proofs.Cases.{by-test}
-use Rattle.ledger.specs.declared.Call.the-variants.{Schedule, Make, Refresh, Read, Write, Batch, Release}
+use Rattle.ledger.specs.declared.Call.the-variants.{Join, Schedule, Make, Refresh, Read, Write, Batch, Release}
 use Rattle.ledger.specs.declared.Request.{Request}
 use Rattle.ledger.specs.declared.Request.the-variants.{Use, Report, Remaining}
 use Rattle.ledger.specs.Ledger.{Ledger, replyToRequest, afterRequest}
@@ -33,6 +33,7 @@ module _ (L : Ledger) where
   whole request bytes = let none-left : length bytes - length bytes ≡ 0 = omega arith in rw none-left (refl, refl)
 
   enough : (request : Request) (bytes : List ℕ) → Alike request (lastBytes (handedOn (tailOf (operationOf request)) (length bytes)) bytes) bytes
+  enough (Use (Join task share)) bytes = whole (Use (Join task share)) bytes
   enough (Use (Schedule event task)) bytes = whole (Use (Schedule event task)) bytes
   enough (Use (Make task kind extension length)) bytes = whole (Use (Make task kind extension length)) bytes
   enough (Use (Refresh task kind extension handle)) bytes = whole (Use (Refresh task kind extension handle)) bytes

@@ -17,7 +17,7 @@ use Rattle.ledger.specs.declared.Refusal.{Refusal}
 use Rattle.ledger.specs.declared.Request.{Request}
 use Rattle.ledger.specs.Limits.{largeSize}
 use Rattle.text.specs.Fields.{fieldsAt}
-use Rattle.frames.specs.Frames.{Operation, schedule, make, refresh, read, write, report, remaining, batch, release, widthsOf, headSize, Tail, bytesUpTo, anyHandles, tailOf, isTail, mostHandleBytes, isSizeOf, handedOn, kindOf, withKind, requestOf, frameWith, frameAs, operations, operationIn, frameBy, frameIn, frameOf, lastBytes, payloadOf, Decodes, operationOf}
+use Rattle.frames.specs.Frames.{Operation, join, schedule, make, refresh, read, write, report, remaining, batch, release, widthsOf, headSize, Tail, bytesUpTo, anyHandles, tailOf, isTail, mostHandleBytes, isSizeOf, handedOn, kindOf, withKind, requestOf, frameWith, frameAs, operations, operationIn, frameBy, frameIn, frameOf, lastBytes, payloadOf, Decodes, operationOf}
 use Rattle.text.specs.Hex.{isHex, bytesOf}
 use Rattle.frames.specs.declared.Frame.{Frame}
 use Rattle.frames.specs.declared.requests.KindByte.{KindByte}
@@ -40,6 +40,7 @@ mostHanded (bytesUpTo most) = most
 mostHanded anyHandles = mostHandleBytes
 
 most-handed : (o : Operation) → mostHanded (tailOf o) ≤ largeSize
+most-handed join = omega arith
 most-handed (schedule event) = omega arith
 most-handed make = omega arith
 most-handed refresh = omega arith
@@ -62,6 +63,7 @@ module _ {request : Request} where
   with-kind o Unknown by h e = cc
 
   operation-of : (o : Operation) (values : List ℕ) → requestOf o values ≡ some request → operationOf request ≡ o
+  operation-of join values e = cc
   operation-of (schedule event) values e = cc
   operation-of make values e = with-kind make (kindOf (getD values 1 0)) _ (λ kind. refl) e
   operation-of refresh values e = with-kind refresh (kindOf (getD values 1 0)) _ (λ kind. refl) e

@@ -9,13 +9,13 @@ use lib.ListN.{length, length-append}
 use lib.Seq.{drop-at}
 use Rattle.lists.specs.Tests.{All}
 use Rattle.lists.proofs.All.{all-append}
-use Rattle.ledger.specs.declared.Call.the-variants.{Schedule, Make, Refresh, Read, Write, Batch, Release}
-use Rattle.ledger.specs.declared.Event.the-variants.{Join, Leave, Block, Resume, Tick}
+use Rattle.ledger.specs.declared.Call.the-variants.{Join, Schedule, Make, Refresh, Read, Write, Batch, Release}
+use Rattle.ledger.specs.declared.Event.the-variants.{Leave, Block, Resume, Tick}
 use Rattle.ledger.specs.declared.Kind.the-variants.{Local, Global, Pinned}
 use Rattle.ledger.specs.declared.Request.{Request}
 use Rattle.ledger.specs.declared.Request.the-variants.{Use, Report, Remaining}
 use Rattle.text.specs.Fields.{inFields, FitFields}
-use Rattle.frames.specs.Frames.{Operation, schedule, make, refresh, read, write, report, remaining, batch, release, operations, operationNumber, operationIn, widthsOf, headSize, tailOf, isTail, handedOn, requestOf, frameAs, frameBy, frameIn, frameOf, lastBytes, payloadOf, operationOf, valuesOf, lineOf, RoundTrip}
+use Rattle.frames.specs.Frames.{Operation, join, schedule, make, refresh, read, write, report, remaining, batch, release, operations, operationNumber, operationIn, widthsOf, headSize, tailOf, isTail, handedOn, requestOf, frameAs, frameBy, frameIn, frameOf, lastBytes, payloadOf, operationOf, valuesOf, lineOf, RoundTrip}
 use Rattle.text.specs.Hex.{isHex, bytesOf}
 use Rattle.frames.specs.declared.Frame.{Frame}
 use Rattle.text.proofs.Digits.{hex-hex, bytes-hex}
@@ -25,7 +25,7 @@ use Rattle.frames.proofs.Payloads.{last-after, handed-on}
 
 -- an operation is found by its number, which is a byte
 found : (o : Operation) → (operationIn operations (operationNumber o) ≡ some o) × (operationNumber o < 256)
-found (schedule Join) = (refl, omega arith)
+found join = (refl, omega arith)
 found (schedule Leave) = (refl, omega arith)
 found (schedule Block) = (refl, omega arith)
 found (schedule Resume) = (refl, omega arith)
@@ -41,6 +41,7 @@ found release = (refl, omega arith)
 
 -- its fields' values make the request
 same-request : (request : Request) → requestOf (operationOf request) (valuesOf request) ≡ some request
+same-request (Use (Join task share)) = refl
 same-request (Use (Schedule event task)) = refl
 same-request (Use (Make task Local extension length)) = refl
 same-request (Use (Make task Global extension length)) = refl

@@ -13,9 +13,10 @@ use Rattle.lists.specs.Tests.{All}
 use Rattle.frames.specs.declared.Frame.{Frame}
 use Rattle.frames.specs.declared.requests.KindByte.{KindByte}
 use Rattle.frames.specs.declared.requests.KindByte.the-variants.{Known, Unknown}
-use Rattle.ledger.specs.declared.Call.the-variants.{Schedule, Make, Refresh, Read, Write, Batch, Release}
+use Rattle.ledger.specs.declared.Call.the-variants.{Join, Schedule, Make, Refresh, Read, Write, Batch, Release}
 use Rattle.ledger.specs.declared.Event.{Event}
-use Rattle.ledger.specs.declared.Event.the-variants.{Join, Leave, Block, Resume, Tick}
+use Rattle.ledger.specs.declared.Share.{Share}
+use Rattle.ledger.specs.declared.Event.the-variants.{Leave, Block, Resume, Tick}
 use Rattle.ledger.specs.declared.Kind.{Kind}
 use Rattle.ledger.specs.declared.Kind.the-variants.{Local, Global, Pinned}
 use Rattle.ledger.specs.declared.Refusal.the-variants.{NotHexadecimal, UnknownOperation, WrongFrameLength, UnknownKind}
@@ -23,13 +24,13 @@ use Rattle.ledger.specs.declared.Request.{Request}
 use Rattle.ledger.specs.declared.Request.the-variants.{Use, Report, Remaining}
 use Rattle.ledger.specs.Limits.{largeSize, largestBatch}
 
--- the thirteen operations; five of them are the events of a task
+-- the thirteen operations; four of them are the events of a task
 pub data Operation : Type 0 where
   schedule : Event → Operation
-  make refresh read write report remaining batch release : Operation
+  join make refresh read write report remaining batch release : Operation
 
 abbrev pub operationNumber : Operation → ℕ
-operationNumber (schedule Join) = 1
+operationNumber join = 1
 operationNumber (schedule Leave) = 2
 operationNumber (schedule Block) = 3
 operationNumber (schedule Resume) = 4
@@ -45,7 +46,7 @@ operationNumber release = 13
 
 abbrev pub operations : List Operation
 operations =
-    schedule Join ∷ schedule Leave ∷ schedule Block ∷ schedule Resume ∷ schedule Tick ∷ make ∷ refresh ∷ read ∷ write ∷ report ∷ remaining ∷ batch ∷ release ∷ []
+    join ∷ schedule Leave ∷ schedule Block ∷ schedule Resume ∷ schedule Tick ∷ make ∷ refresh ∷ read ∷ write ∷ report ∷ remaining ∷ batch ∷ release ∷ []
 
 -- the one of these with a number, or none
 abbrev pub operationIn : List Operation → ℕ → Option Operation
@@ -54,7 +55,9 @@ operationIn (o ∷ os) number = cond (eqb number (operationNumber o)) (some o) (
 
 -- the widths of the fields after the operation, in bytes
 abbrev pub widthsOf : Operation → List ℕ
--- F1 to F5: task
+-- F1: task, and reserve and limit of either store
+widthsOf join = 1 ∷ 1 ∷ 1 ∷ 1 ∷ 1 ∷ []
+-- F2 to F5: task
 widthsOf (schedule event) = 1 ∷ []
 -- F6: task, kind, extension, length
 widthsOf make = 1 ∷ 1 ∷ 1 ∷ 2 ∷ []
@@ -83,6 +86,7 @@ pub data Tail : Type 0 where
   anyHandles : Tail
 
 abbrev pub tailOf : Operation → Tail
+tailOf join = bytesUpTo 0
 tailOf (schedule event) = bytesUpTo 0
 tailOf make = bytesUpTo 0
 tailOf refresh = bytesUpTo 0
@@ -129,8 +133,13 @@ abbrev pub withKind : KindByte → (Kind → Request) → Option Request
 withKind (Known kind) request = some (request kind)
 withKind Unknown request = none
 
+abbrev pub shareOf : ℕ → ℕ → ℕ → ℕ → Share
+shareOf a b c d = record { small = record { reserve = a; limit = b }; large = record { reserve = c; limit = d } }
+
 -- the request that the values of the fields make, or none where a kind is unknown
 abbrev pub requestOf : Operation → List ℕ → Option Request
+-- F1: a share by its four values
+requestOf join values = some (Use (Join (getD values 0 0) (shareOf (getD values 1 0) (getD values 2 0) (getD values 3 0) (getD values 4 0))))
 requestOf (schedule event) values = some (Use (Schedule event (getD values 0 0)))
 requestOf make values =
     withKind (kindOf (getD values 1 0)) (λ (kind : Kind). Use (Make (getD values 0 0) kind (getD values 2 0) (getD values 3 0)))
@@ -186,6 +195,7 @@ pub record Decodes (line old : List ℕ) (r : Frame) (new : List ℕ) : Type 0 w
 
 -- the operation of a request and the values of its fields
 abbrev pub operationOf : Request → Operation
+operationOf (Use (Join task share)) = join
 operationOf (Use (Schedule event task)) = schedule event
 operationOf (Use (Make task kind extension length)) = make
 operationOf (Use (Refresh task kind extension handle)) = refresh
@@ -202,6 +212,7 @@ kindNumber Global = 1
 kindNumber Pinned = 2
 
 abbrev pub valuesOf : Request → List ℕ
+valuesOf (Use (Join task share)) = task ∷ share .small .reserve ∷ share .small .limit ∷ share .large .reserve ∷ share .large .limit ∷ []
 valuesOf (Use (Schedule event task)) = task ∷ []
 valuesOf (Use (Make task kind extension length)) = task ∷ kindNumber kind ∷ extension ∷ length ∷ []
 valuesOf (Use (Refresh task kind extension handle)) = task ∷ kindNumber kind ∷ extension ∷ handle ∷ []

@@ -6,8 +6,10 @@ use super::words::capped;
 use ledger::Call;
 use ledger::Event;
 use ledger::Kind;
+use ledger::Quota;
 use ledger::Refusal;
 use ledger::Request;
+use ledger::Share;
 use text::hex::MOST_BYTES;
 use text::hex::byte_at;
 use text::hex::is_hex;
@@ -19,7 +21,7 @@ ghost use mathlib.Core.Bool.{true};
 ghost use mathlib.Core.Path.{_≡_};
 ghost use lib.ListN.{length};
 ghost use Rattle.ledger.specs.Limits.{largeSize};
-ghost use Rattle.frames.specs.Frames.{Decodes, kindOf, frameAs, frameIn, frameOf, schedule, make, refresh, read, write, report, remaining, batch, release};
+ghost use Rattle.frames.specs.Frames.{Decodes, kindOf, frameAs, frameIn, frameOf, join, schedule, make, refresh, read, write, report, remaining, batch, release};
 ghost use Rattle.text.specs.Hex.{isHex, bytesOf};
 
 // F21: the kind that a byte names.
@@ -39,7 +41,35 @@ pub fn kind_of(number: u8) -> KindByte
     }
 }
 
-// F1 to F5: task.
+// F1: task, and reserve and limit of either store.
+fn join(line: &[u8]) -> Frame
+    requires { ⌜ isHex (now line) ≡ true ⌝ }
+    ensures { λ r. ⌜ r ≡ frameAs join (bytesOf (now (line .entry))) ⌝ }
+{
+    if line.len() / 2 != 6 {
+        return Frame::Refused(Refusal::WrongFrameLength);
+    }
+    let task = byte_at(line, 1);
+    let small_reserve = byte_at(line, 2);
+    let small_limit = byte_at(line, 3);
+    let large_reserve = byte_at(line, 4);
+    let large_limit = byte_at(line, 5);
+    let small = Quota {
+        reserve: small_reserve,
+        limit: small_limit,
+    };
+    let large = Quota {
+        reserve: large_reserve,
+        limit: large_limit,
+    };
+    let share = Share {
+        small: small,
+        large: large,
+    };
+    Frame::Request(Request::Use(Call::Join { task, share }), 0)
+}
+
+// F2 to F5: task.
 fn schedule(line: &[u8], event: Event) -> Frame
     requires { ⌜ isHex (now line) ≡ true ⌝ }
     ensures { λ r. ⌜ r ≡ frameAs (schedule event) (bytesOf (now (line .entry))) ⌝ }
@@ -219,7 +249,7 @@ fn frame_in(line: &[u8]) -> Frame
         return Frame::Refused(Refusal::UnknownOperation);
     }
     match byte_at(line, 0) {
-        1 => schedule(line, Event::Join),
+        1 => join(line),
         2 => schedule(line, Event::Leave),
         3 => schedule(line, Event::Block),
         4 => schedule(line, Event::Resume),

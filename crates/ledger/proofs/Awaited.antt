@@ -9,12 +9,12 @@ use lib.Dec.{eqb}
 use Rattle.lists.specs.Tests.{all}
 use Rattle.lists.proofs.Bits.{no-bits}
 use Rattle.lists.proofs.Cases.{by-test, not-and-not}
-use Rattle.ledger.specs.Tasks.{Task, Clocks, isRunning, isTested, allTicked, tasksAfter, advances, clocksAfter}
+use Rattle.ledger.specs.Tasks.{Task, Clocks, isRunning, isTested, allTicked, tasksAfter, advances, clocksAfter, entered}
 use Rattle.ledger.specs.Objects.{Memory, memoryAfter, expirationsAfter}
 use Rattle.ledger.specs.Ledger.{Ledger, Sent, settled, afterBy, verdictOn, next, afterRequest, afterAll}
 use Rattle.ledger.specs.Awaited.{isAwaited, awaitedOf, isNobodyAwaited, isAccepted, isLastAwaited, bringsAdvance, advancesIn, globalOf, Awaited}
 use Rattle.ledger.specs.declared.Call.{Call}
-use Rattle.ledger.specs.declared.Call.the-variants.{Schedule, Make, Refresh, Read, Write, Batch, Release}
+use Rattle.ledger.specs.declared.Call.the-variants.{Join, Schedule, Make, Refresh, Read, Write, Batch, Release}
 use Rattle.ledger.specs.declared.Event.{Event}
 use Rattle.ledger.specs.declared.Refusal.{Refusal}
 use Rattle.ledger.specs.declared.Request.{Request}
@@ -36,7 +36,8 @@ tested event task clocks = rw (ticked-awaited (tasksAfter event task clocks))
 
 -- what a call that is carried out makes of the global time
 carried : (call : Call) (new : List ℕ) (m : Memory) → memoryAfter call new m .clocks .global ≡ m .clocks .global + cond (isLastAwaited call (m .clocks)) 1 0
-unfolding memoryAfter clocksAfter isLastAwaited
+unfolding memoryAfter clocksAfter entered isLastAwaited
+carried (Join task share) new m = omega arith
 carried (Schedule event task) new m =
     rw (← tested event task (m .clocks)) (by-test (advances event task (m .clocks)) (λ e. rw e) (λ e. rw e (omega arith)))
 carried (Make task kind extension size) new m = omega arith

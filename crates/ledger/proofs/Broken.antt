@@ -12,13 +12,15 @@ use Rattle.lists.specs.Tests.{all}
 use Rattle.lists.proofs.Cases.{by-test}
 use Rattle.lists.proofs.Counts.{not-any-not}
 use Rattle.ledger.specs.Expirations.{Expiration}
-use Rattle.ledger.specs.Objects.{Object, Memory, Reply, plain, objectAt, isIntact, written, stands, memoryAfter, expirationsAfter, handlesOf}
+use Rattle.ledger.specs.Objects.{Object, Memory, Reply, plain, objectAt, isIntact, written, orphaned, makersAfter, stands, memoryAfter, expirationsAfter, handlesOf}
 use Rattle.ledger.specs.Refusals.{Test, shared, own, sumDiffers, standingTests, testsOf, verdict}
 use Rattle.ledger.specs.Ledger.{Ledger, settled, replyBy, afterBy, verdictOn, standingVerdictOn, reply, next, replyToRequest, afterRequest}
 use Rattle.ledger.specs.Noticed.{userOf}
 use Rattle.ledger.specs.declared.Answer.the-variants.{Refused}
 use Rattle.ledger.specs.declared.Call.{Call}
-use Rattle.ledger.specs.declared.Call.the-variants.{Schedule, Make, Refresh, Read, Write, Batch, Release}
+use Rattle.ledger.specs.declared.Call.the-variants.{Join, Schedule, Make, Refresh, Read, Write, Batch, Release}
+use Rattle.ledger.specs.declared.Event.{Event}
+use Rattle.ledger.specs.declared.Event.the-variants.{Leave, Block, Resume, Tick}
 use Rattle.ledger.specs.declared.Refusal.{Refusal}
 use Rattle.ledger.specs.declared.Refusal.the-variants.{SumDiffers}
 use Rattle.ledger.specs.declared.Request.{Request}
@@ -96,9 +98,23 @@ at-written handle used offset new d os =
     at-map handle (written used offset new) (λ o. refl)
     (λ o q. let e : eqb (o .handle) used ≡ false = rw q (ne-eqb handle used (λ p. eqb-false used handle d (sym p))) in rw e) os
 
+-- what a leave makes of makers leaves bytes and sums
+intact-orphaned : (handle task : ℕ) (os : List Object) → isIntact (objectAt handle (map (orphaned task) os)) ≡ isIntact (objectAt handle os)
+unfolding objectAt
+intact-orphaned handle task [] = refl
+intact-orphaned handle task (o ∷ os) = by-test (eqb (o .handle) handle) (λ e. rw e) (λ e. rw e (intact-orphaned handle task os))
+
+intact-after : (handle : ℕ) (event : Event) (task : ℕ) (os : List Object)
+    → isIntact (objectAt handle (makersAfter event task os)) ≡ isIntact (objectAt handle os)
+unfolding makersAfter
+intact-after handle Leave task os = intact-orphaned handle task os
+intact-after handle Block task os = refl
+intact-after handle Resume task os = refl
+intact-after handle Tick task os = refl
+
 module _ (handle : ℕ) (m : Memory) (xs : List Expiration) (b : Broken handle (record { memory = m; expirations = xs })) where
   stays-broken : (call : Call) (new : List ℕ) → all (stands xs) (setsOn call new) ≡ true → m .given ≤ memoryAfter call new m .given
-      → objectAt handle (memoryAfter call new m .objects) ≡ objectAt handle (m .objects)
+      → isIntact (objectAt handle (memoryAfter call new m .objects)) ≡ isIntact (objectAt handle (m .objects))
       → Broken handle (settled (memoryAfter call new m) (expirationsAfter call new m xs))
   stays-broken call new on g same =
       record {
@@ -111,16 +127,17 @@ module _ (handle : ℕ) (m : Memory) (xs : List Expiration) (b : Broken handle (
   carried-broken : (call : Call) (new : List ℕ) → Passed m xs call new → userOf handle (Use call) ≡ none
       → Broken handle (settled (memoryAfter call new m) (expirationsAfter call new m xs))
   unfolding testsOf memoryAfter
-  carried-broken (Schedule event task) new c d = stays-broken (Schedule event task) new refl (le-refl _) refl
+  carried-broken (Join task share) new c d = stays-broken (Join task share) new refl (le-refl _) refl
+  carried-broken (Schedule event task) new c d = stays-broken (Schedule event task) new refl (le-refl _) (intact-after handle event task (m .objects))
   carried-broken (Make task kind extension size) new c d =
       stays-broken (Make task kind extension size) new refl (omega arith)
-      (at-made handle (m .objects) _ (ne-eqb (m .given + 1) handle (λ q. omega (arith, q, b .given))))
+      (ap isIntact (at-made handle (m .objects) _ (ne-eqb (m .given + 1) handle (λ q. omega (arith, q, b .given)))))
   carried-broken (Refresh task kind extension used) new c d =
       let (exists, (present, (active, (lasts, (short, (given, (gone, (room, end)))))))) = c in
       stays-broken (Refresh task kind extension used) new (rw (not-false (stands xs used) gone)) (le-refl _) refl
   carried-broken (Read task used) new c d = stays-broken (Read task used) new refl (le-refl _) refl
   carried-broken (Write task used offset) new c d =
-      stays-broken (Write task used offset) new refl (le-refl _) (at-written handle used offset new (not-used (eqb used handle) task d) (m .objects))
+      stays-broken (Write task used offset) new refl (le-refl _) (ap isIntact (at-written handle used offset new (not-used (eqb used handle) task d) (m .objects)))
   carried-broken (Batch task kind extension) new c d =
       let (exists, (present, (active, (range, (lasts, (short, (given, (gone, (room, end))))))))) = c in
       stays-broken (Batch task kind extension) new (sym (not-any-not (stands xs) (handlesOf new)) ∙ ap not gone) (le-refl _) refl

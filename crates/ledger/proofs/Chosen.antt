@@ -4,20 +4,21 @@ use mathlib.Core.List.{List, [], _∷_}
 use mathlib.Core.Option.{Option, none, some}
 use mathlib.Core.Path.{_≡_, refl, _∙_}
 use lib.Dec.{T}
-use Rattle.lists.specs.Sums.{total}
+use Rattle.lists.specs.Sums.{total, sumBelow}
 use Rattle.lists.specs.Blocks.{overwritten}
 use Rattle.lists.specs.Tests.{all}
 use Rattle.lists.proofs.Tests.{all→All}
 use Rattle.ledger.specs.Limits.{counterRange, standard, isAllowed, lastHandle}
-use Rattle.ledger.specs.Tasks.{freshClocks, moved, allTicked, tasksAfter, advances, clocksAfter}
+use Rattle.ledger.specs.Tasks.{freshClocks, moved, allTicked, tasksAfter, advances, clocksAfter, entered}
 use Rattle.ledger.specs.Expirations.{dueAfter, remaining, putOff, lasting, released, setOnEach}
-use Rattle.ledger.specs.Objects.{Memory, freshMemory, objectAt, written, replyTo, memoryAfter, expirationsAfter, handlesOf, usage}
+use Rattle.ledger.specs.Objects.{Memory, freshMemory, objectAt, written, replyTo, makersAfter, sharesAfter, memoryAfter, expirationsAfter, handlesOf, usage}
+use Rattle.ledger.specs.Shares.{made, unmet, isFull, isShort, isAtLimit}
 use Rattle.ledger.specs.Refusals.{testsOf, verdict}
 use Rattle.ledger.specs.Ledger.{Ledger, Sent, settled, fresh, afterBy, verdictOn, reply, next, replies, afterRequest, afterSent, afterAll}
 use Rattle.ledger.specs.Heap.{Used, heapVerdictOn, heapNext, heapAfterAll}
 use Rattle.ledger.specs.Chosen.{chosenEdges, ChosenClaim}
 use Rattle.ledger.specs.declared.Call.{Call}
-use Rattle.ledger.specs.declared.Call.the-variants.{Schedule, Make, Refresh, Read, Write, Batch, Release}
+use Rattle.ledger.specs.declared.Call.the-variants.{Join, Schedule, Make, Refresh, Read, Write, Batch, Release}
 use Rattle.ledger.specs.declared.Refusal.{Refusal}
 use Rattle.ledger.specs.declared.Request.{Request}
 use Rattle.ledger.specs.declared.Request.the-variants.{Use, Report, Remaining}
@@ -25,6 +26,7 @@ use Rattle.ledger.proofs.Edges.{passes, passing-holds}
 
 carried : (call : Call) (new : List ℕ) (m : Memory) → memoryAfter call new m .limits ≡ m .limits
 unfolding memoryAfter
+carried (Join task share) new m = refl
 carried (Schedule event task) new m = refl
 carried (Make task kind extension size) new m = refl
 carried (Refresh task kind extension handle) new m = refl
@@ -65,7 +67,7 @@ fixed L (s ∷ ss) = fixed (afterSent L s) ss ∙ limits-sent L (s .request) (s 
 all-pass : T (all passes chosenEdges)
 unfolding passes chosenEdges fresh reply next replies afterAll testsOf verdict
     freshMemory objectAt written overwritten total replyTo memoryAfter expirationsAfter handlesOf setOnEach usage dueAfter remaining putOff lasting released
-    freshClocks moved allTicked tasksAfter advances clocksAfter
+    freshClocks moved allTicked tasksAfter advances clocksAfter entered makersAfter sharesAfter sumBelow made unmet isFull isShort isAtLimit
     standard lastHandle counterRange
 all-pass = tt
 

@@ -18,15 +18,16 @@ use Rattle.lists.proofs.Sums.{total-zeros}
 use Rattle.lists.proofs.Filters.{filter-map-filter, filter-filter, filter-filter-append}
 use Rattle.ledger.specs.Limits.{blockSize}
 use Rattle.ledger.specs.Expirations.{Expiration, released}
-use Rattle.ledger.specs.Objects.{Object, Memory, Reply, freshMemory, objectAt, isIntact, written, stands, standing, replyTo, memoryAfter, expirationsAfter, handlesOf}
+use Rattle.ledger.specs.Objects.{Object, Memory, Reply, freshMemory, objectAt, isIntact, written, orphaned, makersAfter, stands, standing, replyTo, memoryAfter, expirationsAfter, handlesOf}
 use Rattle.ledger.specs.Refusals.{testsOf}
 use Rattle.ledger.specs.Ledger.{settled, fresh, verdictOn, replyBy, afterBy, reply, next, replies}
 use Rattle.ledger.specs.Heap.{heapVerdictOn, heapReply, heapNext, heapReplies, bookNext, isInTimeAndBounds, isLeftAside, allInTimeAndBounds, Used, sent, Demand3}
 use Rattle.ledger.specs.declared.Limits.{Limits}
 use Rattle.ledger.specs.declared.Refusal.{Refusal}
 use Rattle.ledger.specs.declared.Call.{Call}
-use Rattle.ledger.specs.declared.Call.the-variants.{Schedule, Make, Refresh, Read, Write, Batch, Release}
-use Rattle.ledger.specs.declared.Event.the-variants.{Join, Leave, Block, Resume, Tick}
+use Rattle.ledger.specs.declared.Call.the-variants.{Join, Schedule, Make, Refresh, Read, Write, Batch, Release}
+use Rattle.ledger.specs.declared.Event.{Event}
+use Rattle.ledger.specs.declared.Event.the-variants.{Leave, Block, Resume, Tick}
 use Rattle.ledger.proofs.KeptObjects.{intact-written}
 use Rattle.ledger.proofs.Passed.{refusalIn, refusal-told}
 use Rattle.ledger.proofs.Standing.{at-standing, setsOn, stood}
@@ -53,7 +54,7 @@ never m handle k = intact-at handle (m .objects) (all-imp (λ o h. h .1) (m .obj
 -- every call's tests are in an order that keeps demand 3
 ordered : (m : Memory) → HeapKept m → (call : Call) (new : List ℕ) → isOrdered m (testsOf call new) ≡ true
 unfolding testsOf
-ordered m k (Schedule Join task) new = refl
+ordered m k (Join task share) new = refl
 ordered m k (Schedule Leave task) new = refl
 ordered m k (Schedule Block task) new = refl
 ordered m k (Schedule Resume task) new = refl
@@ -68,12 +69,12 @@ ordered m k (Release task handle) new = refl
 -- the shared tests come out the same of ledger and heap: but for 13 and 23, they look at no object
 agreed : (m : Memory) (xs : List Expiration) (call : Call) (new : List ℕ) → Agree (swept xs m) xs m (testsOf call new)
 unfolding testsOf
-agreed m xs (Schedule Join task) new = search
+agreed m xs (Join task share) new = (refl, (refl, (refl, λ e. tt)))
 agreed m xs (Schedule Leave task) new = search
 agreed m xs (Schedule Block task) new = search
 agreed m xs (Schedule Resume task) new = search
 agreed m xs (Schedule Tick task) new = search
-agreed m xs (Make task kind extension size) new = (refl, (refl, (refl, (refl, (refl, (refl, λ b e. tt))))))
+agreed m xs (Make task kind extension size) new = (refl, (refl, (refl, (refl, (refl, (refl, λ l b e. tt))))))
 agreed m xs (Refresh task kind extension handle) new = (refl, (refl, (refl, (refl, (refl, (refl, λ g e. tt))))))
 agreed m xs (Read task handle) new =
     (refl, (refl, (refl, (refl, λ g. (rw (at-standing xs handle (m .objects) (not-false _ g)), tt)))))
@@ -86,7 +87,7 @@ agreed m xs (Release task handle) new = (refl, (refl, (refl, (refl, λ g. (refl,
 clear : (m : Memory) (xs : List Expiration) (call : Call) (new : List ℕ)
     → isClear (swept xs m) xs (testsOf call new) ≡ isInTimeAndBounds m xs call new
 unfolding testsOf isInTimeAndBounds
-clear m xs (Schedule Join task) new = refl
+clear m xs (Join task share) new = simp and-true
 clear m xs (Schedule Leave task) new = refl
 clear m xs (Schedule Block task) new = refl
 clear m xs (Schedule Resume task) new = refl
@@ -102,6 +103,7 @@ clear m xs (Release task handle) new = simp (Bool·not-not, and-true)
 same-reply : (m : Memory) (xs : List Expiration) (call : Call) (new : List ℕ) → isInTimeAndBounds m xs call new ≡ true
     → replyTo call (swept xs m) ≡ replyTo call m
 unfolding replyTo isInTimeAndBounds
+same-reply m xs (Join task share) new e = refl
 same-reply m xs (Schedule event task) new e = refl
 same-reply m xs (Make task kind extension size) new e = refl
 same-reply m xs (Refresh task kind extension handle) new e = refl
@@ -116,6 +118,16 @@ swept-twice : (xs ys : List Expiration) (os : List Object)
     → standing ys (standing xs os) ≡ standing ys os
 swept-twice xs ys os h = filter-filter _ _ os h
 
+-- nor before a leave, which changes makers alone
+swept-makers : (event : Event) (task : ℕ) (xs ys : List Expiration) (os : List Object)
+    → All (λ (o : Object). stands ys (o .handle) ≡ true → stands xs (o .handle) ≡ true) os
+    → standing ys (makersAfter event task (standing xs os)) ≡ standing ys (makersAfter event task os)
+unfolding makersAfter
+swept-makers Leave task xs ys os h = filter-map-filter _ _ (orphaned task) os h
+swept-makers Block task xs ys os h = swept-twice xs ys os h
+swept-makers Resume task xs ys os h = swept-twice xs ys os h
+swept-makers Tick task xs ys os h = swept-twice xs ys os h
+
 -- an object of the heap that a call leaves standing stood before it
 all-stood : (m : Memory) (xs : List Expiration) (call : Call) (new : List ℕ) → all (stands xs) (setsOn call new) ≡ true → HeapKept m
     → All (λ (o : Object). stands (expirationsAfter call new m xs) (o .handle) ≡ true → stands xs (o .handle) ≡ true) (m .objects)
@@ -127,7 +139,8 @@ same-sweep : (m : Memory) (xs : List Expiration) (call : Call) (new : List ℕ) 
     → settled (memoryAfter call new (swept xs m)) (expirationsAfter call new (swept xs m) xs)
     ≡ settled (memoryAfter call new m) (expirationsAfter call new m xs)
 unfolding memoryAfter expirationsAfter isInTimeAndBounds HeapKept written
-same-sweep m xs (Schedule event task) new k e = rw (swept-twice xs _ (m .objects) (all-stood m xs (Schedule event task) new refl k))
+same-sweep m xs (Join task share) new k e = rw (swept-twice xs xs (m .objects) (all-stood m xs (Join task share) new refl k))
+same-sweep m xs (Schedule event task) new k e = rw (swept-makers event task xs _ (m .objects) (all-stood m xs (Schedule event task) new refl k))
 same-sweep m xs (Make task kind extension size) new k e =
     rw (filter-filter-append _ _ (m .objects) _ (all-stood m xs (Make task kind extension size) new refl k))
 same-sweep m xs (Refresh task kind extension handle) new k e =
@@ -145,8 +158,12 @@ same-sweep m xs (Release task handle) new k e =
 
 -- the heap's handles stay given, and its objects intact
 kept-after : (m : Memory) (call : Call) (new : List ℕ) → HeapKept m → HeapKept (memoryAfter call new m)
-unfolding HeapKept memoryAfter written
-kept-after m (Schedule event task) new k = k
+unfolding HeapKept memoryAfter makersAfter written
+kept-after m (Join task share) new k = k
+kept-after m (Schedule Leave task) new k = all-map _ (orphaned task) (m .objects) k
+kept-after m (Schedule Block task) new k = k
+kept-after m (Schedule Resume task) new k = k
+kept-after m (Schedule Tick task) new k = k
 kept-after m (Make task kind extension size) new k =
     all-append _ (m .objects) _ (all-imp (λ o h. (omega (arith, h .0), h .1)) (m .objects) k) ((omega arith, eq-eqb _ _ (total-zeros (blockSize size))), tt)
 kept-after m (Refresh task kind extension handle) new k = k

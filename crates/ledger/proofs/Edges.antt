@@ -2,14 +2,15 @@
 use mathlib.Core.Bool.{Bool, _&&_}
 use mathlib.Core.Path.{refl}
 use lib.Dec.{T, eqb, eqb→eq}
-use Rattle.lists.specs.Sums.{total}
+use Rattle.lists.specs.Sums.{total, sumBelow}
 use Rattle.lists.specs.Blocks.{overwritten}
 use Rattle.lists.specs.Tests.{all, All}
 use Rattle.lists.proofs.Tests.{both, sameBy, sameBy→eq, all→All}
 use Rattle.ledger.specs.Limits.{counterRange, standard, lastHandle}
-use Rattle.ledger.specs.Tasks.{freshClocks, moved, allTicked, tasksAfter, advances, clocksAfter}
+use Rattle.ledger.specs.Tasks.{freshClocks, moved, allTicked, tasksAfter, advances, clocksAfter, entered}
 use Rattle.ledger.specs.Expirations.{dueAfter, remaining, putOff, deserted, lasting, released, setOnEach}
-use Rattle.ledger.specs.Objects.{freshMemory, objectAt, written, replyTo, memoryAfter, expirationsAfter, handlesOf, usage}
+use Rattle.ledger.specs.Objects.{freshMemory, objectAt, written, replyTo, makersAfter, sharesAfter, memoryAfter, expirationsAfter, handlesOf, usage}
+use Rattle.ledger.specs.Shares.{made, unmet, isFull, isShort, isAtLimit}
 use Rattle.ledger.specs.Refusals.{testsOf, verdict}
 use Rattle.ledger.specs.Remaining.{remainingLife}
 use Rattle.ledger.specs.Ledger.{fresh, reply, next, replies, afterAll}
@@ -18,6 +19,7 @@ use Rattle.ledger.specs.Edges.{edges, EdgesHold}
 use Rattle.ledger.specs.MoreEdges.{moreEdges, MoreEdgesHold}
 use Rattle.ledger.specs.PutOff.{waitingEdges}
 use Rattle.ledger.specs.Pinned.{pinnedEdges}
+use Rattle.ledger.specs.Reserves.{shareEdges}
 
 -- a row's two equations as a test
 unfoldable pub passes : Row → Bool
@@ -33,12 +35,12 @@ passing-holds row t =
     }
 
 -- the checker runs all calls of the tables
-all-pass : T (all passes edges) × T (all passes moreEdges) × T (all passes waitingEdges) × T (all passes pinnedEdges)
-unfolding passes edges moreEdges waitingEdges pinnedEdges fresh reply next replies afterAll testsOf verdict
+all-pass : T (all passes edges) × T (all passes moreEdges) × T (all passes waitingEdges) × T (all passes pinnedEdges) × T (all passes shareEdges)
+unfolding passes edges moreEdges waitingEdges pinnedEdges shareEdges fresh reply next replies afterAll testsOf verdict
     freshMemory objectAt written overwritten total replyTo memoryAfter expirationsAfter handlesOf setOnEach usage dueAfter remaining remainingLife putOff deserted lasting released
-    freshClocks moved allTicked tasksAfter advances clocksAfter
+    freshClocks moved allTicked tasksAfter advances clocksAfter entered makersAfter sharesAfter sumBelow made unmet isFull isShort isAtLimit
     standard lastHandle counterRange
-all-pass = (tt, tt, tt, tt)
+all-pass = (tt, tt, tt, tt, tt)
 
 pub edges-hold : EdgesHold
 unfolding edges
@@ -52,3 +54,6 @@ waiting-edges-hold = all→All passes passing-holds waitingEdges (all-pass .2)
 
 pub pinned-edges-hold : All RowHolds pinnedEdges
 pinned-edges-hold = all→All passes passing-holds pinnedEdges (all-pass .3)
+
+pub share-edges-hold : All RowHolds shareEdges
+share-edges-hold = all→All passes passing-holds shareEdges (all-pass .4)

@@ -7,16 +7,16 @@ use mathlib.Core.Option.{Option, none, some}
 use mathlib.Core.Path.{_≡_, refl, sym, ap, _∙_}
 use lib.ListN.{length, List·getD-eq-default}
 use Rattle.lists.proofs.Filters.{filter-append}
-use Rattle.ledger.specs.Tasks.{Clocks, taskAt, absentTask, advances, clocksAfter}
+use Rattle.ledger.specs.Tasks.{Clocks, taskAt, absentTask, advances, clocksAfter, entered, joined}
 use Rattle.ledger.specs.Expirations.{DueTime, departed, Expiration, stillLive, dueAfter, lasting, released, setOnEach}
 use Rattle.ledger.specs.Objects.{Memory, memoryAfter, expirationsAfter, handlesOf}
 use Rattle.ledger.specs.Refusals.{testsOf}
 use Rattle.ledger.specs.Ledger.{Ledger, Sent, fresh, settled, afterBy, verdictOn, next, afterRequest, afterSent, afterAll}
-use Rattle.ledger.specs.Outlives.{Move, neither, happens, releases, moveOf, moveIn, setIn, leftBy, leftIn, followed, Following}
+use Rattle.ledger.specs.Outlives.{Move, neither, joins, happens, releases, moveOf, moveIn, setIn, leftBy, leftIn, followed, Following}
 use Rattle.ledger.specs.declared.Call.{Call}
-use Rattle.ledger.specs.declared.Call.the-variants.{Schedule, Make, Refresh, Read, Write, Batch, Release}
+use Rattle.ledger.specs.declared.Call.the-variants.{Join, Schedule, Make, Refresh, Read, Write, Batch, Release}
 use Rattle.ledger.specs.declared.Event.{Event}
-use Rattle.ledger.specs.declared.Event.the-variants.{Join, Leave, Block, Resume, Tick}
+use Rattle.ledger.specs.declared.Event.the-variants.{Leave, Block, Resume, Tick}
 use Rattle.ledger.specs.declared.Refusal.{Refusal}
 use Rattle.ledger.specs.declared.Request.{Request}
 use Rattle.ledger.specs.declared.Request.the-variants.{Use, Report, Remaining}
@@ -31,7 +31,6 @@ live-append advanced clocks xs ys = simp (map-append, filter-append)
 lasting-append : (event : Event) (task : ℕ) (advanced : Bool) (clocks : Clocks) (xs ys : List Expiration)
     → lasting event task advanced clocks (xs ++ ys) ≡ lasting event task advanced clocks xs ++ lasting event task advanced clocks ys
 unfolding lasting
-lasting-append Join task advanced clocks xs ys = refl
 lasting-append Block task advanced clocks xs ys = live-append advanced clocks xs ys
 lasting-append Resume task advanced clocks xs ys = refl
 lasting-append Leave task advanced clocks xs ys = simp (filter-append, map-append)
@@ -39,7 +38,6 @@ lasting-append Tick task advanced clocks xs ys = live-append advanced clocks xs 
 
 pub lasting-none : (event : Event) (task : ℕ) (advanced : Bool) (clocks : Clocks) → lasting event task advanced clocks [] ≡ []
 unfolding lasting
-lasting-none Join task advanced clocks = refl
 lasting-none Block task advanced clocks = refl
 lasting-none Resume task advanced clocks = refl
 lasting-none Leave task advanced clocks = refl
@@ -48,12 +46,14 @@ lasting-none Tick task advanced clocks = refl
 left-append : (clocks : Clocks) (v : Move) (xs ys : List Expiration) → leftBy clocks v (xs ++ ys) ≡ leftBy clocks v xs ++ leftBy clocks v ys
 unfolding released
 left-append clocks neither xs ys = refl
+left-append clocks (joins task share) xs ys = refl
 left-append clocks (happens event task) xs ys = lasting-append event task _ _ xs ys
 left-append clocks (releases handle) xs ys = filter-append _ xs ys
 
 pub left-none : (clocks : Clocks) (v : Move) → leftBy clocks v [] ≡ []
 unfolding released
 left-none clocks neither = refl
+left-none clocks (joins task share) = refl
 left-none clocks (happens event task) = lasting-none event task _ _
 left-none clocks (releases handle) = refl
 
@@ -68,6 +68,7 @@ set-append due (h ∷ hs) xs =
 carried : (call : Call) (new : List ℕ) (m : Memory) (xs : List Expiration)
     → expirationsAfter call new m xs ≡ expirationsAfter call new m [] ++ leftBy (m .clocks) (moveOf call) xs
 unfolding expirationsAfter moveOf released
+carried (Join task share) new m xs = refl
 carried (Schedule event task) new m xs = ap (λ (zs : List Expiration). zs ++ lasting event task (advances event task (m .clocks)) (clocksAfter event task (m .clocks)) xs) (sym (lasting-none event task _ _))
 carried (Make task kind extension size) new m xs = refl
 carried (Refresh task kind extension handle) new m xs = refl
@@ -107,17 +108,20 @@ following = record { parts = parts; apart = apart; gone = gone }
 -- the clocks after a call go by its event too
 abbrev pub clocksBy : Clocks → Move → Clocks
 clocksBy clocks neither = clocks
+clocksBy clocks (joins task share) = entered task joined clocks
 clocksBy clocks (happens event task) = clocksAfter event task clocks
 clocksBy clocks (releases handle) = clocks
 
 -- and an event has passed its tests
 abbrev pub MovePassed : Ledger → List ℕ → Move → Type 0
 MovePassed L new neither = Unit
+MovePassed L new (joins task share) = Passed (L .memory) (L .expirations) (Join task share) new
 MovePassed L new (happens event task) = Passed (L .memory) (L .expirations) (Schedule event task) new
 MovePassed L new (releases handle) = Unit
 
 clocks-carried : (call : Call) (new : List ℕ) (m : Memory) → memoryAfter call new m .clocks ≡ clocksBy (m .clocks) (moveOf call)
 unfolding memoryAfter moveOf
+clocks-carried (Join task share) new m = refl
 clocks-carried (Schedule event task) new m = refl
 clocks-carried (Make task kind extension size) new m = refl
 clocks-carried (Refresh task kind extension handle) new m = refl
@@ -141,6 +145,7 @@ clocks-moved L (Use call) new = by (verdictOn L call new)
 
 call-passed : (L : Ledger) (call : Call) (new : List ℕ) → Passed (L .memory) (L .expirations) call new → MovePassed L new (moveOf call)
 unfolding moveOf
+call-passed L (Join task share) new c = c
 call-passed L (Schedule event task) new c = c
 call-passed L (Make task kind extension size) new c = tt
 call-passed L (Refresh task kind extension handle) new c = tt

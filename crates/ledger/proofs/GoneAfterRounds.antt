@@ -10,14 +10,14 @@ use lib.ListN.{length}
 use Rattle.lists.specs.Tests.{all, filter, All}
 use Rattle.lists.proofs.All.{all-imp, all-both, all-filter, all-map, all-true}
 use Rattle.lists.proofs.Cases.{and₃}
-use Rattle.ledger.specs.Tasks.{Clocks, advances, clocksAfter}
+use Rattle.ledger.specs.Tasks.{Clocks, advances, clocksAfter, entered}
 use Rattle.ledger.specs.Expirations.{DueTime, byLocal, byGlobal, pinned, Expiration, dueAfter, remaining, isPinned, isLive, isSetBy, isPinOf, putOff, deserted, eachDue, stillLive, lasting, released}
 use Rattle.ledger.specs.Ledger.{Ledger, Sent, afterSent, afterAll}
 use Rattle.ledger.specs.Awaited.{globalOf}
 use Rattle.ledger.specs.Kept.{Kept}
-use Rattle.ledger.specs.Outlives.{Move, neither, happens, releases, moveIn, leftBy, leftIn, followed, setterWaits, neverWaits, isRound, Stretch, callsOf, areRounds, whenSet, GoneAfterRounds}
+use Rattle.ledger.specs.Outlives.{Move, neither, joins, happens, releases, moveIn, leftBy, leftIn, followed, setterWaits, neverWaits, isRound, Stretch, callsOf, areRounds, whenSet, GoneAfterRounds}
 use Rattle.ledger.specs.declared.Event.{Event}
-use Rattle.ledger.specs.declared.Event.the-variants.{Join, Leave, Block, Resume, Tick}
+use Rattle.ledger.specs.declared.Event.the-variants.{Leave, Block, Resume, Tick}
 use Rattle.ledger.proofs.Kept.{kept-after}
 use Rattle.ledger.proofs.Following.{clocksBy, clocks-moved, left-none}
 use Rattle.ledger.proofs.Setting.{kept-set, set-now}
@@ -81,7 +81,6 @@ lasting-ends : (clocks : Clocks) (task most : ℕ) (event : Event) (xs : List Ex
     (latestBy (advances event task clocks) (clocksAfter event task clocks) most (x .due)) (x .due))
     (lasting event task (advances event task clocks) (clocksAfter event task clocks) xs)
 unfolding lasting clocksAfter advances
-lasting-ends clocks task most Join xs h = all-imp (λ x k. same-ends (clocks .global) most (x .due) k) xs h
 lasting-ends clocks task most Resume xs h = all-imp (λ x k. same-ends (clocks .global) most (x .due) k) xs h
 lasting-ends clocks task most Block xs h = still-ends _ _ most xs (all-imp (λ x k. ends-latest (clocks .global) most (x .due) k) xs h)
 lasting-ends clocks task most Tick xs h = still-ends _ _ most xs (all-imp (λ x k. ends-latest (clocks .global) most (x .due) k) xs h)
@@ -94,6 +93,7 @@ lasting-ends clocks task most Leave xs h =
 -- one call, by its event
 abbrev advancedBy : Clocks → Move → Bool
 advancedBy clocks neither = false
+advancedBy clocks (joins task share) = false
 advancedBy clocks (happens event task) = advances event task clocks
 advancedBy clocks (releases handle) = false
 
@@ -102,8 +102,9 @@ AllEnd now most xs = All (λ (x : Expiration). Ends now most (x .due)) xs
 
 left-ends : (clocks : Clocks) (most : ℕ) (v : Move) (xs : List Expiration) → AllEnd (clocks .global) most xs
     → All (λ (x : Expiration). Ends (clocksBy clocks v .global) (latestBy (advancedBy clocks v) (clocksBy clocks v) most (x .due)) (x .due)) (leftBy clocks v xs)
-unfolding released
+unfolding released entered
 left-ends clocks most neither xs h = all-imp (λ x k. same-ends (clocks .global) most (x .due) k) xs h
+left-ends clocks most (joins task share) xs h = all-imp (λ x k. same-ends (clocks .global) most (x .due) k) xs h
 left-ends clocks most (happens event task) xs h = lasting-ends clocks task most event xs h
 left-ends clocks most (releases handle) xs h = all-filter (λ (x : Expiration). not (isPinOf handle x)) (λ x e k. same-ends (clocks .global) most (x .due) k) xs h
 
@@ -115,9 +116,10 @@ ends-later now most later pinned l h = h
 -- no call puts them further ahead,
 no-further : (clocks : Clocks) (ahead : ℕ) (v : Move) (held : Bool)
     → clocks .global + ahead + cond (advancedBy clocks v && held) 1 0 ≤ clocksBy clocks v .global + ahead
-unfolding clocksAfter
+unfolding clocksAfter entered
 no-further clocks ahead neither held = omega arith
 no-further clocks ahead (releases handle) held = omega arith
+no-further clocks ahead (joins task share) held = omega arith
 no-further clocks ahead (happens event task) held = by (advances event task clocks) held
   where
     by : (advanced waits : Bool) → clocks .global + ahead + cond (advanced && waits) 1 0 ≤ cond advanced (clocks .global + 1) (clocks .global) + ahead

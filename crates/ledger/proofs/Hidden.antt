@@ -4,24 +4,27 @@ use native.Mathlib.Omega.{arith}
 use mathlib.Core.Bool.{Bool, true, false, cond}
 use mathlib.Core.List.{List, [], _∷_, map, map-map, map-append}
 use mathlib.Core.Option.{Option, none, some, Option·some-injective, Option·some-ne-none, Option·none-ne-some}
-use mathlib.Core.Path.{_≡_, refl, _∙_}
+use mathlib.Core.Path.{_≡_, refl, _∙_, sym}
 use borrow.Author.Tests.{eqb-true, ne-eqb}
 use lib.Dec.{eqb}
 use Rattle.lists.proofs.Cases.{by-test}
 use Rattle.lists.proofs.Counts.{count-map}
 use Rattle.lists.proofs.All.{all-every, all-map, map-same}
 use Rattle.lists.proofs.Filters.{filter-map, filter-all}
+use Rattle.ledger.specs.Limits.{isSmall}
 use Rattle.ledger.specs.Expirations.{Expiration}
-use Rattle.ledger.specs.Objects.{Object, Memory, objectAt, written, replyTo, memoryAfter, expirationsAfter, usage}
+use Rattle.ledger.specs.Objects.{Object, Memory, objectAt, written, orphaned, makersAfter, replyTo, memoryAfter, expirationsAfter, usage}
 use Rattle.ledger.specs.Refusals.{testsOf, verdict}
 use Rattle.ledger.specs.Ledger.{Ledger, settled, afterBy, verdictOn, reply, next, replyToRequest, afterRequest}
 use Rattle.ledger.specs.Noticed.{disturbed, userOf}
 use Rattle.ledger.specs.declared.Call.{Call}
-use Rattle.ledger.specs.declared.Call.the-variants.{Schedule, Make, Refresh, Read, Write, Batch, Release}
-use Rattle.ledger.specs.declared.Event.the-variants.{Join, Leave, Block, Resume, Tick}
+use Rattle.ledger.specs.declared.Call.the-variants.{Join, Schedule, Make, Refresh, Read, Write, Batch, Release}
+use Rattle.ledger.specs.declared.Event.{Event}
+use Rattle.ledger.specs.declared.Event.the-variants.{Leave, Block, Resume, Tick}
 use Rattle.ledger.specs.declared.Refusal.{Refusal}
 use Rattle.ledger.specs.declared.Request.{Request}
 use Rattle.ledger.specs.declared.Request.the-variants.{Use, Report, Remaining}
+use Rattle.ledger.proofs.Shares.{full-map, short-map, limit-map}
 use Rattle.ledger.proofs.Standing.{Standing}
 
 -- the object with this handle has no bytes and no sum; all others stay
@@ -32,11 +35,12 @@ hidden handle o =
       size = o .size;
       bytes = cond (eqb (o .handle) handle) [] (o .bytes);
       sum = cond (eqb (o .handle) handle) 0 (o .sum);
+      maker = o .maker;
     }
 
 abbrev pub hiddenMemory : ℕ → Memory → Memory
 hiddenMemory handle m =
-    record { limits = m .limits; clocks = m .clocks; given = m .given; objects = map (hidden handle) (m .objects); pinned = m .pinned }
+    record { limits = m .limits; clocks = m .clocks; given = m .given; objects = map (hidden handle) (m .objects); shares = m .shares; pinned = m .pinned }
 
 abbrev pub hiddenIn : ℕ → Ledger → Ledger
 hiddenIn handle L = record { memory = hiddenMemory handle (L .memory); expirations = L .expirations }
@@ -76,6 +80,7 @@ not-used false who u = refl
 -- what holds of each read and each write of the object with this handle holds of each use of it
 pub by-use : (handle task : ℕ) (P : Request → Type 0) → P (Use (Read task handle)) → ((offset : ℕ) → P (Use (Write task handle offset)))
     → (request : Request) → userOf handle request ≡ some task → P request
+by-use handle task P f g (Use (Join who share)) u = absurd (Option·none-ne-some _ u)
 by-use handle task P f g (Use (Schedule event who)) u = absurd (Option·none-ne-some _ u)
 by-use handle task P f g (Use (Make who kind extension size)) u = absurd (Option·none-ne-some _ u)
 by-use handle task P f g (Use (Refresh who kind extension used)) u = absurd (Option·none-ne-some _ u)
@@ -108,17 +113,33 @@ module _ (handle : ℕ) where
       (λ e. let f : eqb (o .handle) handle ≡ false = rw (eqb-true (o .handle) used e) d in rw (e, f))
       (λ e. rw e)
 
+  -- a leave hides nothing and shows nothing
+  makers-hidden : (event : Event) (task : ℕ) (os : List Object) → makersAfter event task (map (hidden handle) os) ≡ map (hidden handle) (makersAfter event task os)
+  unfolding makersAfter hidden
+  makers-hidden Leave task os = map-map (orphaned task) (hidden handle) os ∙ sym (map-map (hidden handle) (orphaned task) os)
+  makers-hidden Block task os = refl
+  makers-hidden Resume task os = refl
+  makers-hidden Tick task os = refl
+
   module _ (m : Memory) where
     -- tests and answers look at nothing that is hidden, but for 13, 23 and a read: these look at another object
     verdict-hidden : (xs : List Expiration) (call : Call) (new : List ℕ) → userOf handle (Use call) ≡ none
         → verdict (hiddenMemory handle m) xs (testsOf call new) ≡ verdict m xs (testsOf call new)
     unfolding testsOf verdict hidden
-    verdict-hidden xs (Schedule Join task) new d = refl
+    verdict-hidden xs (Join task share) new d =
+        rw (
+          short-map (hidden handle) (λ o. refl) (λ o. refl) true (m .shares) (m .objects) (m .limits) task (share .small .reserve),
+          short-map (hidden handle) (λ o. refl) (λ o. refl) false (m .shares) (m .objects) (m .limits) task (share .large .reserve),
+        )
     verdict-hidden xs (Schedule Leave task) new d = refl
     verdict-hidden xs (Schedule Block task) new d = refl
     verdict-hidden xs (Schedule Resume task) new d = refl
     verdict-hidden xs (Schedule Tick task) new d = refl
-    verdict-hidden xs (Make task kind extension size) new d = simp count-map
+    verdict-hidden xs (Make task kind extension size) new d =
+        rw (
+          full-map (hidden handle) (λ o. refl) (λ o. refl) (isSmall size) (m .shares) (m .objects) (m .limits) task,
+          limit-map (hidden handle) (λ o. refl) (λ o. refl) (isSmall size) (m .shares) (m .objects) task,
+        )
     verdict-hidden xs (Refresh task kind extension used) new d = refl
     verdict-hidden xs (Read task used) new d = rw (at-other used (not-used (eqb used handle) task d) (m .objects))
     verdict-hidden xs (Write task used offset) new d = rw (at-other used (not-used (eqb used handle) task d) (m .objects))
@@ -127,6 +148,7 @@ module _ (handle : ℕ) where
 
     reply-hidden : (call : Call) → userOf handle (Use call) ≡ none → replyTo call (hiddenMemory handle m) ≡ replyTo call m
     unfolding replyTo
+    reply-hidden (Join task share) d = refl
     reply-hidden (Schedule event task) d = refl
     reply-hidden (Make task kind extension size) d = refl
     reply-hidden (Refresh task kind extension used) d = refl
@@ -139,7 +161,8 @@ module _ (handle : ℕ) where
     memory-hidden : handle ≤ m .given → (call : Call) (new : List ℕ) → userOf handle (Use call) ≡ none
         → memoryAfter call new (hiddenMemory handle m) ≡ hiddenMemory handle (memoryAfter call new m)
     unfolding memoryAfter hidden
-    memory-hidden g (Schedule event task) new d = refl
+    memory-hidden g (Join task share) new d = refl
+    memory-hidden g (Schedule event task) new d = rw (makers-hidden event task (m .objects))
     memory-hidden g (Make task kind extension size) new d =
         rw (map-append, ne-eqb (m .given + 1) handle (λ q. omega (arith, g, q)))
     memory-hidden g (Refresh task kind extension used) new d = refl
@@ -152,6 +175,7 @@ module _ (handle : ℕ) where
 
     expirations-hidden : (xs : List Expiration) (call : Call) (new : List ℕ) → expirationsAfter call new (hiddenMemory handle m) xs ≡ expirationsAfter call new m xs
     unfolding expirationsAfter
+    expirations-hidden xs (Join task share) new = refl
     expirations-hidden xs (Schedule event task) new = refl
     expirations-hidden xs (Make task kind extension size) new = refl
     expirations-hidden xs (Refresh task kind extension used) new = refl

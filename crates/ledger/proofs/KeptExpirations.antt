@@ -13,7 +13,7 @@ use Rattle.lists.proofs.Cases.{by-test}
 use Rattle.lists.proofs.All.{all-imp, all-both, all-filter, all-any, all-map, at-set}
 use Rattle.lists.proofs.Counts.{any-left, length-filter}
 use Rattle.ledger.specs.Limits.{taskCount}
-use Rattle.ledger.specs.Tasks.{Task, Clocks, taskAt, absentTask, isAbsent, isWaiting, isTested, moved, unticked, tasksAfter, advances, clocksAfter}
+use Rattle.ledger.specs.Tasks.{Task, Clocks, taskAt, absentTask, isAbsent, isWaiting, isTested, moved, unticked, tasksAfter, advances, clocksAfter, entered, joined}
 use Rattle.ledger.specs.Expirations.{DueTime, byLocal, byGlobal, pinned, departed, Expiration, dueAfter, remaining, isPinned, isLive, isSetBy, isOf, isPinOf, putOff, deserted, eachDue, stillLive, lasting, released, setOnEach}
 use Rattle.ledger.specs.Objects.{Object, Memory, stands, standing}
 use Rattle.ledger.specs.Refusals.{mostExtension, testsOf}
@@ -21,8 +21,9 @@ use Rattle.ledger.specs.Kept.{Within, isOwned, ExpirationKept, Expiratio
 use Rattle.ledger.specs.declared.Kind.{Kind}
 use Rattle.ledger.specs.declared.Kind.the-variants.{Local, Global, Pinned}
 use Rattle.ledger.specs.declared.Event.{Event}
-use Rattle.ledger.specs.declared.Event.the-variants.{Join, Leave, Block, Resume, Tick}
-use Rattle.ledger.specs.declared.Call.the-variants.{Schedule}
+use Rattle.ledger.specs.declared.Event.the-variants.{Leave, Block, Resume, Tick}
+use Rattle.ledger.specs.declared.Share.{Share}
+use Rattle.ledger.specs.declared.Call.the-variants.{Join, Schedule}
 use Rattle.ledger.specs.declared.Limits.{Limits}
 use Rattle.ledger.proofs.Passed.{Passed}
 use Rattle.ledger.proofs.KeptTasks.{tasks-after}
@@ -174,11 +175,40 @@ module _ (m : Memory) (xs : List Expiration) (new : List ℕ) (task : ℕ) where
   left-kept known x k =
       record { owned = k .owned; ahead = left-ahead (x .due) (k .ahead); within = left-within known (x .due) (k .within) }
 
-  -- the five events
+  -- who joins was absent, and so nobody's setter
+  joined-due : isAbsent (before .state) ≡ true → (due : DueTime) → Within (m .limits) (m .clocks) due → isAhead (m .clocks) due ≡ true
+      → (isAhead (entered task joined (m .clocks)) due ≡ true) × Within (m .limits) (entered task joined (m .clocks)) due
+  unfolding entered remaining
+  joined-due absent (byLocal setter at) w h =
+      at-set (λ t. (ltb 0 (at - t .clock) ≡ true) × LocalWithin (m .limits) t at) (m .clocks .tasks) task setter absentTask
+      (λ e. absurd (true≢false (sym absent ∙ (rw e at (w .1))))) (h, w)
+  joined-due absent (byGlobal setter at) (most, there) h = (
+    h,
+    (
+      most,
+      by-test (eqb setter departed) (λ d. rw d)
+          (λ d. rw d (at-set (λ t. not (isAbsent (t .state)) ≡ true) (m .clocks .tasks) task setter absentTask (λ e. refl) (rw d at there))),
+    ),
+  )
+  joined-due absent pinned w h = (refl, tt)
+
+  pub expirations-joined : (share : Share) → Passed m xs (Join task share) new → ExpirationsKept (m .limits) (m .clocks) (m .objects) xs
+      → ExpirationsKept (m .limits) (entered task joined (m .clocks)) (m .objects) xs
+  unfolding testsOf
+  expirations-joined share (exists, (absent, c)) k =
+      record {
+        each =
+            all-imp
+            (λ x h. let (ahead, within) = joined-due (not-false _ absent) (x .due) (h .within) (h .ahead) in
+            record { owned = h .owned; ahead = ahead; within = within })
+            xs (k .each);
+        room = k .room;
+      }
+
+  -- the four events
   pub expirations-after : (event : Event) → Passed m xs (Schedule event task) new → ExpirationsKept (m .limits) (m .clocks) (m .objects) xs
       → ExpirationsKept (m .limits) (after event) (m .objects) (lasting event task (advances event task (m .clocks)) (after event) xs)
   unfolding testsOf lasting moved
-  expirations-after Join (exists, (absent, end)) k = still Join refl (λ at h. absurd (true≢false (sym (not-false _ absent) ∙ h .1))) k
   expirations-after Resume c k = still Resume refl (λ at h. (refl, refl)) k
   expirations-after Block c k = live Block xs (k .room) (all-imp (λ x. lasts Block x (λ own at h. (h .0, refl))) xs (k .each))
   expirations-after Tick c k = live Tick xs (k .room) (all-imp (λ x. lasts Tick x (λ own at h. (omega arith, h .1))) xs (k .each))

@@ -1,8 +1,7 @@
 -- The objects stay as `ObjectsKept` says when one is made or written, and when those without an expiration go.
 use Prim.Native.Nat.{ℕ, _+_, _≤_, _<_}
-use native.Mathlib.Nat.{le-trans}
 use native.Mathlib.Omega.{arith}
-use mathlib.Core.Bool.{Bool, true, false, true≢false, cond, not, _||_}
+use mathlib.Core.Bool.{Bool, true, false, true≢false, cond, _||_}
 use mathlib.Core.List.{List, [], _∷_, _++_, map}
 use mathlib.Core.Path.{_≡_, refl, sym, _∙_}
 use borrow.Author.Tests.{leb-true, leb-false, ltb-false, eqb-true, eqb-false, eq-eqb}
@@ -15,12 +14,12 @@ use Rattle.lists.proofs.Cases.{by-test}
 use Rattle.lists.proofs.Blocks.{length-overwritten}
 use Rattle.lists.proofs.Sums.{total-zeros}
 use Rattle.lists.proofs.All.{all-imp, all-both, all-filter, all-append, all-map}
-use Rattle.lists.proofs.Counts.{count-append, count-map, count-filter}
-use Rattle.ledger.specs.Limits.{smallSize, largeSize, lastHandle, isSmall, blockSize, blocksFor}
+use Rattle.ledger.specs.Limits.{smallSize, largeSize, lastHandle, isSmall, blockSize}
 use Rattle.ledger.specs.Expirations.{Expiration}
-use Rattle.ledger.specs.Objects.{Object, zeroed, isIntact, objectAt, written, stands, standing, inStoreOf}
+use Rattle.ledger.specs.Objects.{Object, zeroed, isIntact, objectAt, written, orphaned, makersAfter, stands, standing}
+use Rattle.ledger.specs.declared.Event.{Event}
+use Rattle.ledger.specs.declared.Event.the-variants.{Leave, Block, Resume, Tick}
 use Rattle.ledger.specs.Kept.{ObjectKept, Ascending, ObjectsKept}
-use Rattle.ledger.specs.declared.Limits.{Limits}
 
 -- the order of handles stays when some go
 ascending-filter : (p : Object → Bool) (os : List Object) → Ascending os → Ascending (filter p os)
@@ -48,15 +47,13 @@ only Q handle (o ∷ os) (l, a) h =
     (λ e. (λ d. absurd (true≢false (sym d ∙ e)), only Q handle os a (rw e at h)))
 
 -- objects without an expiration go
-pub objects-settled : {limits : Limits} {given : ℕ} {os : List Object} (xs : List Expiration) → ObjectsKept limits given os
-    → ObjectsKept limits given (standing xs os)
+pub objects-settled : {given : ℕ} {os : List Object} (xs : List Expiration) → ObjectsKept given os
+    → ObjectsKept given (standing xs os)
 objects-settled {os = os} xs k =
     record {
       each = all-filter (λ (o : Object). stands xs (o .handle)) (λ o e h. h) os (k .each);
       ascending = ascending-filter (λ (o : Object). stands xs (o .handle)) os (k .ascending);
       numbers = k .numbers;
-      small = le-trans (count-filter _ _ os) (k .small);
-      large = le-trans (count-filter _ _ os) (k .large);
     }
 
 -- the size that a make asks for is in range
@@ -70,18 +67,11 @@ ranged size e =
 pub in-block : (size : ℕ) → size ≤ largeSize → size ≤ blockSize size
 in-block size h = by-test (isSmall size) (λ e. rw e (leb-true size smallSize e)) (λ e. rw e h)
 
--- where the object's store has a free block, either store has room for its own
-stored : (b : Bool) (s l small large : ℕ) → s ≤ small → l ≤ large → leb (cond b small large) (cond b s l) ≡ false
-    → (s + cond b 1 0 ≤ small) × (l + cond (not b) 1 0 ≤ large)
-stored true s l small large h g e = omega (arith, leb-false small s e)
-stored false s l small large h g e = omega (arith, leb-false large l e)
-
 -- one is made
-pub objects-made : {limits : Limits} {given : ℕ} {os : List Object} (size : ℕ) → (eqb size 0 || ltb largeSize size) ≡ false
-    → leb lastHandle given ≡ false → leb (blocksFor limits size) (inStoreOf size os) ≡ false → ObjectsKept limits given os
-    → ObjectsKept limits (given + 1) (os ++ (zeroed (given + 1) size ∷ []))
-objects-made {given = given} {os = os} size range spent full k =
-    let room = stored (isSmall size) _ _ _ _ (k .small) (k .large) full in
+pub objects-made : {given : ℕ} {os : List Object} (task size : ℕ) → (eqb size 0 || ltb largeSize size) ≡ false
+    → leb lastHandle given ≡ false → ObjectsKept given os
+    → ObjectsKept (given + 1) (os ++ (zeroed task (given + 1) size ∷ []))
+objects-made {given} {os} task size range spent k =
     record {
       each =
           all-append (ObjectKept (given + 1)) os _
@@ -96,9 +86,29 @@ objects-made {given = given} {os = os} size range spent full k =
           );
       ascending = ascending-append _ os (all-imp (λ o h. omega (arith, h .numbered)) os (k .each)) (k .ascending);
       numbers = omega (arith, leb-false lastHandle given spent);
-      small = rw count-append (room .0);
-      large = rw count-append (room .1);
     }
+
+-- their makers change
+ascending-orphaned : (task : ℕ) (os : List Object) → Ascending os → Ascending (map (orphaned task) os)
+ascending-orphaned task [] a = tt
+ascending-orphaned task (o ∷ os) (l, a) = (all-map _ (orphaned task) os l, ascending-orphaned task os a)
+
+objects-orphaned : {given : ℕ} {os : List Object} (task : ℕ) → ObjectsKept given os → ObjectsKept given (map (orphaned task) os)
+objects-orphaned {given} {os} task k =
+    record {
+      each =
+          all-map (ObjectKept given) (orphaned task) os
+          (all-imp (λ o h. record { numbered = h .numbered; sized = h .sized; filled = h .filled; intact = h .intact }) os (k .each));
+      ascending = ascending-orphaned task os (k .ascending);
+      numbers = k .numbers;
+    }
+
+pub objects-after : {given : ℕ} {os : List Object} (event : Event) (task : ℕ) → ObjectsKept given os → ObjectsKept given (makersAfter event task os)
+unfolding makersAfter
+objects-after Leave task k = objects-orphaned task k
+objects-after Block task k = k
+objects-after Resume task k = k
+objects-after Tick task k = k
 
 module _ (handle offset : ℕ) (new : List ℕ) where
   -- a write leaves the sum of the bytes that are there then
@@ -129,8 +139,8 @@ module _ (handle offset : ℕ) (new : List ℕ) where
   ascending-written [] a = tt
   ascending-written (o ∷ os) (l, a) = (all-map _ (written handle offset new) os l, ascending-written os a)
 
-  pub objects-written : {limits : Limits} {given : ℕ} {os : List Object} → ltb (objectAt handle os .size) (offset + length new) ≡ false
-      → ObjectsKept limits given os → ObjectsKept limits given (map (written handle offset new) os)
+  pub objects-written : {given : ℕ} {os : List Object} → ltb (objectAt handle os .size) (offset + length new) ≡ false
+      → ObjectsKept given os → ObjectsKept given (map (written handle offset new) os)
   unfolding written
   objects-written {given = given} {os = os} e k =
       let fits = only (λ o. offset + length new ≤ o .size) handle os (k .ascending) (ltb-false _ _ e) in
@@ -138,6 +148,4 @@ module _ (handle offset : ℕ) (new : List ℕ) where
         each = all-map (ObjectKept given) (written handle offset new) os (all-both (written-kept given) os (k .each) fits);
         ascending = ascending-written os (k .ascending);
         numbers = k .numbers;
-        small = rw count-map (k .small);
-        large = rw count-map (k .large);
       }

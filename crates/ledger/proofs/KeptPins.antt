@@ -18,9 +18,9 @@ use Rattle.ledger.specs.Kept.{PinsKept, PinnedOnceKept}
 use Rattle.ledger.specs.declared.Kind.{Kind}
 use Rattle.ledger.specs.declared.Kind.the-variants.{Local, Global, Pinned}
 use Rattle.ledger.specs.declared.Event.{Event}
-use Rattle.ledger.specs.declared.Event.the-variants.{Join, Leave, Block, Resume, Tick}
+use Rattle.ledger.specs.declared.Event.the-variants.{Leave, Block, Resume, Tick}
 use Rattle.ledger.specs.declared.Call.{Call}
-use Rattle.ledger.specs.declared.Call.the-variants.{Schedule, Make, Refresh, Read, Write, Batch, Release}
+use Rattle.ledger.specs.declared.Call.the-variants.{Join, Schedule, Make, Refresh, Read, Write, Batch, Release}
 
 abbrev pins : ℕ → List Expiration → Bool
 pins handle xs = any (isPinOf handle) xs
@@ -58,7 +58,6 @@ live-pins advanced clocks handle xs =
 pub lasting-pins : (event : Event) (task : ℕ) (advanced : Bool) (clocks : Clocks) (handle : ℕ) (xs : List Expiration)
     → pins handle (lasting event task advanced clocks xs) ≡ pins handle xs
 unfolding lasting
-lasting-pins Join task advanced clocks handle xs = refl
 lasting-pins Block task advanced clocks handle xs = live-pins advanced clocks handle xs
 lasting-pins Resume task advanced clocks handle xs = refl
 lasting-pins Leave task advanced clocks handle xs =
@@ -106,6 +105,7 @@ set-pins due e handle (h ∷ hs) xs = set-pins due e handle hs _ ∙ rw (e, and-
 
 -- a refresh or batch that is not refused with 21
 abbrev pub SetsNoPin : Call → Type 0
+SetsNoPin (Join task share) = Unit
 SetsNoPin (Schedule event task) = Unit
 SetsNoPin (Make task kind extension size) = Unit
 SetsNoPin (Refresh task kind extension handle) = isPinning kind ≡ false
@@ -118,6 +118,7 @@ SetsNoPin (Release task handle) = Unit
 pub pins-carried : (m : Memory) (xs : List Expiration) (call : Call) (new : List ℕ) → SetsNoPin call → PinsKept (m .pinned) xs
     → PinsKept (memoryAfter call new m .pinned) (expirationsAfter call new m xs)
 unfolding memoryAfter expirationsAfter
+pins-carried m xs (Join task share) new s k = k
 pins-carried m xs (Schedule event task) new s k = λ handle. k handle ∙ sym (lasting-pins event task _ _ handle xs)
 pins-carried m xs (Make task kind extension size) new s k = made-pins kind (m .given + 1) (dueAfter (m .clocks) task kind extension) (m .pinned) xs (unpinned-due (m .clocks) task extension kind) k
 pins-carried m xs (Refresh task kind extension handle) new s k = λ other. rw (unpinned-due (m .clocks) task extension kind, s, and-false) (k other)
@@ -146,7 +147,6 @@ live-once advanced clocks xs k = filter-once (isLive clocks) (eachDue (putOff ad
 lasting-once : (event : Event) (task : ℕ) (advanced : Bool) (clocks : Clocks) (xs : List Expiration) → PinnedOnceKept xs
     → PinnedOnceKept (lasting event task advanced clocks xs)
 unfolding lasting
-lasting-once Join task advanced clocks xs k = k
 lasting-once Block task advanced clocks xs k = live-once advanced clocks xs k
 lasting-once Resume task advanced clocks xs k = k
 lasting-once Leave task advanced clocks xs k =
@@ -171,6 +171,7 @@ set-once due e (h ∷ hs) xs k = set-once due e hs (record { handle = h; due = d
 pub once-carried : (m : Memory) (xs : List Expiration) (call : Call) (new : List ℕ) → SetsNoPin call → count (isPinOf (m .given + 1)) xs ≡ 0 → PinnedOnceKept xs
     → PinnedOnceKept (expirationsAfter call new m xs)
 unfolding expirationsAfter released
+once-carried m xs (Join task share) new s none k = k
 once-carried m xs (Schedule event task) new s none k = lasting-once event task _ _ xs k
 once-carried m xs (Make task kind extension size) new s none k =
     made-once (record { handle = m .given + 1; due = dueAfter (m .clocks) task kind extension }) xs none k

@@ -1,5 +1,6 @@
 -- The task entries stay as `ClocksKept` says.
 use Prim.Native.Nat.{ℕ, _<_}
+use native.Mathlib.Omega.{arith}
 use mathlib.Core.Bool.{true, false, cond, not, _||_, and-false}
 use mathlib.Core.List.{List, [], _∷_, map}
 use mathlib.Core.Path.{_≡_, refl, sym, _∙_}
@@ -11,7 +12,7 @@ use Rattle.lists.proofs.Cases.{by-test}
 use Rattle.lists.proofs.All.{all-imp, all-map, all-set}
 use Rattle.lists.proofs.Counts.{all-false}
 use Rattle.ledger.specs.Limits.{taskCount}
-use Rattle.ledger.specs.Tasks.{Task, Clocks, taskAt, absentTask, isAbsent, isRunning, isWaiting, moved, allTicked, unticked, tasksAfter, advances, clocksAfter}
+use Rattle.ledger.specs.Tasks.{Task, Clocks, taskAt, absentTask, joined, isAbsent, isRunning, isWaiting, moved, allTicked, unticked, tasksAfter, advances, clocksAfter, entered}
 use Rattle.ledger.specs.Expirations.{Expiration}
 use Rattle.ledger.specs.Objects.{Memory}
 use Rattle.ledger.specs.Refusals.{testsOf}
@@ -19,8 +20,9 @@ use Rattle.ledger.specs.Kept.{TaskKept, ClocksKept}
 use Rattle.ledger.specs.declared.State.{State}
 use Rattle.ledger.specs.declared.State.the-variants.{Absent, Running, Waiting}
 use Rattle.ledger.specs.declared.Event.{Event}
-use Rattle.ledger.specs.declared.Event.the-variants.{Join, Leave, Block, Resume, Tick}
-use Rattle.ledger.specs.declared.Call.the-variants.{Schedule}
+use Rattle.ledger.specs.declared.Event.the-variants.{Leave, Block, Resume, Tick}
+use Rattle.ledger.specs.declared.Share.{Share}
+use Rattle.ledger.specs.declared.Call.the-variants.{Join, Schedule}
 use Rattle.ledger.proofs.Passed.{Passed}
 
 -- what is true before the advance test, and stays so when the marks are cleared, is true after it
@@ -68,7 +70,6 @@ module _ (m : Memory) (xs : List Expiration) (new : List ℕ) (task : ℕ) where
   -- and when an event moves it
   moved-kept : (event : Event) → Passed m xs (Schedule event task) new → TaskKept (moved event (taskAt (m .clocks) task))
   unfolding testsOf moved
-  moved-kept Join c = record { ticked = λ e. cc; clock = λ e. refl }
   moved-kept Leave c = absent-kept
   moved-kept Block c = record { ticked = λ e. cc; clock = λ e. cc }
   moved-kept Resume c = record { ticked = λ e. cc; clock = λ e. cc }
@@ -79,11 +80,19 @@ module _ (m : Memory) (xs : List Expiration) (new : List ℕ) (task : ℕ) where
   unticked-after : (event : Event) → length (m .clocks .tasks) ≡ taskCount → Passed m xs (Schedule event task) new
       → allTicked (clocksAfter event task (m .clocks) .tasks) ≡ false
   unfolding testsOf moved clocksAfter advances tasksAfter
-  unticked-after Join n c = started (m .clocks .tasks) task _ n (c .0) refl
   unticked-after Leave n c = tested _
   unticked-after Block n c = tested _
   unticked-after Resume n c = started (m .clocks .tasks) task _ n (c .0) refl
   unticked-after Tick n c = tested _
+
+  pub clocks-joined : (share : Share) → Passed m xs (Join task share) new → ClocksKept (m .clocks) → ClocksKept (entered task joined (m .clocks))
+  unfolding entered testsOf
+  clocks-joined share c k =
+      record {
+        sixteen = rw length-set (k .sixteen);
+        tasks = all-set TaskKept (m .clocks .tasks) task (k .tasks) (record { ticked = λ e. refl; clock = λ e. refl });
+        unticked = started (m .clocks .tasks) task joined (k .sixteen) (c .0) refl;
+      }
 
   pub clocks-after : (event : Event) → Passed m xs (Schedule event task) new → ClocksKept (m .clocks)
       → ClocksKept (clocksAfter event task (m .clocks))

@@ -7,6 +7,8 @@ pub mod Edges
 pub mod Chosen
 pub mod PutOff
 pub mod KeptTasks
+pub mod Shares
+pub mod KeptShares
 pub mod KeptObjects
 pub mod KeptExpirations
 pub mod KeptPins
@@ -28,3 +30,4 @@ pub mod Broken
 pub mod Spared
 pub mod Noticed
 pub mod NoticedRows
+pub mod Reserves

@@ -2,14 +2,15 @@
 use native.Mathlib.Omega.{arith}
 use mathlib.Core.Path.{refl}
 use lib.Dec.{T}
-use Rattle.lists.specs.Sums.{total}
+use Rattle.lists.specs.Sums.{total, sumBelow}
 use Rattle.lists.specs.Blocks.{overwritten}
 use Rattle.lists.specs.Tests.{all}
 use Rattle.lists.proofs.Tests.{all→All}
 use Rattle.ledger.specs.Limits.{counterRange, standard, lastHandle}
-use Rattle.ledger.specs.Tasks.{freshClocks, moved, allTicked, tasksAfter, advances, clocksAfter}
+use Rattle.ledger.specs.Tasks.{freshClocks, moved, allTicked, tasksAfter, advances, clocksAfter, entered}
 use Rattle.ledger.specs.Expirations.{dueAfter, remaining, putOff, lasting, released, setOnEach}
-use Rattle.ledger.specs.Objects.{freshMemory, objectAt, written, replyTo, memoryAfter, expirationsAfter, handlesOf, usage}
+use Rattle.ledger.specs.Objects.{freshMemory, objectAt, written, replyTo, makersAfter, sharesAfter, memoryAfter, expirationsAfter, handlesOf, usage}
+use Rattle.ledger.specs.Shares.{made, unmet, isFull, isShort, isAtLimit}
 use Rattle.ledger.specs.Refusals.{testsOf, verdict}
 use Rattle.ledger.specs.Remaining.{remainingLife}
 use Rattle.ledger.specs.Ledger.{fresh, reply, next, replies, afterAll}
@@ -20,7 +21,7 @@ use Rattle.ledger.proofs.Edges.{passes, passing-holds}
 all-pass : T (all passes noticedEdges)
 unfolding passes noticedEdges threeObjects disturbed fresh reply next replies afterAll testsOf verdict
     freshMemory objectAt written overwritten total replyTo memoryAfter expirationsAfter handlesOf setOnEach usage dueAfter remaining remainingLife putOff lasting released
-    freshClocks moved allTicked tasksAfter advances clocksAfter
+    freshClocks moved allTicked tasksAfter advances clocksAfter entered makersAfter sharesAfter sumBelow made unmet isFull isShort isAtLimit
     standard lastHandle counterRange
 all-pass = tt
 
@@ -28,7 +29,7 @@ all-pass = tt
 one : Change
 unfolding threeObjects fresh next afterAll testsOf verdict
     freshMemory objectAt written overwritten total memoryAfter expirationsAfter handlesOf setOnEach dueAfter lasting released
-    freshClocks moved allTicked tasksAfter advances clocksAfter
+    freshClocks moved allTicked tasksAfter advances clocksAfter entered makersAfter sharesAfter sumBelow made unmet isFull isShort isAtLimit
     standard lastHandle
 one =
     record {

@@ -10,15 +10,16 @@ use Rattle.lists.specs.Tests.{any, all}
 use Rattle.lists.proofs.All.{at-set}
 use Rattle.lists.proofs.Cases.{by-test}
 use Rattle.lists.proofs.Tests.{passes-at}
-use Rattle.ledger.specs.Tasks.{Task, Clocks, taskAt, absentTask, isAbsent, isRunning, isWaiting, isTested, moved, allTicked, unticked, tasksAfter, advances, clocksAfter}
+use Rattle.ledger.specs.Tasks.{Task, Clocks, taskAt, absentTask, isAbsent, isRunning, isWaiting, isTested, moved, allTicked, unticked, tasksAfter, advances, clocksAfter, entered, joined}
 use Rattle.ledger.specs.Expirations.{Expiration, remaining, putOff, deserted, lasting}
 use Rattle.ledger.specs.Objects.{Memory}
 use Rattle.ledger.specs.Refusals.{testsOf}
-use Rattle.ledger.specs.Outlives.{isTickOf, isLeaveOf}
+use Rattle.ledger.specs.Outlives.{happens, isTickOf, isLeaveOf}
 use Rattle.ledger.specs.PutOff.{globalOne}
 use Rattle.ledger.specs.declared.Event.{Event}
-use Rattle.ledger.specs.declared.Event.the-variants.{Join, Leave, Block, Resume, Tick}
-use Rattle.ledger.specs.declared.Call.the-variants.{Schedule}
+use Rattle.ledger.specs.declared.Event.the-variants.{Leave, Block, Resume, Tick}
+use Rattle.ledger.specs.declared.Call.the-variants.{Join, Schedule}
+use Rattle.ledger.specs.declared.Share.{Share}
 use Rattle.ledger.proofs.Passed.{Passed}
 use Rattle.ledger.proofs.KeptTasks.{running}
 
@@ -69,18 +70,17 @@ module _ (m : Memory) (xs : List Expiration) (new : List ℕ) (task setter : ℕ
 
   -- the event leaves the setter there, and sets its flag only by a tick
   abbrev Fine : Event → Task → Type 0
-  Fine event t = (isAbsent (t .state) ≡ false) × (flag t ≤ flag before + cond (isTickOf setter event task) 1 0)
+  Fine event t = (isAbsent (t .state) ≡ false) × (flag t ≤ flag before + cond (isTickOf setter (happens event task)) 1 0)
 
-  own : (event : Event) → Passed m xs (Schedule event task) new → isLeaveOf setter event task ≡ false → setter ≡ task → isAbsent (before .state) ≡ false
+  own : (event : Event) → Passed m xs (Schedule event task) new → isLeaveOf setter (happens event task) ≡ false → setter ≡ task → isAbsent (before .state) ≡ false
       → Fine event (moved event (taskAt (m .clocks) task))
   unfolding testsOf moved
-  own Join (exists, (there, end)) stays e present = absurd (true≢false (sym (not-false _ there) ∙ (rw e at present)))
   own Leave c stays e present = absurd (true≢false (sym (eq-eqb setter task e) ∙ stays))
   own Block c stays e present = (refl, omega arith)
   own Resume c stays e present = (refl, omega arith)
   own Tick (exists, (there, c)) stays e present = (there, rw (eq-eqb setter task e) (omega arith))
 
-  fine : (event : Event) → Passed m xs (Schedule event task) new → isLeaveOf setter event task ≡ false → isAbsent (before .state) ≡ false
+  fine : (event : Event) → Passed m xs (Schedule event task) new → isLeaveOf setter (happens event task) ≡ false → isAbsent (before .state) ≡ false
       → Fine event (moving event)
   unfolding tasksAfter
   fine event c stays present =
@@ -113,8 +113,8 @@ module _ (m : Memory) (xs : List Expiration) (new : List ℕ) (task setter : ℕ
   abbrev pub dueThen : Event → ℕ → ℕ
   dueThen event at = at + cond (advances event task (m .clocks) && isWaiting (taskAt (after event) setter .state)) 1 0
 
-  pub kept-ahead : (event : Event) (at ticks : ℕ) → Passed m xs (Schedule event task) new → isLeaveOf setter event task ≡ false
-      → Ahead (m .clocks) setter at (cond (isTickOf setter event task) 1 0 + ticks) → Ahead (after event) setter (dueThen event at) ticks
+  pub kept-ahead : (event : Event) (at ticks : ℕ) → Passed m xs (Schedule event task) new → isLeaveOf setter (happens event task) ≡ false
+      → Ahead (m .clocks) setter at (cond (isTickOf setter (happens event task)) 1 0 + ticks) → Ahead (after event) setter (dueThen event at) ticks
   kept-ahead event at ticks c stays k =
       let (present, few) = fine event c stays (k .present) in
       record {
@@ -124,11 +124,20 @@ module _ (m : Memory) (xs : List Expiration) (new : List ℕ) (task setter : ℕ
             (ahead-on (advances event task (m .clocks)) (isWaiting (moving event .state)) (m .clocks .global) at _ _ _ ticks (k .ahead) few (used event present));
       }
 
+  -- who joins was absent, and so is another
+  pub joined-ahead : (share : Share) (at ticks : ℕ) → Passed m xs (Join task share) new → Ahead (m .clocks) setter at ticks
+      → Ahead (entered task joined (m .clocks)) setter at ticks
+  unfolding testsOf entered
+  joined-ahead share at ticks (exists, (absent, c)) k =
+      let (present, ahead) =
+      at-set (λ t. (isAbsent (t .state) ≡ false) × (m .clocks .global + 1 + flag t + ticks ≤ at)) (m .clocks .tasks) task setter absentTask
+      (λ e. absurd (true≢false (sym (not-false _ absent) ∙ (rw e at (k .present))))) (k .present, k .ahead) in
+      record { present = present; ahead = ahead }
+
   -- so it is left, due then
-  pub one-left : (event : Event) (handle at : ℕ) → isLeaveOf setter event task ≡ false → 1 ≤ dueThen event at - after event .global
+  pub one-left : (event : Event) (handle at : ℕ) → isLeaveOf setter (happens event task) ≡ false → 1 ≤ dueThen event at - after event .global
       → lasting event task (advances event task (m .clocks)) (after event) (globalOne handle setter at ∷ []) ≡ globalOne handle setter (dueThen event at) ∷ []
   unfolding lasting putOff deserted remaining advances
-  one-left Join handle at stays h = ap (λ (n : ℕ). globalOne handle setter n ∷ []) (omega arith)
   one-left Resume handle at stays h = ap (λ (n : ℕ). globalOne handle setter n ∷ []) (omega arith)
   one-left Block handle at stays h = rw (lt-ltb 0 _ h)
   one-left Tick handle at stays h = rw (lt-ltb 0 _ h)

@@ -4,14 +4,15 @@ use mathlib.Core.List.{[], _∷_, map}
 use mathlib.Core.Path.{refl}
 use lib.Dec.{T, eqb, eqb→eq}
 use lib.ListN.{length}
-use Rattle.lists.specs.Sums.{total}
+use Rattle.lists.specs.Sums.{total, sumBelow}
 use Rattle.lists.specs.Blocks.{overwritten}
 use Rattle.lists.specs.Tests.{all}
 use Rattle.lists.proofs.Tests.{both, sameBy, sameBy→eq, all→All}
 use Rattle.ledger.specs.Limits.{standard, lastHandle}
-use Rattle.ledger.specs.Tasks.{freshClocks, moved, allTicked, tasksAfter, advances, clocksAfter}
+use Rattle.ledger.specs.Tasks.{freshClocks, moved, allTicked, tasksAfter, advances, clocksAfter, entered}
 use Rattle.ledger.specs.Expirations.{byGlobal, dueAfter, remaining, putOff, deserted, lasting, released, setOnEach}
-use Rattle.ledger.specs.Objects.{freshMemory, objectAt, written, memoryAfter, expirationsAfter, handlesOf}
+use Rattle.ledger.specs.Objects.{freshMemory, objectAt, written, makersAfter, sharesAfter, memoryAfter, expirationsAfter, handlesOf}
+use Rattle.ledger.specs.Shares.{made, unmet, isFull, isShort, isAtLimit}
 use Rattle.ledger.specs.Refusals.{testsOf, verdict}
 use Rattle.ledger.specs.Ledger.{fresh, next, afterAll}
 use Rattle.ledger.specs.Outlives.{moveOf, moveIn, setIn, followed, isTickOf, countOf, Setting, isRound, neverWaits, Stretch, areRounds}
@@ -37,7 +38,7 @@ passing-holds t p =
 all-pass : T (all passes trials)
 unfolding passes trials fresh next afterAll testsOf verdict moveOf moveIn setIn followed countOf isRound neverWaits
     freshMemory objectAt written overwritten total memoryAfter expirationsAfter handlesOf setOnEach dueAfter remaining putOff deserted lasting released
-    freshClocks moved allTicked tasksAfter advances clocksAfter
+    freshClocks moved allTicked tasksAfter advances clocksAfter entered makersAfter sharesAfter sumBelow made unmet isFull isShort isAtLimit
     standard lastHandle
 all-pass = tt
 
@@ -47,7 +48,7 @@ trials-hold = record { twelve = refl; each = all→All passes passing-holds tria
 
 -- task 0 makes an object with a global expiration of extension 1, two tasks being there
 setting : Setting
-unfolding fresh next afterAll testsOf verdict setIn freshMemory memoryAfter expirationsAfter dueAfter freshClocks moved allTicked tasksAfter advances clocksAfter standard lastHandle lasting
+unfolding fresh next afterAll testsOf verdict setIn freshMemory memoryAfter expirationsAfter dueAfter freshClocks moved allTicked tasksAfter advances clocksAfter entered makersAfter sharesAfter sumBelow made unmet isFull isShort isAtLimit standard lastHandle lasting
 setting =
     record {
       limits = standard;
@@ -65,7 +66,7 @@ setting =
 pub claims-apply : ClaimsApply
 unfolding setting fresh next afterAll testsOf verdict moveOf moveIn setIn followed countOf isRound neverWaits areRounds
     freshMemory memoryAfter expirationsAfter dueAfter remaining putOff lasting
-    freshClocks moved allTicked tasksAfter advances clocksAfter
+    freshClocks moved allTicked tasksAfter advances clocksAfter entered makersAfter sharesAfter sumBelow made unmet isFull isShort isAtLimit
     standard lastHandle
 claims-apply =
     let round : Stretch = record { between = []; round = tick 0 ∷ tick 1 ∷ [] } in

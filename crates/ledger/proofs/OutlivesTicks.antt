@@ -9,18 +9,20 @@ use Rattle.ledger.specs.Tasks.{Clocks}
 use Rattle.ledger.specs.Expirations.{DueTime, Expiration, dueAfter, released}
 use Rattle.ledger.specs.Objects.{stands}
 use Rattle.ledger.specs.Ledger.{Ledger, Sent, afterSent}
-use Rattle.ledger.specs.Outlives.{Move, neither, happens, releases, moveIn, leftBy, followed, isTickOf, isLeaveOf, isOne, countOf, whenSet, OutlivesTicks}
+use Rattle.ledger.specs.Outlives.{Move, neither, joins, happens, releases, moveIn, leftBy, followed, isTickOf, isLeaveOf, countOf, whenSet, OutlivesTicks}
 use Rattle.ledger.specs.PutOff.{globalOne}
 use Rattle.ledger.proofs.Following.{clocksBy, MovePassed, clocks-moved, move-passed}
 use Rattle.ledger.proofs.Setting.{set-now, object-stands}
-use Rattle.ledger.proofs.Outlives.{Ahead, set-ahead, dueThen, kept-ahead, one-left}
+use Rattle.ledger.proofs.Outlives.{Ahead, set-ahead, dueThen, kept-ahead, joined-ahead, one-left}
 
 -- one call, by its event
-step : (L : Ledger) (new : List ℕ) (v : Move) → MovePassed L new v → (handle setter at ticks : ℕ) → isOne (isLeaveOf setter) v ≡ false
-    → Ahead (L .memory .clocks) setter at (cond (isOne (isTickOf setter) v) 1 0 + ticks)
+step : (L : Ledger) (new : List ℕ) (v : Move) → MovePassed L new v → (handle setter at ticks : ℕ) → isLeaveOf setter v ≡ false
+    → Ahead (L .memory .clocks) setter at (cond (isTickOf setter v) 1 0 + ticks)
     → (then : ℕ) × (leftBy (L .memory .clocks) v (globalOne handle setter at ∷ []) ≡ globalOne handle setter then ∷ []) × Ahead (clocksBy (L .memory .clocks) v) setter then ticks
 unfolding released
 step L new neither c handle setter at ticks stays k = (at, refl, record { present = k .present; ahead = omega (arith, k .ahead) })
+step L new (joins task share) c handle setter at ticks stays k =
+    (at, refl, joined-ahead (L .memory) (L .expirations) new task setter share at ticks c (record { present = k .present; ahead = omega (arith, k .ahead) }))
 step L new (happens event task) c handle setter at ticks stays k =
     let m = L .memory in
     let k′ = kept-ahead m (L .expirations) new task setter event at ticks c stays k in (
@@ -42,7 +44,7 @@ unfolding countOf followed
 outlived handle setter [] L at e k = (at, refl)
 outlived handle setter (s ∷ ss) L at e k =
     let v = moveIn L (s .request) (s .bytes) in
-    let (stays, rest) = none-first (isOne (isLeaveOf setter) v) _ e in
+    let (stays, rest) = none-first (isLeaveOf setter v) _ e in
     let (then, left, k′) = step L (s .bytes) v (move-passed L (s .request) (s .bytes)) handle setter at (countOf (isTickOf setter) (afterSent L s) ss) stays k in
     let (last, more) = outlived handle setter ss (afterSent L s) then rest
     (subst (λ (clocks : Clocks). Ahead clocks setter then (countOf (isTickOf setter) (afterSent L s) ss)) (sym (clocks-moved L (s .request) (s .bytes))) k′) in

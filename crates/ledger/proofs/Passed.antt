@@ -13,7 +13,7 @@ use Rattle.ledger.specs.Ledger.{replyBy}
 use Rattle.ledger.specs.declared.Answer.{Answer}
 use Rattle.ledger.specs.declared.Answer.the-variants.{Refused, Done, Advanced, Handle, Bytes, Counted, Lasts}
 use Rattle.ledger.specs.declared.Call.{Call}
-use Rattle.ledger.specs.declared.Call.the-variants.{Schedule, Make, Refresh, Read, Write, Batch, Release}
+use Rattle.ledger.specs.declared.Call.the-variants.{Join, Schedule, Make, Refresh, Read, Write, Batch, Release}
 use Rattle.ledger.specs.declared.Refusal.{Refusal}
 
 abbrev pub AllPassed : Memory → List Expiration → List Test → Type 0
@@ -49,6 +49,7 @@ refusalIn (Lasts life) = none
 -- one that is carried out has none,
 no-refusal : (call : Call) (m : Memory) → refusalIn (replyTo call m .answer) ≡ none
 unfolding replyTo
+no-refusal (Join task share) m = refl
 no-refusal (Schedule event task) m = by-test (isTested event) (λ e. rw e) (λ e. rw e)
 no-refusal (Make task kind extension size) m = refl
 no-refusal (Refresh task kind extension handle) m = refl

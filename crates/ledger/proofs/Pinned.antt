@@ -11,10 +11,12 @@ use Rattle.lists.specs.Tests.{any}
 use Rattle.lists.proofs.Cases.{by-test, or-right, or-false-parts}
 use Rattle.lists.proofs.Counts.{any-left}
 use Rattle.lists.proofs.Implied.{any-none}
+use Rattle.lists.specs.Sums.{sumBelow}
 use Rattle.ledger.specs.Limits.{taskCount, standard, lastHandle}
-use Rattle.ledger.specs.Tasks.{taskAt, isAbsent, isWaiting, freshClocks, moved, allTicked, tasksAfter, advances, clocksAfter}
+use Rattle.ledger.specs.Tasks.{taskAt, isAbsent, isWaiting, freshClocks, moved, allTicked, tasksAfter, advances, clocksAfter, entered}
 use Rattle.ledger.specs.Expirations.{Expiration, isPinned, isOf, isPinOf, dueAfter, putOff, lasting, released}
-use Rattle.ledger.specs.Objects.{Memory, Reply, freshMemory, objectAt, isIntact, stands, pinnedBy, replyTo, memoryAfter, expirationsAfter}
+use Rattle.ledger.specs.Objects.{Memory, Reply, freshMemory, objectAt, isIntact, stands, pinnedBy, replyTo, makersAfter, sharesAfter, memoryAfter, expirationsAfter}
+use Rattle.ledger.specs.Shares.{made as madeIn, unmet, isFull, isShort, isAtLimit}
 use Rattle.ledger.specs.Refusals.{isNotGiven, testsOf, verdict}
 use Rattle.ledger.specs.Ledger.{Ledger, Sent, fresh, settled, replyBy, afterBy, verdictOn, reply, next, afterRequest, afterSent, afterAll}
 use Rattle.ledger.specs.Kept.{Kept}
@@ -23,7 +25,7 @@ use Rattle.ledger.specs.Pinned.{PinnedMake, madeBy, whenMade, isReleaseO
 use Rattle.ledger.specs.Rows.{join}
 use Rattle.ledger.specs.declared.Answer.the-variants.{Refused, Handle, Bytes}
 use Rattle.ledger.specs.declared.Call.{Call}
-use Rattle.ledger.specs.declared.Call.the-variants.{Schedule, Make, Refresh, Read, Write, Batch, Release}
+use Rattle.ledger.specs.declared.Call.the-variants.{Join, Schedule, Make, Refresh, Read, Write, Batch, Release}
 use Rattle.ledger.specs.declared.Kind.{Kind}
 use Rattle.ledger.specs.declared.Kind.the-variants.{Local, Global, Pinned}
 use Rattle.ledger.specs.declared.Refusal.{Refusal}
@@ -64,6 +66,7 @@ module _ (object : ℕ) where
   -- a call that is carried out and is no release of the object
   pinned-carried : (call : Call) (new : List ℕ) (m : Memory) → isReleaseOf object (moveOf call) ≡ false → isAmong m ≡ true → isAmong (memoryAfter call new m) ≡ true
   unfolding memoryAfter moveOf
+  pinned-carried (Join task share) new m e h = h
   pinned-carried (Schedule event task) new m e h = h
   pinned-carried (Make task Local extension size) new m e h = h
   pinned-carried (Make task Global extension size) new m e h = h
@@ -125,12 +128,13 @@ stands-until p ss e =
 
 -- task 0 makes object 1
 first-pinned : PinnedMake
-unfolding fresh reply next afterAll testsOf verdict replyTo freshMemory memoryAfter expirationsAfter lasting freshClocks moved advances tasksAfter clocksAfter standard lastHandle
+unfolding fresh reply next afterAll testsOf verdict replyTo freshMemory memoryAfter expirationsAfter lasting freshClocks moved advances tasksAfter clocksAfter
+    entered sumBelow madeIn unmet isFull isShort isAtLimit standard lastHandle
 first-pinned = record { limits = standard; earlier = join 0 ∷ []; task = 0; extension = 0; size = 4; bytes = []; object = 1; answered = refl }
 
 pinned-applies : PinnedApplies
 unfolding first-pinned sparing isReleased moveOf moveIn fresh next afterAll testsOf verdict
-    freshMemory memoryAfter expirationsAfter dueAfter putOff lasting released freshClocks moved allTicked advances tasksAfter clocksAfter standard lastHandle
+    freshMemory memoryAfter expirationsAfter dueAfter putOff lasting released freshClocks moved allTicked advances tasksAfter clocksAfter standard lastHandle entered makersAfter sharesAfter sumBelow madeIn unmet isFull isShort isAtLimit
 pinned-applies = record { made = first-pinned; object = refl; unreleased = refl; standing = refl; released = refl; gone = refl }
 
 pub pinned-claim : PinnedClaim

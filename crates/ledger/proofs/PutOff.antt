@@ -15,7 +15,7 @@ use Rattle.ledger.specs.Expirations.{departed, Expiration, remaining, pu
 use Rattle.ledger.specs.Kept.{ClocksKept}
 use Rattle.ledger.specs.PutOff.{waitingEdges, globalOne, leftOfOne, LeftWith, waitsAfter, AdvanceLeaves, WaitingEatsNothing}
 use Rattle.ledger.specs.declared.Event.{Event}
-use Rattle.ledger.specs.declared.Event.the-variants.{Join, Leave, Block, Resume, Tick}
+use Rattle.ledger.specs.declared.Event.the-variants.{Leave, Block, Resume, Tick}
 use Rattle.ledger.proofs.Edges.{waiting-edges-hold}
 use Rattle.ledger.proofs.KeptTasks.{tasks-after, sixteen-after}
 
@@ -28,7 +28,6 @@ departed-after event task clocks k = no-departed (clocksAfter event task clocks 
 
 -- the setter that an event leaves
 abbrev setterAfter : Event → ℕ → ℕ → ℕ
-setterAfter Join task setter = setter
 setterAfter Leave task setter = cond (eqb setter task) departed setter
 setterAfter Block task setter = setter
 setterAfter Resume task setter = setter
@@ -41,7 +40,6 @@ left-one : (event : Event) (task : ℕ) (clocks : Clocks) (handle setter at : �
     let x = globalOne handle who (at + cond (isWaiting (taskAt after who .state)) 1 0) in
     leftOfOne event task clocks (globalOne handle setter at) ≡ cond (ltb 0 (remaining after (x .due))) (x ∷ []) []
 unfolding lasting putOff deserted advances
-left-one Join task clocks handle setter at e = absurd (true≢false (sym e))
 left-one Leave task clocks handle setter at e = rw e
 left-one Block task clocks handle setter at e = rw e
 left-one Resume task clocks handle setter at e = absurd (true≢false (sym e))
@@ -60,7 +58,6 @@ left-absent task clocks =
 -- so a setter that waits is the setter still, and one that does not, or departs, does not wait
 waits-on : (event : Event) (task : ℕ) (clocks : Clocks) (setter : ℕ) (waits : Bool) → waitsAfter event task clocks setter ≡ waits
     → waitsAfter event task clocks departed ≡ false → waitsAfter event task clocks (setterAfter event task setter) ≡ waits
-waits-on Join task clocks setter waits w d = w
 waits-on Leave task clocks setter waits w d =
     by-test (eqb setter task)
     (λ own. rw own (d ∙ sym (left-absent task clocks) ∙ rw (eqb-true setter task own) at w))

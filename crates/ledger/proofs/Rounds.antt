@@ -15,25 +15,23 @@ use Rattle.ledger.specs.Tasks.{Task, Clocks, taskAt, absentTask, isRunni
 use Rattle.ledger.specs.Ledger.{Ledger, Sent, afterSent, afterAll}
 use Rattle.ledger.specs.Awaited.{globalOf}
 use Rattle.ledger.specs.Kept.{Kept}
-use Rattle.ledger.specs.Outlives.{Move, neither, happens, releases, moveIn, isTickOf, isStart, isOne, countOf, isRound}
+use Rattle.ledger.specs.Outlives.{Move, neither, joins, happens, releases, moveIn, isTickOf, isStart, countOf, isRound}
 use Rattle.ledger.specs.declared.Event.{Event}
-use Rattle.ledger.specs.declared.Event.the-variants.{Join, Leave, Block, Resume, Tick}
+use Rattle.ledger.specs.declared.Event.the-variants.{Leave, Block, Resume, Tick}
 use Rattle.ledger.proofs.Awaited.{awaited}
 use Rattle.ledger.proofs.Following.{clocksBy, clocks-moved}
 use Rattle.ledger.proofs.Outlives.{isDone}
 use Rattle.ledger.proofs.OutlivesTicks.{none-first}
 
 -- an event that starts nobody leaves its task done: ticked, or not running
-moved-done : (event : Event) (task : ℕ) (t : Task) → isStart event task ≡ false → isDone (moved event t) ≡ true
+moved-done : (event : Event) (task : ℕ) (t : Task) → isStart (happens event task) ≡ false → isDone (moved event t) ≡ true
 unfolding moved
-moved-done Join task t e = absurd (true≢false e)
 moved-done Leave task t e = refl
 moved-done Block task t e = refl
 moved-done Resume task t e = absurd (true≢false e)
 moved-done Tick task t e = or-true (not (isRunning (t .state)))
 
-ticks-self : (who : ℕ) (event : Event) (task : ℕ) → isTickOf who event task ≡ true → eqb who task ≡ true
-ticks-self who Join task e = absurd (false≢true e)
+ticks-self : (who : ℕ) (event : Event) (task : ℕ) → isTickOf who (happens event task) ≡ true → eqb who task ≡ true
 ticks-self who Leave task e = absurd (false≢true e)
 ticks-self who Block task e = absurd (false≢true e)
 ticks-self who Resume task e = absurd (false≢true e)
@@ -44,8 +42,8 @@ or-false-right true e = refl
 or-false-right false e = e
 
 -- before the advance test: who was done or ticks now is done
-done-moved : (clocks : Clocks) (event : Event) (task who : ℕ) → isStart event task ≡ false
-    → (isDone (taskAt clocks who) || isTickOf who event task) ≡ true → isDone (getD (tasksAfter event task clocks) who absentTask) ≡ true
+done-moved : (clocks : Clocks) (event : Event) (task who : ℕ) → isStart (happens event task) ≡ false
+    → (isDone (taskAt clocks who) || isTickOf who (happens event task)) ≡ true → isDone (getD (tasksAfter event task clocks) who absentTask) ≡ true
 unfolding tasksAfter
 done-moved clocks event task who e h =
     let ts = clocks .tasks in
@@ -60,10 +58,11 @@ done-moved clocks event task who e h =
         rw (eqb-true who task self, List·getD-eq-default (clocks .tasks) absentTask (ltb-false _ _ past)))
 
 -- a call that advances nothing and starts nobody
-done-step : (clocks : Clocks) (v : Move) (who : ℕ) → clocksBy clocks v .global ≤ clocks .global → isOne isStart v ≡ false
-    → (isDone (taskAt clocks who) || isOne (isTickOf who) v) ≡ true → isDone (taskAt (clocksBy clocks v) who) ≡ true
+done-step : (clocks : Clocks) (v : Move) (who : ℕ) → clocksBy clocks v .global ≤ clocks .global → isStart v ≡ false
+    → (isDone (taskAt clocks who) || isTickOf who v) ≡ true → isDone (taskAt (clocksBy clocks v) who) ≡ true
 unfolding clocksAfter
 done-step clocks neither who l e h = or-false-right (isDone (taskAt clocks who)) h
+done-step clocks (joins task share) who l e h = absurd (true≢false e)
 done-step clocks (happens event task) who l e h =
     by-test (advances event task clocks)
     (λ a. let l′ : clocks .global + 1 ≤ clocks .global = rw a at l in absurd (omega arith))
@@ -78,16 +77,16 @@ done-all who [] L l e h = or-false-right (isDone (taskAt (L .memory .clocks) who
 done-all who (s ∷ ss) L l e h =
     let v = moveIn L (s .request) (s .bytes) in
     let M = afterSent L s in
-    let (sort, rest) = none-first (isOne isStart v) _ e in
+    let (sort, rest) = none-first (isStart v) _ e in
     let once = awaited .one L (s .request) (s .bytes) in
     let later = awaited .every M ss in
     let here : globalOf M ≤ globalOf L = omega (arith, l, later) in
     let there : globalOf (afterAll M ss) ≤ globalOf M = omega (arith, l, once) in
     let still : clocksBy (L .memory .clocks) v .global ≤ globalOf L = subst (λ (clocks : Clocks). clocks .global ≤ globalOf L) (clocks-moved L (s .request) (s .bytes)) here in
-    by-test (isDone (taskAt (L .memory .clocks) who) || isOne (isTickOf who) v)
+    by-test (isDone (taskAt (L .memory .clocks) who) || isTickOf who v)
     (λ x. done-all who ss M there rest
     (rw (subst (λ (clocks : Clocks). isDone (taskAt clocks who) ≡ true) (sym (clocks-moved L (s .request) (s .bytes))) (done-step (L .memory .clocks) v who still sort x))))
-    (λ x. done-all who ss M there rest (or-right (isDone (taskAt (M .memory .clocks) who)) (later-ticks (isDone (taskAt (L .memory .clocks) who)) (isOne (isTickOf who) v) _ x h)))
+    (λ x. done-all who ss M there rest (or-right (isDone (taskAt (M .memory .clocks) who)) (later-ticks (isDone (taskAt (L .memory .clocks) who)) (isTickOf who v) _ x h)))
   where
     later-ticks : (a b : Bool) (n : ℕ) → (a || b) ≡ false → (a || ltb 0 (cond b 1 0 + n)) ≡ true → ltb 0 n ≡ true
     later-ticks true b n x h = absurd (true≢false x)

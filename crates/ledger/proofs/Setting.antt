@@ -17,7 +17,7 @@ use Rattle.ledger.specs.Outlives.{Move, neither, moveOf, moveIn, setIn, 
 use Rattle.ledger.specs.declared.Kind.{Kind}
 use Rattle.ledger.specs.declared.Kind.the-variants.{Local, Global, Pinned}
 use Rattle.ledger.specs.declared.Call.{Call}
-use Rattle.ledger.specs.declared.Call.the-variants.{Schedule, Make, Refresh, Read, Write, Batch, Release}
+use Rattle.ledger.specs.declared.Call.the-variants.{Join, Schedule, Make, Refresh, Read, Write, Batch, Release}
 use Rattle.ledger.specs.declared.Refusal.{Refusal}
 use Rattle.ledger.specs.declared.Request.{Request}
 use Rattle.ledger.specs.declared.Request.the-variants.{Use, Report, Remaining}
@@ -45,6 +45,7 @@ set-each P due f (h ∷ hs) xs k = set-each P due f hs _ (f h, k)
 
 all-new : (m : Memory) (xs : List Expiration) (call : Call) (new : List ℕ) → Passed m xs call new → All (IsNew (m .clocks) (moveOf call)) (expirationsAfter call new m [])
 unfolding expirationsAfter testsOf moveOf released
+all-new m xs (Join task share) new c = tt
 all-new m xs (Schedule event task) new c = rw (lasting-none event task _ _) tt
 all-new m xs (Make task kind extension size) new (exists, (there, c)) =
     (λ setter e d. (rw (same-setter (m .clocks) task kind extension setter e d) at there, refl), tt)

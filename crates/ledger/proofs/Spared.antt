@@ -20,8 +20,8 @@ use Rattle.ledger.specs.Kept.{Kept}
 use Rattle.ledger.specs.declared.Answer.{Answer}
 use Rattle.ledger.specs.declared.Answer.the-variants.{Refused, Lasts}
 use Rattle.ledger.specs.declared.Call.{Call}
-use Rattle.ledger.specs.declared.Call.the-variants.{Schedule, Make, Refresh, Read, Write, Batch, Release}
-use Rattle.ledger.specs.declared.Event.the-variants.{Join, Leave, Block, Resume, Tick}
+use Rattle.ledger.specs.declared.Call.the-variants.{Join, Schedule, Make, Refresh, Read, Write, Batch, Release}
+use Rattle.ledger.specs.declared.Event.the-variants.{Leave, Block, Resume, Tick}
 use Rattle.ledger.specs.declared.Refusal.{Refusal}
 use Rattle.ledger.specs.declared.Refusal.the-variants.{SumDiffers}
 use Rattle.ledger.specs.declared.Request.{Request}
@@ -32,16 +32,16 @@ use Rattle.ledger.proofs.Passed.{refusalIn, verdict-told, refusal-told}
 use Rattle.ledger.specs.Heap.{heapVerdictOn, heapReply, heapNext, heapReplies, Used}
 
 -- no test that holds gives the refusal with this number
-abbrev isSpared : ℕ → Memory → List Expiration → List Test → Bool
+abbrev pub isSpared : ℕ → Memory → List Expiration → List Test → Bool
 isSpared n m xs [] = true
 isSpared n m xs (shared r holds ∷ ts) = not (eqb (numberOf r) n && holds m) && isSpared n m xs ts
 isSpared n m xs (own r holds ∷ ts) = not (eqb (numberOf r) n && holds m xs) && isSpared n m xs ts
 
-abbrev isNumbered : ℕ → Option Refusal → Bool
+abbrev pub isNumbered : ℕ → Option Refusal → Bool
 isNumbered n none = false
 isNumbered n (some r) = eqb (numberOf r) n
 
-spared : (n : ℕ) (m : Memory) (xs : List Expiration) (ts : List Test) → isSpared n m xs ts ≡ true → isNumbered n (verdict m xs ts) ≡ false
+pub spared : (n : ℕ) (m : Memory) (xs : List Expiration) (ts : List Test) → isSpared n m xs ts ≡ true → isNumbered n (verdict m xs ts) ≡ false
 unfolding verdict
 spared n m xs [] e = refl
 spared n m xs (shared r holds ∷ ts) e =
@@ -74,7 +74,7 @@ spared-shared n m xs (own r holds ∷ ts) e =
 intact-spared : (m : Memory) (xs : List Expiration) → All (λ (o : Object). isIntact o ≡ true) (m .objects)
     → (call : Call) (new : List ℕ) → isSpared 23 m xs (testsOf call new) ≡ true
 unfolding testsOf
-intact-spared m xs i (Schedule Join task) new = refl
+intact-spared m xs i (Join task share) new = refl
 intact-spared m xs i (Schedule Leave task) new = refl
 intact-spared m xs i (Schedule Block task) new = refl
 intact-spared m xs i (Schedule Resume task) new = refl

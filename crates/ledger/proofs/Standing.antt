@@ -16,9 +16,9 @@ use Rattle.ledger.specs.Expirations.{DueTime, Expiration, isOf, isSetBy,
 use Rattle.ledger.specs.Objects.{Object, Memory, objectAt, stands, standing, expirationsAfter, handlesOf}
 use Rattle.ledger.specs.Ledger.{Ledger}
 use Rattle.ledger.specs.declared.Call.{Call}
-use Rattle.ledger.specs.declared.Call.the-variants.{Schedule, Make, Refresh, Read, Write, Batch, Release}
+use Rattle.ledger.specs.declared.Call.the-variants.{Join, Schedule, Make, Refresh, Read, Write, Batch, Release}
 use Rattle.ledger.specs.declared.Event.{Event}
-use Rattle.ledger.specs.declared.Event.the-variants.{Join, Leave, Block, Resume, Tick}
+use Rattle.ledger.specs.declared.Event.the-variants.{Leave, Block, Resume, Tick}
 
 -- an object that stands is the same object among the standing ones
 pub at-standing : (xs : List Expiration) (handle : ℕ) (os : List Object) → stands xs handle ≡ true
@@ -42,7 +42,6 @@ live-stands advanced clocks xs handle s =
 lasting-stands : (event : Event) (task : ℕ) (advanced : Bool) (clocks : Clocks) (xs : List Expiration) (handle : ℕ)
     → stands (lasting event task advanced clocks xs) handle ≡ true → stands xs handle ≡ true
 unfolding lasting
-lasting-stands Join task advanced clocks xs handle s = s
 lasting-stands Leave task advanced clocks xs handle s =
     let others : List Expiration = filter (λ (x : Expiration). not (isSetBy task (x .due))) xs in
     any-filter (isOf handle) _ xs (rw (due-stands (deserted task) others handle) at (live-stands advanced clocks (eachDue (deserted task) others) handle s))
@@ -66,6 +65,7 @@ released-stands gone xs handle s = any-filter (isOf handle) _ xs s
 
 -- the handles on which a call sets an expiration, but for the new one of a make
 abbrev pub setsOn : Call → List ℕ → List ℕ
+setsOn (Join task share) new = []
 setsOn (Schedule event task) new = []
 setsOn (Make task kind extension size) new = []
 setsOn (Refresh task kind extension handle) new = handle ∷ []
@@ -78,6 +78,7 @@ setsOn (Release task handle) new = []
 pub stood : (m : Memory) (xs : List Expiration) (call : Call) (new : List ℕ) → all (stands xs) (setsOn call new) ≡ true
     → (handle : ℕ) → handle ≤ m .given → stands (expirationsAfter call new m xs) handle ≡ true → stands xs handle ≡ true
 unfolding expirationsAfter setOnEach
+stood m xs (Join task share) new e handle g s = s
 stood m xs (Schedule event task) new e handle g s = lasting-stands event task _ _ xs handle s
 stood m xs (Make task kind extension size) new e handle g s =
     or-second (eqb (m .given + 1) handle) (λ a. absurd (omega (arith, g, eqb-true (m .given + 1) handle a))) s

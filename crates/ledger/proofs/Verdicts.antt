@@ -15,7 +15,7 @@ use Rattle.ledger.specs.declared.Refusal.{Refusal}
 
 -- a refusal that only the pool gives
 abbrev pub isOwn : Refusal → Bool
-isOwn r = eqb (numberOf r) 9 || eqb (numberOf r) 10 || eqb (numberOf r) 12
+isOwn r = eqb (numberOf r) 9 || eqb (numberOf r) 10 || eqb (numberOf r) 12 || eqb (numberOf r) 25 || eqb (numberOf r) 26
 
 abbrev pub isOwnVerdict : Option Refusal → Bool
 isOwnVerdict none = false

@@ -10,7 +10,7 @@ use Rattle.lists.specs.Tests.{any}
 use Rattle.ledger.specs.Tasks.{Task, Clocks, isRunning, isTested, tasksAfter, advances}
 use Rattle.ledger.specs.Ledger.{Ledger, Sent, fresh, verdictOn, afterRequest, afterAll}
 use Rattle.ledger.specs.declared.Call.{Call}
-use Rattle.ledger.specs.declared.Call.the-variants.{Schedule, Make, Refresh, Read, Write, Batch, Release}
+use Rattle.ledger.specs.declared.Call.the-variants.{Join, Schedule, Make, Refresh, Read, Write, Batch, Release}
 use Rattle.ledger.specs.declared.Event.{Event}
 use Rattle.ledger.specs.declared.Limits.{Limits}
 use Rattle.ledger.specs.declared.Refusal.{Refusal}
@@ -38,6 +38,7 @@ isAccepted (some r) = false
 
 -- a tick, block or leave that leaves nobody awaited while some task runs, as its task's own move leaves the tasks
 unfoldable pub isLastAwaited : Call → Clocks → Bool
+isLastAwaited (Join task share) clocks = false
 isLastAwaited (Schedule event task) clocks = isTested event && isNobodyAwaited (tasksAfter event task clocks)
 isLastAwaited (Make task kind extension size) clocks = false
 isLastAwaited (Refresh task kind extension handle) clocks = false

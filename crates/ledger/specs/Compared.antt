@@ -9,6 +9,7 @@ use Rattle.ledger.specs.Expirations.{DueTime, byLocal, byGlobal, pinned,
 use Rattle.ledger.specs.Objects.{Object}
 use Rattle.ledger.specs.Ledger.{Ledger}
 use Rattle.ledger.specs.declared.Limits.{Limits}
+use Rattle.ledger.specs.declared.Share.{Share}
 
 -- L5: a time by its remainder
 abbrev pub wrapped : ℕ → ℕ
@@ -37,13 +38,14 @@ shown clocks x = record { handle = x .handle; left = leftOf clocks (x .due) }
 
 -- L7: bytes only where the store is whole; isWhole says of a size whether its store is as long as the blocks need
 abbrev pub shownObject : (ℕ → Bool) → Object → Object
-shownObject isWhole o = record { handle = o .handle; size = o .size; bytes = cond (isWhole (o .size)) (o .bytes) []; sum = o .sum }
+shownObject isWhole o = record { handle = o .handle; size = o .size; bytes = cond (isWhole (o .size)) (o .bytes) []; sum = o .sum; maker = o .maker }
 
 pub record View : Type 0 where
   pub limits : Limits
   pub tasks : List Task
   pub global : ℕ
   pub given : ℕ
+  pub shares : List Share
   pub objects : List Object
   pub expirations : List Shown
 
@@ -55,6 +57,7 @@ viewOf isWhole L =
       tasks = map wrappedTask (m .clocks .tasks);
       global = wrapped (m .clocks .global);
       given = m .given;
+      shares = m .shares;
       objects = map (shownObject isWhole) (m .objects);
       expirations = map (shown (m .clocks)) (L .expirations);
     }
@@ -65,5 +68,6 @@ pub record Alike (v w : View) : Type 0 where
   pub tasks : v .tasks ≡ w .tasks
   pub global : v .global ≡ w .global
   pub given : v .given ≡ w .given
+  pub shares : v .shares ≡ w .shares
   pub objects : List·Permᴰ (v .objects) (w .objects)
   pub expirations : List·Permᴰ (v .expirations) (w .expirations)

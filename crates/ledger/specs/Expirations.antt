@@ -9,7 +9,7 @@ use Rattle.ledger.specs.Tasks.{Clocks, taskAt, isWaiting}
 use Rattle.ledger.specs.declared.Kind.{Kind}
 use Rattle.ledger.specs.declared.Kind.the-variants.{Local, Global, Pinned}
 use Rattle.ledger.specs.declared.Event.{Event}
-use Rattle.ledger.specs.declared.Event.the-variants.{Join, Leave, Block, Resume, Tick}
+use Rattle.ledger.specs.declared.Event.the-variants.{Leave, Block, Resume, Tick}
 
 -- E2, T6, E19: when an expiration is due, by the clock of the task that set it or by the global time; either keeps its setter
 pub data DueTime : Type 0 where
@@ -76,7 +76,6 @@ stillLive advanced clocks xs = filter (isLive clocks) (eachDue (putOff advanced 
 
 -- E8 to E12: the expirations that an event leaves, by whether the global time advanced and by the clocks after it
 unfoldable pub lasting : Event → ℕ → Bool → Clocks → List Expiration → List Expiration
-lasting Join task advanced clocks xs = xs
 lasting Block task advanced clocks xs = stillLive advanced clocks xs
 lasting Resume task advanced clocks xs = xs
 lasting Leave task advanced clocks xs =

@@ -9,14 +9,15 @@ use lib.Dec.{eqb, leb, ltb}
 use lib.ListN.{length}
 use Rattle.lists.specs.Tests.{all}
 use Rattle.ledger.specs.Numbers.{numberOf}
-use Rattle.ledger.specs.Limits.{blocksFor}
+use Rattle.ledger.specs.Limits.{isSmall}
 use Rattle.ledger.specs.Expirations.{Expiration}
-use Rattle.ledger.specs.Objects.{Memory, Reply, freshMemory, stands, standing, inStoreOf, replyTo, memoryAfter, expirationsAfter, handlesOf}
+use Rattle.ledger.specs.Objects.{Memory, Reply, freshMemory, stands, standing, replyTo, memoryAfter, expirationsAfter, handlesOf}
+use Rattle.ledger.specs.Shares.{isFull, isShortOf, isAtLimit}
 use Rattle.ledger.specs.Refusals.{testsOf, heapVerdict}
 use Rattle.ledger.specs.Ledger.{Sent, fresh, replies, replyBy, afterBy}
 use Rattle.ledger.specs.declared.Request.the-variants.{Use}
 use Rattle.ledger.specs.declared.Call.{Call}
-use Rattle.ledger.specs.declared.Call.the-variants.{Schedule, Make, Refresh, Read, Write, Batch, Release}
+use Rattle.ledger.specs.declared.Call.the-variants.{Join, Schedule, Make, Refresh, Read, Write, Batch, Release}
 use Rattle.ledger.specs.declared.Refusal.{Refusal}
 use Rattle.ledger.specs.declared.Limits.{Limits}
 
@@ -48,11 +49,14 @@ heapAfterAll m (u ∷ us) = heapAfterAll (heapNext m (u .call) (u .bytes)) us
 unfoldable pub bookNext : Memory → List Expiration → Call → List ℕ → List Expiration
 bookNext m book call new = afterBy (heapVerdictOn m call new) (expirationsAfter call new m book) book
 
--- H9 to H13, H22, H23: what a use asks of the book when the call comes: its objects stand, and a block and expirations are free
+-- H9 to H13, H22, H23, H25: what a use asks of the book when the call comes: its objects stand, its task is below its limit, and a block and expirations are free; of a
+-- join, that its reserves are
 unfoldable pub isInTimeAndBounds : Memory → List Expiration → Call → List ℕ → Bool
+isInTimeAndBounds m book (Join task share) new = not (isShortOf (m .limits) (m .shares) (standing book (m .objects)) task share)
 isInTimeAndBounds m book (Schedule event task) new = true
 isInTimeAndBounds m book (Make task kind extension size) new =
-    ltb (inStoreOf size (standing book (m .objects))) (blocksFor (m .limits) size) && ltb (length book) (m .limits .expirations)
+    let os = standing book (m .objects) in
+    not (isAtLimit (isSmall size) (m .shares) os task) && (not (isFull (isSmall size) (m .shares) os (m .limits) task) && ltb (length book) (m .limits .expirations))
 isInTimeAndBounds m book (Refresh task kind extension handle) new =
     stands book handle && ltb (length book) (m .limits .expirations)
 isInTimeAndBounds m book (Read task handle) new = stands book handle

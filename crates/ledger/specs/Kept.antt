@@ -4,14 +4,16 @@ use mathlib.Core.Bool.{Bool, true, false, not, _||_}
 use mathlib.Core.List.{List, [], _∷_}
 use mathlib.Core.Path.{_≡_}
 use lib.Dec.{eqb}
-use lib.ListN.{length}
+use lib.ListN.{length, getD}
 use Rattle.lists.specs.Tests.{any, count, All}
 use Rattle.ledger.specs.Limits.{taskCount, largeSize, lastHandle, blockSize}
 use Rattle.ledger.specs.Tasks.{Task, Clocks, taskAt, isAbsent, isRunning, allTicked}
 use Rattle.ledger.specs.Expirations.{DueTime, byLocal, byGlobal, pinned, departed, Expiration, remaining, isLive, isOf, isPinOf}
-use Rattle.ledger.specs.Objects.{Object, isIntact, stands, smallOnes, largeOnes}
+use Rattle.ledger.specs.Objects.{Object, isIntact, stands, noShare}
+use Rattle.ledger.specs.Shares.{quotaOf, blocksIn, usedIn, made, allUnmet}
 use Rattle.ledger.specs.Ledger.{Ledger, Sent, fresh, afterAll}
 use Rattle.ledger.specs.declared.Limits.{Limits}
+use Rattle.ledger.specs.declared.Share.{Share}
 
 -- W9, W11: who is ticked runs, and an absent task has local time 0
 pub record TaskKept (t : Task) : Type 0 where
@@ -39,13 +41,11 @@ abbrev pub Ascending : List Object → Type 0
 Ascending [] = Unit
 Ascending (o ∷ os) = All (λ (p : Object). o .handle < p .handle) os × Ascending os
 
-pub record ObjectsKept (limits : Limits) (given : ℕ) (os : List Object) : Type 0 where
+pub record ObjectsKept (given : ℕ) (os : List Object) : Type 0 where
   pub each : All (ObjectKept given) os
   pub ascending : Ascending os
-  -- O15: no more handles than there are; O5, O6: and no more blocks
+  -- O15: no more handles than there are
   pub numbers : given ≤ lastHandle
-  pub small : smallOnes os ≤ limits .small
-  pub large : largeOnes os ≤ limits .large
 
 -- W6 to W8, W14: no more remains than the largest extension gives, and the setter is there; that of a global one may have departed
 abbrev pub Within : Limits → Clocks → DueTime → Type 0
@@ -79,9 +79,24 @@ PinsKept handles xs = (handle : ℕ) → any (eqb handle) handles ≡ any (isPin
 abbrev pub PinnedOnceKept : List Expiration → Type 0
 PinnedOnceKept xs = (handle : ℕ) → count (isPinOf handle) xs ≤ 1
 
+-- Q1: the sixteen shares
+pub record SharesKept (limits : Limits) (clocks : Clocks) (shares : List Share) (os : List Object) : Type 0 where
+  pub sixteen : length shares ≡ taskCount
+  -- W20: an absent task has nothing
+  pub absent : (task : ℕ) → isAbsent (taskAt clocks task .state) ≡ true → getD shares task noShare ≡ noShare
+  -- W21: no reserve is above its limit
+  pub ordered : (store : Bool) (task : ℕ) → quotaOf store shares os task .reserve ≤ quotaOf store shares os task .limit
+  -- W22: the maker of an object is one of the tasks, or departed
+  pub known : All (λ (o : Object). o .maker ≤ departed) os
+  -- O5, O6, W23: the free blocks of either store suffice for all unmet reserves
+  pub room : (store : Bool) → usedIn store os + allUnmet store shares os ≤ blocksIn limits store
+  -- W24: no task is above its limit
+  pub below : (store : Bool) (task : ℕ) → task < taskCount → made store os task ≤ quotaOf store shares os task .limit
+
 pub record Kept (L : Ledger) : Type 0 where
   pub clocks : ClocksKept (L .memory .clocks)
-  pub objects : ObjectsKept (L .memory .limits) (L .memory .given) (L .memory .objects)
+  pub objects : ObjectsKept (L .memory .given) (L .memory .objects)
+  pub shares : SharesKept (L .memory .limits) (L .memory .clocks) (L .memory .shares) (L .memory .objects)
   pub expirations : ExpirationsKept (L .memory .limits) (L .memory .clocks) (L .memory .objects) (L .expirations)
   pub pins : PinsKept (L .memory .pinned) (L .expirations)
   pub once : PinnedOnceKept (L .expirations)

@@ -22,7 +22,7 @@ pub record Ledger : Type 0 where
 abbrev pub settled : Memory → List Expiration → Ledger
 settled m xs =
     record {
-      memory = record { limits = m .limits; clocks = m .clocks; given = m .given; objects = standing xs (m .objects); pinned = m .pinned };
+      memory = record { limits = m .limits; clocks = m .clocks; given = m .given; objects = standing xs (m .objects); shares = m .shares; pinned = m .pinned };
       expirations = xs;
     }
 

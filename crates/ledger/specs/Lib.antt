@@ -3,6 +3,7 @@ pub mod Limits
 pub mod Tasks
 pub mod Expirations
 pub mod Objects
+pub mod Shares
 pub mod Refusals
 pub mod Ledger
 pub mod Remaining
@@ -20,3 +21,4 @@ pub mod OutlivesRows
 pub mod Pinned
 pub mod Noticed
 pub mod NoticedRows
+pub mod Reserves

@@ -16,11 +16,11 @@ use Rattle.ledger.specs.Heap.{Used, heapReplies}
 use Rattle.ledger.specs.Numbers.{isRefusal}
 use Rattle.ledger.specs.declared.Answer.{Answer}
 use Rattle.ledger.specs.declared.Answer.the-variants.{Refused, Done, Advanced, Handle, Bytes, Counted, Lasts}
-use Rattle.ledger.specs.declared.Call.the-variants.{Schedule, Make, Refresh, Read, Write, Batch, Release}
-use Rattle.ledger.specs.declared.Limits.{Limits}
+use Rattle.ledger.specs.declared.Call.the-variants.{Join, Schedule, Make, Refresh, Read, Write, Batch, Release}
 use Rattle.ledger.specs.declared.Refusal.the-variants.{SumDiffers}
 use Rattle.ledger.specs.declared.Request.{Request}
 use Rattle.ledger.specs.declared.Request.the-variants.{Use, Report, Remaining}
+use Rattle.ledger.specs.declared.Limits.{Limits}
 
 -- N1: the object with this handle, with another value at one place of its block; its sum stays, and so do all other objects
 unfoldable pub disturbed : ℕ → ℕ → ℕ → Object → Object
@@ -30,13 +30,14 @@ disturbed handle at value o =
       size = o .size;
       bytes = cond (eqb (o .handle) handle) (overwritten at (value ∷ []) (o .bytes)) (o .bytes);
       sum = o .sum;
+      maker = o .maker;
     }
 
 abbrev pub disturbedIn : ℕ → ℕ → ℕ → Ledger → Ledger
 disturbedIn handle at value L =
     let m = L .memory in
     record {
-      memory = record { limits = m .limits; clocks = m .clocks; given = m .given; objects = map (disturbed handle at value) (m .objects); pinned = m .pinned };
+      memory = record { limits = m .limits; clocks = m .clocks; given = m .given; objects = map (disturbed handle at value) (m .objects); shares = m .shares; pinned = m .pinned };
       expirations = L .expirations;
     }
 
@@ -59,6 +60,7 @@ changed c = disturbedIn (c .handle) (c .at) (c .value) (c .before)
 
 -- N3: a use of an object is a read or a write of it: the task that uses it by this request, if any
 abbrev pub userOf : ℕ → Request → Option ℕ
+userOf handle (Use (Join task share)) = none
 userOf handle (Use (Schedule event task)) = none
 userOf handle (Use (Make task kind extension size)) = none
 userOf handle (Use (Refresh task kind extension used)) = none

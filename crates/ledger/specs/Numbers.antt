@@ -4,7 +4,7 @@ use mathlib.Core.Bool.{Bool, true, false, cond}
 use mathlib.Core.List.{List, [], _∷_}
 use lib.Dec.{ltb}
 use Rattle.ledger.specs.declared.Refusal.{Refusal}
-use Rattle.ledger.specs.declared.Refusal.the-variants.{NoSuchTask, TaskPresent, TaskAbsent, TaskWaiting, TaskRunning, ExtensionTooLong, LengthOutOfRange, HandlesSpent, NoFreeBlock, NoFreeExpiration, HandleNotGiven, ObjectGone, OutsideObject, WrongStoreLength, NotWellFormed, NotHexadecimal, UnknownOperation, WrongFrameLength, UnknownKind, BatchOutOfRange, OnlyMakePins, NotPinned, SumDiffers, LimitsOutOfRange}
+use Rattle.ledger.specs.declared.Refusal.the-variants.{NoSuchTask, TaskPresent, TaskAbsent, TaskWaiting, TaskRunning, ExtensionTooLong, LengthOutOfRange, HandlesSpent, NoFreeBlock, NoFreeExpiration, HandleNotGiven, ObjectGone, OutsideObject, WrongStoreLength, NotWellFormed, NotHexadecimal, UnknownOperation, WrongFrameLength, UnknownKind, BatchOutOfRange, OnlyMakePins, NotPinned, SumDiffers, ReserveAboveLimit, ReserveNotFree, AtLimit, LimitsOutOfRange}
 use Rattle.ledger.specs.declared.Answer.{Answer}
 use Rattle.ledger.specs.declared.Answer.the-variants.{Refused, Done, Advanced, Handle, Bytes, Counted, Lasts}
 
@@ -33,11 +33,14 @@ numberOf BatchOutOfRange = 20
 numberOf OnlyMakePins = 21
 numberOf NotPinned = 22
 numberOf SumDiffers = 23
+numberOf ReserveAboveLimit = 24
+numberOf ReserveNotFree = 25
+numberOf AtLimit = 26
 numberOf LimitsOutOfRange = 29
 
 -- the same by the place in that list
 abbrev pub numberAt : ℕ → ℕ
-numberAt place = cond (ltb place 24) place 29
+numberAt place = cond (ltb place 27) place 29
 
 abbrev pub isRefusal : Answer → Bool
 isRefusal (Refused why) = true

@@ -3,40 +3,51 @@ use Prim.Native.Nat.{ℕ, _+_, _*_}
 use mathlib.Core.Bool.{Bool, cond, not}
 use mathlib.Core.List.{List, [], _∷_, _++_, map}
 use lib.Dec.{eqb}
-use lib.ListN.{length, take, replicate}
+use lib.ListN.{length, set, take, replicate}
 use Rattle.lists.specs.Blocks.{overwritten}
 use Rattle.lists.specs.Sums.{total}
 use Rattle.lists.specs.Tests.{any, filter, count}
-use Rattle.ledger.specs.Limits.{isSmall, blockSize}
-use Rattle.ledger.specs.Tasks.{Clocks, freshClocks, isTested, advances, clocksAfter}
-use Rattle.ledger.specs.Expirations.{Expiration, isOf, dueAfter, lasting, released, setOnEach}
+use Rattle.ledger.specs.Limits.{taskCount, isSmall, blockSize}
+use Rattle.ledger.specs.Tasks.{Clocks, freshClocks, isTested, advances, clocksAfter, entered, joined}
+use Rattle.ledger.specs.Expirations.{departed, Expiration, isOf, dueAfter, lasting, released, setOnEach}
 use Rattle.ledger.specs.declared.Kind.{Kind}
 use Rattle.ledger.specs.declared.Kind.the-variants.{Local, Global, Pinned}
 use Rattle.ledger.specs.declared.Usage.{Usage}
 use Rattle.ledger.specs.declared.Answer.{Answer}
 use Rattle.ledger.specs.declared.Answer.the-variants.{Done, Advanced, Handle, Bytes}
 use Rattle.ledger.specs.declared.Call.{Call}
-use Rattle.ledger.specs.declared.Call.the-variants.{Schedule, Make, Refresh, Read, Write, Batch, Release}
+use Rattle.ledger.specs.declared.Event.{Event}
+use Rattle.ledger.specs.declared.Event.the-variants.{Leave, Block, Resume, Tick}
+use Rattle.ledger.specs.declared.Call.the-variants.{Join, Schedule, Make, Refresh, Read, Write, Batch, Release}
 use Rattle.ledger.specs.declared.Limits.{Limits}
+use Rattle.ledger.specs.declared.Share.{Share}
 
--- O1: an object; its handle is 01's number. O33: `bytes` are those of its whole block, and `sum` is what they are to add up to
+-- O1: an object; its handle is 01's number. O33: `bytes` are those of its whole block, and `sum` is what they are to add up to. Q3: `maker` is the task that made
+-- it, or departed once that task has left
 pub record Object : Type 0 where
   pub handle : ℕ
   pub size : ℕ
   pub bytes : List ℕ
   pub sum : ℕ
+  pub maker : ℕ
 
--- what the ledger and the unbounded heap both keep. C2: `limits` are the figures of the pool, which no call changes. E23: `pinned` has the handles of the objects whose pinned expiration is left
+-- what the ledger and the unbounded heap both keep. C2: `limits` are the figures of the pool, which no call changes. Q1: `shares` are the reserves and limits of the tasks in their order. E23: `pinned` has the
+-- handles of the objects whose pinned expiration is left
 pub record Memory : Type 0 where
   pub limits : Limits
   pub clocks : Clocks
   pub given : ℕ
   pub objects : List Object
+  pub shares : List Share
   pub pinned : List ℕ
 
--- O9: of a fresh pool
+-- Q2: who is absent has nothing
+abbrev pub noShare : Share
+noShare = record { small = record { reserve = 0; limit = 0 }; large = record { reserve = 0; limit = 0 } }
+
+-- O9, Q2: of a fresh pool
 unfoldable pub freshMemory : Limits → Memory
-freshMemory limits = record { limits = limits; clocks = freshClocks; given = 0; objects = []; pinned = [] }
+freshMemory limits = record { limits = limits; clocks = freshClocks; given = 0; objects = []; shares = replicate taskCount noShare; pinned = [] }
 
 -- 01: an answer, with the bytes that a read hands back
 pub record Reply : Type 0 where
@@ -47,8 +58,8 @@ abbrev pub plain : Answer → Reply
 plain answer = record { answer = answer; bytes = [] }
 
 -- O12, O33: a new object has a block of zeros
-abbrev pub zeroed : ℕ → ℕ → Object
-zeroed handle size = record { handle = handle; size = size; bytes = replicate (blockSize size) 0; sum = 0 }
+abbrev pub zeroed : ℕ → ℕ → ℕ → Object
+zeroed maker handle size = record { handle = handle; size = size; bytes = replicate (blockSize size) 0; sum = 0; maker = maker }
 
 -- O18: the object's own bytes, the first of its block
 abbrev pub ownBytes : Object → List ℕ
@@ -60,7 +71,7 @@ isIntact o = eqb (total (o .bytes)) (o .sum)
 
 -- the object with this handle
 unfoldable pub objectAt : ℕ → List Object → Object
-objectAt handle [] = zeroed 0 0
+objectAt handle [] = zeroed departed 0 0
 objectAt handle (o ∷ os) = cond (eqb (o .handle) handle) o (objectAt handle os)
 
 -- O20, O35: new bytes from the offset on, in the object with this handle, and the sum of all that its block then has; all others stay
@@ -72,7 +83,32 @@ written handle offset new o =
       size = o .size;
       bytes = cond (eqb (o .handle) handle) bytes (o .bytes);
       sum = cond (eqb (o .handle) handle) (total bytes) (o .sum);
+      maker = o .maker;
     }
+
+-- Q3: what a task made is nobody's once it has left, for good
+abbrev pub orphaned : ℕ → Object → Object
+orphaned task o =
+    record {
+      handle = o .handle;
+      size = o .size;
+      bytes = o .bytes;
+      sum = o .sum;
+      maker = cond (eqb (o .maker) task) departed (o .maker);
+    }
+
+unfoldable pub makersAfter : Event → ℕ → List Object → List Object
+makersAfter Leave task os = map (orphaned task) os
+makersAfter Block task os = os
+makersAfter Resume task os = os
+makersAfter Tick task os = os
+
+-- Q2: a leaver has nothing any more; who waits keeps what it has
+unfoldable pub sharesAfter : Event → ℕ → List Share → List Share
+sharesAfter Leave task shares = set shares task noShare
+sharesAfter Block task shares = shares
+sharesAfter Resume task shares = shares
+sharesAfter Tick task shares = shares
 
 -- O31: the handles of a batch stand in its bytes, four to a handle, the high one first
 unfoldable pub handlesOf : List ℕ → List ℕ
@@ -102,6 +138,7 @@ inStoreOf size os = cond (isSmall size) (smallOnes os) (largeOnes os)
 
 -- O26, O27: what each of the eleven calls answers when it is carried out
 unfoldable pub replyTo : Call → Memory → Reply
+replyTo (Join task share) m = plain Done
 replyTo (Schedule event task) m = plain (cond (isTested event) (Advanced (advances event task (m .clocks))) Done)
 replyTo (Make task kind extension size) m = plain (Handle (m .given + 1))
 replyTo (Refresh task kind extension handle) m = plain Done
@@ -122,26 +159,44 @@ unpinned handle handles = filter (λ (h : ℕ). not (eqb handle h)) handles
 
 -- O14, O20, O25, O35, E23, E24: what it makes of tasks, times, handles given, bytes, sums and of what is pinned; the list is that of a write or a batch
 unfoldable pub memoryAfter : Call → List ℕ → Memory → Memory
+memoryAfter (Join task share) new m =
+    record {
+      limits = m .limits;
+      clocks = entered task joined (m .clocks);
+      given = m .given;
+      objects = m .objects;
+      shares = set (m .shares) task share;
+      pinned = m .pinned;
+    }
 memoryAfter (Schedule event task) new m =
-    record { limits = m .limits; clocks = clocksAfter event task (m .clocks); given = m .given; objects = m .objects; pinned = m .pinned }
+    record {
+      limits = m .limits;
+      clocks = clocksAfter event task (m .clocks);
+      given = m .given;
+      objects = makersAfter event task (m .objects);
+      shares = sharesAfter event task (m .shares);
+      pinned = m .pinned;
+    }
 memoryAfter (Make task kind extension size) new m =
     record {
       limits = m .limits;
       clocks = m .clocks;
       given = m .given + 1;
-      objects = m .objects ++ (zeroed (m .given + 1) size ∷ []);
+      objects = m .objects ++ (zeroed task (m .given + 1) size ∷ []);
+      shares = m .shares;
       pinned = pinnedBy kind (m .given + 1) (m .pinned);
     }
 memoryAfter (Refresh task kind extension handle) new m = m
 memoryAfter (Read task handle) new m = m
 memoryAfter (Write task handle offset) new m =
-    record { limits = m .limits; clocks = m .clocks; given = m .given; objects = map (written handle offset new) (m .objects); pinned = m .pinned }
+    record { limits = m .limits; clocks = m .clocks; given = m .given; objects = map (written handle offset new) (m .objects); shares = m .shares; pinned = m .pinned }
 memoryAfter (Batch task kind extension) new m = m
 memoryAfter (Release task handle) new m =
-    record { limits = m .limits; clocks = m .clocks; given = m .given; objects = m .objects; pinned = unpinned handle (m .pinned) }
+    record { limits = m .limits; clocks = m .clocks; given = m .given; objects = m .objects; shares = m .shares; pinned = unpinned handle (m .pinned) }
 
 -- E12, O13, O17, O32, E24: and what it makes of the expirations: make and refresh set one, a batch one for each handle; only events and a release end any
 unfoldable pub expirationsAfter : Call → List ℕ → Memory → List Expiration → List Expiration
+expirationsAfter (Join task share) new m xs = xs
 expirationsAfter (Schedule event task) new m xs =
     lasting event task (advances event task (m .clocks)) (clocksAfter event task (m .clocks)) xs
 expirationsAfter (Make task kind extension size) new m xs =

@@ -14,20 +14,23 @@ use Rattle.ledger.specs.Ledger.{Ledger, Sent, fresh, afterBy, verdictOn,
 use Rattle.ledger.specs.Kept.{isOwned}
 use Rattle.ledger.specs.declared.Kind.the-variants.{Global}
 use Rattle.ledger.specs.declared.Event.{Event}
-use Rattle.ledger.specs.declared.Event.the-variants.{Join, Leave, Block, Resume, Tick}
+use Rattle.ledger.specs.declared.Event.the-variants.{Leave, Block, Resume, Tick}
+use Rattle.ledger.specs.declared.Share.{Share}
 use Rattle.ledger.specs.declared.Call.{Call}
-use Rattle.ledger.specs.declared.Call.the-variants.{Schedule, Make, Refresh, Read, Write, Batch, Release}
-use Rattle.ledger.specs.declared.Limits.{Limits}
+use Rattle.ledger.specs.declared.Call.the-variants.{Join, Schedule, Make, Refresh, Read, Write, Batch, Release}
 use Rattle.ledger.specs.declared.Request.{Request}
 use Rattle.ledger.specs.declared.Request.the-variants.{Use, Report, Remaining}
+use Rattle.ledger.specs.declared.Limits.{Limits}
 
--- U1: what an accepted call is: an event, a release, or neither. Only accepted calls count, as ticks and leaves, joins and resumes.
+-- U1: what an accepted call is: a join, an event, a release, or neither. Only accepted calls count, as ticks and leaves, joins and resumes.
 pub data Move : Type 0 where
   neither : Move
+  joins : (task : ℕ) (share : Share) → Move
   happens : (event : Event) (task : ℕ) → Move
   releases : (handle : ℕ) → Move
 
 unfoldable pub moveOf : Call → Move
+moveOf (Join task share) = joins task share
 moveOf (Schedule event task) = happens event task
 moveOf (Make task kind extension size) = neither
 moveOf (Refresh task kind extension handle) = neither
@@ -50,6 +53,7 @@ setIn L (Remaining task handle) new = []
 -- and what it leaves of the earlier ones: only events and releases end any.
 abbrev pub leftBy : Clocks → Move → List Expiration → List Expiration
 leftBy clocks neither xs = xs
+leftBy clocks (joins task share) xs = xs
 leftBy clocks (happens event task) xs = lasting event task (advances event task clocks) (clocksAfter event task clocks) xs
 leftBy clocks (releases handle) xs = released handle xs
 
@@ -71,31 +75,33 @@ pub record Following : Type 0 where
   pub gone : (limits : Limits) (ss : List Sent) → taskAt (afterAll (fresh limits) ss .memory .clocks) departed ≡ absentTask
 
 -- U4: how many accepted events of a list are of some sort: the ticks of one task, its leaves, and the joins and resumes of all, which no advance test follows (T14)
-abbrev pub isTickOf : ℕ → Event → ℕ → Bool
-isTickOf who Join task = false
-isTickOf who Leave task = false
-isTickOf who Block task = false
-isTickOf who Resume task = false
-isTickOf who Tick task = eqb who task
+abbrev pub isTickOf : ℕ → Move → Bool
+isTickOf who neither = false
+isTickOf who (joins task share) = false
+isTickOf who (happens Leave task) = false
+isTickOf who (happens Block task) = false
+isTickOf who (happens Resume task) = false
+isTickOf who (happens Tick task) = eqb who task
+isTickOf who (releases handle) = false
 
-abbrev pub isLeaveOf : ℕ → Event → ℕ → Bool
-isLeaveOf who Join task = false
-isLeaveOf who Leave task = eqb who task
-isLeaveOf who Block task = false
-isLeaveOf who Resume task = false
-isLeaveOf who Tick task = false
+abbrev pub isLeaveOf : ℕ → Move → Bool
+isLeaveOf who neither = false
+isLeaveOf who (joins task share) = false
+isLeaveOf who (happens Leave task) = eqb who task
+isLeaveOf who (happens Block task) = false
+isLeaveOf who (happens Resume task) = false
+isLeaveOf who (happens Tick task) = false
+isLeaveOf who (releases handle) = false
 
-abbrev pub isStart : Event → ℕ → Bool
-isStart event task = not (isTested event)
+abbrev pub isStart : Move → Bool
+isStart neither = false
+isStart (joins task share) = true
+isStart (happens event task) = not (isTested event)
+isStart (releases handle) = false
 
-abbrev pub isOne : (Event → ℕ → Bool) → Move → Bool
-isOne sort neither = false
-isOne sort (happens event task) = sort event task
-isOne sort (releases handle) = false
-
-unfoldable pub countOf : (Event → ℕ → Bool) → Ledger → List Sent → ℕ
+unfoldable pub countOf : (Move → Bool) → Ledger → List Sent → ℕ
 countOf sort L [] = 0
-countOf sort L (s ∷ ss) = cond (isOne sort (moveIn L (s .request) (s .bytes))) 1 0 + countOf sort (afterSent L s) ss
+countOf sort L (s ∷ ss) = cond (sort (moveIn L (s .request) (s .bytes))) 1 0 + countOf sort (afterSent L s) ss
 
 -- U5: A make, refresh or batch sets a global expiration with an extension e, after any calls from fresh on, whatever the figures; it is one of those that the call sets.
 pub record Setting : Type 0 where

@@ -9,7 +9,7 @@ use Rattle.lists.specs.Tests.{All}
 use Rattle.ledger.specs.Limits.{standard}
 use Rattle.ledger.specs.Objects.{stands}
 use Rattle.ledger.specs.Ledger.{Ledger, Sent, fresh, reply, afterSent, afterAll}
-use Rattle.ledger.specs.Outlives.{Move, neither, happens, releases, moveIn}
+use Rattle.ledger.specs.Outlives.{Move, neither, joins, happens, releases, moveIn}
 use Rattle.ledger.specs.Rows.{send, join, leave, block, resume, tick, make, refresh, read, batch, release, report, remaining, refused, done, standsStill, advanced, handle, zeros, figures, lasts, _⇒_, _⨾_, _times_, Row, _runs_clockReads_, RowHolds}
 use Rattle.ledger.specs.declared.Kind.the-variants.{Local, Global, Pinned}
 use Rattle.ledger.specs.declared.Answer.the-variants.{Refused, Handle}
@@ -37,6 +37,7 @@ whenMade p = afterSent (afterAll (fresh (p .limits)) (p .earlier)) (madeBy p)
 -- some call of a list is a release of this object, and accepted
 abbrev pub isReleaseOf : ℕ → Move → Bool
 isReleaseOf object neither = false
+isReleaseOf object (joins task share) = false
 isReleaseOf object (happens event task) = false
 isReleaseOf object (releases other) = eqb object other
 

@@ -6,19 +6,22 @@ use mathlib.Core.Option.{Option, none, some}
 use lib.Dec.{eqb, leb, ltb}
 use lib.ListN.{length}
 use Rattle.lists.specs.Tests.{any}
-use Rattle.ledger.specs.Limits.{taskCount, largeSize, largestBatch, lastHandle, blocksFor}
+use Rattle.ledger.specs.Limits.{taskCount, largeSize, largestBatch, lastHandle, isSmall}
 use Rattle.ledger.specs.Tasks.{taskAt, isAbsent, isRunning, isWaiting}
 use Rattle.ledger.specs.Expirations.{Expiration}
-use Rattle.ledger.specs.Objects.{Memory, objectAt, isIntact, stands, inStoreOf, handlesOf}
-use Rattle.ledger.specs.declared.Event.the-variants.{Join, Leave, Block, Resume, Tick}
+use Rattle.ledger.specs.Objects.{Memory, objectAt, isIntact, stands, handlesOf}
+use Rattle.ledger.specs.Shares.{isFull, isShortOf, isAtLimit}
+use Rattle.ledger.specs.declared.Event.the-variants.{Leave, Block, Resume, Tick}
 use Rattle.ledger.specs.declared.Call.{Call}
-use Rattle.ledger.specs.declared.Call.the-variants.{Schedule, Make, Refresh, Read, Write, Batch, Release}
+use Rattle.ledger.specs.declared.Quota.{Quota}
+use Rattle.ledger.specs.declared.Share.{Share}
+use Rattle.ledger.specs.declared.Call.the-variants.{Join, Schedule, Make, Refresh, Read, Write, Batch, Release}
 use Rattle.ledger.specs.declared.Kind.{Kind}
 use Rattle.ledger.specs.declared.Kind.the-variants.{Local, Global, Pinned}
 use Rattle.ledger.specs.declared.Verdict.{Verdict}
 use Rattle.ledger.specs.declared.Verdict.the-variants.{Accepted, Refused}
 use Rattle.ledger.specs.declared.Refusal.{Refusal}
-use Rattle.ledger.specs.declared.Refusal.the-variants.{NoSuchTask, TaskPresent, TaskAbsent, TaskWaiting, TaskRunning, ExtensionTooLong, LengthOutOfRange, HandlesSpent, NoFreeBlock, NoFreeExpiration, HandleNotGiven, ObjectGone, OutsideObject, BatchOutOfRange, OnlyMakePins, NotPinned, SumDiffers}
+use Rattle.ledger.specs.declared.Refusal.the-variants.{NoSuchTask, TaskPresent, TaskAbsent, TaskWaiting, TaskRunning, ExtensionTooLong, LengthOutOfRange, HandlesSpent, NoFreeBlock, NoFreeExpiration, HandleNotGiven, ObjectGone, OutsideObject, BatchOutOfRange, OnlyMakePins, NotPinned, SumDiffers, ReserveAboveLimit, ReserveNotFree, AtLimit}
 use Rattle.ledger.specs.declared.Limits.{Limits}
 
 -- A test refuses a call where it holds. The unbounded heap makes those that look at the memory alone; the others are the pool's own.
@@ -63,9 +66,9 @@ lengthOutOfRange size = shared LengthOutOfRange (λ (m : Memory). eqb size 0 || 
 abbrev pub handlesSpent : Test
 handlesSpent = shared HandlesSpent (λ (m : Memory). leb lastHandle (m .given))
 
--- R9: its store is full
-abbrev pub noFreeBlock : ℕ → Test
-noFreeBlock size = own NoFreeBlock (λ (m : Memory) (xs : List Expiration). leb (blocksFor (m .limits) size) (inStoreOf size (m .objects)))
+-- R9: its store has no block for the task: all are in use or held back for others
+abbrev pub noFreeBlock : ℕ → ℕ → Test
+noFreeBlock task size = own NoFreeBlock (λ (m : Memory) (xs : List Expiration). isFull (isSmall size) (m .shares) (m .objects) (m .limits) task)
 
 -- R10: there is no room for one expiration more
 abbrev pub noFreeExpiration : Test
@@ -108,6 +111,22 @@ notPinned handle = shared NotPinned (λ (m : Memory). not (any (eqb handle) (m .
 abbrev pub sumDiffers : ℕ → Test
 sumDiffers handle = shared SumDiffers (λ (m : Memory). not (isIntact (objectAt handle (m .objects))))
 
+-- R24: of either store, more is to be held back for the task than it may have
+abbrev pub isUpsideDown : Quota → Bool
+isUpsideDown quota = ltb (quota .limit) (quota .reserve)
+
+abbrev pub reserveAboveLimit : Share → Test
+reserveAboveLimit share = shared ReserveAboveLimit (λ (m : Memory). isUpsideDown (share .small) || isUpsideDown (share .large))
+
+-- R25: of either store, too little is free to be held back for it
+abbrev pub reserveNotFree : ℕ → Share → Test
+reserveNotFree task share =
+    own ReserveNotFree (λ (m : Memory) (xs : List Expiration). isShortOf (m .limits) (m .shares) (m .objects) task share)
+
+-- R26: the task has as many objects of that store as it may
+abbrev pub atLimit : ℕ → ℕ → Test
+atLimit task size = own AtLimit (λ (m : Memory) (xs : List Expiration). isAtLimit (isSmall size) (m .shares) (m .objects) task)
+
 -- R11, R12 for a batch: some handle of it was not given, some object of it does not stand
 abbrev pub someNotGiven : List ℕ → Test
 someNotGiven handles = shared HandleNotGiven (λ (m : Memory). any (isNotGiven m) handles)
@@ -126,14 +145,14 @@ standingTests task handle =
 
 -- R36 to R43, R47, R48: each call's tests in their order, written out as the papers have them; the list is the bytes of a write or a batch
 unfoldable pub testsOf : Call → List ℕ → List Test
-testsOf (Schedule Join task) new = noSuchTask task ∷ taskPresent task ∷ []
+testsOf (Join task share) new = noSuchTask task ∷ taskPresent task ∷ reserveAboveLimit share ∷ reserveNotFree task share ∷ []
 testsOf (Schedule Leave task) new = noSuchTask task ∷ taskAbsent task ∷ []
 testsOf (Schedule Block task) new = noSuchTask task ∷ taskAbsent task ∷ taskWaiting task ∷ []
 testsOf (Schedule Tick task) new = noSuchTask task ∷ taskAbsent task ∷ taskWaiting task ∷ []
 testsOf (Schedule Resume task) new = noSuchTask task ∷ taskAbsent task ∷ taskRunning task ∷ []
 testsOf (Make task kind extension size) new =
     noSuchTask task ∷ taskAbsent task ∷ taskWaiting task ∷ extensionTooLong kind extension ∷ lengthOutOfRange size ∷ handlesSpent
-    ∷ noFreeBlock size ∷ noFreeExpiration ∷ []
+    ∷ atLimit task size ∷ noFreeBlock task size ∷ noFreeExpiration ∷ []
 testsOf (Refresh task kind extension handle) new =
     noSuchTask task ∷ taskAbsent task ∷ taskWaiting task ∷ onlyMakePins kind ∷ extensionTooLong kind extension
     ∷ handleNotGiven handle ∷ objectGone handle ∷ noFreeExpiration ∷ []

@@ -7,23 +7,35 @@ use lib.ListN.{set, replicate}
 use Rattle.ledger.specs.Limits.{standard}
 use Rattle.ledger.specs.Numbers.{answerNumber, answerValues}
 use Rattle.ledger.specs.Tasks.{freshClocks, taskAt}
-use Rattle.ledger.specs.Objects.{Reply}
+use Rattle.ledger.specs.Objects.{Reply, freshMemory}
 use Rattle.ledger.specs.Ledger.{Ledger, Sent, replies, afterAll}
 use Rattle.ledger.specs.Compared.{wrapped}
 use Rattle.ledger.specs.declared.State.the-variants.{Running}
 use Rattle.ledger.specs.declared.Kind.{Kind}
 use Rattle.ledger.specs.declared.Kind.the-variants.{Local}
-use Rattle.ledger.specs.declared.Event.the-variants.{Join, Leave, Block, Resume, Tick}
+use Rattle.ledger.specs.declared.Event.the-variants.{Leave, Block, Resume, Tick}
+use Rattle.ledger.specs.declared.Share.{Share}
 use Rattle.ledger.specs.declared.Call.{Call}
-use Rattle.ledger.specs.declared.Call.the-variants.{Schedule, Make, Refresh, Read, Write, Batch, Release}
+use Rattle.ledger.specs.declared.Call.the-variants.{Join, Schedule, Make, Refresh, Read, Write, Batch, Release}
 use Rattle.ledger.specs.declared.Request.the-variants.{Use, Report, Remaining}
 
 -- The calls, by their names in documents 01 and 02 and with the arguments in their order. Only a write brings bytes, and a batch its handles.
 abbrev pub send : Call → List ℕ → Sent
 send call new = record { request = Use call; bytes = new }
 
+-- Q1: the four numbers of a join in the order of its frame; the worked cases of 01 reserve nothing and are not limited
+abbrev pub shareOf : ℕ → ℕ → ℕ → ℕ → Share
+shareOf smallReserve smallLimit largeReserve largeLimit =
+    record { small = record { reserve = smallReserve; limit = smallLimit }; large = record { reserve = largeReserve; limit = largeLimit } }
+
+abbrev pub openShare : Share
+openShare = shareOf 0 255 0 255
+
+abbrev pub joinWith : ℕ → Share → Sent
+joinWith task share = send (Join task share) []
+
 abbrev pub join : ℕ → Sent
-join task = send (Schedule Join task) []
+join task = joinWith task openShare
 
 abbrev pub leave : ℕ → Sent
 leave task = send (Schedule Leave task) []
@@ -153,6 +165,6 @@ abbrev pub lateStart : (clock given : ℕ) → Ledger
 lateStart clock given =
     let tasks = set (freshClocks .tasks) 0 (record { state = Running; ticked = false; clock = clock }) in
     record {
-      memory = record { limits = standard; clocks = record { tasks = tasks; global = 0 }; given = given; objects = []; pinned = [] };
+      memory = record { limits = standard; clocks = record { tasks = tasks; global = 0 }; given = given; objects = []; shares = set (freshMemory standard .shares) 0 openShare; pinned = [] };
       expirations = [];
     }

@@ -8,7 +8,7 @@ use Rattle.ledger.specs.Limits.{taskCount}
 use Rattle.ledger.specs.declared.State.{State}
 use Rattle.ledger.specs.declared.State.the-variants.{Absent, Running, Waiting}
 use Rattle.ledger.specs.declared.Event.{Event}
-use Rattle.ledger.specs.declared.Event.the-variants.{Join, Leave, Block, Resume, Tick}
+use Rattle.ledger.specs.declared.Event.the-variants.{Leave, Block, Resume, Tick}
 
 -- T3: a task entry. `ticked` is 01's mark, `clock` the local time (01: own clock), a whole number here (T7)
 pub record Task : Type 0 where
@@ -46,9 +46,12 @@ isWaiting Absent = false
 isWaiting Running = false
 isWaiting Waiting = true
 
--- T9 to T13: what each of the five makes of its task
+-- T9: a task that joins
+abbrev pub joined : Task
+joined = record { state = Running; ticked = false; clock = 0 }
+
+-- T10 to T13: what each of the four makes of its task
 unfoldable pub moved : Event → Task → Task
-moved Join task = record { state = Running; ticked = false; clock = 0 }
 moved Block task = record { state = Waiting; ticked = false; clock = task .clock }
 moved Resume task = record { state = Running; ticked = false; clock = task .clock }
 moved Leave task = absentTask
@@ -56,7 +59,6 @@ moved Tick task = record { state = task .state; ticked = true; clock = task .clo
 
 -- T14: the events that the advance test follows
 abbrev pub isTested : Event → Bool
-isTested Join = false
 isTested Block = true
 isTested Resume = false
 isTested Leave = true
@@ -70,6 +72,10 @@ allTicked tasks =
 -- T18: no longer ticked
 abbrev pub unticked : Task → Task
 unticked task = record { state = task .state; ticked = false; clock = task .clock }
+
+-- T9: the clocks after a join, which no advance test follows (T14)
+unfoldable pub entered : ℕ → Task → Clocks → Clocks
+entered task entry clocks = record { tasks = set (clocks .tasks) task entry; global = clocks .global }
 
 -- T15: the tasks after an event of one of them, before the advance test
 unfoldable pub tasksAfter : Event → ℕ → Clocks → List Task

@@ -58,9 +58,22 @@ pub enum Kind {
     Pinned,
 }
 
-// The five calls that change a task's state or clock and name nothing but the task.
+// Q1: of one store, how many blocks are held back for a task, and how many objects it may have there.
+#[repr(C)]
+pub struct Quota {
+    pub reserve: u8,
+    pub limit: u8,
+}
+
+// Q1: what a task asks for when it joins, and has until it leaves.
+#[repr(C)]
+pub struct Share {
+    pub small: Quota,
+    pub large: Quota,
+}
+
+// The four calls that change a task's state or clock and name nothing but the task.
 pub enum Event {
-    Join,
     Leave,
     Block,
     Resume,
@@ -69,6 +82,10 @@ pub enum Event {
 
 // The eleven calls that are compared with the unbounded heap. The bytes of a write and the handles of a batch stand beside it.
 pub enum Call {
+    Join {
+        task: u8,
+        share: Share,
+    },
     Schedule {
         event: Event,
         task: u8,
@@ -126,7 +143,7 @@ pub struct Life {
     pub global: u8,
 }
 
-// R1 to R23 and R29, in the order of their numbers: 16 to 19 are of a frame, 29 of a pool that is made, the others of a call.
+// R1 to R26 and R29, in the order of their numbers: 16 to 19 are of a frame, 29 of a pool that is made, the others of a call.
 pub enum Refusal {
     NoSuchTask,
     TaskPresent,
@@ -151,6 +168,9 @@ pub enum Refusal {
     OnlyMakePins,
     NotPinned,
     SumDiffers,
+    ReserveAboveLimit,
+    ReserveNotFree,
+    AtLimit,
     LimitsOutOfRange,
 }
 
@@ -200,7 +220,10 @@ fn place_of(refusal: Refusal) -> u8
         Refusal::OnlyMakePins => 21,
         Refusal::NotPinned => 22,
         Refusal::SumDiffers => 23,
-        Refusal::LimitsOutOfRange => 24,
+        Refusal::ReserveAboveLimit => 24,
+        Refusal::ReserveNotFree => 25,
+        Refusal::AtLimit => 26,
+        Refusal::LimitsOutOfRange => 27,
     }
 }
 
@@ -209,7 +232,7 @@ pub fn number_of(refusal: Refusal) -> u8
     ensures { λ r. ⌜ r ≡ numberOf refusal ⌝ }
 {
     let place = place_of(refusal);
-    if place < 24 { place } else { 29 }
+    if place < 27 { place } else { 29 }
 }
 
 // The number of an answer: 0 where the call was carried out.

@@ -1,18 +1,20 @@
 -- What the entries promise: record and stores as the call leaves them, and the call's reply told.
 use Prim.Native.Nat.{ℕ, _≤_, _<_}
 use mathlib.Core.Bool.{true, false, cond}
-use mathlib.Core.List.{List, []}
+use mathlib.Core.List.{List, [], _∷_}
 use mathlib.Core.Path.{_≡_}
+use lib.Dec.{ltb}
 use lib.ListN.{length}
 use Rattle.ledger.specs.Awaited.{awaitedBits}
-use Rattle.ledger.specs.Limits.{isAllowed}
+use Rattle.ledger.specs.Limits.{taskCount, isAllowed}
 use Rattle.ledger.specs.Ledger.{Ledger}
 use Rattle.ledger.specs.Numbers.{numberOf}
-use Rattle.ledger.specs.Objects.{plain}
+use Rattle.ledger.specs.Objects.{Memory, plain}
+use Rattle.ledger.specs.Shares.{quotaOf, made}
 use Rattle.ledger.specs.declared.Answer.{Answer}
 use Rattle.ledger.specs.declared.Call.the-variants.{Refresh, Batch}
 use Rattle.ledger.specs.declared.Kind.{Kind}
-use Rattle.ledger.specs.declared.Refusal.the-variants.{NotWellFormed, UnknownKind, LimitsOutOfRange}
+use Rattle.ledger.specs.declared.Refusal.the-variants.{NoSuchTask, NotWellFormed, UnknownKind, LimitsOutOfRange}
 use Rattle.ledger.specs.declared.Limits.{Limits}
 use Rattle.ledger.specs.declared.Request.{Request}
 use Rattle.ledger.specs.declared.Request.the-variants.{Use}
@@ -63,6 +65,20 @@ pub record TellsAwaited (p : Pool) (old number new : ℕ) : Type 0 where
   pub unfit : isWellFormed p ≡ false → (number ≡ numberOf NotWellFormed) × (new ≡ old)
   pub done : isWellFormed p ≡ true → number ≡ 0
   pub tells : isWellFormed p ≡ true → (small large : List ℕ) (L : Ledger) → Reads p small large L → new ≡ awaitedBits L
+
+-- what a host is shown of a task: of either store how many objects it made, its reserve and its limit
+abbrev pub shareShown : Memory → ℕ → List ℕ
+shareShown m task =
+    made true (m .objects) task ∷ quotaOf true (m .shares) (m .objects) task .reserve ∷ quotaOf true (m .shares) (m .objects) task .limit
+    ∷ made false (m .objects) task ∷ quotaOf false (m .shares) (m .objects) task .reserve ∷ quotaOf false (m .shares) (m .objects) task .limit ∷ []
+
+-- Q12, share: such a look too. 15 where the record is not well-formed, 1 where there is no such task, and the numbers that were lent stay; else 0, and whatever ledger record
+-- and stores read as, the numbers are its task's.
+pub record TellsShare (p : Pool) (task : ℕ) (old : List ℕ) (number : ℕ) (new : List ℕ) : Type 0 where
+  pub unfit : isWellFormed p ≡ false → (number ≡ numberOf NotWellFormed) × (new ≡ old)
+  pub unknown : isWellFormed p ≡ true → ltb task taskCount ≡ false → (number ≡ numberOf NoSuchTask) × (new ≡ old)
+  pub done : isWellFormed p ≡ true → ltb task taskCount ≡ true → number ≡ 0
+  pub tells : isWellFormed p ≡ true → ltb task taskCount ≡ true → (small large : List ℕ) (L : Ledger) → Reads p small large L → new ≡ shareShown (L .memory) task
 
 -- A call whose kind is given by its code: 19 where there is no such kind, before anything else is tested.
 abbrev pub MakesBy : KindByte → ℕ → ℕ → ℕ → Pool → List ℕ → List ℕ → List ℕ → ℕ → Pool → List ℕ → List ℕ → List ℕ → Type 0

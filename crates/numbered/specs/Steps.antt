@@ -23,7 +23,7 @@ use Rattle.frames.specs.declared.Frame.{Frame}
 use Rattle.frames.specs.declared.requests.KindByte.{KindByte}
 use Rattle.execute.specs.Execution.{IsReplyTo}
 use Rattle.numbered.specs.Told.{tooShort, Loans, lent, buffered, Told, withNumber, toldBy, toldAsLine}
-use Rattle.numbered.specs.Entries.{Renews, TellsAwaited, DoesWith, MakesBy, RefreshesBy, RefreshesAllBy, WritesTo, CopiesOut, Carries}
+use Rattle.numbered.specs.Entries.{Renews, TellsAwaited, TellsShare, DoesWith, MakesBy, RefreshesBy, RefreshesAllBy, WritesTo, CopiesOut, Carries}
 
 -- a call by its own entry, with the bytes of a write or a batch, or no call where its kind is none; or a line
 pub data Asked : Type 0 where
@@ -63,21 +63,32 @@ pub record Awaits (old : ℕ) (p : Pool) (small large : List ℕ) (told : Told) 
   pub sameSmall : small′ ≡ small
   pub sameLarge : large′ ≡ large
 
+-- Or it looks what a task made and may have, and lends six.
+pub record Shares (task : ℕ) (old : List ℕ) (p : Pool) (small large : List ℕ) (told : Told) (p′ : Pool) (small′ large′ : List ℕ) : Type 0 where
+  pub numbers : List ℕ
+  pub share : TellsShare p task old (told .number) numbers
+  pub shown : told .loans ≡ lent numbers
+  pub samePool : p′ ≡ p
+  pub sameSmall : small′ ≡ small
+  pub sameLarge : large′ ≡ large
+
 -- A host asks, and lends numbers and a buffer; or it has a pool made of these figures, and from then on lends these stores, which are as long as the blocks need where a site may choose the
--- figures; or it looks for whom the global time waits.
+-- figures; or it looks for whom the global time waits, or what a task made and may have.
 pub data Action : Type 0 where
   asks : Asked → Loans → Action
   renews : (limits : Limits) (small large : List ℕ)
       → (isAllowed limits ≡ true → (length small ≡ wholeSmall limits) × (length large ≡ wholeLarge limits)) → Action
   awaits : ℕ → Action
+  shares : ℕ → List ℕ → Action
 
 abbrev pub Acts : Action → Pool → List ℕ → List ℕ → Told → Pool → List ℕ → List ℕ → Type 0
 Acts (asks asked loans) p small large told p′ small′ large′ = Gives asked loans p small large told p′ small′ large′
 Acts (renews limits newSmall newLarge whole) p small large told p′ small′ large′ =
     Renews limits (told .number) p′ × (told .loans ≡ lent []) × (small′ ≡ newSmall) × (large′ ≡ newLarge)
 Acts (awaits old) p small large told p′ small′ large′ = Awaits old p small large told p′ small′ large′
+Acts (shares task old) p small large told p′ small′ large′ = Shares task old p small large told p′ small′ large′
 
--- Each entry's promise gives `Gives`, and those of fresh and awaited are what `Acts` says; of one that touches no store, whatever stores stand beside the record.
+-- Each entry's promise gives `Gives`, and those of fresh, awaited and share are what `Acts` says; of one that touches no store, whatever stores stand beside the record.
 pub record EachGives : Type 0 where
   pub does : (request : Request) (new : List ℕ) (p : Pool) (numbers : List ℕ) (number : ℕ) (p′ : Pool) (numbers′ small large : List ℕ)
       → DoesWith request new p numbers number p′ numbers′

@@ -32,7 +32,7 @@ pub fn give_back(
     answer: Answer,
     head: Head,
     handles: [u32; BLOCK_COUNT],
-    extents: [u32; BLOCK_COUNT],
+    extents: [u64; BLOCK_COUNT],
     clocks: Aligned,
     named: Aligned,
     dues: [u32; EXPIRATION_COUNT],

@@ -1,4 +1,4 @@
--- The five events on the columns of a record: leave, block and tick tell whether time advanced, join and resume nothing.
+-- The four events and join on the columns of a record: leave, block and tick tell whether time advanced, join and resume nothing.
 use Prim.Native.Nat.{ℕ}
 use mathlib.Core.Bool.{Bool, true, false, cond}
 use mathlib.Core.List.{List, [], _∷_}
@@ -10,8 +10,9 @@ use Rattle.lists.proofs.Cases.{by-test}
 use Rattle.ledger.specs.Tasks.{isTested}
 use Rattle.ledger.specs.Objects.{replyTo}
 use Rattle.ledger.specs.declared.Answer.{Answer}
-use Rattle.ledger.specs.declared.Call.the-variants.{Schedule}
+use Rattle.ledger.specs.declared.Call.the-variants.{Join, Schedule}
 use Rattle.ledger.specs.declared.Event.{Event}
+use Rattle.ledger.specs.declared.Share.{Share}
 use Rattle.ledger.specs.declared.Request.the-variants.{Use}
 use Rattle.record.specs.declared.Pool.{Pool}
 use Rattle.record.proofs.Pool.{the-row}
@@ -44,3 +45,9 @@ module _ {p : Pool} {vs : List Val} (is : Is the-row p vs) {q : Pool} (same : q 
   pub event-silent : isTested event ≡ false → Does (Use (Schedule event task)) p [] (r .number) (r .pool) []
   unfolding replyTo
   event-silent t = does-silently is same gave (λ L. rw t) f
+
+-- the same of a join
+pub join-silent : {p : Pool} {vs : List Val} → Is the-row p vs → {q : Pool} → q ≡ p → {answer : Answer} {p′ : Pool} {r : Numbered} → Gave answer p′ r → {task : ℕ} {share : Share}
+    → Follows (Use (Join task share)) q answer p′ → Does (Use (Join task share)) p [] (r .number) (r .pool) []
+unfolding replyTo
+join-silent is same gave f = does-silently is same gave (λ L. refl) f

@@ -1,21 +1,27 @@
-// The calls on a record by value that concern tasks and times: renew and renew_sized, join, leave, block, resume, tick and awaited.
+// The calls on a record by value that concern tasks and times: renew and renew_sized, join, leave, block, resume and tick; and two looks, awaited and share.
 ghost use mathlib.Core.List.{[], _∷_};
 ghost use mathlib.Core.Path.{_≡_};
-ghost use Rattle.ledger.specs.declared.Call.the-variants.{Schedule};
-ghost use Rattle.ledger.specs.declared.Event.the-variants.{Join, Leave, Block, Resume, Tick};
+ghost use Rattle.ledger.specs.declared.Call.the-variants.{Join, Schedule};
+ghost use Rattle.ledger.specs.declared.Event.the-variants.{Leave, Block, Resume, Tick};
 ghost use Rattle.ledger.specs.declared.Request.the-variants.{Use};
 ghost use Rattle.ledger.specs.Limits.{chosen, standard};
-ghost use Rattle.numbered.specs.Entries.{Does, Renews, TellsAwaited};
+ghost use Rattle.frames.specs.Frames.{shareOf};
+ghost use Rattle.numbered.specs.Entries.{Does, Renews, TellsAwaited, TellsShare};
 
 mod advancing;
 
 use advancing::advance_or;
+use checked;
 use checked::schedule;
+use fitness::fitness_of;
 use fitness::is_well_formed;
 use ledger::Event;
 use ledger::Limits;
+use ledger::Quota;
 use ledger::Refusal;
 use ledger::STANDARD;
+use ledger::Share;
+use ledger::TASK_COUNT;
 use ledger::answer_number;
 use ledger::is_allowed;
 use ledger::number_of;
@@ -23,7 +29,7 @@ use numbered::Numbered;
 use numbered::taking::clocks_of;
 use numbered::taking::give_back;
 use numbered::taking::named_of;
-use pool::columns;
+use pool::columns::with_head;
 use record::Pool;
 use record::fresh;
 use record::head_of;
@@ -61,31 +67,38 @@ pub fn renew_sized(p: Pool, small: u32, large: u32, expirations: u32, extension:
     }
 }
 
-// Join and resume change no column, and are slower where those of bytes are taken out at the boundary of a word: they take them out as they are.
-pub fn join(p: Pool, task: u8) -> Numbered
-    ensures { λ r. ⌜ Does (Use (Schedule Join task)) p [] (r .number) (r .pool) [] ⌝ }
+// Join and resume change no column: the record lends its own, and gets another head.
+pub fn join(p: Pool, task: u8, reserve: u8, limit: u8, largereserve: u8, largelimit: u8) -> Numbered
+    ensures { λ r. ⌜ Does (Use (Join task (shareOf reserve limit largereserve largelimit))) p [] (r .number) (r .pool) [] ⌝ }
 {
     let h = head_of(p);
-    let mut handles = p.handles;
-    let extents = p.extents;
-    let mut clocks = p.clocks;
-    let named = p.named;
-    let mut dues = p.dues;
-    let step = schedule(
+    let small = Quota {
+        reserve: reserve,
+        limit: limit,
+    };
+    let large = Quota {
+        reserve: largereserve,
+        limit: largelimit,
+    };
+    let share = Share {
+        small: small,
+        large: large,
+    };
+    let step = checked::join(
         h,
-        &mut handles,
-        &extents,
-        &mut clocks,
-        &named,
-        &mut dues,
-        Event::Join,
+        &p.handles,
+        &p.extents,
+        &p.clocks,
+        &p.named,
+        &p.dues,
         task,
+        share,
     );
     let answer = step.answer;
     let head = step.head;
     Numbered {
         number: answer_number(answer),
-        pool: columns::put_together(head, handles, extents, clocks, named, dues),
+        pool: with_head(p, head),
     }
 }
 
@@ -94,14 +107,14 @@ pub fn leave(p: Pool, task: u8, advanced: &mut u8) -> Numbered
 {
     let h = head_of(p);
     let mut handles = p.handles;
-    let extents = p.extents;
+    let mut extents = p.extents;
     let mut clocks = clocks_of(p);
     let named = named_of(p);
     let mut dues = p.dues;
     let step = schedule(
         h,
         &mut handles,
-        &extents,
+        &mut extents,
         &mut clocks.bytes,
         &named.bytes,
         &mut dues,
@@ -119,14 +132,14 @@ pub fn block(p: Pool, task: u8, advanced: &mut u8) -> Numbered
 {
     let h = head_of(p);
     let mut handles = p.handles;
-    let extents = p.extents;
+    let mut extents = p.extents;
     let mut clocks = clocks_of(p);
     let named = named_of(p);
     let mut dues = p.dues;
     let step = schedule(
         h,
         &mut handles,
-        &extents,
+        &mut extents,
         &mut clocks.bytes,
         &named.bytes,
         &mut dues,
@@ -143,26 +156,20 @@ pub fn resume(p: Pool, task: u8) -> Numbered
     ensures { λ r. ⌜ Does (Use (Schedule Resume task)) p [] (r .number) (r .pool) [] ⌝ }
 {
     let h = head_of(p);
-    let mut handles = p.handles;
-    let extents = p.extents;
-    let mut clocks = p.clocks;
-    let named = p.named;
-    let mut dues = p.dues;
-    let step = schedule(
+    let step = checked::resume(
         h,
-        &mut handles,
-        &extents,
-        &mut clocks,
-        &named,
-        &mut dues,
-        Event::Resume,
+        &p.handles,
+        &p.extents,
+        &p.clocks,
+        &p.named,
+        &p.dues,
         task,
     );
     let answer = step.answer;
     let head = step.head;
     Numbered {
         number: answer_number(answer),
-        pool: columns::put_together(head, handles, extents, clocks, named, dues),
+        pool: with_head(p, head),
     }
 }
 
@@ -171,14 +178,14 @@ pub fn tick(p: Pool, task: u8, advanced: &mut u8) -> Numbered
 {
     let h = head_of(p);
     let mut handles = p.handles;
-    let extents = p.extents;
+    let mut extents = p.extents;
     let mut clocks = clocks_of(p);
     let named = named_of(p);
     let mut dues = p.dues;
     let step = schedule(
         h,
         &mut handles,
-        &extents,
+        &mut extents,
         &mut clocks.bytes,
         &named.bytes,
         &mut dues,
@@ -201,5 +208,39 @@ pub fn awaited(p: Pool, tasks: &mut u16) -> u8
     }
     let entries = p.tasks;
     *tasks = running::awaited(entries);
+    0
+}
+
+// What a task made and may have of either store. Like awaited it changes nothing, and no frame asks it.
+pub fn share(
+    p: Pool,
+    task: u8,
+    made: &mut u8,
+    reserve: &mut u8,
+    limit: &mut u8,
+    largemade: &mut u8,
+    largereserve: &mut u8,
+    largelimit: &mut u8,
+) -> u8
+    ensures { λ r. ⌜ TellsShare p task (now (made .entry) ∷ now (reserve .entry) ∷ now (limit .entry) ∷ now (largemade .entry) ∷ now (largereserve .entry) ∷ now (largelimit .entry) ∷ []) r (now (made .exit) ∷ now (reserve .exit) ∷ now (limit .exit) ∷ now (largemade .exit) ∷ now (largereserve .exit) ∷ now (largelimit .exit) ∷ []) ⌝ }
+{
+    let h = head_of(p);
+    let sharing = fitness_of(h, &p.handles, &p.extents, &p.clocks, &p.named, &p.dues);
+    if !sharing.fit {
+        return number_of(Refusal::NotWellFormed);
+    }
+    if TASK_COUNT <= task as usize {
+        return number_of(Refusal::NoSuchTask);
+    }
+    let shares = p.shares;
+    let own = shares[task as usize];
+    let small = sharing.holdings.small.made;
+    let large = sharing.holdings.large.made;
+    *made = small[task as usize];
+    *reserve = own.small.reserve;
+    *limit = own.small.limit;
+    *largemade = large[task as usize];
+    *largereserve = own.large.reserve;
+    *largelimit = own.large.limit;
     0
 }

@@ -2,18 +2,25 @@
 use Prim.Native.Nat.{ℕ, zero, suc}
 use mathlib.Core.List.{List, [], _∷_, map}
 use mathlib.Core.Path.{_≡_, refl, sym, ap, _∙_}
+use borrow.Author.Tests.{leb-false}
+use lib.Dec.{leb}
 use lib.ListN.{length, take, drop}
+use Rattle.lists.proofs.Cases.{by-test}
 use Rattle.lists.proofs.Counts.{count-map}
 use Rattle.lists.proofs.First.{first-map}
+use Rattle.ledger.specs.Limits.{taskCount, isSmall}
 use Rattle.ledger.specs.declared.Kind.{Kind}
 use Rattle.ledger.specs.declared.Limits.{Limits}
 use Rattle.record.specs.Tables.{BlockEntry, ExpirationEntry, blocksOf, tablesBy, blockEntries}
 use Rattle.record.specs.declared.Head.{Head}
 use Rattle.record.proofs.Columns.{handles-of}
+use Rattle.shares.specs.Holdings.{Holds}
+use Rattle.shares.specs.declared.Holding.{Holding}
 use Rattle.steps.specs.Objects.{placeOf, placeIn, freePlace, freePlaceIn, standingIn, makeVerdict}
 use Rattle.steps.specs.Usage.{usageOf}
 use Rattle.objects.specs.Outcomes.{makePlan}
 use Rattle.objects.specs.Usage.{usageIn}
+use Rattle.objects.proofs.Makes.{limited-by, filled-by}
 
 module _ {ℓ κ} {A : Type ℓ} {B : Type κ} (f : A → B) where
   take-map : (n : ℕ) (xs : List A) → take n (map f xs) ≡ map f (take n xs)
@@ -51,7 +58,12 @@ module _ (hs ls : List ℕ) (a : length hs ≡ blockEntries) (b : length ls ≡ 
     pub usage-of : usageIn (h .given) hs (standingIn xs) ≡ usageOf (tablesBy h (blocksOf hs ls) xs)
     usage-of = ap (λ hs′. usageIn (h .given) hs′ (standingIn xs)) (sym (handles-of hs ls a b)) ∙ usage-in h (blocksOf hs ls) xs
 
-    pub make-planned : (task : ℕ) (kind : Kind) (extension size : ℕ)
-        → makePlan task kind extension size h (freePlaceIn (h .limits) size hs) (standingIn xs) .verdict ≡ makeVerdict task kind extension size (tablesBy h (blocksOf hs ls) xs)
+    pub make-planned : (task : ℕ) (kind : Kind) (extension size : ℕ) (holding : Holding) → Holds (isSmall size) (h .shares) (blocksOf hs ls) holding
+        → makePlan task kind extension size h (freePlaceIn (h .limits) size hs) holding (standingIn xs) .verdict ≡ makeVerdict task kind extension size (tablesBy h (blocksOf hs ls) xs)
     unfolding makePlan makeVerdict tablesBy
-    make-planned task kind extension size = rw (free-place-of (h .limits) size)
+    make-planned task kind extension size holding holds =
+        by-test (leb taskCount task)
+        (λ e. rw e)
+        (λ e.
+        let known = leb-false taskCount task e in
+        rw (limited-by (isSmall size) (h .limits) (h .shares) (blocksOf hs ls) holding holds task known, filled-by (isSmall size) (h .limits) (h .shares) (blocksOf hs ls) holding holds task known))

@@ -1,14 +1,22 @@
 -- What make, refresh, read, write and release decide, by the head and by what was found in the tables.
-use Prim.Native.Nat.{ℕ}
+use Prim.Native.Nat.{ℕ, _+_, _-_}
 use mathlib.Core.Bool.{Bool, true, false}
+use lib.Dec.{leb}
 use lib.ListN.{getD}
 use Rattle.ledger.specs.declared.Kind.{Kind}
 use Rattle.ledger.specs.declared.Life.{Life}
 use Rattle.ledger.specs.declared.Verdict.{Verdict}
 use Rattle.ledger.specs.declared.Verdict.the-variants.{Accepted, Refused}
 use Rattle.record.specs.Codes.{freeBlock}
+use mathlib.Core.List.{List}
+use Rattle.ledger.specs.Limits.{isSmall}
+use Rattle.ledger.specs.Objects.{noShare}
+use Rattle.ledger.specs.Shares.{quotaIn, blocksIn}
+use Rattle.ledger.specs.declared.Limits.{Limits}
+use Rattle.ledger.specs.declared.Share.{Share}
 use Rattle.record.specs.Tables.{Tables}
 use Rattle.record.specs.declared.Head.{Head}
+use Rattle.shares.specs.declared.Holding.{Holding}
 use Rattle.steps.specs.Objects.{placeOf, makeVerdictBy}
 use Rattle.steps.specs.Remaining.{lifeIn}
 use Rattle.objects.specs.declared.Plan.{Plan}
@@ -53,7 +61,20 @@ bytesBy verdict handle p = bytesOf (foundBy false verdict 0 handle p) p
 abbrev pub bytesIn : (Tables → Verdict) → ℕ → Tables → FoundBytes
 bytesIn verdict handle p = bytesBy (verdict p) handle p
 
--- the verdict of a make, by the block that was found and how many expirations stand; and that block
-unfoldable pub makePlan : ℕ → Kind → ℕ → ℕ → Head → ℕ → ℕ → Plan
-makePlan task kind extension size h place standing =
-    record { verdict = makeVerdictBy (h .limits) task kind extension size (h .tasks) (h .given) place standing; place = place }
+-- 26 and 9, by what the tasks have of the store
+abbrev pub isLimitedBy : Bool → List Share → Holding → ℕ → Bool
+isLimitedBy store shares holding task = leb (quotaIn store (getD shares task noShare) .limit) (getD (holding .made) task 0)
+
+abbrev pub isFilledBy : Bool → Limits → List Share → Holding → ℕ → Bool
+isFilledBy store limits shares holding task =
+    leb (blocksIn limits store + (quotaIn store (getD shares task noShare) .reserve - getD (holding .made) task 0)) (holding .spoken)
+
+-- the verdict of a make, by these and how many expirations stand; and the block that was found
+unfoldable pub makePlan : ℕ → Kind → ℕ → ℕ → Head → ℕ → Holding → ℕ → Plan
+makePlan task kind extension size h place holding standing =
+    record {
+      verdict =
+          makeVerdictBy (h .limits) task kind extension size (h .tasks) (h .given) (isLimitedBy (isSmall size) (h .shares) holding task)
+          (isFilledBy (isSmall size) (h .limits) (h .shares) holding task) standing;
+      place = place;
+    }

@@ -1,5 +1,7 @@
 // What a make and a batch decide, on the tables that they read: nothing is changed here. A batch's objects are sought where no test before that refuses.
+ghost use Prim.Native.Nat.{_+_, _-_};
 ghost use mathlib.Core.Bool.{true};
+ghost use lib.Dec.{leb};
 ghost use mathlib.Core.Path.{_≡_};
 ghost use Rattle.ledger.specs.Limits.{isAllowed};
 ghost use lib.ListN.{length};
@@ -12,6 +14,7 @@ use super::BatchPlan;
 use super::Plan;
 use ledger::Kind;
 use ledger::LARGEST_BATCH;
+use ledger::SMALL_SIZE;
 use ledger::Verdict;
 use record::BLOCK_COUNT;
 use record::Head;
@@ -19,12 +22,31 @@ use refusals::batch_call_verdict;
 use refusals::batch_objects_verdict;
 use refusals::find_batch;
 use refusals::free_place;
-use refusals::make_verdict;
+use refusals::make_call_verdict;
+use refusals::taking_verdict;
+use shares::Holding;
+use shares::blocks_in;
+use shares::quota_in;
 
-// A make, with the first free block, where so many expirations stand.
+// Q5: by how much a reserve is unmet.
+fn unmet(reserve: u8, made: u8) -> u8
+    ensures { λ r. ⌜ r ≡ reserve - made ⌝ }
+{
+    if made < reserve { reserve - made } else { 0 }
+}
+
+// 9, by what of a store is spoken for: of that, the task's own unmet reserve is held back for nobody else.
+fn is_filled(blocks: u32, reserve: u8, made: u8, spoken: u32) -> bool
+    ensures { λ r. ⌜ r ≡ leb (blocks + (reserve - made)) spoken ⌝ }
+{
+    blocks as u64 + unmet(reserve, made) as u64 <= spoken as u64
+}
+
+// A make, with the first free block, where so many expirations stand and the tasks have this of its store.
 pub fn plan_make(
     h: Head,
     handles: &[u32; BLOCK_COUNT],
+    holding: Holding,
     standing: u16,
     task: u8,
     kind: Kind,
@@ -32,27 +54,35 @@ pub fn plan_make(
     size: u16,
 ) -> Plan
     requires { ⌜ (length (now handles) ≡ blockEntries) × (isAllowed (h .limits) ≡ true) ⌝ }
-    ensures { λ r. ⌜ r ≡ makePlan task kind extension size h (freePlaceIn (h .limits) size (now (handles .entry))) standing ⌝ }
+    ensures { λ r. ⌜ r ≡ makePlan task kind extension size h (freePlaceIn (h .limits) size (now (handles .entry))) holding standing ⌝ }
 {
     let size = size as u32;
     let limits = h.limits;
     let place = free_place(limits, handles, size);
-    let count = standing as usize;
     let tasks = h.tasks;
-    let verdict = make_verdict(
-        limits,
-        task,
-        kind,
-        extension,
-        size,
-        tasks,
-        h.given,
-        place,
-        count,
-    );
-    Plan {
-        verdict: verdict,
-        place: place,
+    match make_call_verdict(limits, task, kind, extension, size, tasks, h.given) {
+        Verdict::Refused(why) => Plan {
+            verdict: Verdict::Refused(why),
+            place: place,
+        },
+        Verdict::Accepted => {
+            let at = task as usize;
+            let small = size <= SMALL_SIZE;
+            let shares = h.shares;
+            let quota = quota_in(small, shares[at]);
+            let made = holding.made[at];
+            let full = is_filled(
+                blocks_in(limits, small),
+                quota.reserve,
+                made,
+                holding.spoken,
+            );
+            let verdict = taking_verdict(limits, quota.limit <= made, full, standing as usize);
+            Plan {
+                verdict: verdict,
+                place: place,
+            }
+        }
     }
 }
 

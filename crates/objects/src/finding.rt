@@ -59,7 +59,7 @@ fn life_if<'a>(
 fn find<'a>(
     h: Head,
     handles: &'a [u32; BLOCK_COUNT],
-    extents: &'a [u32; BLOCK_COUNT],
+    extents: &'a [u64; BLOCK_COUNT],
     clocks: &'a [u8; EXPIRATION_COUNT],
     named: &'a [u8; EXPIRATION_COUNT],
     dues: &'a [u32; EXPIRATION_COUNT],
@@ -97,7 +97,7 @@ fn found_if(found: Found, verdict: Verdict) -> Found
 pub fn find_standing<'a>(
     h: Head,
     handles: &'a [u32; BLOCK_COUNT],
-    extents: &'a [u32; BLOCK_COUNT],
+    extents: &'a [u64; BLOCK_COUNT],
     clocks: &'a [u8; EXPIRATION_COUNT],
     named: &'a [u8; EXPIRATION_COUNT],
     dues: &'a [u32; EXPIRATION_COUNT],
@@ -119,7 +119,7 @@ pub fn find_standing<'a>(
 pub fn find_for_read<'a>(
     h: Head,
     handles: &'a [u32; BLOCK_COUNT],
-    extents: &'a [u32; BLOCK_COUNT],
+    extents: &'a [u64; BLOCK_COUNT],
     clocks: &'a [u8; EXPIRATION_COUNT],
     named: &'a [u8; EXPIRATION_COUNT],
     dues: &'a [u32; EXPIRATION_COUNT],
@@ -162,7 +162,7 @@ pub fn find_for_read<'a>(
 pub fn find_for_write<'a>(
     h: Head,
     handles: &'a [u32; BLOCK_COUNT],
-    extents: &'a [u32; BLOCK_COUNT],
+    extents: &'a [u64; BLOCK_COUNT],
     clocks: &'a [u8; EXPIRATION_COUNT],
     named: &'a [u8; EXPIRATION_COUNT],
     dues: &'a [u32; EXPIRATION_COUNT],
@@ -203,7 +203,7 @@ pub fn find_for_write<'a>(
 pub fn find_for_refresh<'a>(
     h: Head,
     handles: &'a [u32; BLOCK_COUNT],
-    extents: &'a [u32; BLOCK_COUNT],
+    extents: &'a [u64; BLOCK_COUNT],
     clocks: &'a [u8; EXPIRATION_COUNT],
     named: &'a [u8; EXPIRATION_COUNT],
     dues: &'a [u32; EXPIRATION_COUNT],
@@ -242,7 +242,7 @@ pub fn find_for_refresh<'a>(
 pub fn find_for_release<'a>(
     h: Head,
     handles: &'a [u32; BLOCK_COUNT],
-    extents: &'a [u32; BLOCK_COUNT],
+    extents: &'a [u64; BLOCK_COUNT],
     clocks: &'a [u8; EXPIRATION_COUNT],
     named: &'a [u8; EXPIRATION_COUNT],
     dues: &'a [u32; EXPIRATION_COUNT],

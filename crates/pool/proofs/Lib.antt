@@ -5,5 +5,6 @@ pub mod Runs
 pub mod Outlives
 pub mod Pinned
 pub mod PutOff
+pub mod Reserves
 pub mod Noticed
 pub mod Awaited

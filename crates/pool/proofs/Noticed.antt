@@ -12,13 +12,15 @@ use lib.ListN.{getD}
 use Rattle.lists.specs.Tests.{All}
 use Rattle.lists.proofs.All.{all-imp, all-left}
 use Rattle.lists.proofs.Cases.{by-test}
-use Rattle.ledger.specs.Objects.{Object, Reply, objectAt, stands, freshMemory, memoryAfter, expirationsAfter}
+use Rattle.ledger.specs.Objects.{Object, Reply, objectAt, stands, freshMemory, makersAfter, sharesAfter, memoryAfter, expirationsAfter}
 use Rattle.ledger.specs.Ledger.{Ledger, Sent, fresh, next, replyToRequest, replies, afterAll}
 use Rattle.ledger.specs.Noticed.{Change, changed, userOf, noticedIn}
 use Rattle.ledger.specs.Numbers.{isRefusal}
 use Rattle.ledger.specs.declared.Limits.{Limits}
 use Rattle.ledger.specs.Limits.{standard, lastHandle}
-use Rattle.ledger.specs.Tasks.{freshClocks, moved, tasksAfter, advances, clocksAfter}
+use Rattle.lists.specs.Sums.{sumBelow}
+use Rattle.ledger.specs.Shares.{made, unmet, isFull, isShort, isAtLimit}
+use Rattle.ledger.specs.Tasks.{freshClocks, moved, tasksAfter, advances, clocksAfter, entered}
 use Rattle.ledger.specs.Expirations.{dueAfter, lasting}
 use Rattle.ledger.specs.Refusals.{testsOf, verdict}
 use Rattle.ledger.specs.Rows.{join, make}
@@ -214,7 +216,8 @@ abbrev oneMade : List Sent
 oneMade = join 0 ∷ make 0 Local 0 4 ∷ []
 
 one-stands : stands (afterAll (fresh standard) oneMade .expirations) 1 ≡ true
-unfolding fresh next afterAll testsOf verdict freshMemory memoryAfter expirationsAfter dueAfter lasting freshClocks moved advances tasksAfter clocksAfter standard lastHandle
+unfolding fresh next afterAll testsOf verdict freshMemory memoryAfter expirationsAfter dueAfter lasting freshClocks moved advances tasksAfter clocksAfter
+    entered makersAfter sharesAfter sumBelow made unmet isFull isShort isAtLimit standard lastHandle
 one-stands = refl
 
 changed-run : (ss : List Sent) → (ys : List Reply) × (p′ : Pool) × (small′ : List ℕ) × (large′ : List ℕ) × ChangedRun 1 (afterAll (fresh standard) oneMade) ss ys p′ small′ large′

@@ -41,7 +41,7 @@ fresh-of-type : (limits : Limits) → OfType (freshPool limits)
 unfolding freshPool counterRange
 fresh-of-type limits =
     record {
-      head = record { tasks = refl; clocks = all-replicate InRange taskCount {a = absentEntry} (omega arith); global = omega arith; given = omega arith };
+      head = record { tasks = refl; shares = refl; clocks = all-replicate InRange taskCount {a = absentEntry} (omega arith); global = omega arith; given = omega arith };
       sized = record { blocks = record { of-handles = refl; of-extents = refl }; entries = record { of-clocks = refl; of-named = refl; of-dues = refl } };
     }
 

@@ -8,9 +8,11 @@ use borrow.Author.Tests.{ltb-true}
 use Rattle.lists.specs.Tests.{All}
 use Rattle.lists.proofs.Permutations.{exchange-perm, map-perm}
 use Rattle.ledger.specs.Limits.{standard, lastHandle}
-use Rattle.ledger.specs.Tasks.{freshClocks, moved, allTicked, tasksAfter, advances, clocksAfter}
+use Rattle.lists.specs.Sums.{sumBelow}
+use Rattle.ledger.specs.Shares.{made, unmet, isFull, isShort, isAtLimit}
+use Rattle.ledger.specs.Tasks.{freshClocks, moved, allTicked, tasksAfter, advances, clocksAfter, entered}
 use Rattle.ledger.specs.Expirations.{Expiration, dueAfter, remaining, putOff, lasting}
-use Rattle.ledger.specs.Objects.{freshMemory, memoryAfter, expirationsAfter}
+use Rattle.ledger.specs.Objects.{freshMemory, makersAfter, sharesAfter, memoryAfter, expirationsAfter}
 use Rattle.ledger.specs.Refusals.{testsOf, verdict}
 use Rattle.ledger.specs.Rows.{join, block, tick, make}
 use Rattle.ledger.specs.declared.Event.the-variants.{Tick}
@@ -121,7 +123,8 @@ at-tick earlier task happened advanced among =
 
 pub advances-apply : AdvancesApply
 unfolding at-tick moveOf moveIn fresh next afterAll testsOf verdict freshMemory memoryAfter expirationsAfter dueAfter remaining putOff lasting
-    freshClocks moved allTicked tasksAfter advances clocksAfter standard lastHandle
+    freshClocks moved allTicked tasksAfter advances clocksAfter
+    entered makersAfter sharesAfter sumBelow made unmet isFull isShort isAtLimit standard lastHandle
 advances-apply =
     let waits : AtAdvance = at-tick (join 0 ∷ join 1 ∷ make 0 Global 0 4 ∷ block 0 ∷ []) 1 refl refl refl in
     let counts : AtAdvance = at-tick (join 0 ∷ make 0 Global 0 4 ∷ []) 0 refl refl refl in

@@ -5,22 +5,25 @@ use native.Mathlib.Omega.{arith}
 use mathlib.Core.Bool.{Bool, true, false, false≢true, not, _&&_}
 use mathlib.Core.List.{List, [], _∷_, map}
 use mathlib.Core.Path.{_≡_, refl, sym, ap, ap₂, _∙_}
-use lib.ListN.{length, length-map, List·getD-map}
+use lib.Dec.{eqb}
+use lib.ListN.{length, length-map, length-set, List·getD-map}
 use lib.Seq.{getD-set-same}
 use Rattle.lists.specs.Tests.{any, All}
 use Rattle.lists.specs.Tables.{mapFrom}
-use Rattle.lists.proofs.All.{all-set}
+use Rattle.lists.proofs.All.{all-set, all-imp, all-map}
 use Rattle.lists.proofs.Cases.{by-test}
+use Rattle.ledger.specs.Limits.{counterRange}
 use Rattle.ledger.specs.Tasks.{isTested}
 use Rattle.ledger.specs.Numbers.{isRefusal}
-use Rattle.ledger.specs.Objects.{Reply, memoryAfter, expirationsAfter, handlesOf}
-use Rattle.ledger.specs.Refusals.{testsOf}
+use Rattle.ledger.specs.Objects.{Reply, plain, replyTo, memoryAfter, expirationsAfter, handlesOf}
+use Rattle.ledger.specs.Refusals.{asRefusal, testsOf}
 use Rattle.ledger.specs.Ledger.{reply, next}
 use Rattle.ledger.specs.declared.Answer.{Answer}
-use Rattle.ledger.specs.declared.Answer.the-variants.{Refused as RefusedAnswer}
-use Rattle.ledger.specs.declared.Call.the-variants.{Schedule, Make, Refresh, Read, Write, Batch, Release}
+use Rattle.ledger.specs.declared.Answer.the-variants.{Done, Refused as RefusedAnswer}
+use Rattle.ledger.specs.declared.Call.the-variants.{Join, Schedule, Make, Refresh, Read, Write, Batch, Release}
 use Rattle.ledger.specs.declared.Event.{Event}
 use Rattle.ledger.specs.declared.Kind.{Kind}
+use Rattle.ledger.specs.declared.Share.{Share}
 use Rattle.ledger.specs.declared.Request.{Request}
 use Rattle.ledger.specs.declared.Request.the-variants.{Use, Report, Remaining}
 use Rattle.ledger.specs.declared.Verdict.{Verdict}
@@ -28,7 +31,7 @@ use Rattle.ledger.specs.declared.Verdict.the-variants.{Accepted, Refused}
 use Rattle.record.specs.Codes.{freeBlock}
 use Rattle.record.specs.Pools.{isWellFormed}
 use Rattle.record.specs.Reading.{Typed}
-use Rattle.record.specs.Tables.{BlockEntry, ExpirationEntry, Tables, halfRange, extentOf, blocksOf, entriesOf, headOf, tablesBy, tablesOf}
+use Rattle.record.specs.Tables.{BlockEntry, ExpirationEntry, Tables, lengthRange, makerRange, extentOf, blocksOf, entriesOf, headOf, tablesBy, tablesOf}
 use Rattle.record.specs.WellFormed.{handleOf, isNaming}
 use Rattle.record.specs.WellFormed as WellFormed
 use Rattle.record.specs.declared.GlobalTime.{GlobalTime}
@@ -37,10 +40,13 @@ use Rattle.record.specs.declared.TaskEntry.{TaskEntry}
 use Rattle.record.proofs.Columns.{block-at, entry-of}
 use Rattle.record.proofs.Facts.{fit-parts}
 use Rattle.stores.specs.Places.{smallAfter, largeAfter, sumAfter}
-use Rattle.steps.specs.Events.{verdictAt, keptBlock, swept, poolAfter, answerAfter, outcomeBy, scheduled}
+use Rattle.steps.specs.Events.{verdictAt, leaverOf, keptBlock, swept, orphanedBlock, orphanedPool, movedPool, poolAfter, answerAfter, outcomeBy, scheduled}
+use Rattle.steps.specs.Joins.{joinVerdict, joinedPool}
 use Rattle.steps.specs.Objects.{freePlace, makeVerdict, refreshVerdict, readVerdict, writeVerdict, batchVerdict, releaseVerdict, madePool, refreshedPool, batchedPool, releasedPool}
 use Rattle.steps.proofs.Chosen.{make-takes}
-use Rattle.steps.proofs.EventTypes.{typed-scheduled}
+use Rattle.steps.proofs.EventTypes.{InRange, typed-scheduled}
+use Rattle.steps.proofs.Joins.{joining, join-stays, join-reads, join-fits}
+use Rattle.steps.proofs.Verdicts.{join-verdict}
 use Rattle.steps.proofs.ObjectTypes.{typed-made, typed-refreshed, typed-released}
 use Rattle.objects.specs.Outcomes.{bytesIn}
 use Rattle.objects.specs.declared.FoundBytes.{FoundBytes}
@@ -50,27 +56,27 @@ use Rattle.calls.specs.Served.{withoutBytes, Serves}
 use Rattle.calls.proofs.Lent.{lent-typed}
 use Rattle.calls.proofs.Meets.{make-kept, make-cleared, locates}
 use Rattle.calls.proofs.Outcomes.{refresh-refused, refresh-done, batch-refused, batch-done, release-refused, release-done}
-use Rattle.calls.proofs.Promises.{unfit-obeys, wrong-obeys, ready}
+use Rattle.calls.proofs.Promises.{unfit-obeys, wrong-obeys, refused-obeys, carried-obeys, ready}
 use Rattle.calls.proofs.Reported.{report-obeys, life-obeys}
 use Rattle.calls.proofs.Scheduled.{schedule-obeys}
-use Rattle.calls.proofs.Served.{whatever-bytes, schedule-serves, refresh-serves, batch-serves, release-serves, report-serves, life-serves, make-serves, write-serves}
+use Rattle.calls.proofs.Served.{whatever-bytes, schedule-serves, join-serves, refresh-serves, batch-serves, release-serves, report-serves, life-serves, make-serves, write-serves}
 use Rattle.calls.proofs.WriteLent.{write-refused-lent, write-done-lent}
 use Rattle.pool.specs.Demands.{done, call, OfType, EveryListRuns}
 
--- A length that an extent has room for: every block of a record has one.
+-- A length and a maker that an extent has room for: every block of a record has such.
 abbrev Short : BlockEntry → Type 0
-Short b = b .length < halfRange
+Short b = (b .length < lengthRange) × (b .maker < makerRange)
 
 short-blocks : (hs ls : List ℕ) → All Short (blocksOf hs ls)
 unfolding blocksOf
 short-blocks [] [] = tt
 short-blocks [] (l ∷ ls) = tt
 short-blocks (h ∷ hs) [] = tt
-short-blocks (h ∷ hs) (l ∷ ls) = (omega arith, short-blocks hs ls)
+short-blocks (h ∷ hs) (l ∷ ls) = ((omega arith, omega arith), short-blocks hs ls)
 
 -- The record with these entries
 extentIn : BlockEntry → ℕ
-extentIn b = extentOf (b .length) (b .sum)
+extentIn b = extentOf (b .length) (b .sum) (b .maker)
 
 clockIn : ExpirationEntry → ℕ
 clockIn e = e .clock
@@ -88,6 +94,7 @@ poolBy t =
       tasks = t .tasks;
       global = t .global;
       given = t .given;
+      shares = t .shares;
       handles = map handleOf (t .blocks);
       extents = map extentIn (t .blocks);
       clocks = map clockIn (t .expirations);
@@ -98,7 +105,7 @@ poolBy t =
 blocks-by : (bs : List BlockEntry) → All Short bs → blocksOf (map handleOf bs) (map extentIn bs) ≡ bs
 unfolding blocksOf extentIn
 blocks-by [] h = refl
-blocks-by (b ∷ bs) (h, hs) = ap₂ _∷_ (entry-of (b .handle) (b .length) (b .sum) h) (blocks-by bs hs)
+blocks-by (b ∷ bs) (h, hs) = ap₂ _∷_ (entry-of (b .handle) (b .length) (b .sum) (b .maker) (h .0) (h .1)) (blocks-by bs hs)
 
 entries-by : (xs : List ExpirationEntry) → entriesOf (map clockIn xs) (map blockIn xs) (map dueIn xs) ≡ xs
 unfolding entriesOf clockIn blockIn dueIn
@@ -117,7 +124,7 @@ tables-by t f = rw (blocks-by (t .blocks) (f .short), entries-by (t .expirations
 of-type-by : (t : Tables) → Fine t → OfType (poolBy t)
 of-type-by t f =
     record {
-      head = record { tasks = f .types .tasks; clocks = f .types .clocks; global = f .types .global; given = f .types .given };
+      head = record { tasks = f .types .tasks; shares = f .types .shares; clocks = f .types .clocks; global = f .types .global; given = f .types .given };
       sized =
           record {
             blocks = record { of-handles = length-map (t .blocks) _ ∙ f .types .blocks; of-extents = length-map (t .blocks) _ ∙ f .types .blocks };
@@ -147,15 +154,39 @@ short-swept : (leaver : ℕ) (advanced : Bool) (tasks : List TaskEntry) (global 
 unfolding swept
 short-swept leaver advanced tasks global t h = kept-short (swept leaver advanced tasks global t .expirations) 0 (t .blocks) h
 
+short-orphaned : (leaver : ℕ) (bs : List BlockEntry) → All Short bs → All Short (map (orphanedBlock leaver) bs)
+short-orphaned leaver bs h =
+    all-map Short (orphanedBlock leaver) bs
+    (all-imp (λ b s. (s .0, by-test (eqb (b .maker) leaver) (λ e. rw e (omega arith)) (λ e. rw e (s .1)))) bs h)
+
 short-by : (v : Verdict) (event : Event) (task : ℕ) (t : Tables) → All Short (t .blocks) → All Short (outcomeBy v event task t .pool .blocks)
-unfolding poolAfter
-short-by Accepted event task t h = by-test (isTested event) (λ e. rw e (short-swept _ _ _ _ t h)) (λ e. rw e h)
+unfolding poolAfter movedPool orphanedPool
+short-by Accepted event task t h =
+    let left = short-orphaned (leaverOf event task) (t .blocks) h in
+    by-test (isTested event) (λ e. rw e (short-swept _ _ _ _ (orphanedPool event task t) left)) (λ e. rw e left)
 short-by (Refused r) event task t h = h
 
 fine-scheduled : (event : Event) (task : ℕ) (t : Tables) → Fine t → Fine (scheduled event task t .pool)
 unfolding scheduled
 fine-scheduled event task t f =
     record { types = typed-scheduled event task t (f .types); short = short-by (verdictAt event task (t .tasks)) event task t (f .short) }
+
+fine-joined : (task : ℕ) (share : Share) (t : Tables) → Fine t → Fine (joinedPool task share t)
+unfolding joinedPool counterRange
+fine-joined task share t f =
+    record {
+      types =
+          record {
+            tasks = rw length-set (f .types .tasks);
+            shares = rw length-set (f .types .shares);
+            blocks = f .types .blocks;
+            expirations = f .types .expirations;
+            clocks = all-set InRange (t .tasks) task (f .types .clocks) (omega arith);
+            global = f .types .global;
+            given = f .types .given;
+          };
+      short = f .short;
+    }
 
 fine-refreshed : (task : ℕ) (kind : Kind) (extension handle : ℕ) (t : Tables) → Fine t → Fine (refreshedPool task kind extension handle t)
 unfolding refreshedPool
@@ -175,7 +206,7 @@ fine-made : (task : ℕ) (kind : Kind) (extension size : ℕ) (t : Tables) → F
 unfolding madePool
 fine-made task kind extension size t f w v =
     let taken = make-takes task kind extension size t (fit-parts t w) (f .types) v in
-    record { types = typed-made task kind extension size t (f .types) v; short = all-set Short (t .blocks) _ (f .short) (omega (arith, taken .block .most)) }
+    record { types = typed-made task kind extension size t (f .types) v; short = all-set Short (t .blocks) _ (f .short) (omega (arith, taken .block .most), omega (arith, taken .may .known)) }
 
 -- A call that can be made
 record Made (request : Request) (new : List ℕ) (p : Pool) (small large : List ℕ) : Type 0 where
@@ -219,6 +250,25 @@ module _ (new : List ℕ) {p : Pool} (o : OfType p) (small large : List ℕ) whe
     schedule-by event task (Refused r) e =
         served (schedule-serves new p small large event task (RefusedAnswer r) p
         (λ small large. schedule-obeys event task types w small large (rw e) (rw e) (λ why r. refl))) o
+
+    join-by : (task : ℕ) (share : Share) (v : Verdict) → joinVerdict task share (tablesOf p) ≡ v → Made (Use (Join task share)) new p small large
+    unfolding replyTo
+    join-by task share Accepted e =
+        let t = joinedPool task share (tablesOf p) in
+        let f = fine-joined task share (tablesOf p) fine in
+        let fit = fit-parts (tablesOf p) w in
+        served (join-serves new p small large task share _ (poolBy t)
+        (λ small large.
+        carried-obeys (Join task share) [] p small large w (λ s. absurd (false≢true s)) (plain Done) (poolBy t) small large refl
+        (λ L reads. join-verdict types fit reads task share [] ∙ ap asRefusal e)
+        (λ L reads. refl) (λ L reads. rw (tables-by t f) (join-reads task share fit (joining task share (tablesOf p) e) reads))
+        (rw (tables-by t f) (join-fits task share (tablesOf p) types w e)) (rw (tables-by t f) (join-stays task share (tablesOf p))) (refl, refl) (refl, refl)))
+        (of-type-by t f)
+    join-by task share (Refused r) e =
+        served (join-serves new p small large task share _ p
+        (λ small large.
+        refused-obeys (Join task share) [] p small large w (λ s. absurd (false≢true s)) r
+        (λ L reads. join-verdict types (fit-parts (tablesOf p) w) reads task share [] ∙ ap asRefusal e))) o
 
     refresh-by : (task : ℕ) (kind : Kind) (extension handle : ℕ) (v : Verdict) → refreshVerdict task kind extension handle (tablesOf p) ≡ v
         → Made (Use (Refresh task kind extension handle)) new p small large
@@ -290,6 +340,7 @@ module _ (new : List ℕ) {p : Pool} (o : OfType p) (small large : List ℕ) whe
 
   -- every request that is ready,
   ready-made : (request : Request) → Ready request p small large → Made request new p small large
+  ready-made (Use (Join task share)) r = join-by (r .fit) task share _ refl
   ready-made (Use (Schedule event task)) r = schedule-by (r .fit) event task _ refl
   ready-made (Use (Make task kind extension size)) r = make-by task kind extension size r _ refl
   ready-made (Use (Refresh task kind extension handle)) r = refresh-by (r .fit) task kind extension handle _ refl

@@ -16,9 +16,10 @@ use Rattle.pool.specs.Demands.{OfType}
 pub head-typed : (p : Pool) (vs : List Val) → Is the-row p vs → HeadTyped (headOf p)
 unfolding counterRange
 head-typed p vs t =
-    let (tasks, (global, (given, rest))) = t .1 .1 in
+    let (tasks, (global, (given, (limits, (shares, rest))))) = t .1 .1 in
     record {
       tasks = sym (length-map (p .tasks) _) ∙ tasks .1 .0 .1;
+      shares = sym (length-map (p .shares) _) ∙ shares .1 .0 .1;
       clocks = each-all _ _ _ (λ x us s. omega arith) (p .tasks) _ (tasks .1 .1);
       global = omega arith;
       given = omega arith;
@@ -26,7 +27,7 @@ head-typed p vs t =
 
 pub columns-sized : (p : Pool) (vs : List Val) → Is the-row p vs → Sized (p .handles) (p .extents) (p .clocks) (p .named) (p .dues)
 columns-sized p vs t =
-    let (tasks, (global, (given, (limits, (handles, (extents, (clocks, (named, (dues, end))))))))) = t .1 .1 in
+    let (tasks, (global, (given, (limits, (shares, (handles, (extents, (clocks, (named, (dues, end)))))))))) = t .1 .1 in
     record {
       blocks = record { of-handles = sym (length-map (p .handles) _) ∙ handles .1 .0 .1; of-extents = sym (length-map (p .extents) _) ∙ extents .1 .0 .1 };
       entries =

@@ -25,7 +25,7 @@ pub fn taken_out(bytes: [u8; EXPIRATION_COUNT]) -> Aligned
 pub fn put_together(
     head: Head,
     handles: [u32; BLOCK_COUNT],
-    extents: [u32; BLOCK_COUNT],
+    extents: [u64; BLOCK_COUNT],
     clocks: [u8; EXPIRATION_COUNT],
     named: [u8; EXPIRATION_COUNT],
     dues: [u32; EXPIRATION_COUNT],
@@ -35,15 +35,33 @@ pub fn put_together(
     let limits = head.limits;
     let tasks = head.tasks;
     let global = head.global;
+    let shares = head.shares;
     Pool {
         limits: limits,
         tasks: tasks,
         global: global,
         given: head.given,
+        shares: shares,
         handles: handles,
         extents: extents,
         clocks: clocks,
         named: named,
         dues: dues,
     }
+}
+
+// The record with another head, its columns as they were.
+pub fn with_head(mut p: Pool, head: Head) -> Pool
+    ensures { λ r. ⌜ r ≡ pooled head (p .handles) (p .extents) (p .clocks) (p .named) (p .dues) ⌝ }
+{
+    let limits = head.limits;
+    let tasks = head.tasks;
+    let global = head.global;
+    let shares = head.shares;
+    p.limits = limits;
+    p.tasks = tasks;
+    p.global = global;
+    p.given = head.given;
+    p.shares = shares;
+    p
 }

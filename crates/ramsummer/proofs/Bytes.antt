@@ -12,7 +12,7 @@ use Rattle.lists.proofs.Blocks.{getD-overwritten}
 use Rattle.lists.proofs.Cases.{by-test}
 use Rattle.ledger.specs.Numbers.{isRefusal}
 use Rattle.ledger.specs.Objects.{Reply}
-use Rattle.ledger.specs.declared.Call.the-variants.{Schedule, Make, Refresh, Read, Write, Batch, Release}
+use Rattle.ledger.specs.declared.Call.the-variants.{Join, Schedule, Make, Refresh, Read, Write, Batch, Release}
 use Rattle.ledger.specs.declared.Kind.{Kind}
 use Rattle.ledger.specs.declared.Request.the-variants.{Use, Report, Remaining}
 use Rattle.record.specs.Reading.{isSmallBlock}
@@ -22,7 +22,7 @@ use Rattle.calls.specs.Contract.{Same, LeavesMade, LeavesWritten}
 use Rattle.frames.specs.declared.Frame.{Frame}
 use Rattle.execute.specs.Execution.{IsReplyTo}
 use Rattle.numbered.specs.Told.{Loans, Told}
-use Rattle.numbered.specs.Steps.{Asked, frameAsked, bytesAsked, isHeard, Gives, Action, asks, renews, awaits, Acts}
+use Rattle.numbered.specs.Steps.{Asked, frameAsked, bytesAsked, isHeard, Gives, Action, asks, renews, awaits, shares, Acts}
 use Rattle.ramsummer.specs.Demands.{HostRuns}
 use Rattle.ramsummer.specs.Bytes.{PutsIn, clears, writes, StoresLeft, stay, put, isReached, byteAt, Unreached, isRenewal, isLookOf, isLook, BytesStay}
 
@@ -44,6 +44,7 @@ module _ (asked : Asked) (loans : Loans) (t : Told) (p p′ : Pool) (small large
 
     stored : (frame : Frame) → frameAsked asked ≡ frame → (y : Reply) → IsReplyTo frame (bytesAsked asked) p small large y p′ small′ large′
         → StoresLeft (asks asked loans) t p small large p′ small′ large′
+    stored (Frame.Request (Use (Join task share)) count) e y o = stay (o .left .0) (o .left .1)
     stored (Frame.Request (Use (Schedule event task)) count) e y o = stay (o .left .0) (o .left .1)
     stored (Frame.Request (Use (Make task kind extension size)) count) e y o = made e (o .sizes .0) (o .sizes .1) (isRefusal (y .answer)) (o .left)
     stored (Frame.Request (Use (Refresh task kind extension handle)) count) e y o = stay (o .left .0) (o .left .1)
@@ -57,6 +58,7 @@ module _ (asked : Asked) (loans : Loans) (t : Told) (p p′ : Pool) (small large
 
   -- a look
   looked : (frame : Frame) → isLookOf frame ≡ true → (y : Reply) → IsReplyTo frame (bytesAsked asked) p small large y p′ small′ large′ → Same p small large p′ small′ large′
+  looked (Frame.Request (Use (Join task share)) count) k y o = absurd (false≢true k)
   looked (Frame.Request (Use (Schedule event task)) count) k y o = absurd (false≢true k)
   looked (Frame.Request (Use (Make task kind extension size)) count) k y o = absurd (false≢true k)
   looked (Frame.Request (Use (Refresh task kind extension handle)) count) k y o = absurd (false≢true k)
@@ -96,12 +98,14 @@ each : (d : Action) (t : Told) (p p′ : Pool) (small large small′ large′ : 
 each (asks asked loans) t p p′ small large small′ large′ k g = asked-stores asked loans t p p′ small large small′ large′ g
 each (renews limits newSmall newLarge whole) t p p′ small large small′ large′ k g = absurd (true≢false k)
 each (awaits old) t p p′ small large small′ large′ k g = stay (g .sameSmall) (g .sameLarge)
+each (shares task old) t p p′ small large small′ large′ k g = stay (g .sameSmall) (g .sameLarge)
 
 looking : (d : Action) (t : Told) (p p′ : Pool) (small large small′ large′ : List ℕ) → isLook d ≡ true → Acts d p small large t p′ small′ large′
     → Same p small large p′ small′ large′
 looking (asks asked loans) t p p′ small large small′ large′ k g = asked-looks asked loans t p p′ small large small′ large′ g k
 looking (renews limits newSmall newLarge whole) t p p′ small large small′ large′ k g = absurd (false≢true k)
 looking (awaits old) t p p′ small large small′ large′ k g = (g .samePool, (g .sameSmall, g .sameLarge))
+looking (shares task old) t p p′ small large small′ large′ k g = (g .samePool, (g .sameSmall, g .sameLarge))
 
 -- a byte that an action does not reach
 byte-stays : {d : Action} {t : Told} {p p′ : Pool} {small large small′ large′ : List ℕ} (ofSmall : Bool) (at : ℕ) → StoresLeft d t p small large p′ small′ large′

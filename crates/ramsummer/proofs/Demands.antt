@@ -11,7 +11,7 @@ use lib.Dec.{eqb, ltb}
 use lib.ListN.{length}
 use Rattle.lists.specs.Columns.{_⊛_}
 use Rattle.lists.proofs.Cases.{by-test}
-use Rattle.ledger.specs.Limits.{isAllowed}
+use Rattle.ledger.specs.Limits.{taskCount, isAllowed}
 use Rattle.ledger.specs.Numbers.{answerNumber}
 use Rattle.ledger.specs.Tasks.{isTested}
 use Rattle.ledger.specs.Objects.{Memory, Reply, plain, replyTo, freshMemory}
@@ -19,7 +19,7 @@ use Rattle.ledger.specs.Ledger.{Ledger, fresh, replyBy, reply, next, replies}
 use Rattle.ledger.specs.Heap.{Used, sent, heapReply, heapNext, heapReplies}
 use Rattle.ledger.specs.declared.Answer.the-variants.{Refused}
 use Rattle.ledger.specs.declared.Call.{Call}
-use Rattle.ledger.specs.declared.Call.the-variants.{Schedule, Make, Refresh, Read, Write, Batch, Release}
+use Rattle.ledger.specs.declared.Call.the-variants.{Join, Schedule, Make, Refresh, Read, Write, Batch, Release}
 use Rattle.ledger.specs.declared.Limits.{Limits}
 use Rattle.ledger.specs.declared.Refusal.{Refusal}
 use Rattle.ledger.proofs.Verdicts.{isOwnVerdict}
@@ -34,7 +34,7 @@ use Rattle.frames.specs.declared.Frame.{Frame}
 use Rattle.execute.specs.Execution.{IsReplyTo}
 use Rattle.numbered.specs.Told.{tooShort, Loans, lent, Told, withNumber, toldBy}
 use Rattle.numbered.specs.Entries.{Renews}
-use Rattle.numbered.specs.Steps.{Asked, entry, line, frameAsked, bytesAsked, isHeard, tells, Gives, Action, asks, renews, awaits, Acts}
+use Rattle.numbered.specs.Steps.{Asked, entry, line, frameAsked, bytesAsked, isHeard, tells, Gives, Action, asks, renews, awaits, shares, Acts}
 use Rattle.ramsummer.specs.Demands.{HostRuns, replyIn, afterIn, toldOf, afterAction, toldOfAll, afterActions, IsPoolOf, HostDemand2, Using, calls, noCall, unheard, actionOf, callsIn, heapToldAll, HostDemand3}
 
 -- A well-formed record with whole stores that reads as a ledger;
@@ -112,6 +112,14 @@ acts (awaits old) (some L) {small = small} {large} b g =
     )
 acts (awaits old) none b g =
     let (n, same) = g .awaited .unfit (b .so) in (ap₂ withNumber n (rw (← same) (g .shown)), rw (g .samePool, g .sameSmall, g .sameLarge) b)
+acts (shares task old) (some L) {p′ = p′} {small = small} {large} {small′ = small′} {large′} b g =
+    let h = b .so in
+    let kept : Beside (some L) p′ small′ large′ = rw (g .samePool, g .sameSmall, g .sameLarge) b in
+    by-test (ltb task taskCount)
+    (λ k. rw k (ap₂ withNumber (g .share .done (h .fit) k) (rw (← g .share .tells (h .fit) k small large L (h .reads)) (g .shown)), kept))
+    (λ k. let (n, same) = g .share .unknown (h .fit) k in rw k (ap₂ withNumber n (rw (← same) (g .shown)), kept))
+acts (shares task old) none b g =
+    let (n, same) = g .share .unfit (b .so) in (ap₂ withNumber n (rw (← same) (g .shown)), rw (g .samePool, g .sameSmall, g .sameLarge) b)
 
 runs-follow : {p p′ : Pool} {small small′ large large′ : List ℕ} {ds : List Action} {ts : List Told} → HostRuns p small large ds ts p′ small′ large′
     → (beside : Option Ledger) → Beside beside p small large → (ts ≡ toldOfAll beside ds) × Beside (afterActions beside ds) p′ small′ large′
@@ -177,10 +185,11 @@ of-calls (unheard asked loans h ∷ us) L m =
 
 -- a refusal of the pool's own is told by its number, and nothing else is told by that number
 isOwnTold : Told → Bool
-isOwnTold t = eqb (t .number) 9 || eqb (t .number) 10 || eqb (t .number) 12
+isOwnTold t = eqb (t .number) 9 || eqb (t .number) 10 || eqb (t .number) 12 || eqb (t .number) 25 || eqb (t .number) 26
 
 accepted : (call : Call) (m : Memory) → answerNumber (replyTo call m .answer) ≡ 0
 unfolding replyTo
+accepted (Join task share) m = refl
 accepted (Schedule event task) m = by-test (isTested event) (λ e. rw e) (λ e. rw e)
 accepted (Make task kind extension size) m = refl
 accepted (Refresh task kind extension handle) m = refl

@@ -7,7 +7,7 @@ use mathlib.Core.Path.{_≡_}
 use lib.Dec.{leb, ltb}
 use lib.ListN.{length, getD, replicate}
 use Rattle.lists.specs.Tests.{any}
-use Rattle.ledger.specs.declared.Call.the-variants.{Schedule, Make, Refresh, Read, Write, Batch, Release}
+use Rattle.ledger.specs.declared.Call.the-variants.{Join, Schedule, Make, Refresh, Read, Write, Batch, Release}
 use Rattle.ledger.specs.declared.Kind.{Kind}
 use Rattle.ledger.specs.declared.Request.{Request}
 use Rattle.ledger.specs.declared.Request.the-variants.{Use, Report, Remaining}
@@ -19,7 +19,7 @@ use Rattle.steps.specs.Objects.{placeIn}
 use Rattle.calls.specs.Contract.{Same}
 use Rattle.frames.specs.declared.Frame.{Frame}
 use Rattle.numbered.specs.Told.{Loans, Told}
-use Rattle.numbered.specs.Steps.{Asked, frameAsked, bytesAsked, Action, asks, renews, awaits, Acts}
+use Rattle.numbered.specs.Steps.{Asked, frameAsked, bytesAsked, Action, asks, renews, awaits, shares, Acts}
 use Rattle.ramsummer.specs.Demands.{HostRuns}
 
 -- An action puts these bytes at an offset in a block: an accepted make zeros into all of a block that was free, an accepted write its own into the block of its object.
@@ -58,9 +58,11 @@ abbrev pub isRenewal : Action → Bool
 isRenewal (asks asked loans) = false
 isRenewal (renews limits small large whole) = true
 isRenewal (awaits old) = false
+isRenewal (shares task old) = false
 
 -- a call that only looks; a frame that is refused
 abbrev pub isLookOf : Frame → Bool
+isLookOf (Frame.Request (Use (Join task share)) count) = false
 isLookOf (Frame.Request (Use (Schedule event task)) count) = false
 isLookOf (Frame.Request (Use (Make task kind extension size)) count) = false
 isLookOf (Frame.Request (Use (Refresh task kind extension handle)) count) = false
@@ -76,6 +78,7 @@ abbrev pub isLook : Action → Bool
 isLook (asks asked loans) = isLookOf (frameAsked asked)
 isLook (renews limits small large whole) = false
 isLook (awaits old) = true
+isLook (shares task old) = true
 
 pub record BytesStay : Type 0 where
   pub each : (d : Action) (t : Told) (p p′ : Pool) (small large small′ large′ : List ℕ) → isRenewal d ≡ false → Acts d p small large t p′ small′ large′

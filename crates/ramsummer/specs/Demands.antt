@@ -6,18 +6,19 @@ use mathlib.Core.List.{List, [], _∷_, map}
 use mathlib.Core.Logic.{_↔_}
 use mathlib.Core.Option.{Option, none, some}
 use mathlib.Core.Path.{_≡_}
+use lib.Dec.{ltb}
 use lib.ListN.{length}
 use Rattle.ledger.specs.Numbers.{numberOf}
 use Rattle.ledger.specs.Objects.{Memory, Reply, plain, freshMemory}
 use Rattle.ledger.specs.Ledger.{Ledger, fresh}
-use Rattle.ledger.specs.Limits.{isAllowed}
+use Rattle.ledger.specs.Limits.{taskCount, isAllowed}
 use Rattle.ledger.specs.Awaited.{awaitedBits}
 use Rattle.ledger.specs.Heap.{Used, heapReply, heapNext, allInTimeAndBounds}
 use Rattle.ledger.specs.declared.Answer.the-variants.{Refused}
 use Rattle.ledger.specs.declared.Call.{Call}
 use Rattle.ledger.specs.declared.Limits.{Limits}
 use Rattle.ledger.specs.declared.Refusal.{Refusal}
-use Rattle.ledger.specs.declared.Refusal.the-variants.{NotWellFormed, LimitsOutOfRange}
+use Rattle.ledger.specs.declared.Refusal.the-variants.{NoSuchTask, NotWellFormed, LimitsOutOfRange}
 use Rattle.ledger.specs.declared.Request.the-variants.{Use}
 use Rattle.record.specs.Reading.{freshPool, wholeSmall, wholeLarge}
 use Rattle.record.specs.Pools.{isWellFormed, Reads}
@@ -25,7 +26,8 @@ use Rattle.record.specs.declared.Pool.{Pool}
 use Rattle.frames.specs.declared.Frame.{Frame}
 use Rattle.execute.specs.Execution.{replyToFrame, afterFrame}
 use Rattle.numbered.specs.Told.{tooShort, Loans, lent, Told, withNumber}
-use Rattle.numbered.specs.Steps.{Asked, frameAsked, bytesAsked, isHeard, tells, Action, asks, renews, awaits, Acts}
+use Rattle.numbered.specs.Entries.{shareShown}
+use Rattle.numbered.specs.Steps.{Asked, frameAsked, bytesAsked, isHeard, tells, Action, asks, renews, awaits, shares, Acts}
 
 -- A list of actions: each gets record and stores as the last one left them.
 pub data HostRuns : Pool → List ℕ → List ℕ → List Action → List Told → Pool → List ℕ → List ℕ → Type 0 where
@@ -48,17 +50,24 @@ abbrev pub awaitedIn : Option Ledger → ℕ → Told
 awaitedIn (some L) old = withNumber 0 (lent (awaitedBits L ∷ []))
 awaitedIn none old = withNumber (numberOf NotWellFormed) (lent (old ∷ []))
 
+abbrev pub shareIn : Option Ledger → ℕ → List ℕ → Told
+shareIn (some L) task old =
+    cond (ltb task taskCount) (withNumber 0 (lent (shareShown (L .memory) task))) (withNumber (numberOf NoSuchTask) (lent old))
+shareIn none task old = withNumber (numberOf NotWellFormed) (lent old)
+
 -- what the ledger tells of an action, and the ledger after it
 abbrev pub toldOf : Option Ledger → Action → Told
 toldOf beside (asks asked loans) =
     cond (isHeard asked loans) (tells asked (replyIn beside (frameAsked asked) (bytesAsked asked)) loans) (withNumber tooShort loans)
 toldOf beside (renews limits small large whole) = withNumber (cond (isAllowed limits) 0 (numberOf LimitsOutOfRange)) (lent [])
 toldOf beside (awaits old) = awaitedIn beside old
+toldOf beside (shares task old) = shareIn beside task old
 
 abbrev pub afterAction : Option Ledger → Action → Option Ledger
 afterAction beside (asks asked loans) = cond (isHeard asked loans) (afterIn beside (frameAsked asked) (bytesAsked asked)) beside
 afterAction beside (renews limits small large whole) = cond (isAllowed limits) (some (fresh limits)) none
 afterAction beside (awaits old) = beside
+afterAction beside (shares task old) = beside
 
 unfoldable pub toldOfAll : Option Ledger → List Action → List Told
 toldOfAll beside [] = []

@@ -2,13 +2,13 @@
 // the answer's number: 0, a refusal of 01, or 255 for a buffer too short. There is none with a condition: whatever a host passes is carried out or refused.
 ghost use mathlib.Core.List.{[], _∷_};
 ghost use mathlib.Core.Path.{_≡_};
-ghost use Rattle.ledger.specs.declared.Call.the-variants.{Schedule, Release};
-ghost use Rattle.ledger.specs.declared.Event.the-variants.{Join, Leave, Block, Resume, Tick};
+ghost use Rattle.ledger.specs.declared.Call.the-variants.{Join, Schedule, Release};
+ghost use Rattle.ledger.specs.declared.Event.the-variants.{Leave, Block, Resume, Tick};
 ghost use Rattle.ledger.specs.declared.Request.the-variants.{Use, Report, Remaining};
 ghost use Rattle.ledger.specs.Limits.{chosen, standard};
-ghost use Rattle.frames.specs.Frames.{kindOf};
+ghost use Rattle.frames.specs.Frames.{kindOf, shareOf};
 ghost use Rattle.numbered.specs.Told.{buffered};
-ghost use Rattle.numbered.specs.Entries.{Does, Renews, MakesBy, RefreshesBy, RefreshesAllBy, WritesTo, CopiesOut, TellsAwaited, Carries};
+ghost use Rattle.numbered.specs.Entries.{Does, Renews, MakesBy, RefreshesBy, RefreshesAllBy, WritesTo, CopiesOut, TellsAwaited, TellsShare, Carries};
 use record::Pool;
 
 #[no_mangle]
@@ -36,10 +36,17 @@ pub extern "C" fn ramsummer_fresh_sized(
 }
 
 #[no_mangle]
-pub extern "C" fn ramsummer_join(p: &mut Pool, task: u8) -> u8
-    ensures { λ r. ⌜ Does (Use (Schedule Join task)) (now (p .entry)) [] r (now (p .exit)) [] ⌝ }
+pub extern "C" fn ramsummer_join(
+    p: &mut Pool,
+    task: u8,
+    reserve: u8,
+    limit: u8,
+    largereserve: u8,
+    largelimit: u8,
+) -> u8
+    ensures { λ r. ⌜ Does (Use (Join task (shareOf reserve limit largereserve largelimit))) (now (p .entry)) [] r (now (p .exit)) [] ⌝ }
 {
-    let r = numbered_tasks::join(*p, task);
+    let r = numbered_tasks::join(*p, task, reserve, limit, largereserve, largelimit);
     *p = r.pool;
     r.number
 }
@@ -207,6 +214,32 @@ pub extern "C" fn ramsummer_awaited(p: &mut Pool, tasks: &mut u16) -> u8
     ensures { λ r. ⌜ TellsAwaited (now (p .entry)) (now (tasks .entry)) r (now (tasks .exit)) × (now (p .exit) ≡ now (p .entry)) ⌝ }
 {
     numbered_tasks::awaited(*p, tasks)
+}
+
+// What a task made and may have of either store: objects, reserve and limit of the small one, then of the large one. It asks nothing of the pool's rules, and the record stays.
+#[no_mangle]
+pub extern "C" fn ramsummer_share(
+    p: &mut Pool,
+    task: u8,
+    made: &mut u8,
+    reserve: &mut u8,
+    limit: &mut u8,
+    largemade: &mut u8,
+    largereserve: &mut u8,
+    largelimit: &mut u8,
+) -> u8
+    ensures { λ r. ⌜ TellsShare (now (p .entry)) task (now (made .entry) ∷ now (reserve .entry) ∷ now (limit .entry) ∷ now (largemade .entry) ∷ now (largereserve .entry) ∷ now (largelimit .entry) ∷ []) r (now (made .exit) ∷ now (reserve .exit) ∷ now (limit .exit) ∷ now (largemade .exit) ∷ now (largereserve .exit) ∷ now (largelimit .exit) ∷ []) × (now (p .exit) ≡ now (p .entry)) ⌝ }
+{
+    numbered_tasks::share(
+        *p,
+        task,
+        made,
+        reserve,
+        limit,
+        largemade,
+        largereserve,
+        largelimit,
+    )
 }
 
 // One line without its LF; the line of its answer goes to the start of a buffer of at least 531 bytes, and how many to `count`.

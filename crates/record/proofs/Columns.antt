@@ -12,7 +12,7 @@ use Rattle.lists.proofs.Cases.{by-test}
 use Rattle.lists.proofs.Columns.{length-⊛, at-⊛, set-⊛, map-⊛, unseen-⊛}
 use Rattle.lists.proofs.Tables.{map-set}
 use Rattle.record.specs.Codes.{freeBlock, freeEntry}
-use Rattle.record.specs.Tables.{BlockEntry, ExpirationEntry, halfRange, lengthIn, sumIn, extentOf, blockEntry, expirationEntry, blocksOf, entriesOf}
+use Rattle.record.specs.Tables.{BlockEntry, ExpirationEntry, lengthRange, makerRange, lengthIn, sumIn, makerIn, extentOf, withSum, withMaker, blockEntry, expirationEntry, blocksOf, entriesOf}
 
 -- two columns of as many
 module _ {n : ℕ} (hs ls : List ℕ) (a : length hs ≡ n) (b : length ls ≡ n) where
@@ -50,15 +50,48 @@ pub extents-set : (hs ls : List ℕ) (i l : ℕ) → blocksOf hs (set ls i l) �
 extents-set hs ls i l = rw (set-getD hs i 0) at (blocks-set hs ls i (getD hs i 0) l)
 
 -- what an extent is made of can be read out of it
-pub entry-of : (handle size sum : ℕ) → size < halfRange
-    → blockEntry handle (extentOf size sum) ≡ record { handle = handle; length = size; sum = sum }
-entry-of handle size sum h =
-    rw (low, high)
+pub entry-of : (handle size sum maker : ℕ) → size < lengthRange → maker < makerRange
+    → blockEntry handle (extentOf size sum maker) ≡ record { handle = handle; length = size; sum = sum; maker = maker }
+entry-of handle size sum maker h m =
+    rw (low, middle, high)
   where
-    low : lengthIn (extentOf size sum) ≡ size
+    low : lengthIn (extentOf size sum maker) ≡ size
     low = omega arith
 
-    high : sumIn (extentOf size sum) ≡ sum
+    middle : sumIn (extentOf size sum maker) ≡ sum
+    middle = omega arith
+
+    high : makerIn (extentOf size sum maker) ≡ maker
+    high = omega arith
+
+-- and so can another sum,
+pub entry-summed : (handle extent sum : ℕ)
+    → blockEntry handle (withSum extent sum) ≡ record { handle = handle; length = lengthIn extent; sum = sum; maker = makerIn extent }
+entry-summed handle extent sum =
+    rw (low, middle, high)
+  where
+    low : lengthIn (withSum extent sum) ≡ lengthIn extent
+    low = omega arith
+
+    middle : sumIn (withSum extent sum) ≡ sum
+    middle = omega arith
+
+    high : makerIn (withSum extent sum) ≡ makerIn extent
+    high = omega arith
+
+-- and another maker
+pub entry-made : (handle extent maker : ℕ) → maker < makerRange
+    → blockEntry handle (withMaker extent maker) ≡ record { handle = handle; length = lengthIn extent; sum = sumIn extent; maker = maker }
+entry-made handle extent maker m =
+    rw (low, middle, high)
+  where
+    low : lengthIn (withMaker extent maker) ≡ lengthIn extent
+    low = omega arith
+
+    middle : sumIn (withMaker extent maker) ≡ sumIn extent
+    middle = omega arith
+
+    high : makerIn (withMaker extent maker) ≡ maker
     high = omega arith
 
 -- three columns of as many

@@ -29,7 +29,7 @@ use Rattle.record.specs.WellFormed.{isNaming, isSizedFor, isFitBlock, is
 use Rattle.record.specs.declared.TaskEntry.{TaskEntry}
 use Rattle.record.specs.Tables.{BlockEntry, ExpirationEntry, Tables, tablesOf}
 use Rattle.record.specs.Pools.{EveryFitRecordReads}
-use Rattle.record.proofs.Facts.{fit-parts}
+use Rattle.record.proofs.Facts.{Fit, fit-parts}
 use Rattle.record.proofs.Distinct.{Apart, apart-blocks}
 
 -- due with these units left
@@ -80,7 +80,7 @@ ledgerOf : View → Ledger
 ledgerOf v =
     let clocks : Clocks = record { tasks = v .tasks; global = v .global } in
     record {
-      memory = record { limits = v .limits; clocks = clocks; given = v .given; objects = sortBy handleOfObject (v .objects); pinned = pinnedIn (v .expirations) };
+      memory = record { limits = v .limits; clocks = clocks; given = v .given; objects = sortBy handleOfObject (v .objects); shares = v .shares; pinned = pinnedIn (v .expirations) };
       expirations = map (expirationIn clocks) (v .expirations);
     }
 
@@ -94,6 +94,7 @@ ledger-alike isWhole v tasks global objects =
       tasks = sym tasks;
       global = sym global;
       given = refl;
+      shares = refl;
       objects = rw objects at (map-perm (shownObject isWhole) (sort-perm handleOfObject (v .objects)));
       expirations = simp (map-map, left-due, map-id) (Permᴰ·refl (v .expirations));
     }
@@ -143,10 +144,9 @@ apart-shown : (isWhole : ℕ → Bool) (os : List Object) → Pairwise (λ (o p 
 apart-shown isWhole [] d = tt
 apart-shown isWhole (o ∷ os) (d, ds) = (all-map _ (shownObject isWhole) os d, apart-shown isWhole os ds)
 
-fit-tables-read : (p : Tables) → Typed p → isWellFormed p ≡ true → (small large : List ℕ) → (L : Ledger) × Reads p small large L
+pub fit-tables-read : (p : Tables) → Typed p → Fit p → (small large : List ℕ) → (L : Ledger) × Reads p small large L
 unfolding recordView ledgerOf
-fit-tables-read p range e small large =
-    let fit = fit-parts p e in
+fit-tables-read p range fit small large =
     let v = recordView p small large in
     let tasks = map-map wrappedTask taskOf (p .tasks) ∙ map-same _ _ (p .tasks) (all-imp task-shown (p .tasks) (range .clocks)) in
     let objects = shown-twice (isWhole (p .limits) small large) (readFrom 0 (objectIn small large) (p .blocks)) in
@@ -160,4 +160,4 @@ fit-tables-read p range e small large =
     )
 
 pub every-fit-record-reads : EveryFitRecordReads
-every-fit-record-reads p = fit-tables-read (tablesOf p)
+every-fit-record-reads p range e = fit-tables-read (tablesOf p) range (fit-parts (tablesOf p) e)

@@ -1,6 +1,6 @@
 -- What a well-formed record has, part by part.
 use Prim.Native.Nat.{ℕ, _+_, _≤_, _<_}
-use mathlib.Core.Bool.{Bool, true, false, not, _||_, and-eq-true-iff}
+use mathlib.Core.Bool.{Bool, true, false, not, _&&_, _||_, and-eq-true-iff}
 use mathlib.Core.List.{map}
 use mathlib.Core.Logic.{_≢_}
 use mathlib.Core.Path.{_≡_, refl}
@@ -16,6 +16,7 @@ use Rattle.ledger.specs.Tasks.{isAbsent, allTicked}
 use Rattle.ledger.specs.Expirations.{departed}
 use Rattle.ledger.specs.declared.Limits.{Limits}
 use Rattle.record.specs.Codes.{stateOf, taskOf, leftAt, freeBlock}
+use Rattle.record.specs.Shares.{isShared}
 use Rattle.record.specs.WellFormed.{isFitTask, isFitDue, isFitEntry, isNaming, isSizedFor, isFitBlock, isDistinct, isPinnedOnce, handleOf, isBlock, isBlockAt, isEntryAt, isBounded, isConsistent, isWellFormed}
 use Rattle.record.specs.declared.TaskEntry.{TaskEntry}
 use Rattle.record.specs.declared.LocalTime.{LocalTime}
@@ -37,7 +38,8 @@ pub record Fit (p : Tables) : Type 0 where
 pub fit-parts : (p : Tables) → isWellFormed p ≡ true → Fit p
 unfolding isWellFormed isConsistent isBounded
 fit-parts p e =
-    let (rest, bounded) = and-eq-true-iff _ _ .0 e in
+    let (rest, shared) = and-eq-true-iff _ _ .0 e in
+    let (rest, bounded) = and-eq-true-iff _ _ .0 rest in
     let (listed, counted) = and-eq-true-iff _ _ .0 bounded in
     let (rest, allowed) = and-eq-true-iff _ _ .0 rest in
     let (abcde, once) = and-eq-true-iff _ _ .0 rest in
@@ -57,9 +59,17 @@ fit-parts p e =
       counted = counted;
     }
 
-pub fit-whole : (p : Tables) → Fit p → isWellFormed p ≡ true
+-- and its shares
+abbrev pub Shared : Tables → Type 0
+Shared p = isShared (p .limits) (p .tasks) (p .shares) (p .blocks) ≡ true
+
+pub shared-part : (p : Tables) → isWellFormed p ≡ true → Shared p
+unfolding isWellFormed
+shared-part p e = and-eq-true-iff (isConsistent p && isAllowed (p .limits) && isBounded (p .limits) (p .blocks) (p .expirations)) _ .0 e .1
+
+pub fit-whole : (p : Tables) → Fit p → Shared p → isWellFormed p ≡ true
 unfolding isWellFormed isConsistent isBounded
-fit-whole p f = rw (f .tasks, f .unticked, f .entries, f .blocks, f .distinct, f .once, f .allowed, f .listed, f .counted)
+fit-whole p f shared = rw (shared, f .tasks, f .unticked, f .entries, f .blocks, f .distinct, f .once, f .allowed, f .listed, f .counted)
 
 -- what a fit local expiration has, by its setter's entry and whether it names a block in use
 pub record FitLocal (limits : Limits) (setter : TaskEntry) (used : Bool) (task left : ℕ) : Type 0 where

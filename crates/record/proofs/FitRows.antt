@@ -1,11 +1,13 @@
 -- Each row computes.
 use mathlib.Core.Path.{refl}
+use Rattle.lists.specs.Sums.{sumBelow}
 use Rattle.ledger.specs.Limits.{counterRange}
+use Rattle.record.specs.Shares.{isTaken, madeIn, allUnmetIn, isSharedIn}
 use Rattle.record.specs.WellFormed.{isFitDue}
 use Rattle.record.specs.FitRows.{FitRows}
 
 pub fit-rows : FitRows
-unfolding isFitDue counterRange
+unfolding isFitDue counterRange sumBelow isTaken madeIn allUnmetIn isSharedIn
 fit-rows =
     record {
       oneTick = refl;
@@ -18,4 +20,16 @@ fit-rows =
       secondLarge = refl;
       firstEntry = refl;
       secondEntry = refl;
+      absentWithNothing = refl;
+      absentWithALimit = refl;
+      reserveAtLimit = refl;
+      reserveAboveLimit = refl;
+      madeByDeparted = refl;
+      madeByNobody = refl;
+      oneReserve = refl;
+      metReserve = refl;
+      twoReserves = refl;
+      takenReserve = refl;
+      atLimit = refl;
+      aboveLimit = refl;
     }

@@ -25,9 +25,10 @@ each-all f g P h (x ∷ xs) (u ∷ us) s = (h x (u ∷ []) (s .0), each-all f g 
 pub head-typed : (h : Head) (vs : List Val) → Is the-head h vs → HeadTyped h
 unfolding counterRange
 head-typed h vs t =
-    let (tasks, (global, (given, (limits, end)))) = t .1 .1 in
+    let (tasks, (global, (given, (limits, (shares, end))))) = t .1 .1 in
     record {
       tasks = sym (length-map (h .tasks) _) ∙ tasks .1 .0 .1;
+      shares = sym (length-map (h .shares) _) ∙ shares .1 .0 .1;
       clocks = each-all _ _ _ (λ x us s. omega arith) (h .tasks) _ (tasks .1 .1);
       global = omega arith;
       given = omega arith;
@@ -38,4 +39,4 @@ pub typed-by : {h : Head} (blocks : List BlockEntry) (xs : List ExpirationEntry)
     → Typed (tablesBy h blocks xs)
 unfolding tablesBy
 typed-by blocks xs t b x =
-    record { tasks = t .tasks; blocks = b; expirations = x; clocks = t .clocks; global = t .global; given = t .given }
+    record { tasks = t .tasks; shares = t .shares; blocks = b; expirations = x; clocks = t .clocks; global = t .global; given = t .given }

@@ -86,14 +86,14 @@ abbrev pub absentEntry : TaskEntry
 absentEntry = record { state = 0; ticked = 0; clock = record { 0 = 0 } }
 
 abbrev pub freeBlock : BlockEntry
-freeBlock = record { handle = 0; length = 0; sum = 0 }
+freeBlock = record { handle = 0; length = 0; sum = 0; maker = 0 }
 
 abbrev pub freeEntry : ExpirationEntry
 freeEntry = record { clock = 0; block = 0; due = 0 }
 
 -- a block and an entry that are given up: what else they hold has no meaning
 abbrev pub freedBlock : BlockEntry → BlockEntry
-freedBlock b = record { handle = 0; length = b .length; sum = b .sum }
+freedBlock b = record { handle = 0; length = b .length; sum = b .sum; maker = b .maker }
 
 abbrev pub freedEntry : ExpirationEntry → ExpirationEntry
 freedEntry e = record { clock = 0; block = e .block; due = e .due }

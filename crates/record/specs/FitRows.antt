@@ -1,9 +1,13 @@
--- The rules W6, W8, W18 and W19 at the figures 1, 1, 1 and 0: just what lies within them is fit. (Whole records are judged by these clauses, one for each entry.)
+-- The rules W6, W8 and W18 to W24 at the figures 1, 1, 1 and 0: just what lies within them is fit. (Whole records are judged by these clauses, one for each entry.)
+use Prim.Native.Nat.{ℕ}
 use mathlib.Core.Bool.{Bool, true, false}
+use mathlib.Core.List.{[], _∷_}
 use mathlib.Core.Path.{_≡_}
 use Rattle.ledger.specs.Limits.{chosen}
 use Rattle.ledger.specs.declared.Limits.{Limits}
+use Rattle.ledger.specs.declared.Share.{Share}
 use Rattle.record.specs.Codes.{localCode}
+use Rattle.record.specs.Shares.{isFitShare, isKnown, isSharedIn, isWithinLimit}
 use Rattle.record.specs.Tables.{BlockEntry, ExpirationEntry}
 use Rattle.record.specs.WellFormed.{isFitDue, isBlockAt, isEntryAt}
 use Rattle.record.specs.declared.Due.{Due}
@@ -21,10 +25,17 @@ abbrev pub isFit : Due → Bool
 isFit due = isFitDue smallest runner (record { 0 = 7 }) true due
 
 abbrev pub object : BlockEntry
-object = record { handle = 1; length = 1; sum = 0 }
+object = record { handle = 1; length = 1; sum = 0; maker = 0 }
 
 abbrev pub expiring : ExpirationEntry
 expiring = record { clock = localCode; block = 0; due = 6 }
+
+abbrev pub madeBy : ℕ → BlockEntry
+madeBy task = record { handle = 1; length = 1; sum = 0; maker = task }
+
+-- a share of the small store alone
+abbrev pub smallQuota : ℕ → ℕ → Share
+smallQuota reserve limit = record { small = record { reserve = reserve; limit = limit }; large = record { reserve = 0; limit = 0 } }
 
 pub record FitRows : Type 0 where
   -- W6: one tick ahead, and not two
@@ -41,3 +52,20 @@ pub record FitRows : Type 0 where
   -- W19: the first entry, and not the second
   pub firstEntry : isEntryAt smallest 0 expiring ≡ true
   pub secondEntry : isEntryAt smallest 1 expiring ≡ false
+  -- W20: an absent task has nothing of the small store, and not a limit of 1
+  pub absentWithNothing : isFitShare [] 0 (smallQuota 0 0) ≡ true
+  pub absentWithALimit : isFitShare [] 0 (smallQuota 0 1) ≡ false
+  -- W21: a reserve as high as its limit, and not above it
+  pub reserveAtLimit : isFitShare (runner ∷ []) 0 (smallQuota 1 1) ≡ true
+  pub reserveAboveLimit : isFitShare (runner ∷ []) 0 (smallQuota 2 1) ≡ false
+  -- W22: made by one who left, and not by a seventeenth task
+  pub madeByDeparted : isKnown (madeBy 16) ≡ true
+  pub madeByNobody : isKnown (madeBy 17) ≡ false
+  -- W23: a reserve of the one small block, met or unmet; and not two, or one while another's object has the block
+  pub oneReserve : isSharedIn true smallest (smallQuota 1 1 ∷ []) [] ≡ true
+  pub metReserve : isSharedIn true smallest (smallQuota 1 1 ∷ []) (madeBy 0 ∷ []) ≡ true
+  pub twoReserves : isSharedIn true smallest (smallQuota 1 1 ∷ smallQuota 1 1 ∷ []) [] ≡ false
+  pub takenReserve : isSharedIn true smallest (smallQuota 1 1 ∷ []) (madeBy 16 ∷ []) ≡ false
+  -- W24: as many objects as the limit, and not more
+  pub atLimit : isWithinLimit true (madeBy 0 ∷ []) 0 (smallQuota 0 1) ≡ true
+  pub aboveLimit : isWithinLimit true (madeBy 0 ∷ []) 0 (smallQuota 0 0) ≡ false

@@ -8,7 +8,7 @@ use lib.ListN.{length, getD, take, drop, replicate}
 use Rattle.lists.specs.Tests.{All}
 use Rattle.lists.specs.Tables.{readBy, readFrom}
 use Rattle.ledger.specs.Limits.{capacity, taskCount, counterRange, smallSize, largeSize, isSmall}
-use Rattle.ledger.specs.Objects.{Object}
+use Rattle.ledger.specs.Objects.{Object, noShare}
 use Rattle.ledger.specs.Compared.{Shown, localLeft, globalLeft, pinnedLeft, shownObject, View, viewOf, Alike}
 use Rattle.ledger.specs.Kept.{Ascending, PinsKept}
 use Rattle.ledger.specs.Ledger.{Ledger}
@@ -68,7 +68,7 @@ sizeOf block = cond (isSmallBlock block) smallSize largeSize
 unfoldable pub objectIn : List ℕ → List ℕ → ℕ → BlockEntry → List Object
 objectIn small large block b =
     cond (eqb (b .handle) 0) []
-    (record { handle = b .handle; size = b .length; bytes = blockBytes small large block (sizeOf block); sum = b .sum } ∷ [])
+    (record { handle = b .handle; size = b .length; bytes = blockBytes small large block (sizeOf block); sum = b .sum; maker = b .maker } ∷ [])
 
 unfoldable pub recordView : Tables → List ℕ → List ℕ → View
 recordView p small large =
@@ -77,6 +77,7 @@ recordView p small large =
       tasks = map taskOf (p .tasks);
       global = p .global .0;
       given = p .given;
+      shares = p .shares;
       objects = map (shownObject (isWhole (p .limits) small large)) (readFrom 0 (objectIn small large) (p .blocks));
       expirations = readBy (shownEntry (p .tasks) (p .global) (p .blocks)) (p .expirations);
     }
@@ -84,6 +85,7 @@ recordView p small large =
 -- What the record's type gives of every value: so many entries of each table, and counters of 32 bits (T8).
 pub record Typed (p : Tables) : Type 0 where
   pub tasks : length (p .tasks) ≡ taskCount
+  pub shares : length (p .shares) ≡ taskCount
   pub blocks : length (p .blocks) ≡ blockEntries
   pub expirations : length (p .expirations) ≡ expirationEntries
   pub clocks : All (λ (e : TaskEntry). e .clock .0 < counterRange) (p .tasks)
@@ -93,6 +95,7 @@ pub record Typed (p : Tables) : Type 0 where
 -- the same of what goes by value
 pub record HeadTyped (h : Head) : Type 0 where
   pub tasks : length (h .tasks) ≡ taskCount
+  pub shares : length (h .shares) ≡ taskCount
   pub clocks : All (λ (e : TaskEntry). e .clock .0 < counterRange) (h .tasks)
   pub global : h .global .0 < counterRange
   pub given : h .given < counterRange
@@ -113,6 +116,7 @@ freshPool limits =
       tasks = replicate taskCount absentEntry;
       global = record { 0 = 0 };
       given = 0;
+      shares = replicate taskCount noShare;
       handles = replicate blockEntries 0;
       extents = replicate blockEntries 0;
       clocks = replicate expirationEntries 0;

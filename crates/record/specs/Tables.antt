@@ -7,6 +7,7 @@ use Rattle.lists.specs.Columns.{_⊛_}
 use Rattle.ledger.specs.Limits.{capacity}
 use Rattle.ledger.specs.declared.Answer.{Answer}
 use Rattle.ledger.specs.declared.Limits.{Limits}
+use Rattle.ledger.specs.declared.Share.{Share}
 use Rattle.record.specs.declared.TaskEntry.{TaskEntry}
 use Rattle.record.specs.declared.GlobalTime.{GlobalTime}
 use Rattle.record.specs.declared.Head.{Head}
@@ -30,25 +31,42 @@ groupCount = expirationEntries / groupSize
 abbrev pub byteValues : ℕ
 byteValues = 256
 
--- the values that a half of an extent has
-abbrev pub halfRange : ℕ
-halfRange = 65536
+-- the values that a length has, and a maker; and those of all that stands below the sum
+abbrev pub lengthRange : ℕ
+lengthRange = 65536
 
--- O33: an extent is the length of an object in its low half and, in its high one, the sum of the block's bytes
+abbrev pub makerRange : ℕ
+makerRange = 256
+
+abbrev pub sumUnit : ℕ
+sumUnit = 281474976710656
+
+-- O33, Q3: an extent has, from its low end, the length of an object, its maker and, at the top, the sum of the block's bytes; what is between is left for later
 abbrev pub lengthIn : ℕ → ℕ
-lengthIn extent = extent % halfRange
+lengthIn extent = extent % lengthRange
+
+abbrev pub makerIn : ℕ → ℕ
+makerIn extent = extent / lengthRange % makerRange
 
 abbrev pub sumIn : ℕ → ℕ
-sumIn extent = extent / halfRange
+sumIn extent = extent / sumUnit
 
-abbrev pub extentOf : ℕ → ℕ → ℕ
-extentOf size sum = sum * halfRange + size
+abbrev pub extentOf : ℕ → ℕ → ℕ → ℕ
+extentOf size sum maker = sum * sumUnit + (maker * lengthRange + size)
+
+-- with another sum, and with another maker, all else as it was
+abbrev pub withSum : ℕ → ℕ → ℕ
+withSum extent sum = sum * sumUnit + extent % sumUnit
+
+abbrev pub withMaker : ℕ → ℕ → ℕ
+withMaker extent maker = extent / (lengthRange * makerRange) * (lengthRange * makerRange) + (maker * lengthRange + extent % lengthRange)
 
 -- a block of a store and the object in it; handle (01: number) 0 is a free block
 pub record BlockEntry : Type 0 where
   pub handle : ℕ
   pub length : ℕ
   pub sum : ℕ
+  pub maker : ℕ
 
 -- an expiration (01: date)
 pub record ExpirationEntry : Type 0 where
@@ -57,7 +75,7 @@ pub record ExpirationEntry : Type 0 where
   pub due : ℕ
 
 abbrev pub blockEntry : ℕ → ℕ → BlockEntry
-blockEntry handle extent = record { handle = handle; length = lengthIn extent; sum = sumIn extent }
+blockEntry handle extent = record { handle = handle; length = lengthIn extent; sum = sumIn extent; maker = makerIn extent }
 
 abbrev pub expirationEntry : ℕ → ℕ → ℕ → ExpirationEntry
 expirationEntry clock block due = record { clock = clock; block = block; due = due }
@@ -74,14 +92,15 @@ pub record Tables : Type 0 where
   pub tasks : List TaskEntry
   pub global : GlobalTime
   pub given : ℕ
+  pub shares : List Share
   pub blocks : List BlockEntry
   pub expirations : List ExpirationEntry
 
 unfoldable pub tablesBy : Head → List BlockEntry → List ExpirationEntry → Tables
-tablesBy h blocks xs = record { limits = h .limits; tasks = h .tasks; global = h .global; given = h .given; blocks = blocks; expirations = xs }
+tablesBy h blocks xs = record { limits = h .limits; tasks = h .tasks; global = h .global; given = h .given; shares = h .shares; blocks = blocks; expirations = xs }
 
 abbrev pub headOf : Pool → Head
-headOf p = record { limits = p .limits; tasks = p .tasks; global = p .global; given = p .given }
+headOf p = record { limits = p .limits; tasks = p .tasks; global = p .global; given = p .given; shares = p .shares }
 
 unfoldable pub tablesOf : Pool → Tables
 tablesOf p = tablesBy (headOf p) (blocksOf (p .handles) (p .extents)) (entriesOf (p .clocks) (p .named) (p .dues))
@@ -117,6 +136,7 @@ pooled h handles extents clocks named dues =
       tasks = h .tasks;
       global = h .global;
       given = h .given;
+      shares = h .shares;
       handles = handles;
       extents = extents;
       clocks = clocks;

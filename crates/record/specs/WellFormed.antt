@@ -12,6 +12,7 @@ use Rattle.ledger.specs.Expirations.{departed}
 use Rattle.ledger.specs.declared.Limits.{Limits}
 use Rattle.record.specs.Codes.{stateOf, taskOf, dueOf, isDated, isPinnedDue, setterOf, leftAt, absentEntry, freeBlock}
 use Rattle.record.specs.Reading.{isSmallBlock}
+use Rattle.record.specs.Shares.{isShared}
 use Rattle.record.specs.declared.TaskEntry.{TaskEntry}
 use Rattle.record.specs.Tables.{BlockEntry, ExpirationEntry, Tables}
 use Rattle.record.specs.declared.GlobalTime.{GlobalTime}
@@ -101,6 +102,7 @@ isConsistent p =
     && allFrom 0 (isFitBlock (p .given) (p .expirations)) (p .blocks) && isDistinct (map handleOf (p .blocks))
     && isPinnedOnce (p .expirations)
 
--- and what 02 asks of its figures: W17, that a site may choose them, W18 and W19
+-- and what 02 asks of its figures: W17, that a site may choose them, W18 and W19; and of its shares: W20 to W24
 unfoldable pub isWellFormed : Tables → Bool
-isWellFormed p = isConsistent p && isAllowed (p .limits) && isBounded (p .limits) (p .blocks) (p .expirations)
+isWellFormed p =
+    isConsistent p && isAllowed (p .limits) && isBounded (p .limits) (p .blocks) (p .expirations) && isShared (p .limits) (p .tasks) (p .shares) (p .blocks)

@@ -1,6 +1,6 @@
 // What the numbers of an entry mean, and what remains of an expiration (01: units left) by counters that wrap (T8).
 ghost use mathlib.Core.Path.{_≡_};
-ghost use Rattle.record.specs.Tables.{lengthIn, sumIn, extentOf};
+ghost use Rattle.record.specs.Tables.{lengthIn, sumIn, makerIn, extentOf, withSum, withMaker};
 ghost use Rattle.record.specs.Codes.{stateOf, isGlobalClock, leftAt};
 use super::GlobalTime;
 use super::LocalTime;
@@ -26,28 +26,54 @@ pub const DEPARTED: u8 = GLOBAL + (TASK_COUNT as u8);
 
 pub const PINNED: u8 = DEPARTED + 1;
 
-// The values that a half of an extent has.
-const HALF_RANGE: u32 = 65536;
+// The values that a length has, and a maker; and those of all that stands below the sum.
+const LENGTH_RANGE: u64 = 65536;
+
+const MAKER_RANGE: u64 = 256;
+
+const SUM_UNIT: u64 = 281474976710656;
 
 // O33: the length in an extent,
-pub fn length_in(extent: u32) -> u16
+pub fn length_in(extent: u64) -> u16
     ensures { λ r. ⌜ r ≡ lengthIn extent ⌝ }
 {
-    (extent % HALF_RANGE) as u16
+    (extent % LENGTH_RANGE) as u16
 }
 
-// the sum in it,
-pub fn sum_in(extent: u32) -> u16
+// Q3: the object's maker,
+pub fn maker_in(extent: u64) -> u8
+    ensures { λ r. ⌜ r ≡ makerIn extent ⌝ }
+{
+    (extent / LENGTH_RANGE % MAKER_RANGE) as u8
+}
+
+// the sum of the block's bytes,
+pub fn sum_in(extent: u64) -> u16
     ensures { λ r. ⌜ r ≡ sumIn extent ⌝ }
 {
-    (extent / HALF_RANGE) as u16
+    (extent / SUM_UNIT) as u16
 }
 
-// and the extent of both.
-pub fn extent_of(length: u16, sum: u16) -> u32
-    ensures { λ r. ⌜ r ≡ extentOf length sum ⌝ }
+// the extent of the three,
+pub fn extent_of(length: u16, sum: u16, maker: u8) -> u64
+    ensures { λ r. ⌜ r ≡ extentOf length sum maker ⌝ }
 {
-    (sum as u32) * HALF_RANGE + length as u32
+    (sum as u64) * SUM_UNIT + ((maker as u64) * LENGTH_RANGE + length as u64)
+}
+
+// one with another sum,
+pub fn with_sum(extent: u64, sum: u16) -> u64
+    ensures { λ r. ⌜ r ≡ withSum extent sum ⌝ }
+{
+    (sum as u64) * SUM_UNIT + extent % SUM_UNIT
+}
+
+// and one with another maker.
+pub fn with_maker(extent: u64, maker: u8) -> u64
+    ensures { λ r. ⌜ r ≡ withMaker extent maker ⌝ }
+{
+    extent / (LENGTH_RANGE * MAKER_RANGE) * (LENGTH_RANGE * MAKER_RANGE)
+        + ((maker as u64) * LENGTH_RANGE + extent % LENGTH_RANGE)
 }
 
 pub fn state_of(code: u16) -> State

@@ -11,6 +11,8 @@ use codes::ABSENT;
 use codes::FREE;
 use ledger::CAPACITY;
 use ledger::Limits;
+use ledger::Quota;
+use ledger::Share;
 use ledger::TASK_COUNT;
 
 // The entries of the block table: those of the small store's blocks, then, from SMALL_COUNT on, those of the large one's.
@@ -45,10 +47,11 @@ pub struct TaskEntry {
     pub clock: LocalTime,
 }
 
-// Block i has the object `handles[i]` (01: number; 0 is a free block); its `extents[i]` is the object's length in the low half and the sum of the block's bytes in
-// the high one. The small store's blocks come first, then the large one's.
+// Block i has the object `handles[i]` (01: number; 0 is a free block); its word `extents[i]` has from its low end the object's length (16 bits), its maker (8: a task, or
+// 16 where that has left), 24 bits that are left for later, and at the top the sum of the block's bytes (16). The small store's blocks come first, then the large one's.
 // Expiration i (01: date) goes by the clock `clocks[i]`, a code of codes.rt in which 0 is a free entry, belongs to the object in the block `named[i]`, and is due
 // when that clock reads `dues[i]`.
+// The shares (Q1: reserves and limits) stand apart from the task entries: with them these would be 12 bytes long, and each test that goes over them would cost more.
 // The figures stand behind the counters, here and in a head: in front of the tasks they would make one piece of 144 bytes with them, and the compiler, which moves 128 in place, would call a copy.
 #[repr(C)]
 pub struct Pool {
@@ -56,8 +59,9 @@ pub struct Pool {
     pub global: GlobalTime,
     pub given: u32,
     pub limits: Limits,
+    pub shares: [Share; TASK_COUNT],
     pub handles: [u32; BLOCK_COUNT],
-    pub extents: [u32; BLOCK_COUNT],
+    pub extents: [u64; BLOCK_COUNT],
     pub clocks: [u8; EXPIRATION_COUNT],
     pub named: [u8; EXPIRATION_COUNT],
     pub dues: [u32; EXPIRATION_COUNT],
@@ -69,6 +73,7 @@ pub struct Head {
     pub global: GlobalTime,
     pub given: u32,
     pub limits: Limits,
+    pub shares: [Share; TASK_COUNT],
 }
 
 // T6, E19, E22: what specifications read an entry as: when an expiration is due, and who set it. A time by one clock cannot be tested against the other; the number of a pinned one is no time.
@@ -79,6 +84,17 @@ pub enum Due {
     Pinned(u32),
     Unknown,
 }
+
+// Q2: who is absent has nothing.
+const NO_QUOTA: Quota = Quota {
+    reserve: 0,
+    limit: 0,
+};
+
+pub const NO_SHARE: Share = Share {
+    small: NO_QUOTA,
+    large: NO_QUOTA,
+};
 
 // What the entry of an absent task holds.
 pub const ABSENT_TASK: TaskEntry = TaskEntry {
@@ -93,11 +109,13 @@ pub fn head_of(p: Pool) -> Head
     let limits = p.limits;
     let tasks = p.tasks;
     let global = p.global;
+    let shares = p.shares;
     Head {
         limits: limits,
         tasks: tasks,
         global: global,
         given: p.given,
+        shares: shares,
     }
 }
 
@@ -110,6 +128,7 @@ pub fn fresh(limits: Limits) -> Pool
         tasks: [ABSENT_TASK; TASK_COUNT],
         global: GlobalTime(0),
         given: 0,
+        shares: [NO_SHARE; TASK_COUNT],
         handles: [0; BLOCK_COUNT],
         extents: [0; BLOCK_COUNT],
         clocks: [FREE; EXPIRATION_COUNT],

@@ -2,10 +2,10 @@
 use Prim.Native.Nat.{ℕ}
 use mathlib.Core.Bool.{Bool, _||_}
 use mathlib.Core.List.{List}
-use lib.Dec.{eqb, ltb}
-use Rattle.ledger.specs.Limits.{largestBatch}
+use lib.Dec.{eqb, leb, ltb}
+use Rattle.ledger.specs.Limits.{largestBatch, largeSize, lastHandle}
 use Rattle.ledger.specs.declared.Kind.{Kind}
-use Rattle.ledger.specs.declared.Refusal.the-variants.{BatchOutOfRange, HandleNotGiven, ObjectGone, NoFreeExpiration}
+use Rattle.ledger.specs.declared.Refusal.the-variants.{LengthOutOfRange, HandlesSpent, BatchOutOfRange, HandleNotGiven, ObjectGone, NoFreeExpiration}
 use Rattle.ledger.specs.declared.Verdict.{Verdict}
 use Rattle.ledger.specs.declared.Limits.{Limits}
 use Rattle.record.specs.declared.TaskEntry.{TaskEntry}
@@ -14,6 +14,13 @@ use Rattle.steps.specs.Objects.{andThen, refuseIf, taskVerdict, kindVerdict, ex
 -- 21, 6: of one expiration more on an object that stands
 abbrev pub setVerdict : Limits → Kind → ℕ → Verdict
 setVerdict limits kind extension = andThen (kindVerdict kind) (extensionVerdict limits kind extension)
+
+-- R40, the tests that look at no block: 1, 3, 4, 6, 7, 8
+abbrev pub makeCallVerdict : Limits → ℕ → Kind → ℕ → ℕ → List TaskEntry → ℕ → Verdict
+makeCallVerdict limits task kind extension size tasks given =
+    andThen (taskVerdict task tasks)
+    (andThen (extensionVerdict limits kind extension)
+    (andThen (refuseIf (eqb size 0 || ltb largeSize size) LengthOutOfRange) (refuseIf (leb lastHandle given) HandlesSpent)))
 
 -- R47, the tests that look at no object: 1, 3, 4, 20, 21, 6
 abbrev pub batchCallVerdict : Limits → ℕ → Kind → ℕ → List TaskEntry → ℕ → Verdict

@@ -3,8 +3,8 @@ ghost use Prim.Native.Nat.{_+_};
 ghost use lib.Dec.{ltb};
 ghost use mathlib.Core.Path.{_≡_};
 ghost use Rattle.ledger.specs.Refusals.{mostExtension, isPinning};
-ghost use Rattle.steps.specs.Objects.{andThen, refuseIf, byState, taskVerdict, extensionVerdict, isUngiven, foundVerdict, roomVerdict, makeVerdictBy};
-ghost use Rattle.refusals.specs.Verdicts.{setVerdict, batchCallVerdict, batchObjectsVerdict};
+ghost use Rattle.steps.specs.Objects.{andThen, refuseIf, byState, taskVerdict, extensionVerdict, isUngiven, foundVerdict, roomVerdict, takingVerdict};
+ghost use Rattle.refusals.specs.Verdicts.{setVerdict, makeCallVerdict, batchCallVerdict, batchObjectsVerdict};
 
 mod batch;
 mod search;
@@ -23,7 +23,6 @@ use ledger::Verdict;
 use record::BLOCK_COUNT;
 use record::TaskEntry;
 use record::codes::state_of;
-use search::end_for;
 pub use search::free_place;
 pub use search::locate;
 
@@ -138,8 +137,8 @@ pub fn room_verdict(limits: Limits, standing: usize) -> Verdict
     )
 }
 
-// R40: 7, 8, 9 between the others
-pub fn make_verdict(
+// R40, the tests that look at no block: 1, 3, 4, 6, 7, 8
+pub fn make_call_verdict(
     limits: Limits,
     task: u8,
     kind: Kind,
@@ -147,10 +146,8 @@ pub fn make_verdict(
     length: u32,
     tasks: [TaskEntry; TASK_COUNT],
     given: u32,
-    place: usize,
-    standing: usize,
 ) -> Verdict
-    ensures { λ r. ⌜ r ≡ makeVerdictBy limits task kind extension length tasks given place standing ⌝ }
+    ensures { λ r. ⌜ r ≡ makeCallVerdict limits task kind extension length tasks given ⌝ }
 {
     and_then(
         task_verdict(task, tasks),
@@ -161,14 +158,21 @@ pub fn make_verdict(
                     (length == 0) | (LARGE_SIZE < length),
                     Refusal::LengthOutOfRange,
                 ),
-                and_then(
-                    refuse_if(u32::MAX <= given, Refusal::HandlesSpent),
-                    and_then(
-                        refuse_if(end_for(limits, length) <= place, Refusal::NoFreeBlock),
-                        room_verdict(limits, standing),
-                    ),
-                ),
+                refuse_if(u32::MAX <= given, Refusal::HandlesSpent),
             ),
+        ),
+    )
+}
+
+// and those after them: 26, 9, 10
+pub fn taking_verdict(limits: Limits, limited: bool, full: bool, standing: usize) -> Verdict
+    ensures { λ r. ⌜ r ≡ takingVerdict limits limited full standing ⌝ }
+{
+    and_then(
+        refuse_if(limited, Refusal::AtLimit),
+        and_then(
+            refuse_if(full, Refusal::NoFreeBlock),
+            room_verdict(limits, standing),
         ),
     )
 }

@@ -58,7 +58,7 @@ pub fn locate(handles: &[u32; BLOCK_COUNT], handle: u32) -> usize
 }
 
 // Where the blocks of a size's store end.
-pub fn end_for(limits: Limits, size: u32) -> usize
+fn end_for(limits: Limits, size: u32) -> usize
     ensures { λ r. ⌜ r ≡ endFor limits size ⌝ }
 {
     if size <= SMALL_SIZE {

@@ -7,7 +7,7 @@ ghost use Rattle.calls.specs.Served.{Serves};
 ghost use Rattle.dispatch.specs.Done.{withoutBytes, givenBack};
 use dispatch;
 use dispatch::Done;
-use fitness::is_well_formed;
+use fitness::fitness_of;
 use ledger::Answer;
 use ledger::Call;
 use ledger::Refusal;
@@ -48,6 +48,7 @@ fn is_stored(request: Request) -> bool
                 extension: _,
             } => false,
             Call::Release { task: _, handle: _ } => false,
+            Call::Join { task: _, share: _ } => false,
         },
         Request::Report => false,
         Request::Remaining { task: _, handle: _ } => false,
@@ -70,7 +71,7 @@ fn refused(why: Refusal, h: Head) -> Done
 pub fn call(
     h: Head,
     handles: &mut [u32; BLOCK_COUNT],
-    extents: &mut [u32; BLOCK_COUNT],
+    extents: &mut [u64; BLOCK_COUNT],
     clocks: &mut [u8; EXPIRATION_COUNT],
     named: &mut [u8; EXPIRATION_COUNT],
     dues: &mut [u32; EXPIRATION_COUNT],
@@ -82,12 +83,14 @@ pub fn call(
     requires { ⌜ Sized (now handles) (now extents) (now clocks) (now named) (now dues) ⌝ }
     ensures { λ r. ⌜ Sized (now (handles .exit)) (now (extents .exit)) (now (clocks .exit)) (now (named .exit)) (now (dues .exit)) × Serves request (now (bytes .entry)) (pooled h (now (handles .entry)) (now (extents .entry)) (now (clocks .entry)) (now (named .entry)) (now (dues .entry))) (now (small .entry)) (now (large .entry)) (givenBack r (now (handles .exit)) (now (extents .exit)) (now (clocks .exit)) (now (named .exit)) (now (dues .exit))) (now (small .exit)) (now (large .exit)) ⌝ }
 {
-    if !is_well_formed(h, handles, extents, clocks, named, dues) {
+    let sharing = fitness_of(h, handles, extents, clocks, named, dues);
+    if !sharing.fit {
         return refused(Refusal::NotWellFormed, h);
     }
     if is_stored(request) & !are_whole(h.limits, small.len(), large.len()) {
         return refused(Refusal::WrongStoreLength, h);
     }
+    let holdings = sharing.holdings;
     dispatch::call(
         h,
         handles,
@@ -97,6 +100,7 @@ pub fn call(
         dues,
         small,
         large,
+        holdings,
         request,
         bytes,
     )

@@ -15,9 +15,12 @@ use Rattle.ledger.specs.Objects.{Reply}
 use Rattle.ledger.specs.declared.Answer.the-variants.{Refused}
 use Rattle.ledger.specs.declared.Refusal.{Refusal}
 use Rattle.ledger.specs.declared.Request.{Request}
-use Rattle.record.specs.Tables.{headOf, pooled}
+use Rattle.record.specs.Tables.{blocksOf, tablesBy, tablesOf, headOf, pooled}
 use Rattle.record.specs.declared.Head.{Head}
 use Rattle.record.specs.declared.Pool.{Pool}
+use Rattle.record.proofs.Facts.{fit-parts}
+use Rattle.shares.specs.Holdings.{Placed}
+use Rattle.shares.proofs.Placing.{placed-fit}
 use Rattle.calls.specs.Contract.{areWhole, Ready}
 use Rattle.calls.specs.Served.{Called, replyOf, Serves}
 use Rattle.answers.specs.Answers.{answerLine, longestAnswer}
@@ -38,6 +41,11 @@ stores-whole r = rw (eq-eqb _ _ (r .smallWhole), eq-eqb _ _ (r .largeWhole))
 
 pub ready : {p : Pool} {small large script : List ℕ} {at : ℕ} (request : Request) → Runnable p small large script at → Ready request p small large
 ready request r = record { fit = r .fit; whole = λ e. stores-whole r }
+
+-- what is in use has a length of its block's store
+pub placed : {p : Pool} {small large script : List ℕ} {at : ℕ} → Runnable p small large script at → Placed (blocksOf (p .handles) (p .extents))
+unfolding tablesOf tablesBy
+placed {p} r = placed-fit (fit-parts (tablesOf p) (r .fit))
 
 -- what the loop tests: there is a line, and room for its answer
 abbrev pub goesOn : ℕ → List ℕ → ℕ → List ℕ → Bool

@@ -2,6 +2,7 @@
 // where they are from the first line to the last.
 ghost use Rattle.script.specs.Output.{Readable, Steps, Runnable, Continues};
 use dispatch::call;
+use dispatch::needs::holdings_for;
 use execute::LONGEST_ANSWER;
 use execute::put_answer;
 use execute::refusal_of;
@@ -76,6 +77,7 @@ pub fn run_on(
             );
             continue;
         };
+        let holdings = holdings_for(head, &handles, &extents, request);
         let done = call(
             head,
             &mut handles,
@@ -85,6 +87,7 @@ pub fn run_on(
             &mut dues,
             small,
             large,
+            holdings,
             request,
             &bytes[..count],
         );
@@ -99,9 +102,11 @@ pub fn run_on(
     p.dues = dues;
     let limits = head.limits;
     let tasks = head.tasks;
+    let shares = head.shares;
     let global = head.global;
     p.limits = limits;
     p.tasks = tasks;
+    p.shares = shares;
     p.global = global;
     p.given = head.given;
     Ran {

@@ -19,7 +19,7 @@ use Rattle.ledger.specs.Expirations.{departed, Expiration, remaining, isPinned,
 use Rattle.ledger.specs.Expirations.{DueTime, byLocal, byGlobal, pinned}
 use Rattle.ledger.specs.Compared.{wrapped, Left, localLeft, globalLeft, pinnedLeft, Shown, leftOf, shown}
 use Rattle.ledger.specs.declared.Event.{Event}
-use Rattle.ledger.specs.declared.Event.the-variants.{Join, Leave, Block, Resume, Tick}
+use Rattle.ledger.specs.declared.Event.the-variants.{Leave, Block, Resume, Tick}
 use Rattle.ledger.specs.declared.Limits.{Limits}
 use Rattle.record.specs.Codes.{dueBy, dueOf, setterOf, leftAt, absentEntry, freeBlock}
 use Rattle.record.specs.Reading.{shownDue, shownEntry}
@@ -36,7 +36,6 @@ use Rattle.steps.proofs.ReadTasks.{ClocksAlike, state-alike, clock-alik
 
 -- what an event leaves of the units of its task's local expirations
 abbrev pub unitsAfter : Event → ℕ → ℕ
-unitsAfter Join units = units
 unitsAfter Leave units = 0
 unitsAfter Block units = units
 unitsAfter Resume units = units
@@ -48,7 +47,6 @@ ifLeft ended handle kind units = cond (not ended && ltb 0 units) (record { handl
 
 -- whether an event ends its task's local expirations
 abbrev isEnding : Event → Bool
-isEnding Join = false
 isEnding Leave = true
 isEnding Block = false
 isEnding Resume = false
@@ -105,7 +103,6 @@ setter-ages : (units : ℕ → ℕ) (t : Task) → OneOff units (t .clock) → (
     ≡ ifLeft false handle kind (cond own (unitsAfter event (units (t .clock))) (units (t .clock)))
 unfolding moved
 setter-ages units t step event tested false handle kind = rw and-false
-setter-ages units t step Join tested true handle kind = absurd (false≢true tested)
 setter-ages units t step Leave tested true handle kind = refl
 setter-ages units t step Block tested true handle kind = refl
 setter-ages units t step Resume tested true handle kind = refl
@@ -154,7 +151,6 @@ lasting-filter : (event : Event) (task : ℕ) (advanced : Bool) (c : Clocks) (xs
     lasting event task advanced c xs
     ≡ eachDue late (filter (λ (x : Expiration). not (isEnding event && isSetBy task (x .due)) && isLiveDue c (late (x .due))) xs))
 unfolding lasting
-lasting-filter Join task advanced c xs tested = absurd (false≢true tested)
 lasting-filter Leave task advanced c xs tested =
     let others : List Expiration = filter (λ (x : Expiration). not (isSetBy task (x .due))) xs in
     ap (filter (isLive c)) (map-map _ _ others)
@@ -222,7 +218,6 @@ stays due now = omega arith
 
 -- the leaver is the event's task, or none of the tasks that there are
 leaver-ends : (event : Event) (task setter : ℕ) → setter < taskCount → eqb setter (leaverOf event task) ≡ (isEnding event && eqb setter task)
-leaver-ends Join task setter known = ne-eqb setter taskCount (λ e. omega arith)
 leaver-ends Leave task setter known = refl
 leaver-ends Block task setter known = ne-eqb setter taskCount (λ e. omega arith)
 leaver-ends Resume task setter known = ne-eqb setter taskCount (λ e. omega arith)
@@ -236,7 +231,6 @@ leaver-left event task setter = by event
     none = by-test (eqb setter taskCount) (λ e. rw (e, eqb-true setter taskCount e)) (λ e. rw e)
 
     by : (event : Event) → lateSetter (leaverOf event task) setter ≡ setterAfter event task setter
-    by Join = none
     by Leave = refl
     by Block = none
     by Resume = none

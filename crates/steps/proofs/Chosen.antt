@@ -23,7 +23,7 @@ use Rattle.ledger.specs.declared.Kind.the-variants.{Local, Global, Pinned}
 use Rattle.ledger.specs.declared.State.{State}
 use Rattle.ledger.specs.declared.State.the-variants.{Absent, Running, Waiting}
 use Rattle.ledger.specs.declared.Refusal.{Refusal}
-use Rattle.ledger.specs.declared.Refusal.the-variants.{NoSuchTask, LengthOutOfRange, HandlesSpent, NoFreeBlock, OnlyMakePins, OutsideObject, SumDiffers}
+use Rattle.ledger.specs.declared.Refusal.the-variants.{NoSuchTask, LengthOutOfRange, HandlesSpent, NoFreeBlock, AtLimit, OnlyMakePins, OutsideObject, SumDiffers}
 use Rattle.ledger.specs.declared.Verdict.{Verdict}
 use Rattle.ledger.specs.declared.Verdict.the-variants.{Accepted, Refused}
 use Rattle.ledger.specs.declared.Limits.{Limits}
@@ -34,7 +34,9 @@ use Rattle.record.specs.WellFormed.{isBlock, isEntryAt}
 use Rattle.record.proofs.Facts.{Fit}
 use Rattle.record.specs.Tables.{Tables, blockEntries}
 use Rattle.record.specs.declared.TaskEntry.{TaskEntry}
-use Rattle.steps.specs.Objects.{placeOf, isFreeBlock, endFor, freePlace, isFreeEntry, standingIn, freeSlot, andThen, refuseIf, byState, taskVerdict, kindVerdict, extensionVerdict, foundVerdict, handleVerdict, roomVerdict, makeVerdict, refreshVerdict, standingVerdict, readVerdict, writeVerdict}
+use Rattle.steps.specs.Objects.{placeOf, isFreeBlock, endFor, freePlace, isFreeEntry, standingIn, freeSlot, andThen, refuseIf, byState, taskVerdict, kindVerdict, extensionVerdict, foundVerdict, handleVerdict, roomVerdict, isFilled, makeVerdict, refreshVerdict, standingVerdict, readVerdict, writeVerdict}
+use Rattle.record.specs.Shares.{isLimited}
+use Rattle.steps.proofs.Rooms.{room-left}
 use Rattle.steps.proofs.Taken.{MaySet, SlotFree, PlaceFree}
 
 -- a chain that accepts, accepts in each of its parts
@@ -138,6 +140,8 @@ module _ (p : Tables) (fit : Fit p) (types : Typed p) (size : ℕ) (range : (eqb
 pub record Taken (task extension size : ℕ) (p : Tables) : Type 0 where
   pub may : MaySet task extension p
   pub unspent : p .given < lastHandle
+  pub limited : isLimited (isSmall size) (p .shares) (p .blocks) task ≡ false
+  pub filled : isFilled (isSmall size) (p .limits) (p .shares) (p .blocks) task ≡ false
   pub block : PlaceFree (p .limits) (freePlace (p .limits) size (p .blocks)) size (p .blocks)
   pub entry : SlotFree (p .limits) (freeSlot (p .expirations)) (p .expirations)
 
@@ -158,11 +162,14 @@ make-takes task kind extension size p fit types v =
     let (extension-ok, v₂) = both-accept _ _ v₁ in
     let (size-ok, v₃) = both-accept _ _ v₂ in
     let (_, v₄) = both-accept (refuseIf (leb lastHandle (p .given)) HandlesSpent) _ v₃ in
-    let (block-ok, slot-ok) = both-accept _ _ v₄ in
+    let (limit-ok, v₅) = both-accept (refuseIf (isLimited (isSmall size) (p .shares) (p .blocks) task) AtLimit) _ v₄ in
+    let (block-ok, slot-ok) = both-accept _ _ v₅ in
     record {
       may = may-set task kind extension p fit task-ok extension-ok;
       unspent = make-unspent task kind extension size p v;
-      block = place-free p fit types size (not-refused _ LengthOutOfRange size-ok) (not-refused _ NoFreeBlock block-ok);
+      limited = not-refused _ AtLimit limit-ok;
+      filled = not-refused _ NoFreeBlock block-ok;
+      block = place-free p fit types size (not-refused _ LengthOutOfRange size-ok) (room-left p fit types task size (not-refused _ NoFreeBlock block-ok));
       entry = slot-free p fit types slot-ok;
     }
 

@@ -12,7 +12,7 @@ use Rattle.lists.proofs.Cases.{by-test}
 use Rattle.ledger.specs.Limits.{counterRange, taskCount}
 use Rattle.ledger.specs.Tasks.{isTested, allTicked}
 use Rattle.ledger.specs.declared.Event.{Event}
-use Rattle.ledger.specs.declared.Event.the-variants.{Join, Leave, Block, Resume, Tick}
+use Rattle.ledger.specs.declared.Event.the-variants.{Leave, Block, Resume, Tick}
 use Rattle.ledger.specs.declared.Verdict.{Verdict}
 use Rattle.ledger.specs.declared.Verdict.the-variants.{Accepted, Refused}
 use Rattle.record.specs.Codes.{taskOf, absentEntry}
@@ -20,8 +20,9 @@ use Rattle.record.specs.Reading.{Typed}
 use Rattle.record.specs.declared.TaskEntry.{TaskEntry}
 use Rattle.record.specs.declared.GlobalTime.{GlobalTime}
 use Rattle.record.specs.Tables.{Tables}
-use Rattle.steps.specs.Events.{movedEntry, untickedEntry, movedTasks, advancedTasks, advancedTime, leaverOf, swept, poolAfter, outcomeBy, scheduled}
+use Rattle.steps.specs.Events.{movedEntry, untickedEntry, movedTasks, advancedTasks, advancedTime, leaverOf, swept, orphanedPool, movedPool, poolAfter, outcomeBy, scheduled}
 use Rattle.steps.proofs.EventsFollow.{recordVerdict}
+use Rattle.steps.proofs.Orphans.{typed-orphaned}
 
 -- the clock of an entry is in its range
 abbrev pub InRange : TaskEntry → Type 0
@@ -29,7 +30,6 @@ InRange e = e .clock .0 < counterRange
 
 moved-range : (event : Event) (e : TaskEntry) → InRange e → InRange (movedEntry event e)
 unfolding counterRange
-moved-range Join e h = omega arith
 moved-range Leave e h = omega arith
 moved-range Block e h = h
 moved-range Resume e h = h
@@ -61,10 +61,11 @@ advanced-global false global h = h
 -- The record with these tasks and this time, before and after a sweep
 module _ (tasks : List TaskEntry) (global : GlobalTime) (p : Tables) (types : Typed p) (sixteen : length tasks ≡ taskCount) (clocks : All InRange tasks)
     (range : global .0 < counterRange) where
-  pub typed-put : Typed (record { limits = p .limits; tasks = tasks; global = global; given = p .given; blocks = p .blocks; expirations = p .expirations })
+  pub typed-put : Typed (record { limits = p .limits; tasks = tasks; global = global; given = p .given; shares = p .shares; blocks = p .blocks; expirations = p .expirations })
   typed-put =
       record {
         tasks = sixteen;
+        shares = types .shares;
         blocks = types .blocks;
         expirations = types .expirations;
         clocks = clocks;
@@ -77,6 +78,7 @@ module _ (tasks : List TaskEntry) (global : GlobalTime) (p : Tables) (types : Ty
   typed-swept leaver advanced =
       record {
         tasks = sixteen;
+        shares = types .shares;
         blocks = length-mapFrom 0 _ (p .blocks) ∙ types .blocks;
         expirations = length-map (p .expirations) _ ∙ types .expirations;
         clocks = clocks;
@@ -85,9 +87,9 @@ module _ (tasks : List TaskEntry) (global : GlobalTime) (p : Tables) (types : Ty
       }
 
 -- an accepted event, and any
-pub typed-after : (event : Event) (task : ℕ) (p : Tables) → Typed p → Typed (poolAfter event task p)
-unfolding poolAfter
-typed-after event task p types =
+typed-moved : (event : Event) (task : ℕ) (p : Tables) → Typed p → Typed (movedPool event task p)
+unfolding movedPool
+typed-moved event task p types =
     let tasks = movedTasks event task (p .tasks) in
     let advanced = allTicked (map taskOf tasks) in
     let time = advancedTime advanced (p .global) in
@@ -98,6 +100,10 @@ typed-after event task p types =
     (typed-swept (advancedTasks advanced tasks) time p types (advanced-sixteen advanced tasks sixteen) (advanced-clocks advanced tasks clocks)
     (advanced-global advanced (p .global) (types .global)) (leaverOf event task) advanced))
     (λ e. rw e (typed-put tasks (p .global) p types sixteen clocks (types .global)))
+
+pub typed-after : (event : Event) (task : ℕ) (p : Tables) → Typed p → Typed (poolAfter event task p)
+unfolding poolAfter
+typed-after event task p types = typed-moved event task (orphanedPool event task p) (typed-orphaned event task p types)
 
 pub typed-scheduled : (event : Event) (task : ℕ) (p : Tables) → Typed p → Typed (scheduled event task p .pool)
 unfolding scheduled

@@ -1,21 +1,24 @@
 -- An event on a well-formed record follows the ledger: whatever ledger the record reads as, the answer is that ledger's and what is left reads as its next.
-use Prim.Native.Nat.{ℕ}
+use Prim.Native.Nat.{ℕ, _<_}
+use borrow.Author.Tests.{leb-false}
 use mathlib.Core.Bool.{Bool, true, false, cond}
 use mathlib.Core.List.{List, [], map, List·Permᴰ}
 use mathlib.Core.Option.{none}
-use mathlib.Core.Path.{_≡_, refl, sym, ap}
+use mathlib.Core.Path.{_≡_, refl, sym, ap, _∙_}
 use lib.Dec.{leb}
-use lib.ListN.{getD}
+use lib.ListN.{length, getD}
 use Rattle.lists.specs.Tables.{readBy, readFrom, mapFrom}
 use Rattle.lists.proofs.Cases.{by-test}
 use Rattle.ledger.specs.Limits.{taskCount}
-use Rattle.ledger.specs.Tasks.{Clocks, isTested, allTicked}
+use Rattle.ledger.specs.Tasks.{Clocks, clocksAfter, isTested, allTicked}
 use Rattle.ledger.specs.Objects.{replyTo, memoryAfter, expirationsAfter}
 use Rattle.ledger.specs.Refusals.{asRefusal}
 use Rattle.ledger.specs.Kept.{PinsKept}
 use Rattle.ledger.proofs.KeptPins.{pins-carried}
+use Rattle.ledger.proofs.KeptShares.{shares-filter, shares-after}
 use Rattle.ledger.specs.Ledger.{Ledger, settled, replyBy, afterBy, reply, next}
 use Rattle.ledger.specs.Compared.{shown, viewOf}
+use Rattle.ledger.specs.declared.Share.{Share}
 use Rattle.ledger.specs.declared.Event.{Event}
 use Rattle.ledger.specs.Expirations.{Expiration}
 use Rattle.ledger.specs.declared.Refusal.the-variants.{NoSuchTask}
@@ -26,11 +29,14 @@ use Rattle.record.specs.WellFormed.{isWellFormed}
 use Rattle.record.specs.declared.TaskEntry.{TaskEntry}
 use Rattle.record.specs.Tables.{BlockEntry, ExpirationEntry, Tables}
 use Rattle.record.specs.declared.GlobalTime.{GlobalTime}
-use Rattle.record.proofs.Facts.{Fit, fit-parts}
-use Rattle.steps.specs.Events.{verdictOf, verdictAt, movedTasks, advancedTasks, advancedTime, leaverOf, passedEntry, keptBlock, swept, poolAfter, answerAfter, outcomeBy, scheduled}
+use Rattle.record.proofs.Facts.{Fit, Shared, fit-parts, shared-part, fit-whole}
+use Rattle.record.proofs.Exists.{fit-tables-read}
+use Rattle.steps.specs.Events.{verdictOf, verdictAt, movedTasks, advancedTasks, advancedTime, leaverOf, passedEntry, keptBlock, swept, orphanedPool, movedPool, poolAfter, answerAfter, outcomeBy, scheduled}
 use Rattle.ledger.specs.declared.Verdict.{Verdict}
 use Rattle.ledger.specs.declared.Verdict.the-variants.{Accepted, Refused}
 use Rattle.steps.proofs.FitAfter.{fit-after}
+use Rattle.steps.proofs.Orphans.{shares-counted, withMakers, fit-orphaned, reads-orphaned}
+use Rattle.steps.proofs.Shares.{shared-kept, kept-shared}
 use Rattle.steps.proofs.ReadTasks.{ClocksAlike, verdict-alike, advances-alike, clocks-alike, untested-clocks-alike}
 use Rattle.steps.proofs.ReadExpirations.{expirations-alike, untested-expirations-alike}
 use Rattle.steps.proofs.ReadObjects.{freed-shown, objects-alike, standing-ascending}
@@ -38,14 +44,14 @@ use Rattle.steps.proofs.Standing.{none-freed}
 
 -- entries, times and expirations on the same blocks that are alike: so is the whole, once what is not named is free
 pub reads-with : (p : Tables) (small large : List ℕ) (L : Ledger) → Fit p → Reads p small large L → (entries : List TaskEntry) (time : GlobalTime)
-    (blocks : List BlockEntry) (xs : List ExpirationEntry) (clocks : Clocks) (ys : List Expiration) (handles : List ℕ) → PinsKept handles ys → ClocksAlike entries time clocks
+    (blocks : List BlockEntry) (xs : List ExpirationEntry) (clocks : Clocks) (ys : List Expiration) (handles : List ℕ) {shares kept : List Share} → shares ≡ kept → PinsKept handles ys → ClocksAlike entries time clocks
     → List·Permᴰ (readBy (shownEntry entries time (p .blocks)) xs) (map (shown clocks) ys)
     → readFrom 0 (objectIn small large) blocks ≡ readFrom 0 (objectIn small large) (mapFrom 0 (keptBlock xs) (p .blocks))
     → readBy (shownEntry entries time blocks) xs ≡ readBy (shownEntry entries time (p .blocks)) xs
-    → Reads (record { limits = p .limits; tasks = entries; global = time; given = p .given; blocks = blocks; expirations = xs }) small large
-    (settled (record { limits = L .memory .limits; clocks = clocks; given = L .memory .given; objects = L .memory .objects; pinned = handles }) ys)
+    → Reads (record { limits = p .limits; tasks = entries; global = time; given = p .given; shares = shares; blocks = blocks; expirations = xs }) small large
+    (settled (record { limits = L .memory .limits; clocks = clocks; given = L .memory .given; objects = L .memory .objects; shares = kept; pinned = handles }) ys)
 unfolding recordView viewOf
-reads-with p small large L fit reads entries time blocks xs clocks ys handles pins same alike freed shows =
+reads-with p small large L fit reads entries time blocks xs clocks ys handles held pins same alike freed shows =
     record {
       alike =
           record {
@@ -53,6 +59,7 @@ reads-with p small large L fit reads entries time blocks xs clocks ys handles pi
             tasks = same .tasks;
             global = same .global;
             given = reads .alike .given;
+            shares = held;
             objects =
                 rw freed
                 (objects-alike entries time (p .blocks) xs (fit .distinct) clocks ys alike small large (isWhole (p .limits) small large) (L .memory .objects)
@@ -62,6 +69,13 @@ reads-with p small large L fit reads entries time blocks xs clocks ys handles pi
       ascending = standing-ascending ys (L .memory .objects) (reads .ascending);
       pins = pins;
     }
+
+-- the ledger after an event that it carries out, with its makers as they were
+abbrev moving : Event → ℕ → Ledger → Ledger
+moving event task L =
+    let m = L .memory in
+    settled (record { limits = m .limits; clocks = clocksAfter event task (m .clocks); given = m .given; objects = m .objects; shares = m .shares; pinned = m .pinned })
+    (expirationsAfter (Schedule event task) [] (L .memory) (L .expirations))
 
 -- the ledger after an event that it carries out
 abbrev after : Event → ℕ → Ledger → Ledger
@@ -78,9 +92,9 @@ module _ (event : Event) (task : ℕ) (p : Tables) (small large : List ℕ) (L :
   unfolding answerAfter replyTo
   answers = by-test (isTested event) (λ e. rw (e, advances-alike event task (p .tasks) (L .memory .clocks) (clocks .tasks) e)) (λ e. rw e)
 
-  reads-after : Reads (poolAfter event task p) small large (after event task L)
-  unfolding poolAfter swept recordView viewOf memoryAfter expirationsAfter
-  reads-after =
+  reads-moved : Reads (movedPool event task p) small large (moving event task L)
+  unfolding movedPool swept recordView viewOf memoryAfter expirationsAfter
+  reads-moved =
       let moved = movedTasks event task (p .tasks) in
       let advanced = allTicked (map taskOf moved) in
       let entries = advancedTasks advanced moved in
@@ -88,16 +102,39 @@ module _ (event : Event) (task : ℕ) (p : Tables) (small large : List ℕ) (L :
       let pinned = pins-carried (L .memory) (L .expirations) (Schedule event task) [] tt (reads .pins) in
       by-test (isTested event)
       (λ e. rw e
-      (reads-with p small large L fit reads _ _ _ _ _ _ _ pinned (clocks-alike event task clocks e)
+      (reads-with p small large L fit reads _ _ _ _ _ _ _ (reads .alike .shares) pinned (clocks-alike event task clocks e)
       (rw (advances-alike event task (p .tasks) (L .memory .clocks) (clocks .tasks) e)
       (expirations-alike event task clocks (rw (advances-alike event task (p .tasks) (L .memory .clocks) (clocks .tasks) e) at (clocks-alike event task clocks e)) accepted (p .limits) (p .blocks) (p .expirations) (fit .entries) (L .expirations)
       (reads .alike .expirations) e))
       refl (freed-shown entries time (p .blocks) (map (passedEntry (leaverOf event task) advanced entries time) (p .expirations)))))
       (λ e. rw e
-      (reads-with p small large L fit reads _ _ _ _ _ _ _ pinned (untested-clocks-alike event task clocks e)
+      (reads-with p small large L fit reads _ _ _ _ _ _ _ (reads .alike .shares) pinned (untested-clocks-alike event task clocks e)
       (untested-expirations-alike event task clocks (untested-clocks-alike event task clocks e) accepted (p .limits) (p .blocks) (p .expirations) (fit .entries)
       (L .expirations) (reads .alike .expirations) e)
       (ap (readFrom 0 (objectIn small large)) (sym (none-freed (p .given) (p .expirations) (p .blocks) (fit .blocks)))) refl))
+
+-- an event leaves as many shares
+shares-left : (event : Event) (task : ℕ) (p : Tables) → length (poolAfter event task p .shares) ≡ length (p .shares)
+unfolding poolAfter movedPool orphanedPool swept
+shares-left event task p =
+    by-test (isTested event) (λ t. rw t (shares-counted event task (p .shares))) (λ t. rw t (shares-counted event task (p .shares)))
+
+module _ (event : Event) (task : ℕ) (p : Tables) (small large : List ℕ) (L : Ledger) (fit : Fit p) (reads : Reads p small large L)
+    (accepted : verdictOf event (stateOf (getD (p .tasks) task absentEntry .state)) ≡ Accepted) where
+  pub reads-after : Reads (poolAfter event task p) small large (after event task L)
+  unfolding poolAfter orphanedPool memoryAfter expirationsAfter
+  reads-after =
+      reads-moved event task (orphanedPool event task p) small large (withMakers event task L) (fit-orphaned event task p fit)
+      (reads-orphaned task reads event) accepted
+
+  -- the shares are kept with it
+  pub shared-after : Typed p → task < taskCount → Shared p → Shared (poolAfter event task p)
+  unfolding memoryAfter
+  shared-after types known shared =
+      kept-shared reads-after (as-many types) (shares-filter _ (shares-after (L .memory .clocks) task event known (shared-kept reads (types .shares) shared)))
+    where
+      as-many : Typed p → length (poolAfter event task p .shares) ≡ taskCount
+      as-many types = shares-left event task p ∙ types .shares
 
 -- what the record's verdict makes of both
 by-verdict : (v : Verdict) (event : Event) (task : ℕ) (p : Tables) (small large : List ℕ) (L : Ledger) → Fit p → Reads p small large L
@@ -127,9 +164,11 @@ schedule-follows event task p small large L w reads =
 
 pub schedule-fits : (event : Event) (task : ℕ) (p : Tables) → Typed p → isWellFormed p ≡ true → isWellFormed (scheduled event task p .pool) ≡ true
 unfolding scheduled
-schedule-fits event task p types w = by (recordVerdict event task p) (accepted-by-state (leb taskCount task) _)
+schedule-fits event task p types w = by-test (leb taskCount task) (λ past. rw past w) (λ known. rw known (by (leb-false taskCount task known) (verdictOf event (stateOf (getD (p .tasks) task absentEntry .state))) refl))
   where
-    by : (v : Verdict) → (v ≡ Accepted → verdictOf event (stateOf (getD (p .tasks) task absentEntry .state)) ≡ Accepted)
-        → isWellFormed (outcomeBy v event task p .pool) ≡ true
-    by Accepted accepted = fit-after event task p w types (accepted refl)
-    by (Refused r) accepted = w
+    by : task < taskCount → (v : Verdict) → verdictOf event (stateOf (getD (p .tasks) task absentEntry .state)) ≡ v → isWellFormed (outcomeBy v event task p .pool) ≡ true
+    by known Accepted accepted =
+        let fit = fit-parts p w in
+        let (L, reads) = fit-tables-read p types fit [] [] in
+        fit-whole _ (fit-after event task p fit types accepted) (shared-after event task p [] [] L fit reads accepted types known (shared-part p w))
+    by known (Refused r) accepted = w

@@ -39,7 +39,7 @@ blockOf handle blocks = getD blocks (placeOf handle blocks) freeBlock
 abbrev pub objectOf : List ℕ → List ℕ → List BlockEntry → ℕ → Object
 objectOf small large blocks i =
     let b = getD blocks i freeBlock in
-    record { handle = b .handle; size = b .length; bytes = blockBytes small large i (sizeOf i); sum = b .sum }
+    record { handle = b .handle; size = b .length; bytes = blockBytes small large i (sizeOf i); sum = b .sum; maker = b .maker }
 
 abbrev isObjectOf : ℕ → Object → Bool
 isObjectOf handle o = eqb (o .handle) handle

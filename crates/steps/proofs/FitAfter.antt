@@ -16,7 +16,7 @@ use Rattle.ledger.specs.Tasks.{isAbsent, allTicked}
 use Rattle.ledger.specs.Expirations.{departed}
 use Rattle.ledger.specs.declared.State.the-variants.{Running}
 use Rattle.ledger.specs.declared.Event.{Event}
-use Rattle.ledger.specs.declared.Event.the-variants.{Join, Leave, Block, Resume, Tick}
+use Rattle.ledger.specs.declared.Event.the-variants.{Leave, Block, Resume, Tick}
 use Rattle.record.specs.Codes.{stateOf, taskOf, dueOf, absentEntry}
 use Rattle.record.specs.Reading.{Typed}
 use Rattle.record.specs.WellFormed.{isFitTask, isFitDue, isWellFormed}
@@ -26,11 +26,12 @@ use Rattle.record.specs.Tables.{Tables}
 use Rattle.record.specs.declared.Due.{Due}
 use Rattle.record.specs.declared.Due.the-variants.{Free, Local, Global, Pinned, Unknown}
 use Rattle.record.proofs.Facts.{Fit, fit-parts, fit-whole}
-use Rattle.steps.specs.Events.{verdictOf, untickedEntry, advancedTasks, advancedTime, swept, withTimes, poolAfter}
+use Rattle.steps.specs.Events.{verdictOf, untickedEntry, advancedTasks, advancedTime, swept, withTimes, orphanedPool, movedPool, poolAfter}
 use Rattle.ledger.specs.declared.Verdict.the-variants.{Accepted}
 use Rattle.ledger.specs.declared.Limits.{Limits}
-use Rattle.steps.proofs.FitTasks.{Later, later-same, later-next, StaysPresent, OthersStayPresent, set-stays-present, join-absent, tick-running, ticked-fits, unticked-fits, advanced-unticked, running-unticked}
+use Rattle.steps.proofs.FitTasks.{Later, later-same, later-next, StaysPresent, OthersStayPresent, set-stays-present, tick-running, ticked-fits, unticked-fits, advanced-unticked, running-unticked}
 use Rattle.steps.proofs.FitSwept.{local-fits, fit-swept}
+use Rattle.steps.proofs.Orphans.{fit-orphaned, typed-orphaned}
 
 -- an expiration stays fit while its task stays present with the same clock
 same-fits : (limits : Limits) (before after : TaskEntry) (global : GlobalTime) (used : Bool) (due : Due) → StaysPresent _≡_ before after
@@ -73,7 +74,7 @@ module _ (p : Tables) (f : Fit p) (task : ℕ) (e : TaskEntry) (fits : isFitTask
       (λ any other. set-stays-present Later later-same (p .tasks) task e any (λ at. follows (rw (← at) other))) set-fits (advanced-unticked tasks)
 
   -- by an event that makes the task run
-  fit-running : stateOf (e .state) ≡ Running → eqb (e .ticked) 1 ≡ false → StaysPresent _≡_ (getD (p .tasks) task absentEntry) e
+  pub fit-running : stateOf (e .state) ≡ Running → eqb (e .ticked) 1 ≡ false → StaysPresent _≡_ (getD (p .tasks) task absentEntry) e
       → Fit (withTimes (set (p .tasks) task e) (p .global) p)
   fit-running running unticked follows =
       record {
@@ -91,12 +92,10 @@ module _ (p : Tables) (f : Fit p) (task : ℕ) (e : TaskEntry) (fits : isFitTask
         counted = f .counted;
       }
 
--- the five events
+-- the four events
 fit-moved : (event : Event) (task : ℕ) (p : Tables) → Fit p → Typed p
-    → verdictOf event (stateOf (getD (p .tasks) task absentEntry .state)) ≡ Accepted → Fit (poolAfter event task p)
-unfolding poolAfter isFitTask counterRange
-fit-moved Join task p f r a =
-    fit-running p f task _ refl refl refl (λ present. absurd (true≢false (rw (join-absent (stateOf (getD (p .tasks) task absentEntry .state)) a) at present)))
+    → verdictOf event (stateOf (getD (p .tasks) task absentEntry .state)) ≡ Accepted → Fit (movedPool event task p)
+unfolding movedPool isFitTask counterRange
 fit-moved Leave task p f r a =
     fit-tested p f task _ refl r task (λ other. absurd (eqb-false task task other refl))
 fit-moved Block task p f r a = fit-tested p f task _ refl r taskCount (λ other present. (refl, later-same _))
@@ -107,8 +106,8 @@ fit-moved Tick task p f r a =
     let range = all-getD _ absentEntry (omega arith) (p .tasks) (r .clocks) task in
     fit-tested p f task _ (ticked-fits entry (tick-running (stateOf (entry .state)) a) fits) r taskCount (λ other present. (present, later-next _ range))
 
--- W13: the step of an event
-pub fit-after : (event : Event) (task : ℕ) (p : Tables) → isWellFormed p ≡ true → Typed p
-    → verdictOf event (stateOf (getD (p .tasks) task absentEntry .state)) ≡ Accepted
-    → isWellFormed (poolAfter event task p) ≡ true
-fit-after event task p w r a = fit-whole _ (fit-moved event task p (fit-parts p w) r a)
+-- W13: the step of an event, but for the shares
+pub fit-after : (event : Event) (task : ℕ) (p : Tables) → Fit p → Typed p
+    → verdictOf event (stateOf (getD (p .tasks) task absentEntry .state)) ≡ Accepted → Fit (poolAfter event task p)
+unfolding poolAfter orphanedPool
+fit-after event task p f r a = fit-moved event task (orphanedPool event task p) (fit-orphaned event task p f) (typed-orphaned event task p r) a

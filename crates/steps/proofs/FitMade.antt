@@ -19,6 +19,7 @@ use Rattle.ledger.specs.Limits.{taskCount, smallSize, largeSize, isSmall}
 use Rattle.ledger.specs.Refusals.{isPinning as isPinningKind}
 use Rattle.ledger.specs.declared.Kind.{Kind}
 use Rattle.ledger.specs.declared.Kind.the-variants.{Local, Global, Pinned}
+use Rattle.ledger.specs.Expirations.{departed}
 use Rattle.ledger.specs.declared.Limits.{Limits}
 use Rattle.record.specs.Codes.{dueBy, dueOf, isPinnedDue, freeBlock, freeEntry}
 use Rattle.record.specs.Reading.{Typed}
@@ -152,20 +153,20 @@ new-sized place size limits blocks block =
 module _ (p : Tables) (fit : Fit p) (types : Typed p) (kind : Kind) (task extension size place slot : ℕ)
     (may : MaySet task extension p) (block : PlaceFree (p .limits) place size (p .blocks)) (entry : SlotFree (p .limits) slot (p .expirations)) where
   -- older entries are fit by the new blocks
-  entries-still : all (isFitEntry (p .limits) (p .tasks) (p .global) (withObject place size p .blocks)) (p .expirations) ≡ true
+  entries-still : all (isFitEntry (p .limits) (p .tasks) (p .global) (withObject task place size p .blocks)) (p .expirations) ≡ true
   entries-still =
       passes-imp
       (λ e h.
-      let stays = block-stays (p .limits) (p .tasks) (p .global) (p .blocks) place (newBlock (p .given) size) (block .free) e h in
+      let stays = block-stays (p .limits) (p .tasks) (p .global) (p .blocks) place (newBlock task (p .given) size) (block .free) e h in
       used-fits (p .limits) _ (p .global) _ _ (dueOf e) (λ dated. ap isUsed (stays dated)) h)
       (p .expirations) (fit .entries)
 
-  new-used : isUsed (getD (withObject place size p .blocks) place freeBlock) ≡ true
+  new-used : isUsed (getD (withObject task place size p .blocks) place freeBlock) ≡ true
   new-used =
-      rw (getD-set-same (p .blocks) place (newBlock (p .given) size) freeBlock (block .listed), ne-eqb (p .given + 1) 0 (λ z. omega arith))
+      rw (getD-set-same (p .blocks) place (newBlock task (p .given) size) freeBlock (block .listed), ne-eqb (p .given + 1) 0 (λ z. omega arith))
 
   -- the new block is named by the new entry
-  block-fits : isFitBlock (p .given + 1) (set (p .expirations) slot (entryFor kind task extension place p)) place (newBlock (p .given) size) ≡ true
+  block-fits : isFitBlock (p .given + 1) (set (p .expirations) slot (entryFor kind task extension place p)) place (newBlock task (p .given) size) ≡ true
   unfolding isFitBlock
   block-fits =
       rw (
@@ -175,12 +176,12 @@ module _ (p : Tables) (fit : Fit p) (types : Typed p) (kind : Kind) (task extens
         or-true,
       )
 
-  pub fit-made : Fit (withEntry slot (entryFor kind task extension place p) (withObject place size p))
+  pub fit-made : Fit (withEntry slot (entryFor kind task extension place p) (withObject task place size p))
   fit-made =
       record {
         tasks = fit .tasks;
         unticked = fit .unticked;
-        entries = passes-set _ (p .expirations) slot _ entries-still (entry-fits p types kind task extension place may (withObject place size p .blocks) new-used);
+        entries = passes-set _ (p .expirations) slot _ entries-still (entry-fits p types kind task extension place may (withObject task place size p .blocks) new-used);
         blocks =
             allFrom-set _ (p .blocks) place _ block-fits
             (blocks-still (p .given) (p .given + 1) slot _ (p .expirations) (p .blocks) (omega arith) entry (fit .blocks));
@@ -191,6 +192,6 @@ module _ (p : Tables) (fit : Fit p) (types : Typed p) (kind : Kind) (task extens
             (none-pinned (p .limits) (p .tasks) (p .global) (p .blocks) (p .expirations) place (rw (block .free)) (fit .entries)))
             (fit .once);
         allowed = fit .allowed;
-        listed = allFrom-set (isBlockAt (p .limits)) (p .blocks) place (newBlock (p .given) size) (rw (block .its, or-true)) (fit .listed);
+        listed = allFrom-set (isBlockAt (p .limits)) (p .blocks) place (newBlock task (p .given) size) (rw (block .its, or-true)) (fit .listed);
         counted = counted-set p slot _ entry fit;
       }

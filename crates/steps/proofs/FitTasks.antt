@@ -15,7 +15,7 @@ use Rattle.ledger.specs.Limits.{counterRange}
 use Rattle.ledger.specs.Tasks.{Task, isAbsent, isRunning, allTicked}
 use Rattle.ledger.specs.declared.State.{State}
 use Rattle.ledger.specs.declared.State.the-variants.{Absent, Running, Waiting}
-use Rattle.ledger.specs.declared.Event.the-variants.{Join, Tick}
+use Rattle.ledger.specs.declared.Event.the-variants.{Tick}
 use Rattle.record.specs.Codes.{stateOf, taskOf, leftAt, absentEntry}
 use Rattle.record.specs.WellFormed.{isFitTask}
 use Rattle.record.specs.declared.TaskEntry.{TaskEntry}
@@ -53,12 +53,7 @@ set-stays-present moves same tasks task e any f =
     at-set (StaysPresent moves (getD tasks any absentEntry)) tasks task any absentEntry
     (λ at. rw at (f at)) (λ present. (present, same _))
 
--- the state of a task that may join, and of one that may tick
-pub join-absent : (s : State) → verdictOf Join s ≡ Accepted → s ≡ Absent
-join-absent Absent a = refl
-join-absent Running a = cc
-join-absent Waiting a = cc
-
+-- the state of a task that may tick
 pub tick-running : (s : State) → verdictOf Tick s ≡ Accepted → s ≡ Running
 tick-running Absent a = cc
 tick-running Running a = refl

@@ -3,9 +3,11 @@ pub mod Late
 pub mod PinnedOnce
 pub mod FitTasks
 pub mod Bounded
+pub mod Orphans
 pub mod FitSwept
 pub mod FitAfter
 pub mod ReadTasks
+pub mod Shares
 pub mod Aging
 pub mod ReadExpirations
 pub mod ReadObjects
@@ -25,8 +27,10 @@ pub mod Summed
 pub mod ReadChanged
 pub mod ReadWritten
 pub mod Chosen
+pub mod SharesMade
 pub mod ObjectsFollow
 pub mod ObjectTypes
 pub mod Staying
 pub mod Batches
 pub mod Releases
+pub mod Joins

@@ -17,6 +17,7 @@ typed-entry : (slot : ℕ) (e : ExpirationEntry) (p : Tables) → Typed p → Ty
 typed-entry slot e p types =
     record {
       tasks = types .tasks;
+      shares = types .shares;
       blocks = types .blocks;
       expirations = rw length-set (types .expirations);
       clocks = types .clocks;
@@ -29,9 +30,10 @@ pub typed-made : (task : ℕ) (kind : Kind) (extension size : ℕ) (p : Tables) 
 unfolding madePool lastHandle counterRange
 typed-made task kind extension size p types accepted =
     let unspent = make-unspent task kind extension size p accepted in
-    typed-entry _ _ (withObject _ size p)
+    typed-entry _ _ (withObject _ _ size p)
     (record {
       tasks = types .tasks;
+      shares = types .shares;
       blocks = rw length-set (types .blocks);
       expirations = types .expirations;
       clocks = types .clocks;
@@ -49,6 +51,7 @@ unfolding writtenPool
 typed-written handle offset new small large p types =
     record {
       tasks = types .tasks;
+      shares = types .shares;
       blocks = rw length-set (types .blocks);
       expirations = types .expirations;
       clocks = types .clocks;
@@ -61,6 +64,7 @@ unfolding releasedPool
 typed-released handle p types =
     record {
       tasks = types .tasks;
+      shares = types .shares;
       blocks = length-mapFrom 0 _ (p .blocks) ∙ types .blocks;
       expirations = length-map (p .expirations) _ ∙ types .expirations;
       clocks = types .clocks;

@@ -24,7 +24,7 @@ use Rattle.record.specs.Reading.{isWholeSmall, isWholeLarge, blockBytes, record
 use Rattle.record.specs.WellFormed.{isWellFormed}
 use Rattle.record.specs.Tables.{Tables, blockEntries}
 use Rattle.record.proofs.Distinct.{handleAt}
-use Rattle.record.proofs.Facts.{fit-parts, fit-whole, fit-used}
+use Rattle.record.proofs.Facts.{fit-parts, shared-part, fit-whole, fit-used}
 use Rattle.steps.specs.Objects.{placeOf, freePlace, handleVerdict, makeVerdict, refreshVerdict, standingVerdict, readVerdict, writeVerdict, madePool, refreshedPool, writtenPool}
 use Rattle.steps.specs.Remaining.{lifeIn}
 use Rattle.steps.proofs.Chosen.{make-takes, refresh-takes, handle-found, standing-found, read-stands, write-begins, write-end}
@@ -33,7 +33,8 @@ use Rattle.steps.proofs.Remaining.{life-alike}
 use Rattle.steps.proofs.StoreBytes.{both-whole, whole-block, used-in-block, first-bytes, made-bytes}
 use Rattle.steps.proofs.FitMade.{fit-made, fit-refreshed}
 use Rattle.steps.proofs.ReadMade.{made-reads, refreshed-reads}
-use Rattle.steps.proofs.Summed.{fit-summed}
+use Rattle.steps.proofs.Summed.{fit-summed, shared-summed}
+use Rattle.steps.proofs.SharesMade.{shared-made}
 use Rattle.steps.proofs.ReadWritten.{written-place, written-sizes, written-reads}
 
 -- the ledger after a call that it carries out
@@ -72,8 +73,9 @@ module _ {p : Tables} {small large : List ℕ} {L : Ledger} (w : isWellFormed p 
       → isWellFormed (madePool task kind extension size p) ≡ true
   unfolding madePool
   make-fits task kind extension size v =
-      let taken = make-takes task kind extension size p (fit-parts p w) types v in
-      fit-whole _ (fit-made p (fit-parts p w) types kind task extension size _ _ (taken .may) (taken .block) (taken .entry))
+      let fit = fit-parts p w in
+      let taken = make-takes task kind extension size p fit types v in
+      fit-whole _ (fit-made p fit types kind task extension size _ _ (taken .may) (taken .block) (taken .entry)) (shared-made p fit types kind task extension size (taken) (shared-part p w))
 
   pub refresh-fits : (task : ℕ) (kind : Kind) (extension handle : ℕ) → refreshVerdict task kind extension handle p ≡ Accepted
       → isWellFormed (refreshedPool task kind extension handle p) ≡ true
@@ -82,10 +84,11 @@ module _ {p : Tables} {small large : List ℕ} {L : Ledger} (w : isWellFormed p 
       let renewed = refresh-takes task kind extension handle p (fit-parts p w) types v in
       fit-whole _
       (fit-refreshed p (fit-parts p w) types kind task extension _ _ (renewed .may) (renewed .entry) (place-found handle (renewed .found) .used) (renewed .plain))
+      (shared-part p w)
 
   pub write-fits : (handle offset : ℕ) (new : List ℕ) → isWellFormed (writtenPool handle offset new small large p) ≡ true
   unfolding writtenPool
-  write-fits handle offset new = fit-whole _ (fit-summed _ _ p (fit-parts p w))
+  write-fits handle offset new = fit-whole _ (fit-summed _ _ p (fit-parts p w)) (shared-summed _ _ p (shared-part p w))
 
   pub refresh-reads : (task : ℕ) (kind : Kind) (extension handle : ℕ) → refreshVerdict task kind extension handle p ≡ Accepted
       → Reads (refreshedPool task kind extension handle p) small large (carried (Refresh task kind extension handle) [] L)

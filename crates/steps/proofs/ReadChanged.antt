@@ -58,7 +58,7 @@ abbrev pub withObjects : (Object → Object) → Ledger → Ledger
 withObjects f L =
     let m = L .memory in
     record {
-      memory = record { limits = m .limits; clocks = m .clocks; given = m .given; objects = map f (m .objects); pinned = m .pinned };
+      memory = record { limits = m .limits; clocks = m .clocks; given = m .given; objects = map f (m .objects); shares = m .shares; pinned = m .pinned };
       expirations = L .expirations;
     }
 
@@ -72,6 +72,7 @@ objectAfter p small large block offset new sum j =
       size = b .length;
       bytes = cond (eqb j block) (overwritten offset new old) old;
       sum = cond (eqb j block) sum (b .sum);
+      maker = b .maker;
     }
 
 -- New bytes in a block in use, of whole stores.
@@ -113,7 +114,7 @@ module _ (p : Tables) (small large : List ℕ) (fit : Fit p) (small-whole : isWh
       (each : (j : ℕ) → handleAt (p .blocks) j ≢ 0 → f (objectOf small large (p .blocks) j) ≡ objectAfter p small large block offset new sum′ j) where
     entry-after : (j : ℕ)
         → let b = getD (p .blocks) j freeBlock in
-        getD (withSum block sum′ p .blocks) j freeBlock ≡ record { handle = b .handle; length = b .length; sum = cond (eqb j block) sum′ (b .sum) }
+        getD (withSum block sum′ p .blocks) j freeBlock ≡ record { handle = b .handle; length = b .length; sum = cond (eqb j block) sum′ (b .sum); maker = b .maker }
     entry-after j =
         by-test (eqb j block)
         (λ e. rw (e, eqb-true j block e) (getD-set-same (p .blocks) block _ freeBlock (listed block used)))
@@ -147,6 +148,7 @@ module _ (p : Tables) (small large : List ℕ) (fit : Fit p) (small-whole : isWh
                 tasks = reads .alike .tasks;
                 global = reads .alike .global;
                 given = reads .alike .given;
+                shares = reads .alike .shares;
                 objects =
                     rw (objects-after, whole (map f os), whole (map f (readFrom 0 (objectIn small large) (p .blocks))))
                     (map-perm f
@@ -162,7 +164,7 @@ module _ (p : Tables) (small large : List ℕ) (fit : Fit p) (small-whole : isWh
 same-sum : (p : Tables) (block : ℕ) → withSum block (getD (p .blocks) block freeBlock .sum) p ≡ p
 same-sum p block =
     ap
-    (λ (bs : List BlockEntry). record { limits = p .limits; tasks = p .tasks; global = p .global; given = p .given; blocks = bs; expirations = p .expirations })
+    (λ (bs : List BlockEntry). record { limits = p .limits; tasks = p .tasks; global = p .global; given = p .given; shares = p .shares; blocks = bs; expirations = p .expirations })
     (set-getD (p .blocks) block freeBlock)
 
 -- One byte of a block in use is another, and nothing else: the record reads as the ledger in which that byte of the object is.

@@ -19,7 +19,7 @@ use Rattle.ledger.specs.Compared.{Left, localLeft, globalLeft, pinnedLeft, Show
 use Rattle.ledger.specs.declared.State.{State}
 use Rattle.ledger.specs.declared.State.the-variants.{Absent, Running, Waiting}
 use Rattle.ledger.specs.declared.Event.{Event}
-use Rattle.ledger.specs.declared.Event.the-variants.{Join, Leave, Block, Resume, Tick}
+use Rattle.ledger.specs.declared.Event.the-variants.{Leave, Block, Resume, Tick}
 use Rattle.record.specs.Codes.{stateOf, dueOf, setterOf, absentEntry}
 use Rattle.record.specs.Reading.{shownDue, shownEntry}
 use Rattle.record.specs.WellFormed.{isFitDue, isFitEntry}
@@ -37,7 +37,6 @@ use Rattle.steps.proofs.Aging.{aged, clock-after, ledger-ages, record-a
 
 -- an event with an advance test is refused to an absent task
 tested-present : (event : Event) (s : State) → isTested event ≡ true → verdictOf event s ≡ Accepted → isAbsent s ≡ false
-tested-present Join Absent tested accepted = absurd (false≢true tested)
 tested-present Leave Absent tested accepted = cc
 tested-present Block Absent tested accepted = cc
 tested-present Resume Absent tested accepted = cc
@@ -56,7 +55,6 @@ accepted-listed event task c tested accepted =
 -- an event with no advance test ends nothing
 lasting-all : (event : Event) (task : ℕ) (advanced : Bool) (c : Clocks) (xs : List Expiration) → isTested event ≡ false → lasting event task advanced c xs ≡ xs
 unfolding lasting
-lasting-all Join task advanced c xs untested = refl
 lasting-all Leave task advanced c xs untested = absurd (true≢false untested)
 lasting-all Block task advanced c xs untested = absurd (true≢false untested)
 lasting-all Resume task advanced c xs untested = refl
@@ -66,9 +64,6 @@ lasting-all Tick task advanced c xs untested = absurd (true≢false untested)
 moved-stays : (event : Event) (t : Task) (s : State) → isTested event ≡ false → verdictOf event s ≡ Accepted → isAbsent s ≡ false
     → moved event t .clock ≡ t .clock
 unfolding moved
-moved-stays Join t Absent untested accepted present = absurd (true≢false present)
-moved-stays Join t Running untested accepted present = cc
-moved-stays Join t Waiting untested accepted present = cc
 moved-stays Leave t s untested accepted present = absurd (true≢false untested)
 moved-stays Block t s untested accepted present = absurd (true≢false untested)
 moved-stays Resume t s untested accepted present = refl
@@ -83,34 +78,26 @@ SetterPresent c pinnedLeft = Unit
 abbrev AllPresent : Clocks → List Shown → Type 0
 AllPresent c xs = All (λ (x : Shown). SetterPresent c (x .left)) xs
 
--- An event with no advance test leaves the units of every expiration whose setter is not absent.
-module _ (event : Event) (task : ℕ) (c : Clocks) (untested : isTested event ≡ false) (accepted : verdictOf event (taskAt c task .state) ≡ Accepted) where
-  clock-stays : (i : ℕ) → isAbsent (taskAt c i .state) ≡ false → taskAt (clocksAfter event task c) i .clock ≡ taskAt c i .clock
-  clock-stays i present =
-      rw (clock-after event task c i)
-      (by-test (eqb i task && ltb task (length (c .tasks)))
-      (λ e. let own = eqb-true i task (and-eq-true-iff _ _ .0 e .0) in
-      rw e (moved-stays event (taskAt c i) (taskAt c i .state) untested (rw own accepted) present))
-      (λ e. rw e))
-
-  ledger-stays : (d : DueTime) → SetterPresent c (leftOf c d) → leftOf (clocksAfter event task c) d ≡ leftOf c d
-  unfolding leftOf remaining clocksAfter advances
-  ledger-stays (byLocal setter at) present = rw (clock-stays setter present)
-  ledger-stays (byGlobal setter at) present = rw untested
+-- Clocks that leave the time of every task that is not absent, and the global time, leave the units of every expiration whose setter is not absent.
+module _ (c after : Clocks) (stays : (i : ℕ) → isAbsent (taskAt c i .state) ≡ false → taskAt after i .clock ≡ taskAt c i .clock) (still : after .global ≡ c .global) where
+  ledger-stays : (d : DueTime) → SetterPresent c (leftOf c d) → leftOf after d ≡ leftOf c d
+  unfolding leftOf remaining
+  ledger-stays (byLocal setter at) present = rw (stays setter present)
+  ledger-stays (byGlobal setter at) present = rw still
   ledger-stays pinned present = refl
 
-  shown-stays : (y : Expiration) → SetterPresent c (leftOf c (y .due)) → shown (clocksAfter event task c) y ≡ shown c y
+  shown-stays : (y : Expiration) → SetterPresent c (leftOf c (y .due)) → shown after y ≡ shown c y
   shown-stays y present = rw (ledger-stays (y .due) present)
 
-  record-stays : {tasks entries : List TaskEntry} {global time : GlobalTime} → ClocksAlike tasks global c → ClocksAlike entries time (clocksAfter event task c)
+  record-stays : {tasks entries : List TaskEntry} {global time : GlobalTime} → ClocksAlike tasks global c → ClocksAlike entries time after
       → (handle : ℕ) (d : Due) → AllPresent c (shownDue tasks global handle d) → shownDue entries time handle d ≡ shownDue tasks global handle d
-  unfolding shownDue clocksAfter advances
-  record-stays same after handle Free present = refl
-  record-stays {tasks} {entries} same after handle (Local setter at) (present, _) =
-      rw (clock-alike entries (clocksAfter event task c) (after .tasks) setter, clock-alike tasks c (same .tasks) setter, clock-stays setter present)
-  record-stays same after handle (Global setter at) present = rw (after .global, same .global, untested)
-  record-stays same after handle (Pinned due) present = refl
-  record-stays same after handle Unknown present = refl
+  unfolding shownDue
+  record-stays same then handle Free present = refl
+  record-stays {tasks} {entries} same then handle (Local setter at) (present, _) =
+      rw (clock-alike entries after (then .tasks) setter, clock-alike tasks c (same .tasks) setter, stays setter present)
+  record-stays same then handle (Global setter at) present = rw (then .global, same .global, still)
+  record-stays same then handle (Pinned due) present = refl
+  record-stays same then handle Unknown present = refl
 
 -- a fit expiration's setter is not absent
 fit-present : (limits : Limits) {tasks : List TaskEntry} {global : GlobalTime} {c : Clocks} → ClocksAlike tasks global c
@@ -123,6 +110,27 @@ fit-present limits {tasks} {global} {c} same used handle (Local setter at) fit =
 fit-present limits same used handle (Global setter at) fit = (tt, tt)
 fit-present limits same used handle (Pinned due) fit = (tt, tt)
 fit-present limits same used handle Unknown fit = tt
+
+-- From a record and a ledger that show the same expirations: no setter is absent, in the record and so in the ledger.
+module _ {tasks : List TaskEntry} {global : GlobalTime} {c : Clocks} (same : ClocksAlike tasks global c)
+    (limits : Limits) (blocks : List BlockEntry) (xs : List ExpirationEntry) (fit : all (isFitEntry limits tasks global blocks) xs ≡ true)
+    (ys : List Expiration) (alike : List·Permᴰ (readBy (shownEntry tasks global blocks) xs) (map (shown c) ys)) where
+  entries-present : All (λ (e : ExpirationEntry). AllPresent c (shownEntry tasks global blocks e)) xs
+  entries-present = all-imp (λ e. fit-present limits same _ _ (dueOf e)) xs (all-true (isFitEntry limits tasks global blocks) xs fit)
+
+  ledger-present : All (λ (y : Expiration). SetterPresent c (leftOf c (y .due))) ys
+  ledger-present = map-all _ (shown c) ys (all-perm _ alike (all-readBy _ _ xs entries-present))
+
+  -- so clocks of which those stay show the same still
+  pub still-alike : {entries : List TaskEntry} {time : GlobalTime} (after : Clocks) → ClocksAlike entries time after
+      → ((i : ℕ) → isAbsent (taskAt c i .state) ≡ false → taskAt after i .clock ≡ taskAt c i .clock) → after .global ≡ c .global
+      → List·Permᴰ (readBy (shownEntry entries time blocks) xs) (map (shown after) ys)
+  still-alike {entries} {time} after then stays still =
+      rw (
+        readBy-same (shownEntry entries time blocks) (shownEntry tasks global blocks) xs (all-imp (λ e. record-stays c after stays still same then _ (dueOf e)) xs entries-present),
+        map-same (shown after) (shown c) ys (all-imp (shown-stays c after stays still) ys ledger-present),
+      )
+      alike
 
 -- An accepted event: from a record and a ledger that show the same expirations, to entries and a time that read as the ledger's clocks after it.
 module _ (event : Event) (task : ℕ) {tasks entries : List TaskEntry} {global time : GlobalTime} {c : Clocks}
@@ -142,21 +150,22 @@ module _ (event : Event) (task : ℕ) {tasks entries : List TaskEntry} {global t
       rw (record-ages event task same after tested listed limits blocks xs fit, ledger-ages event task c tested listed ys)
       (readBy-perm (aged event task c) alike)
 
-  -- no setter is absent, in the record and so in the ledger
-  entries-present : All (λ (e : ExpirationEntry). AllPresent c (shownEntry tasks global blocks e)) xs
-  entries-present = all-imp (λ e. fit-present limits same _ _ (dueOf e)) xs (all-true (isFitEntry limits tasks global blocks) xs fit)
+  -- with none: it leaves its task's clock
+  clock-stays : isTested event ≡ false → (i : ℕ) → isAbsent (taskAt c i .state) ≡ false → taskAt (clocksAfter event task c) i .clock ≡ taskAt c i .clock
+  clock-stays untested i present =
+      rw (clock-after event task c i)
+      (by-test (eqb i task && ltb task (length (c .tasks)))
+      (λ e. let own = eqb-true i task (and-eq-true-iff _ _ .0 e .0) in
+      rw e (moved-stays event (taskAt c i) (taskAt c i .state) untested (rw own accepts) present))
+      (λ e. rw e))
 
-  ledger-present : All (λ (y : Expiration). SetterPresent c (leftOf c (y .due))) ys
-  ledger-present = map-all _ (shown c) ys (all-perm _ alike (all-readBy _ _ xs entries-present))
+  time-stays : isTested event ≡ false → clocksAfter event task c .global ≡ c .global
+  unfolding clocksAfter advances
+  time-stays untested = rw untested
 
-  -- with none
   pub untested-expirations-alike : isTested event ≡ false
       → List·Permᴰ (readBy (shownEntry entries time blocks) xs)
       (map (shown (clocksAfter event task c)) (lasting event task (advances event task c) (clocksAfter event task c) ys))
   untested-expirations-alike untested =
-      rw (
-        readBy-same _ (shownEntry tasks global blocks) xs (all-imp (λ e. record-stays event task c untested accepts same after _ (dueOf e)) xs entries-present),
-        lasting-all event task (advances event task c) (clocksAfter event task c) ys untested,
-        map-same _ (shown c) ys (all-imp (shown-stays event task c untested accepts) ys ledger-present),
-      )
-      alike
+      rw (lasting-all event task (advances event task c) (clocksAfter event task c) ys untested)
+      (still-alike same limits blocks xs fit ys alike (clocksAfter event task c) after (clock-stays untested) (time-stays untested))

@@ -19,7 +19,7 @@ use Rattle.ledger.specs.Compared.{wrapped, wrappedTask}
 use Rattle.ledger.specs.declared.State.{State}
 use Rattle.ledger.specs.declared.State.the-variants.{Absent, Running, Waiting}
 use Rattle.ledger.specs.declared.Event.{Event}
-use Rattle.ledger.specs.declared.Event.the-variants.{Join, Leave, Block, Resume, Tick}
+use Rattle.ledger.specs.declared.Event.the-variants.{Leave, Block, Resume, Tick}
 use Rattle.ledger.specs.declared.Call.the-variants.{Schedule}
 use Rattle.ledger.specs.declared.Refusal.the-variants.{NoSuchTask}
 use Rattle.record.specs.Codes.{stateOf, taskOf, absentEntry}
@@ -52,7 +52,6 @@ tests-alike : (m : Memory) (xs : List Expiration) (event : Event) (task : ℕ) (
     → verdict m xs (testsOf (Schedule event task) new)
     ≡ cond (leb taskCount task) (some NoSuchTask) (asRefusal (verdictOf event (taskAt (m .clocks) task .state)))
 unfolding verdict testsOf
-tests-alike m xs Join task new = by-state (taskAt (m .clocks) task .state) (λ e. rw e) (λ e. rw e) (λ e. rw e)
 tests-alike m xs Leave task new = by-state (taskAt (m .clocks) task .state) (λ e. rw e) (λ e. rw e) (λ e. rw e)
 tests-alike m xs Block task new = by-state (taskAt (m .clocks) task .state) (λ e. rw e) (λ e. rw e) (λ e. rw e)
 tests-alike m xs Resume task new = by-state (taskAt (m .clocks) task .state) (λ e. rw e) (λ e. rw e) (λ e. rw e)
@@ -70,7 +69,6 @@ verdict-alike m xs event task new tasks same =
 -- one task's entry
 entry-moved : (event : Event) (e : TaskEntry) (t : Task) → taskOf e ≡ wrappedTask t → taskOf (movedEntry event e) ≡ wrappedTask (moved event t)
 unfolding moved counterRange
-entry-moved Join e t same = refl
 entry-moved Leave e t same = refl
 entry-moved Block e t same = rw (ap (λ (u : Task). u .clock) same)
 entry-moved Resume e t same = rw (ap (λ (u : Task). u .clock) same)

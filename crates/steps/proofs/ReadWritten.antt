@@ -76,6 +76,6 @@ module _ (p : Tables) (small large : List ℕ) (L : Ledger) (fit : Fit p) (types
       subst
       (λ (os : List Object).
       Reads (withSum block sum′ p) (smallAfter block offset new small) (largeAfter block offset new large)
-      (record { memory = record { limits = m .limits; clocks = m .clocks; given = m .given; objects = os; pinned = m .pinned }; expirations = L .expirations }))
+      (record { memory = record { limits = m .limits; clocks = m .clocks; given = m .given; objects = os; shares = m .shares; pinned = m .pinned }; expirations = L .expirations }))
       all-stand
       (changed-reads p small large fit small-whole large-whole block offset new used inside sum′ rewritten (λ o. refl) each-written reads)

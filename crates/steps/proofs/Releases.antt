@@ -19,7 +19,9 @@ use Rattle.record.specs.Codes.{dueBy, dueOf, isPinnedDue}
 use Rattle.record.specs.Reading.{recordView, Typed, Reads}
 use Rattle.record.specs.Tables.{ExpirationEntry, Tables}
 use Rattle.record.specs.WellFormed.{isFitDue, isFitEntry, isPinning, isWellFormed}
-use Rattle.record.proofs.Facts.{Fit, fit-parts, fit-whole}
+use Rattle.record.proofs.Facts.{Fit, fit-parts, shared-part, fit-whole}
+use Rattle.ledger.proofs.KeptShares.{shares-filter}
+use Rattle.steps.proofs.Shares.{shared-kept, kept-shared}
 use Rattle.steps.specs.Events.{keptBlock}
 use Rattle.steps.specs.Objects.{placeOf, handleVerdict, standingVerdict, releaseVerdict, unpinnedEntry, releasedPool}
 use Rattle.steps.specs.Staying.{Stays}
@@ -78,9 +80,6 @@ release-stays handle p = kept-stays p _
 
 module _ {p : Tables} {small large : List ℕ} {L : Ledger} (w : isWellFormed p ≡ true) (types : Typed p) (reads : Reads p small large L)
     (task handle : ℕ) (v : releaseVerdict task handle p ≡ Accepted) where
-  pub release-fits : isWellFormed (releasedPool handle p) ≡ true
-  release-fits = fit-whole _ (fit-released handle p (fit-parts p w))
-
   handle-ok : handleVerdict handle p ≡ Accepted
   unfolding releaseVerdict
   handle-ok = standing-found task handle p (both-accept (standingVerdict task handle p) _ v .0)
@@ -92,9 +91,15 @@ module _ {p : Tables} {small large : List ℕ} {L : Ledger} (w : isWellFormed p 
       let (nonzero, stands-on) = handle-stands w types reads handle handle-ok in
       let block = placeOf handle (p .blocks) in
       let xs = map (unpinnedEntry block) (p .expirations) in
-      reads-with p small large L fit reads (p .tasks) (p .global) _ xs (L .memory .clocks) _ _
+      reads-with p small large L fit reads (p .tasks) (p .global) _ xs (L .memory .clocks) _ _ (reads .alike .shares)
       (pins-carried (L .memory) (L .expirations) (Release task handle) [] tt (reads .pins))
       (record { tasks = reads .alike .tasks; global = reads .alike .global })
       (rw (record-others fit block (its-used fit reads handle nonzero stands-on), its-handle fit reads handle nonzero stands-on, ledger-others (L .memory .clocks) handle (L .expirations))
       (readBy-perm (others handle) (reads .alike .expirations)))
       refl (freed-shown (p .tasks) (p .global) (p .blocks) xs)
+
+  pub release-fits : isWellFormed (releasedPool handle p) ≡ true
+  unfolding releasedPool memoryAfter
+  release-fits =
+      fit-whole _ (fit-released handle p (fit-parts p w))
+      (kept-shared release-reads (types .shares) (shares-filter _ (shared-kept reads (types .shares) (shared-part p w))))

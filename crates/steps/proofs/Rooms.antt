@@ -3,9 +3,9 @@ use Prim.Native.Nat.{ℕ, _+_, _≤_, _<_}
 use native.Mathlib.Nat.{zero-add}
 use native.Mathlib.Omega.{arith}
 use mathlib.Core.Bool.{Bool, true, false, false≢true, cond, not, _&&_}
-use mathlib.Core.List.{List, _++_}
+use mathlib.Core.List.{List, [], _++_}
 use mathlib.Core.Path.{_≡_, refl, sym, ap, _∙_}
-use borrow.Author.Tests.{lt-ltb, le-ltb, ltb-true, ltb-false}
+use borrow.Author.Tests.{leb-false, lt-leb, lt-ltb, le-ltb, ltb-true, ltb-false}
 use lib.Dec.{eqb, leb, ltb}
 use lib.ListN.{length, getD, take, drop, length-take, length-drop, length-map, List·getD-eq-default}
 use lib.Seq.{length-take-le, getD-take, getD-drop, take-take}
@@ -34,10 +34,13 @@ use Rattle.record.specs.declared.GlobalTime.{GlobalTime}
 use Rattle.record.specs.declared.Due.{Due}
 use Rattle.record.specs.declared.Due.the-variants.{Free, Local, Global, Pinned, Unknown}
 use Rattle.record.proofs.Facts.{Fit}
-use Rattle.record.proofs.Exists.{sized-small}
-use Rattle.steps.specs.Objects.{isFreeBlock, endFor, freePlace, isFreeEntry, standingIn}
+use Rattle.ledger.specs.Shares.{blocksIn}
+use Rattle.record.specs.Shares.{takenIn, takenBut}
+use Rattle.record.proofs.Exists.{sized-small, fit-tables-read}
+use Rattle.steps.specs.Objects.{isFreeBlock, endFor, freePlace, isFilled, isFreeEntry, standingIn}
 use Rattle.steps.specs.Usage.{usageOf}
 use Rattle.steps.proofs.Finding.{each-used}
+use Rattle.steps.proofs.Shares.{taken-alike}
 
 -- a block in use has one object
 objects-counted : (small large : List ℕ) (i : ℕ) (bs : List BlockEntry) → length (readFrom i (objectIn small large) bs) ≡ count isUsed bs
@@ -179,3 +182,15 @@ module _ {p : Tables} {small large : List ℕ} {L : Ledger} (fit : Fit p) (reads
   pub usage-alike : usage (L .memory) (L .expirations) ≡ usageOf p
   unfolding usage usageOf recordView viewOf
   usage-alike = rw (stored .0, stored .1, entries-alike, reads .alike .given)
+
+-- so where a block is left for a task, there is a free one
+pub room-left : (p : Tables) → Fit p → Typed p → (task size : ℕ) → isFilled (isSmall size) (p .limits) (p .shares) (p .blocks) task ≡ false
+    → leb (endFor (p .limits) size) (freePlace (p .limits) size (p .blocks)) ≡ false
+unfolding takenBut recordView viewOf
+room-left p fit types task size e =
+    let (L, reads) = fit-tables-read p types fit [] [] in
+    let os = L .memory .objects in
+    let few = leb-false (blocksIn (p .limits) (isSmall size)) (takenBut (isSmall size) (p .shares) (p .blocks) task) e in
+    let used : inStoreOf size os ≡ takenIn (isSmall size) (p .blocks) = rw (taken-alike reads (isSmall size)) (by-test (isSmall size) (λ s. rw s) (λ s. rw s)) in
+    let blocks : blocksFor (L .memory .limits) size ≡ blocksIn (p .limits) (isSmall size) = ap (λ (limits : Limits). cond (isSmall size) (limits .small) (limits .large)) (sym (reads .alike .limits)) in
+    sym (block-room fit reads types size) ∙ lt-leb (blocksFor (L .memory .limits) size) (inStoreOf size os) (omega (arith, few, used, blocks))

@@ -24,10 +24,11 @@ use Rattle.record.specs.declared.GlobalTime.{GlobalTime}
 use Rattle.record.specs.Tables.{ExpirationEntry, Tables}
 use Rattle.record.proofs.Facts.{fit-parts, fit-used}
 use Rattle.record.proofs.Distinct.{handleAt, same-handle}
-use Rattle.steps.specs.Events.{verdictAt, keptBlock, swept, poolAfter, outcomeBy, scheduled}
+use Rattle.steps.specs.Events.{verdictAt, keptBlock, swept, orphanedPool, movedPool, poolAfter, outcomeBy, scheduled}
 use Rattle.steps.specs.Objects.{freePlace, madePool, refreshedPool, writtenPool}
 use Rattle.steps.specs.Staying.{Stays, OneBlock}
 use Rattle.steps.proofs.KeptBlocks.{block-left}
+use Rattle.steps.proofs.Orphans.{stays-orphaned}
 use Rattle.steps.proofs.Summed.{summed-handle, summed-length}
 
 -- blocks that are the same, and no handle more
@@ -48,7 +49,7 @@ stays-on {p} {p′} a b =
 
 -- a block that nothing names is freed
 pub kept-stays : (p : Tables) {tasks : List TaskEntry} {global : GlobalTime} (xs : List ExpirationEntry)
-    → Stays p (record { limits = p .limits; tasks = tasks; global = global; given = p .given; blocks = mapFrom 0 (keptBlock xs) (p .blocks); expirations = xs })
+    → Stays p (record { limits = p .limits; tasks = tasks; global = global; given = p .given; shares = p .shares; blocks = mapFrom 0 (keptBlock xs) (p .blocks); expirations = xs })
 kept-stays p xs =
     record {
       limits = refl;
@@ -63,9 +64,13 @@ swept-stays : (leaver : ℕ) (advanced : Bool) (tasks : List TaskEntry) (global 
 unfolding swept
 swept-stays leaver advanced tasks global p = kept-stays p _
 
+moved-stays : (event : Event) (task : ℕ) (p : Tables) → Stays p (movedPool event task p)
+unfolding movedPool
+moved-stays event task p = by-test (isTested event) (λ t. rw t (swept-stays _ _ _ _ p)) (λ t. rw t (same-stays refl refl refl))
+
 stays-by : (v : Verdict) (event : Event) (task : ℕ) (p : Tables) → Stays p (outcomeBy v event task p .pool)
 unfolding poolAfter
-stays-by Accepted event task p = by-test (isTested event) (λ t. rw t (swept-stays _ _ _ _ p)) (λ t. rw t (same-stays refl refl refl))
+stays-by Accepted event task p = stays-on (stays-orphaned event task p) (moved-stays event task (orphanedPool event task p))
 stays-by (Refused r) event task p = same-stays refl refl refl
 
 pub event-stays : (event : Event) (task : ℕ) (p : Tables) → Stays p (scheduled event task p .pool)

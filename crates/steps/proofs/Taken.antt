@@ -48,8 +48,8 @@ pub record PlaceFree (limits : Limits) (place size : ℕ) (blocks : List BlockEn
   pub most : size ≤ largeSize
 
 -- the block that a make leaves there
-abbrev pub newBlock : ℕ → ℕ → BlockEntry
-newBlock given size = record { handle = given + 1; length = size; sum = 0 }
+abbrev pub newBlock : ℕ → ℕ → ℕ → BlockEntry
+newBlock maker given size = record { handle = given + 1; length = size; sum = 0; maker = maker }
 
 -- a free entry has no expiration
 pub slot-due : {limits : Limits} (slot : ℕ) (xs : List ExpirationEntry) → SlotFree limits slot xs → dueOf (getD xs slot freeEntry) ≡ Free

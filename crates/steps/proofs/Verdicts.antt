@@ -11,14 +11,17 @@ use Rattle.lists.specs.Tests.{any}
 use Rattle.lists.proofs.All.{all-imp, none→All}
 use Rattle.lists.proofs.Cases.{by-test, or-false-parts}
 use Rattle.lists.proofs.Counts.{any-same}
-use Rattle.ledger.specs.Limits.{lastHandle}
+use Rattle.ledger.specs.Limits.{lastHandle, isSmall}
+use Rattle.ledger.specs.declared.Share.{Share}
+use Rattle.steps.specs.Joins.{joinVerdict}
+use Rattle.steps.proofs.Shares.{full-alike, limit-alike, scant-alike}
 use Rattle.ledger.specs.Tasks.{isAbsent, isWaiting}
 use Rattle.ledger.specs.Expirations.{Expiration}
 use Rattle.ledger.specs.Objects.{Memory, objectAt, isIntact, stands, handlesOf}
 use Rattle.ledger.specs.Refusals.{mostExtension, Test, shared, own, noSuchTask, taskAbsent, taskWaiting, handleNotGiven, objectGone, testsOf, verdict, asRefusal}
 use Rattle.ledger.specs.Compared.{viewOf}
 use Rattle.ledger.specs.Ledger.{Ledger, verdictOn, standingVerdictOn}
-use Rattle.ledger.specs.declared.Call.the-variants.{Make, Refresh, Read, Write, Batch, Release}
+use Rattle.ledger.specs.declared.Call.the-variants.{Join, Make, Refresh, Read, Write, Batch, Release}
 use Rattle.ledger.specs.declared.Kind.{Kind}
 use Rattle.ledger.specs.declared.State.{State}
 use Rattle.ledger.specs.declared.State.the-variants.{Absent, Running, Waiting}
@@ -34,7 +37,7 @@ use Rattle.steps.proofs.ReadTasks.{state-alike}
 use Rattle.steps.specs.Objects.{andThen, refuseIf, byState, placeOf, isUngiven, isMissing, standingIn, taskVerdict, handleVerdict, makeVerdict, refreshVerdict, standingVerdict, readVerdict, writeVerdict, batchVerdict, releaseVerdict}
 use Rattle.steps.proofs.Finding.{Found, blockOf, gone-alike, found}
 use Rattle.steps.proofs.Pinning.{pinned-alike}
-use Rattle.steps.proofs.Rooms.{block-room, entries-alike}
+use Rattle.steps.proofs.Rooms.{entries-alike}
 use Rattle.steps.proofs.StoreBytes.{both-whole}
 
 -- verdicts one after another, in whatever grouping
@@ -147,7 +150,16 @@ module _ {p : Tables} {small large : List ℕ} {L : Ledger} (typed : Typed p) (f
       (test-alike (extension-test kind extension)
       (λ e. test-alike refl
       (λ e. test-alike (ap (leb lastHandle) given-alike)
-      (λ e. test-alike (block-room fit reads typed size) (λ e. last-alike room-test))))) .so
+      (λ e. test-alike (limit-alike reads (isSmall size) task)
+      (λ e. test-alike (full-alike reads (isSmall size) task) (λ e. last-alike room-test)))))) .so
+
+  -- a join's
+  pub join-verdict : (task : ℕ) (share : Share) (new : List ℕ) → verdictOn L (Join task share) new ≡ asRefusal (joinVerdict task share p)
+  unfolding testsOf joinVerdict recordView viewOf
+  join-verdict task share new =
+      test-alike refl
+      (λ e. test-alike (ap (λ (s : State). not (isAbsent s)) (sym (state-alike (p .tasks) (L .memory .clocks) (reads .alike .tasks) task)))
+      (λ e. test-alike refl (λ e. last-alike (scant-alike reads task share)))) .so
 
   pub refresh-verdict : (task : ℕ) (kind : Kind) (extension handle : ℕ) (new : List ℕ)
       → verdictOn L (Refresh task kind extension handle) new ≡ asRefusal (refreshVerdict task kind extension handle p)

@@ -8,14 +8,16 @@ use Rattle.lists.specs.Tests.{any}
 use Rattle.lists.specs.Tables.{mapFrom}
 use Rattle.ledger.specs.Limits.{taskCount, counterRange}
 use Rattle.ledger.specs.Tasks.{isWaiting, isTested, allTicked}
+use Rattle.ledger.specs.Expirations.{departed}
+use Rattle.ledger.specs.Objects.{sharesAfter}
 use Rattle.ledger.specs.declared.State.{State}
 use Rattle.ledger.specs.declared.State.the-variants.{Absent, Running, Waiting}
 use Rattle.ledger.specs.declared.Event.{Event}
-use Rattle.ledger.specs.declared.Event.the-variants.{Join, Leave, Block, Resume, Tick}
+use Rattle.ledger.specs.declared.Event.the-variants.{Leave, Block, Resume, Tick}
 use Rattle.ledger.specs.declared.Answer.{Answer}
 use Rattle.ledger.specs.declared.Answer.the-variants.{Done, Advanced}
 use Rattle.ledger.specs.declared.Answer.the-variants.{Refused as RefusedAnswer}
-use Rattle.ledger.specs.declared.Refusal.the-variants.{NoSuchTask, TaskPresent, TaskAbsent, TaskWaiting, TaskRunning}
+use Rattle.ledger.specs.declared.Refusal.the-variants.{NoSuchTask, TaskAbsent, TaskWaiting, TaskRunning}
 use Rattle.record.specs.Codes.{stateOf, taskOf, globalCode, departedCode, isGlobalClock, dueOf, setterOf, leftAt, absentEntry, freedBlock, freedEntry}
 use Rattle.record.specs.WellFormed.{isNaming}
 use Rattle.record.specs.declared.TaskEntry.{TaskEntry}
@@ -26,11 +28,8 @@ use Rattle.record.specs.declared.Due.the-variants.{Free, Local, Global, Pinned,
 use Rattle.ledger.specs.declared.Verdict.{Verdict}
 use Rattle.ledger.specs.declared.Verdict.the-variants.{Accepted, Refused}
 
--- R36 to R39, after 1: join 2; leave 3; block and tick 3, 4; resume 3, 5
+-- R37 to R39, after 1: leave 3; block and tick 3, 4; resume 3, 5
 abbrev pub verdictOf : Event → State → Verdict
-verdictOf Join Absent = Accepted
-verdictOf Join Running = Refused TaskPresent
-verdictOf Join Waiting = Refused TaskPresent
 verdictOf Leave Absent = Refused TaskAbsent
 verdictOf Leave Running = Accepted
 verdictOf Leave Waiting = Accepted
@@ -58,7 +57,6 @@ abbrev pub clearedEntry : ℕ → TaskEntry → TaskEntry
 clearedEntry state e = record { state = state; ticked = 0; clock = e .clock }
 
 abbrev pub movedEntry : Event → TaskEntry → TaskEntry
-movedEntry Join e = clearedEntry 1 absentEntry
 movedEntry Block e = clearedEntry 2 e
 movedEntry Resume e = clearedEntry 1 e
 movedEntry Leave e = absentEntry
@@ -79,7 +77,6 @@ advancedTime advanced global = record { 0 = cond advanced (nextTime (global .0))
 
 -- E9: the task whose local expirations go: taskCount for none
 abbrev pub leaverOf : Event → ℕ → ℕ
-leaverOf Join task = taskCount
 leaverOf Block task = taskCount
 leaverOf Resume task = taskCount
 leaverOf Leave task = task
@@ -131,20 +128,41 @@ passedEntry leaver advanced tasks global e = keptEntry leaver tasks global (late
 unfoldable pub swept : ℕ → Bool → List TaskEntry → GlobalTime → Tables → Tables
 swept leaver advanced tasks global p =
     let xs = map (passedEntry leaver advanced tasks global) (p .expirations) in
-    record { limits = p .limits; tasks = tasks; global = global; given = p .given; blocks = mapFrom 0 (keptBlock xs) (p .blocks); expirations = xs }
+    record { limits = p .limits; tasks = tasks; global = global; given = p .given; shares = p .shares; blocks = mapFrom 0 (keptBlock xs) (p .blocks); expirations = xs }
 
 -- the record with these tasks and this time, all else as it was
 abbrev pub withTimes : List TaskEntry → GlobalTime → Tables → Tables
 withTimes tasks global p =
-    record { limits = p .limits; tasks = tasks; global = global; given = p .given; blocks = p .blocks; expirations = p .expirations }
+    record { limits = p .limits; tasks = tasks; global = global; given = p .given; shares = p .shares; blocks = p .blocks; expirations = p .expirations }
 
--- an accepted event
-unfoldable pub poolAfter : Event → ℕ → Tables → Tables
-poolAfter event task p =
+-- Q3: what the leaver made is nobody's; where nobody leaves (taskCount) every maker stays
+abbrev pub orphanedBlock : ℕ → BlockEntry → BlockEntry
+orphanedBlock leaver b = record { handle = b .handle; length = b .length; sum = b .sum; maker = cond (eqb (b .maker) leaver) departed (b .maker) }
+
+-- Q2, Q3: what an event leaves of shares and makers
+unfoldable pub orphanedPool : Event → ℕ → Tables → Tables
+orphanedPool event task p =
+    record {
+      limits = p .limits;
+      tasks = p .tasks;
+      global = p .global;
+      given = p .given;
+      shares = sharesAfter event task (p .shares);
+      blocks = map (orphanedBlock (leaverOf event task)) (p .blocks);
+      expirations = p .expirations;
+    }
+
+-- an accepted event, but for shares and makers
+unfoldable pub movedPool : Event → ℕ → Tables → Tables
+movedPool event task p =
     let tasks = movedTasks event task (p .tasks) in
     let advanced = allTicked (map taskOf tasks) in
     cond (isTested event) (swept (leaverOf event task) advanced (advancedTasks advanced tasks) (advancedTime advanced (p .global)) p)
     (withTimes tasks (p .global) p)
+
+-- an accepted event
+unfoldable pub poolAfter : Event → ℕ → Tables → Tables
+poolAfter event task p = movedPool event task (orphanedPool event task p)
 
 unfoldable pub answerAfter : Event → ℕ → Tables → Answer
 answerAfter event task p = cond (isTested event) (Advanced (allTicked (map taskOf (movedTasks event task (p .tasks))))) Done

@@ -1,5 +1,6 @@
 pub mod Events
 pub mod Objects
+pub mod Joins
 pub mod Usage
 pub mod Staying
 pub mod Remaining

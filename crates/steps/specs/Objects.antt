@@ -14,11 +14,14 @@ use Rattle.ledger.specs.declared.Kind.the-variants.{Local, Global, Pinned}
 use Rattle.ledger.specs.declared.State.{State}
 use Rattle.ledger.specs.declared.State.the-variants.{Absent, Running, Waiting}
 use Rattle.ledger.specs.declared.Refusal.{Refusal}
-use Rattle.ledger.specs.declared.Refusal.the-variants.{NoSuchTask, TaskAbsent, TaskWaiting, ExtensionTooLong, LengthOutOfRange, HandlesSpent, NoFreeBlock, NoFreeExpiration, HandleNotGiven, ObjectGone, OutsideObject, BatchOutOfRange, OnlyMakePins, NotPinned, SumDiffers}
+use Rattle.ledger.specs.declared.Share.{Share}
+use Rattle.ledger.specs.declared.Refusal.the-variants.{NoSuchTask, TaskAbsent, TaskWaiting, ExtensionTooLong, LengthOutOfRange, HandlesSpent, NoFreeBlock, AtLimit, NoFreeExpiration, HandleNotGiven, ObjectGone, OutsideObject, BatchOutOfRange, OnlyMakePins, NotPinned, SumDiffers}
 use Rattle.ledger.specs.declared.Verdict.{Verdict}
 use Rattle.ledger.specs.declared.Verdict.the-variants.{Accepted, Refused}
 use Rattle.stores.specs.Places.{sumAt, sumAfter}
 use Rattle.record.specs.Codes.{stateOf, absentEntry, freeBlock, localCode, globalCode, pinnedCode, freedEntry}
+use Rattle.ledger.specs.Shares.{blocksIn}
+use Rattle.record.specs.Shares.{takenBut, isLimited}
 use Rattle.record.specs.WellFormed.{isPinning}
 use Rattle.record.specs.declared.TaskEntry.{TaskEntry}
 use Rattle.record.specs.Tables.{BlockEntry, ExpirationEntry, Tables, blockEntries}
@@ -108,18 +111,28 @@ handleVerdict handle p = foundVerdict handle (p .given) (placeOf handle (p .bloc
 abbrev pub roomVerdict : Limits → ℕ → Verdict
 roomVerdict limits standing = refuseIf (leb (limits .expirations) standing) NoFreeExpiration
 
--- R40 to R43, the tests of the four; make's also by the handles given and the place that was found
-abbrev pub makeVerdictBy : Limits → ℕ → Kind → ℕ → ℕ → List TaskEntry → ℕ → ℕ → ℕ → Verdict
-makeVerdictBy limits task kind extension size tasks given place standing =
+-- 9: of a store no block is left for the task
+abbrev pub isFilled : Bool → Limits → List Share → List BlockEntry → ℕ → Bool
+isFilled store limits shares blocks task = leb (blocksIn limits store) (takenBut store shares blocks task)
+
+-- 26, 9, 10: by whether the task is at its limit, whether the store has no block for it, and how many expirations stand
+abbrev pub takingVerdict : Limits → Bool → Bool → ℕ → Verdict
+takingVerdict limits limited full standing =
+    andThen (refuseIf limited AtLimit) (andThen (refuseIf full NoFreeBlock) (roomVerdict limits standing))
+
+-- R40 to R43, the tests of the four; make's also by the handles given and by what was found of its store
+abbrev pub makeVerdictBy : Limits → ℕ → Kind → ℕ → ℕ → List TaskEntry → ℕ → Bool → Bool → ℕ → Verdict
+makeVerdictBy limits task kind extension size tasks given limited full standing =
     andThen (taskVerdict task tasks)
     (andThen (extensionVerdict limits kind extension)
     (andThen (refuseIf (eqb size 0 || ltb largeSize size) LengthOutOfRange)
     (andThen (refuseIf (leb lastHandle given) HandlesSpent)
-    (andThen (refuseIf (leb (endFor limits size) place) NoFreeBlock) (roomVerdict limits standing)))))
+    (takingVerdict limits limited full standing))))
 
 unfoldable pub makeVerdict : ℕ → Kind → ℕ → ℕ → Tables → Verdict
 makeVerdict task kind extension size p =
-    makeVerdictBy (p .limits) task kind extension size (p .tasks) (p .given) (freePlace (p .limits) size (p .blocks)) (standingIn (p .expirations))
+    makeVerdictBy (p .limits) task kind extension size (p .tasks) (p .given) (isLimited (isSmall size) (p .shares) (p .blocks) task)
+    (isFilled (isSmall size) (p .limits) (p .shares) (p .blocks) task) (standingIn (p .expirations))
 
 unfoldable pub refreshVerdict : ℕ → Kind → ℕ → ℕ → Tables → Verdict
 refreshVerdict task kind extension handle p =
@@ -192,17 +205,18 @@ entryFor kind task extension block p = entryBy kind task extension block (p .tas
 -- one expiration more, in an entry that was free
 abbrev pub withEntry : ℕ → ExpirationEntry → Tables → Tables
 withEntry slot e p =
-    record { limits = p .limits; tasks = p .tasks; global = p .global; given = p .given; blocks = p .blocks; expirations = set (p .expirations) slot e }
+    record { limits = p .limits; tasks = p .tasks; global = p .global; given = p .given; shares = p .shares; blocks = p .blocks; expirations = set (p .expirations) slot e }
 
 -- the next handle, in a block that was free
-abbrev pub withObject : ℕ → ℕ → Tables → Tables
-withObject place size p =
+abbrev pub withObject : ℕ → ℕ → ℕ → Tables → Tables
+withObject maker place size p =
     record {
       limits = p .limits;
       tasks = p .tasks;
       global = p .global;
       given = p .given + 1;
-      blocks = set (p .blocks) place (record { handle = p .given + 1; length = size; sum = 0 });
+      shares = p .shares;
+      blocks = set (p .blocks) place (record { handle = p .given + 1; length = size; sum = 0; maker = maker });
       expirations = p .expirations;
     }
 
@@ -210,7 +224,7 @@ withObject place size p =
 unfoldable pub madePool : ℕ → Kind → ℕ → ℕ → Tables → Tables
 madePool task kind extension size p =
     let place = freePlace (p .limits) size (p .blocks) in
-    withEntry (freeSlot (p .expirations)) (entryFor kind task extension place p) (withObject place size p)
+    withEntry (freeSlot (p .expirations)) (entryFor kind task extension place p) (withObject task place size p)
 
 -- and after a refresh
 unfoldable pub refreshedPool : ℕ → Kind → ℕ → ℕ → Tables → Tables
@@ -225,7 +239,7 @@ batchedPool task kind extension (handle ∷ handles) p =
 
 -- O35: and after a write: the sum in its block's entry is that of the bytes which are there then
 abbrev pub summedBlock : ℕ → BlockEntry → BlockEntry
-summedBlock sum b = record { handle = b .handle; length = b .length; sum = sum }
+summedBlock sum b = record { handle = b .handle; length = b .length; sum = sum; maker = b .maker }
 
 abbrev pub withSum : ℕ → ℕ → Tables → Tables
 withSum place sum p =
@@ -234,6 +248,7 @@ withSum place sum p =
       tasks = p .tasks;
       global = p .global;
       given = p .given;
+      shares = p .shares;
       blocks = set (p .blocks) place (summedBlock sum (getD (p .blocks) place freeBlock));
       expirations = p .expirations;
     }
@@ -251,4 +266,4 @@ unpinnedEntry block e = cond (isPinning block e) (freedEntry e) e
 unfoldable pub releasedPool : ℕ → Tables → Tables
 releasedPool handle p =
     let xs = map (unpinnedEntry (placeOf handle (p .blocks))) (p .expirations) in
-    record { limits = p .limits; tasks = p .tasks; global = p .global; given = p .given; blocks = mapFrom 0 (keptBlock xs) (p .blocks); expirations = xs }
+    record { limits = p .limits; tasks = p .tasks; global = p .global; given = p .given; shares = p .shares; blocks = mapFrom 0 (keptBlock xs) (p .blocks); expirations = xs }

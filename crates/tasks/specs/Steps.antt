@@ -5,7 +5,7 @@ use mathlib.Core.List.{List, map}
 use lib.ListN.{getD}
 use Rattle.ledger.specs.Tasks.{isTested, allTicked}
 use Rattle.ledger.specs.declared.Event.{Event}
-use Rattle.ledger.specs.declared.Event.the-variants.{Join, Leave, Block, Resume, Tick}
+use Rattle.ledger.specs.declared.Event.the-variants.{Leave, Block, Resume, Tick}
 use Rattle.ledger.specs.declared.Answer.{Answer}
 use Rattle.ledger.specs.declared.Answer.the-variants.{Done, Advanced}
 use Rattle.ledger.specs.declared.Answer.the-variants.{Refused as RefusedAnswer}
@@ -19,16 +19,14 @@ use Rattle.tasks.specs.declared.Planned.{Planned}
 
 -- E9: the task leaves, and all its local expirations go
 abbrev pub isLeave : Event → Bool
-isLeave Join = false
 isLeave Leave = true
 isLeave Block = false
 isLeave Resume = false
 isLeave Tick = false
 
--- whether an accepted event may end expirations of a well-formed record: a join and a resume end none, and a block, which moves no local time, only where the
+-- whether an accepted event may end expirations of a well-formed record: a resume ends none, and a block, which moves no local time, only where the
 -- global time advances
 abbrev pub mayEnd : Event → Bool → Bool
-mayEnd Join advanced = false
 mayEnd Leave advanced = true
 mayEnd Block advanced = advanced
 mayEnd Resume advanced = false

@@ -1,11 +1,14 @@
-// What an event (join, leave, block, resume or tick of a task) decides: the advance test, and whether expirations may end.
+// What an event (leave, block, resume or tick of a task) and a join decide: the advance test, and whether expirations may end.
 ghost use Prim.Native.Nat.{_<_};
 ghost use mathlib.Core.Path.{_≡_};
 ghost use Rattle.ledger.specs.Limits.{taskCount};
 ghost use Rattle.tasks.specs.Steps.{unmoved, plannedAfter, planned};
 
+mod joining;
 mod moves;
 
+pub use joining::JOINED_TASK;
+pub use joining::judge_join;
 use ledger::Answer;
 use ledger::Event;
 use ledger::Refusal;

@@ -17,16 +17,11 @@ use record::TaskEntry;
 use record::codes::RUNNING;
 use record::codes::WAITING;
 
-// R36 to R39, after 1: join 2; leave 3; block and tick 3, 4; resume 3, 5.
+// R37 to R39, after 1: leave 3; block and tick 3, 4; resume 3, 5.
 pub fn judge(event: Event, state: State) -> Verdict
     ensures { λ r. ⌜ r ≡ verdictOf event state ⌝ }
 {
     match event {
-        Event::Join => match state {
-            State::Absent => Verdict::Accepted,
-            State::Running => Verdict::Refused(Refusal::TaskPresent),
-            State::Waiting => Verdict::Refused(Refusal::TaskPresent),
-        },
         Event::Leave => match state {
             State::Absent => Verdict::Refused(Refusal::TaskAbsent),
             State::Running => Verdict::Accepted,
@@ -69,12 +64,11 @@ fn ticked(mut e: TaskEntry) -> TaskEntry
     e
 }
 
-// T9 to T13: what each of the five makes of its task.
+// T10 to T13: what each of the four makes of its task.
 pub fn moved(event: Event, e: TaskEntry) -> TaskEntry
     ensures { λ r. ⌜ r ≡ movedEntry event e ⌝ }
 {
     match event {
-        Event::Join => cleared(RUNNING, ABSENT_TASK),
         Event::Leave => ABSENT_TASK,
         Event::Block => cleared(WAITING, e),
         Event::Resume => cleared(RUNNING, e),
@@ -87,7 +81,6 @@ pub fn is_tested(event: Event) -> bool
     ensures { λ r. ⌜ r ≡ isTested event ⌝ }
 {
     match event {
-        Event::Join => false,
         Event::Leave => true,
         Event::Block => true,
         Event::Resume => false,
@@ -100,7 +93,6 @@ pub fn is_leave(event: Event) -> bool
     ensures { λ r. ⌜ r ≡ isLeave event ⌝ }
 {
     match event {
-        Event::Join => false,
         Event::Leave => true,
         Event::Block => false,
         Event::Resume => false,
@@ -113,7 +105,6 @@ pub fn may_end(event: Event, advanced: bool) -> bool
     ensures { λ r. ⌜ r ≡ mayEnd event advanced ⌝ }
 {
     match event {
-        Event::Join => false,
         Event::Leave => true,
         Event::Block => advanced,
         Event::Resume => false,

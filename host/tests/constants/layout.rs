@@ -22,6 +22,7 @@ pub fn size_of(kind: &str) -> u64 {
         "u8" => return 1,
         "u16" => return 2,
         "u32" => return 4,
+        "u64" => return 8,
         _ => {}
     }
     if let Some((element, count)) = between(kind, "[", "]").and_then(|array| array.split_once("; ")) {

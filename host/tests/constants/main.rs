@@ -4,7 +4,7 @@
 mod layout;
 mod source;
 
-use ramsummer::Limits;
+use ramsummer::{Limits, Quota};
 use source::{arms, between, is_here, text_of, value};
 use std::collections::BTreeMap;
 
@@ -19,12 +19,13 @@ fn header() -> &'static str {
     include_str!("../../include/ramsummer.h")
 }
 
-/// `#define RAMSUMMER_TASKS 16` and, in an enumeration, `RAMSUMMER_DONE = 0,`.
+/// `#define RAMSUMMER_TASKS 16` and, in an enumeration, `RAMSUMMER_DONE = 0,`. `RAMSUMMER_OPEN` is no number, but four.
 fn constants() -> Numbers {
     let lines =
         header().lines().filter_map(|line| line.trim().trim_start_matches("#define ").strip_prefix("RAMSUMMER_"));
     let words = lines.map(|line| line.split([' ', '=', ',']).filter(|word| !word.is_empty()));
-    words.filter_map(|mut words| Some((plain(words.next()?), words.next()?.parse().ok()?))).collect()
+    let numbers = words.filter_map(|mut words| Some((plain(words.next()?), words.next()?.parse().ok()?)));
+    numbers.filter(|(name, _)| name != "OPEN").collect()
 }
 
 /// What the source has for them.
@@ -42,6 +43,8 @@ fn proved() -> Numbers {
         ("TASKS", value("ledger", "TASK_COUNT")),
         ("STORE_BLOCKS", value("record", "BLOCK_COUNT")),
         ("LARGEST_BATCH", value("ledger", "LARGEST_BATCH")),
+        ("MAKER_DEPARTED", value("ledger", "TASK_COUNT")),
+        ("NO_LIMIT", Quota::OPEN.limit.into()),
         ("BUFFER_TOO_SHORT", value("numbered", "TOO_SHORT")),
         ("CLOCK_LOCAL", value("record", "LOCAL")),
         ("CLOCK_GLOBAL", value("record", "GLOBAL")),
@@ -63,7 +66,7 @@ fn proved() -> Numbers {
     numbers
 }
 
-/// The number of the refusal at this place of the proved list: `if place < 24 { place } else { 29 }`.
+/// The number of the refusal at this place of the proved list: `if place < 27 { place } else { 29 }`.
 fn number_at(place: u64) -> u64 {
     let text = text_of("ledger");
     let rule = between(&text, "if place < ", " }\n").unwrap();
@@ -90,8 +93,8 @@ fn the_header_has_the_constants_of_the_proved_source() {
         assert_eq!(constants(), proved());
         assert_eq!(
             constants().len(),
-            4 + 3 + 5 + 3 + 4 + 1 + 24 + 1,
-            "limits, other counts, sizes, kinds, clocks, done, refusals, buffer too short"
+            4 + 3 + 1 + 5 + 3 + 4 + 1 + 1 + 27 + 1,
+            "limits, other counts, no limit, sizes, kinds, clocks, departed, done, refusals, buffer too short"
         );
     }
 }
@@ -99,16 +102,19 @@ fn the_header_has_the_constants_of_the_proved_source() {
 #[test]
 fn the_header_has_the_places_of_the_proved_record() {
     if is_here() {
-        assert_eq!(places().len(), 13);
+        assert_eq!(places().len(), 17);
         for (name, field, place) in places() {
-            let (name, field) = match name {
-                "pool" => ("Pool", field),
-                "limits" => ("Limits", field.trim_end_matches("_blocks")),
-                _ => ("TaskEntry", field),
+            let found = match (name, field.split_once('_')) {
+                ("pool", _) => layout::place_of("Pool", field),
+                ("limits", _) => layout::place_of("Limits", field.trim_end_matches("_blocks")),
+                ("task_share", Some((store, number))) => {
+                    layout::place_of("Share", store) + layout::place_of("Quota", number)
+                }
+                _ => layout::place_of("TaskEntry", field),
             };
-            assert_eq!(layout::place_of(name, field), place, "{field} of {name}");
+            assert_eq!(found, place, "{field} of {name}");
         }
-        assert_eq!((layout::size_of("TaskEntry"), layout::size_of("Limits")), (8, 16));
+        assert_eq!(["TaskEntry", "Limits", "Share"].map(layout::size_of), [8, 16, 4]);
     }
 }
 

@@ -2,7 +2,7 @@
 
 #![allow(dead_code)] // Each test uses what it needs.
 
-use ramsummer::{Handle, Kind, Limits, Pool};
+use ramsummer::{Handle, Kind, Limits, Pool, Quota, Share};
 
 /// Numbers that look random and are the same in each run.
 pub struct Random(pub u64);
@@ -33,6 +33,15 @@ pub fn limits(count: usize) -> impl Iterator<Item = Limits> {
     ends.into_iter().chain(chosen).take(count)
 }
 
+/// A small reserve and a limit of each store; of every third task none.
+fn share(random: &mut Random) -> Share {
+    if random.below(3) == 0 {
+        return Share::OPEN;
+    }
+    let mut quota = || Quota { reserve: random.below(4) as u8, limit: 3 + random.below(20) as u8 };
+    Share { small: quota(), large: quota() }
+}
+
 /// One call, which may be refused.
 fn call(pool: &mut Pool, random: &mut Random) {
     let task = random.below(16) as u8;
@@ -41,7 +50,7 @@ fn call(pool: &mut Pool, random: &mut Random) {
     let length = 1 + random.below(64) as u16;
     let handle = Handle::from(pool.record().given.saturating_sub(random.below(90) as u32));
     let _ = match random.below(18) {
-        0..=1 => pool.join(task),
+        0..=1 => pool.join(task, share(random)),
         2 => pool.leave(task).map(drop),
         3 => pool.block(task).map(drop),
         4 => pool.resume(task),

@@ -2,7 +2,8 @@
 //! handles make the fit test work most.
 
 use plain::limits::{Limits, EXPIRATIONS, LARGEST_BATCH, PINNING, SMALL_SIZE, TASKS};
-use plain::record::{is_global, FREE, LOCAL, PINNED, RUNNING, WAITING};
+use plain::record::{is_global, Quota, Share, FREE, LOCAL, PINNED, RUNNING, WAITING};
+use plain::work;
 use reference::call::{packed, Call, Handles, Kind};
 use reference::frame::encode;
 
@@ -55,14 +56,19 @@ fn cases_with(expirations: usize) -> Vec<Case> {
 
 fn calls_on_tasks(expirations: usize) -> Vec<Case> {
     let by = |task| Arguments { task, ..Arguments::default() };
+    let reserve = Quota { reserve: 1, limit: 9 };
+    let asking = Arguments { share: Share { small: reserve, large: reserve }, ..by(ABSENT) };
     let mut cases = vec![
         case("join", Entry::Join, expirations, by(ABSENT)),
+        case("join, with reserves", Entry::Join, expirations, asking),
+        case("share", Entry::Share, expirations, by(0)),
         case("leave", Entry::Leave, expirations, by(0)),
         case("block", Entry::Block, expirations, by(1)),
         case("resume", Entry::Resume, expirations, by(WAITS)),
         case("tick", Entry::Tick, expirations, by(1)),
     ];
     if expirations > 0 {
+        cases.push(all_reserve(case("tick, all have reserves", Entry::Tick, expirations, by(1))));
         let mut ends = case("tick, one expires", Entry::Tick, expirations, by(0));
         last_is_due_next(&mut ends.memory, |clock| clock == LOCAL);
         let mut advances = case("tick, advances, one expires", Entry::Tick, expirations, by(0));
@@ -79,6 +85,17 @@ fn calls_on_tasks(expirations: usize) -> Vec<Case> {
         }
     }
     cases
+}
+
+/// Each task has a reserve of what it has made, and room for nine more.
+fn all_reserve(mut case: Case) -> Case {
+    for task in 0..=WAITS {
+        let held = work::share(&case.memory.pool, task).expect("a task");
+        let quota = |made: u8| Quota { reserve: made, limit: made + 9 };
+        case.memory.pool.shares[usize::from(task)] =
+            Share { small: quota(held.small.made), large: quota(held.large.made) };
+    }
+    case
 }
 
 /// The last expiration that goes by this clock, which reads 0, is due when it reads 1.
@@ -109,6 +126,7 @@ fn calls_on_objects(expirations: usize) -> Vec<Case> {
         case("make 32", Entry::Make, expirations, make(32)),
         case("make 256", Entry::Make, expirations, make(256)),
         case("make 32, pinned", Entry::Make, expirations, pinned),
+        all_reserve(case("make 32, all have reserves", Entry::Make, expirations, make(32))),
         case("report", Entry::Report, expirations, Arguments::default()),
     ];
     if expirations > 0 {
@@ -188,7 +206,8 @@ fn frames(expirations: usize) -> Vec<Case> {
     cases
 }
 
-/// Refused with 1 after the test of well-formedness, with 15 where it finds the fault last or first, and with 23.
+/// Refused with 1 after the test of well-formedness, with 26 and 9 by shares, with 15 where the fault is found last or first,
+/// and with 23.
 fn refusals(expirations: usize) -> Vec<Case> {
     let by = |task| Arguments { task, size: 32, handle: 1, ..Arguments::default() };
     let refused = |name, entry, task, answer| Case { answer, ..case(name, entry, expirations, by(task)) };
@@ -197,6 +216,13 @@ fn refusals(expirations: usize) -> Vec<Case> {
         refused("make, refused 1", Entry::Make, NONE, 1),
         refused("read, refused 1", Entry::Read, NONE, 1),
     ];
+    let mut limited = refused("make, refused 26", Entry::Make, 0, 26);
+    let made = work::share(&limited.memory.pool, 0).expect("a task").small.made;
+    limited.memory.pool.shares[0].small.limit = made;
+    let mut held_back = refused("make, refused 9, held back", Entry::Make, 0, 9);
+    let free = held_back.memory.pool.handles[..64].iter().filter(|&&handle| handle == 0).count() as u8;
+    held_back.memory.pool.shares[usize::from(WAITS)].small = Quota { reserve: free, limit: free };
+    cases.extend([limited, held_back]);
     let mut first = refused("tick, refused 15 at the first entry", Entry::Tick, 1, 15);
     first.memory.pool.tasks[0].state = 3;
     cases.push(first);

@@ -3,7 +3,8 @@
 use std::hint::black_box;
 
 use plain::calls::ANSWER_ROOM;
-use plain::record::Pool;
+use plain::record::{Pool, Share};
+use plain::work::{Holding, Holdings};
 use plain::{fit, work};
 
 use crate::entries::{Entries, Plain};
@@ -19,19 +20,23 @@ pub struct Desk {
     count: usize,
     figures: (u8, u8, u16, u32),
     left: (u8, u8),
+    holdings: Holdings,
 }
 
 impl Desk {
     pub fn with(memory: Memory) -> Desk {
         let out = [0; ANSWER_ROOM];
-        Desk { memory, advanced: 0, handle: 0, out, count: 0, figures: (0, 0, 0, 0), left: (0, 0) }
+        let none = Holding { made: 0, reserve: 0, limit: 0 };
+        let holdings = Holdings { small: none, large: none };
+        Desk { memory, advanced: 0, handle: 0, out, count: 0, figures: (0, 0, 0, 0), left: (0, 0), holdings }
     }
 }
 
 /// The arguments of any call.
-#[derive(Clone, Debug, Default)]
+#[derive(Clone, Debug)]
 pub struct Arguments {
     pub task: u8,
+    pub share: Share,
     pub kind: u8,
     pub extension: u8,
     pub size: u16,
@@ -39,6 +44,14 @@ pub struct Arguments {
     pub handles: Vec<u32>,
     pub bytes: Vec<u8>,
     pub line: Vec<u8>,
+}
+
+/// A task that joins asks for nothing.
+impl Default for Arguments {
+    fn default() -> Arguments {
+        let (handles, bytes, line) = (Vec::new(), Vec::new(), Vec::new());
+        Arguments { task: 0, share: Share::OPEN, kind: 0, extension: 0, size: 0, handle: 0, handles, bytes, line }
+    }
 }
 
 /// A call on the desk; the number of its answer.
@@ -72,6 +85,7 @@ pub enum Entry {
     Write,
     Report,
     Remaining,
+    Share,
     Batch,
     Release,
     /// As many refreshes as a batch would make: no entry of its own.
@@ -83,7 +97,7 @@ pub enum Entry {
 
 impl Entry {
     /// The entries, and the fit test.
-    pub const ALL: [Entry; 17] = [
+    pub const ALL: [Entry; 18] = [
         Entry::Fresh,
         Entry::FreshSized,
         Entry::Join,
@@ -97,6 +111,7 @@ impl Entry {
         Entry::Write,
         Entry::Report,
         Entry::Remaining,
+        Entry::Share,
         Entry::Batch,
         Entry::Release,
         Entry::Frame,
@@ -140,7 +155,7 @@ fn entry_of<E: Entries>(entry: Entry) -> Action {
             let limits = desk.memory.pool.limits;
             E::fresh_sized(&mut desk.memory.pool, limits)
         },
-        Entry::Join => |desk, with| E::join(&mut desk.memory.pool, with.task),
+        Entry::Join => |desk, with| E::join(&mut desk.memory.pool, with.task, with.share),
         Entry::Leave => |desk, with| E::leave(&mut desk.memory.pool, with.task, &mut desk.advanced),
         Entry::Block => |desk, with| E::block(&mut desk.memory.pool, with.task, &mut desk.advanced),
         Entry::Resume => |desk, with| E::resume(&mut desk.memory.pool, with.task),
@@ -166,6 +181,7 @@ fn entry_of<E: Entries>(entry: Entry) -> Action {
             let (local, global) = &mut desk.left;
             E::remaining(&mut desk.memory.pool, with.task, with.handle, local, global)
         },
+        Entry::Share => |desk, with| E::share(&mut desk.memory.pool, with.task, &mut desk.holdings),
         Entry::Batch => |desk, with| E::refresh_all(&mut desk.memory.pool, with.task, 0, with.extension, &with.handles),
         Entry::Release => |desk, with| E::release(&mut desk.memory.pool, with.task, with.handle),
         Entry::OneByOne => |desk, with| {
@@ -182,7 +198,7 @@ fn entry_of<E: Entries>(entry: Entry) -> Action {
 
 fn work_of(entry: Entry) -> Option<Action> {
     Some(match entry {
-        Entry::Join => |desk, with| number(work::join(&mut desk.memory.pool, with.task)),
+        Entry::Join => |desk, with| number(work::join(&mut desk.memory.pool, with.task, with.share)),
         Entry::Leave => |desk, with| advanced(desk, |pool| work::leave(pool, with.task)),
         Entry::Block => |desk, with| advanced(desk, |pool| work::block(pool, with.task)),
         Entry::Resume => |desk, with| number(work::resume(&mut desk.memory.pool, with.task)),
@@ -213,6 +229,9 @@ fn work_of(entry: Entry) -> Option<Action> {
             let left = work::remaining(&desk.memory.pool, with.task, with.handle);
             number(left.map(|work::Lifetime { local, global }| desk.left = (local, global)))
         },
+        Entry::Share => {
+            |desk, with| number(work::share(&desk.memory.pool, with.task).map(|holdings| desk.holdings = holdings))
+        }
         Entry::Batch => {
             |desk, with| number(work::refresh_all(&mut desk.memory.pool, (with.task, 0, with.extension), &with.handles))
         }

@@ -2,14 +2,15 @@
 
 use plain::calls;
 use plain::limits::Limits;
-use plain::record::Pool;
+use plain::record::{Pool, Share};
+use plain::work::Holdings;
 
 /// What the library has, and the plain pool too.
 #[allow(clippy::too_many_arguments)] // As the C interface has them.
 pub trait Entries {
     fn fresh(pool: &mut Pool) -> u8;
     fn fresh_sized(pool: &mut Pool, limits: Limits) -> u8;
-    fn join(pool: &mut Pool, task: u8) -> u8;
+    fn join(pool: &mut Pool, task: u8, share: Share) -> u8;
     fn leave(pool: &mut Pool, task: u8, advanced: &mut u8) -> u8;
     fn block(pool: &mut Pool, task: u8, advanced: &mut u8) -> u8;
     fn resume(pool: &mut Pool, task: u8) -> u8;
@@ -48,6 +49,7 @@ pub trait Entries {
     fn report(pool: &mut Pool, small: &mut u8, large: &mut u8, expirations: &mut u16, given: &mut u32) -> u8;
     fn remaining(pool: &mut Pool, task: u8, handle: u32, local: &mut u8, global: &mut u8) -> u8;
     fn awaited(pool: &mut Pool, tasks: &mut u16) -> u8;
+    fn share(pool: &mut Pool, task: u8, holdings: &mut Holdings) -> u8;
     fn frame(pool: &mut Pool, small: &mut [u8], large: &mut [u8], line: &[u8], out: &mut [u8], count: &mut usize)
         -> u8;
 }
@@ -68,8 +70,8 @@ impl Entries for Plain {
     }
 
     #[inline]
-    fn join(pool: &mut Pool, task: u8) -> u8 {
-        calls::join(pool, task)
+    fn join(pool: &mut Pool, task: u8, share: Share) -> u8 {
+        calls::join(pool, task, share)
     }
 
     #[inline]
@@ -160,6 +162,11 @@ impl Entries for Plain {
     #[inline]
     fn awaited(pool: &mut Pool, tasks: &mut u16) -> u8 {
         calls::awaited(pool, tasks)
+    }
+
+    #[inline]
+    fn share(pool: &mut Pool, task: u8, holdings: &mut Holdings) -> u8 {
+        calls::share(pool, task, holdings)
     }
 
     #[inline]

@@ -3,6 +3,7 @@
 //! tests/numbering.rs reaches those by calls, on a record of its own.
 
 use plain::limits::{Limits, BLOCKS, EXPIRATIONS, LARGEST_BATCH, LARGE_BLOCKS, PINNING, SMALL_BLOCKS};
+use plain::record::{Quota, Share};
 use reference::call::{packed, Call, Handles, Kind};
 
 use crate::cases::{case, line, naming, Case};
@@ -48,8 +49,13 @@ fn extreme(name: &'static str, entry: Entry, mut memory: Memory, arguments: impl
 
 fn on_tasks() -> Vec<Case> {
     let by = |task| move |_: &Memory| Arguments { task, ..Arguments::default() };
+    let reserve = Quota { reserve: 1, limit: 9 };
+    let share = Share { small: reserve, large: reserve };
+    let asking = |_: &Memory| Arguments { task: ABSENT, share, ..Arguments::default() };
     let mut cases = vec![
         extreme("join", Entry::Join, full(EXPIRATIONS), by(ABSENT)),
+        extreme("join, with reserves", Entry::Join, room_for(FULL.0 - 1, FULL.1 - 1), asking),
+        extreme("share", Entry::Share, full(EXPIRATIONS), by(0)),
         extreme("resume", Entry::Resume, after(full(EXPIRATIONS), &[Call::Block { task: 1 }]), by(1)),
     ];
     for (leave, block, tick, memory) in [

@@ -12,6 +12,7 @@ use reference::frame::encode;
 use crate::entries::Entries;
 use crate::memory::Memory;
 use crate::reading::of_record;
+use crate::sites;
 
 /// What a call answers: what it gives back, or the number of its refusal.
 pub type Told<'a> = Result<Accepted<'a>, u8>;
@@ -106,7 +107,7 @@ impl<E: Entries> Host<E> {
     fn enter(&mut self, call: &Call) -> u8 {
         let Host { memory: Memory { pool, small, large }, out, .. } = self;
         match *call {
-            Call::Join { task } => E::join(pool, task),
+            Call::Join { task, share } => E::join(pool, task, sites::share_of(share)),
             Call::Leave { task } => E::leave(pool, task, &mut out.advanced),
             Call::Block { task } => E::block(pool, task, &mut out.advanced),
             Call::Resume { task } => E::resume(pool, task),
@@ -129,15 +130,15 @@ impl<E: Entries> Host<E> {
 
     /// An accepted call touches its own bytes alone: a make clears one block, a write replaces its bytes, and no
     /// other call touches a store. Of the record a write changes the sum of its block, read, report and remaining
-    /// nothing, and no call the figures of the site. A new object has the sum of zeros.
+    /// nothing, and no call the figures of the site. A new object has the sum of zeros and the task for its maker.
     fn check_memory(&mut self, call: &Call) {
         let Host { memory, before, .. } = self;
         assert_eq!(memory.pool.limits, before.pool.limits, "{call:?}");
         match *call {
-            Call::Make { length, .. } => {
+            Call::Make { task, length, .. } => {
                 let place = memory.place(memory.pool.given).expect("the new object has a block");
                 assert_eq!(before.pool.handles[place], 0, "{call:?} takes a free block");
-                assert_eq!(memory.pool.extents[place], extent_of(length, 0), "{call:?}");
+                assert_eq!(memory.pool.extents[place], extent_of(length, 0, task), "{call:?}");
                 before.block_mut(place).fill(0);
             }
             Call::Write { handle, offset, bytes, .. } => {

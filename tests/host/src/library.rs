@@ -1,7 +1,8 @@
 //! The linked library: its C interface, and safe entries over it. A slice goes as its first value and its length.
 
 use plain::limits::Limits;
-use plain::record::Pool;
+use plain::record::{Pool, Share};
+use plain::work::{Holding, Holdings};
 
 use crate::entries::Entries;
 
@@ -18,7 +19,14 @@ extern "C" {
         expirations: u32,
         extension: u32,
     ) -> u8;
-    fn ramsummer_join(pool: *mut Pool, task: u8) -> u8;
+    fn ramsummer_join(
+        pool: *mut Pool,
+        task: u8,
+        small_reserve: u8,
+        small_limit: u8,
+        large_reserve: u8,
+        large_limit: u8,
+    ) -> u8;
     fn ramsummer_leave(pool: *mut Pool, task: u8, advanced: *mut u8) -> u8;
     fn ramsummer_block(pool: *mut Pool, task: u8, advanced: *mut u8) -> u8;
     fn ramsummer_resume(pool: *mut Pool, task: u8) -> u8;
@@ -72,6 +80,16 @@ extern "C" {
     fn ramsummer_report(pool: *mut Pool, small: *mut u8, large: *mut u8, expirations: *mut u16, given: *mut u32) -> u8;
     fn ramsummer_remaining(pool: *mut Pool, task: u8, handle: u32, local: *mut u8, global: *mut u8) -> u8;
     fn ramsummer_awaited(pool: *mut Pool, tasks: *mut u16) -> u8;
+    fn ramsummer_share(
+        pool: *mut Pool,
+        task: u8,
+        small_made: *mut u8,
+        small_reserve: *mut u8,
+        small_limit: *mut u8,
+        large_made: *mut u8,
+        large_reserve: *mut u8,
+        large_limit: *mut u8,
+    ) -> u8;
     fn ramsummer_frame(
         pool: *mut Pool,
         small: *mut u8,
@@ -101,8 +119,9 @@ impl Entries for Library {
     }
 
     #[inline]
-    fn join(pool: &mut Pool, task: u8) -> u8 {
-        unsafe { ramsummer_join(pool, task) }
+    fn join(pool: &mut Pool, task: u8, share: Share) -> u8 {
+        let Share { small, large } = share;
+        unsafe { ramsummer_join(pool, task, small.reserve, small.limit, large.reserve, large.limit) }
     }
 
     #[inline]
@@ -201,6 +220,13 @@ impl Entries for Library {
     #[inline]
     fn awaited(pool: &mut Pool, tasks: &mut u16) -> u8 {
         unsafe { ramsummer_awaited(pool, tasks) }
+    }
+
+    #[inline]
+    fn share(pool: &mut Pool, task: u8, holdings: &mut Holdings) -> u8 {
+        let Holding { made, reserve, limit } = &mut holdings.small;
+        let Holding { made: large_made, reserve: large_reserve, limit: large_limit } = &mut holdings.large;
+        unsafe { ramsummer_share(pool, task, made, reserve, limit, large_made, large_reserve, large_limit) }
     }
 
     #[inline]

@@ -1,7 +1,7 @@
 //! What a host owns: the record, and both stores, as long as the record's figures say.
 
 use plain::limits::{Limits, LARGE_SIZE, SMALL_BLOCKS, SMALL_SIZE};
-use plain::record::{extent_of, fresh, length_in, Pool, RECORD};
+use plain::record::{fresh, with_sum, Pool, RECORD};
 use reference::random::Random;
 
 #[derive(Debug)]
@@ -50,7 +50,7 @@ impl Memory {
     /// The record gets the sum of the bytes that stand in this block.
     pub fn sum_up(&mut self, place: usize) {
         let sum = self.block(place).iter().map(|&byte| u16::from(byte)).sum();
-        self.pool.extents[place] = extent_of(length_in(self.pool.extents[place]), sum);
+        self.pool.extents[place] = with_sum(self.pool.extents[place], sum);
     }
 
     /// The place of the block that holds this object.

@@ -1,12 +1,15 @@
 //! A record and its stores read as a ledger, and a ledger read in the same way, so that the two compare: the figures of the
-//! site, clocks by 32 bits, an object's expirations by kind, setter and units left, in no order. Places are not compared.
+//! site, clocks by 32 bits, the tasks' shares, an object's maker, and its expirations by kind, setter and units left, in no
+//! order. Places are not compared.
 
 use plain::limits::{Limits, BLOCKS, SMALL_BLOCKS, TASKS};
-use plain::record::{length_in, sum_in, Pool, ABSENT, DEPARTED, FREE, GLOBAL, LOCAL, PINNED, RUNNING};
+use plain::record::{length_in, maker_in, sum_in, Pool, Share};
+use plain::record::{ABSENT, DEPARTED, FREE, GLOBAL, LOCAL, NOBODY, PINNED, RUNNING};
 use reference::block::Block;
 use reference::call::Figures;
 use reference::expiration::{Remaining, Setter};
 use reference::ledger::{Ledger, Standing};
+use reference::share::Maker;
 use reference::tasks::{State, Task};
 
 use crate::memory::Memory;
@@ -16,6 +19,7 @@ use crate::sites;
 pub struct Reading {
     limits: Limits,
     tasks: Vec<(State, bool, u32)>,
+    shares: Vec<Share>,
     global: u32,
     given: u32,
     /// In order of handle.
@@ -31,7 +35,7 @@ pub struct Ahead {
 
 /// What a record stands for that is well-formed.
 pub fn of_record(memory: &Memory) -> Reading {
-    let Pool { limits, tasks, global, given, .. } = &memory.pool;
+    let Pool { limits, tasks, shares, global, given, .. } = &memory.pool;
     let state = |state: u16| match state {
         ABSENT => State::Absent,
         RUNNING => State::Running,
@@ -40,6 +44,7 @@ pub fn of_record(memory: &Memory) -> Reading {
     Reading {
         limits: *limits,
         tasks: tasks.iter().map(|task| (state(task.state), task.ticked != 0, task.clock)).collect(),
+        shares: shares.to_vec(),
         global: *global,
         given: *given,
         standing: standing(memory),
@@ -69,8 +74,12 @@ fn standing(memory: &Memory) -> Vec<Standing> {
         if handle != 0 {
             expirations.sort();
             let extent = pool.extents[place];
+            let maker = match maker_in(extent) {
+                NOBODY => Maker::Departed,
+                task => Maker::Task(task),
+            };
             let block = Block { length: length_in(extent), bytes: bytes_of(memory, place), sum: sum_in(extent) };
-            standing.push(Standing { handle, block, expirations });
+            standing.push(Standing { handle, maker, block, expirations });
         }
     }
     standing.sort_by_key(|object| object.handle);
@@ -94,6 +103,7 @@ pub fn of_ledger(ledger: &Ledger, ahead: &Ahead) -> Reading {
     Reading {
         limits: sites::of(ledger.limits()),
         tasks: ledger.tasks().entries().iter().zip(&ahead.clocks).map(task).collect(),
+        shares: ledger.tasks().entries().iter().map(|task| sites::share_of(task.share)).collect(),
         global: (ledger.tasks().global() as u32).wrapping_add(ahead.global),
         given: ledger.figures().given,
         standing: ledger.standing(),

@@ -8,6 +8,7 @@ use reference::generate::{sized_script_of, Profile};
 use reference::limits;
 use reference::random::Random;
 use reference::script::lines;
+use reference::share::Share;
 
 use crate::entries::Plain;
 use crate::host::Host;
@@ -62,7 +63,7 @@ pub fn standing_by(
     let mut host = Host::<Plain>::new(Memory::sized(limits, &mut Random::new(1)));
     let mut done = |call: Call| assert!(host.call(&call).is_ok(), "{call:?}");
     for task in 0..tasks as u8 {
-        done(Call::Join { task });
+        done(Call::Join { task, share: Share::OPEN });
     }
     for count in 0..expirations {
         let Setting { task, kind, extension, object } = setting(count);

@@ -1,7 +1,9 @@
-//! The figures of sites: a small one to try beside 01's, each figure with its range, and those of a ledger.
+//! The figures of sites: a small one to try beside 01's, each figure with its range, and those of a ledger; and a ledger's
+//! shares.
 
 use plain::limits::Limits;
-use reference::limits;
+use plain::record::{Quota, Share};
+use reference::{limits, share};
 
 /// A cable with four sensors.
 pub const CABLE: Limits = Limits { small_blocks: 16, large_blocks: 4, expirations: 64, extension: 10 };
@@ -32,4 +34,10 @@ pub fn of(limits: limits::Limits) -> Limits {
         expirations: expirations as u32,
         extension: extension as u32,
     }
+}
+
+/// A ledger's share, as a record has it.
+pub fn share_of(share: share::Share) -> Share {
+    let quota = |quota: share::Quota| Quota { reserve: quota.reserve, limit: quota.limit };
+    Share { small: quota(share.small), large: quota(share.large) }
 }

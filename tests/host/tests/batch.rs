@@ -13,6 +13,7 @@ use reference::call::{packed, Accepted, Call, Handles, Kind, Lifetime};
 use reference::frame::encode;
 use reference::generate::Profile;
 use reference::random::Random;
+use reference::share::Share;
 
 /// The number of the answer, by the entry and by a frame; both leave the same. The host tests that a refusal leaves all.
 fn batch(host: &mut Host<Library>, task: u8, (kind, extension): (Kind, u8), handles: &[u32]) -> u8 {
@@ -118,7 +119,7 @@ fn where_the_counters_go_round() {
     for start in STARTS {
         let mut host = Host::<Library>::new(Memory::fresh(&mut Random::new(3)));
         for task in 0..2 {
-            assert_eq!(host.call(&Call::Join { task }), Ok(Accepted::Done));
+            assert_eq!(host.call(&Call::Join { task, share: Share::OPEN }), Ok(Accepted::Done));
             host.memory.pool.tasks[usize::from(task)].clock = start.wrapping_sub(u32::from(task));
         }
         host.memory.pool.global = start;

@@ -12,8 +12,9 @@ use host_tests::samples::{after, after_of, full, full_of, standing_by, standing_
 use host_tests::sites::{with, CABLE, FIGURES};
 use plain::fit::is_well_formed;
 use plain::limits::{Limits, BLOCKS, EXPIRATIONS, LARGE_BLOCKS, SMALL_BLOCKS, TASKS};
-use plain::record::{extent_of, fresh, sum_in, Pool};
+use plain::record::{extent_of, fresh, maker_in, sum_in, with_maker, Pool, Quota, Share, NOBODY};
 use plain::record::{ABSENT, DEPARTED, FREE, GLOBAL, LOCAL, PINNED, RECORD, RUNNING, WAITING};
+use plain::work::{self, Holding, Holdings};
 use reference::call::{Accepted, Call, Figures, Kind, Lifetime};
 use reference::generate::Profile;
 use reference::limits;
@@ -56,6 +57,11 @@ fn one_byte_of_a_record_with_pinned_objects() {
 }
 
 #[test]
+fn one_byte_of_a_record_with_shares() {
+    overwrite_each_byte(with_shares(0));
+}
+
+#[test]
 fn one_byte_of_a_late_record() {
     overwrite_each_byte(late());
 }
@@ -80,20 +86,41 @@ fn smallest() -> Memory {
     standing_of(Limits::SMALLEST, 2, (0, 1), 1)
 }
 
-/// Tasks of every state, and free blocks and expirations within the figures.
+/// Tasks of every state, objects of such that have left, a reserve that is unmet, and free blocks and expirations within the
+/// figures.
 fn mixed_site() -> Memory {
     let limits = limits::Limits { small_blocks: 40, large_blocks: 18, expirations: 130, extension: 23 };
-    let memory = after_of(limits, Profile::Everyday, 63, 900);
-    let has = |state: u16| memory.pool.tasks.iter().any(|task| task.state == state);
-    assert!(has(ABSENT) && has(RUNNING) && has(WAITING));
+    let memory = after_of(limits, Profile::Everyday, 864, 900);
+    check_mixed(&memory.pool);
     let Figures { small, large, expirations, .. } = figures(&memory.pool);
     assert!((1..40).contains(&small) && (1..18).contains(&large) && (40..130).contains(&expirations));
     memory
 }
 
-/// Tasks of every state, global expirations of such that run, that wait and that departed, and pinned ones.
+/// The same of 01's figures.
 fn mixed() -> Memory {
-    after(Profile::Everyday, 63, 900)
+    let memory = after(Profile::Everyday, 352, 900);
+    check_mixed(&memory.pool);
+    memory
+}
+
+/// Tasks of every state; global expirations of such that run, that wait and that departed, and pinned ones; objects of tasks
+/// that are there and that have left; and a reserve that is unmet.
+fn check_mixed(pool: &Pool) {
+    let has_set = |state: u16| {
+        let setters = pool.clocks.iter().filter(|&&clock| (GLOBAL..DEPARTED).contains(&clock));
+        setters.map(|&clock| pool.tasks[usize::from(clock - GLOBAL)]).any(|task| task.state == state)
+    };
+    assert!(pool.tasks.iter().any(|task| task.state == ABSENT) && has_set(RUNNING) && has_set(WAITING));
+    assert!(pool.clocks.contains(&DEPARTED) && pool.clocks.contains(&PINNED));
+    let objects = || pool.extents.iter().zip(pool.handles).filter(|(_, handle)| *handle != 0);
+    assert!(
+        objects().any(|(&extent, _)| maker_in(extent) == NOBODY)
+            && objects().any(|(&extent, _)| maker_in(extent) < NOBODY)
+    );
+    let holdings = (0..TASKS as u8).map(|task| work::share(pool, task).expect("a task"));
+    let mut holdings = holdings.flat_map(|Holdings { small, large }| [small, large]);
+    assert!(holdings.any(|Holding { made, reserve, .. }| made < reserve));
 }
 
 /// Full, and every third object is pinned.
@@ -106,9 +133,36 @@ fn with_pinned() -> Memory {
     })
 }
 
+/// A small site whose tasks have shares. Task 0 lacks two small objects of its reserve, task 1 has as many as its limit, task
+/// 2 has its reserve and waits, task 3 has left what it has pinned, and task 4 may make nothing. Task 5, which asked for
+/// nothing, has taken all small blocks that are held back for nobody but so many, and all large ones but so many.
+fn with_shares(left: usize) -> Memory {
+    let of = |small: (u8, u8), large: (u8, u8)| {
+        let [small, large] = [small, large].map(|(reserve, limit)| reference::share::Quota { reserve, limit });
+        reference::share::Share { small, large }
+    };
+    let open = reference::share::Share::OPEN;
+    let shares = [of((4, 6), (1, 2)), of((0, 3), (0, 1)), of((2, 255), (0, 255)), open, of((0, 0), (0, 0)), open];
+    let mut host = Host::<Plain>::new(Memory::sized(CABLE, &mut Random::new(3)));
+    let mut done = |call: Call| assert!(host.call(&call).is_ok(), "{call:?}");
+    for (task, share) in shares.into_iter().enumerate() {
+        done(Call::Join { task: task as u8, share });
+    }
+    let made = [(0, 2, 1), (1, 3, 1), (2, 2, 0), (3, 2, 1), (5, 5 - left, 1 - left)];
+    for (task, small, large) in made {
+        let (kind, extension) = if task == 3 { (Kind::Pinned, 0) } else { (Kind::Local, 9) };
+        (0..small).for_each(|_| done(Call::Make { task, kind, extension, length: 7 }));
+        (0..large).for_each(|_| done(Call::Make { task, kind, extension, length: 70 }));
+    }
+    done(Call::Block { task: 2 });
+    done(Call::Leave { task: 3 });
+    host.memory
+}
+
 /// All clocks put forward to the end of 32 bits, and what goes by them.
 fn late() -> Memory {
-    let mut memory = after(Profile::Everyday, 54, 900);
+    let mut memory = after(Profile::Everyday, 1395, 900);
+    check_mixed(&memory.pool);
     let ahead = (u32::MAX - 7).wrapping_sub(memory.pool.global);
     memory.pool.global = memory.pool.global.wrapping_add(ahead);
     for task in memory.pool.tasks.iter_mut().filter(|task| task.state != ABSENT) {
@@ -125,8 +179,8 @@ fn late() -> Memory {
 /// What stands in them, what remains to the object that is asked for, and what the calls are told.
 #[test]
 fn undamaged_records() {
-    let mixed = (mixed(), (40, 18, 123), (8, 23), [0; 8]);
-    let late = (late(), (25, 16, 73), (28, 13), [0; 8]);
+    let mixed = (mixed(), (29, 18, 121), (12, 2), [0; 8]);
+    let late = (late(), (23, 22, 115), (5, 26), [0; 8]);
     let full = (full(256), (64, 32, 256), (0, 28), [0, 0, 0, 0, 9, 10, 22, 0]);
     let pinned = (with_pinned(), (64, 32, 256), (0, 30), [0, 0, 0, 0, 9, 10, 0, 0]);
     for (whole, standing, (local, global), expected) in [mixed, late, full, pinned] {
@@ -141,7 +195,7 @@ fn undamaged_records() {
 /// Entries copied over others, flags and counters put to likely values, a few at a time. Here the rules' words judge.
 #[test]
 fn likely_damages() {
-    let sites = [full_of(CABLE, 64), full_of(CABLE, 40), mixed_site(), smallest()];
+    let sites = [full_of(CABLE, 64), full_of(CABLE, 40), mixed_site(), smallest(), with_shares(0), with_shares(1)];
     let wholes = [full(256), full(96), with_pinned(), mixed(), late()].into_iter().chain(sites).map(Pair::of);
     let mut random = Random::new(11);
     for mut pair in wholes {
@@ -163,7 +217,7 @@ fn likely_damages() {
 fn damage(pool: &mut Pool, random: &mut Random) {
     let (from, to) = (random.below(256), random.below(256));
     let small = random.below(4) as u32;
-    match random.below(21) {
+    match random.below(26) {
         0 => pool.tasks[to % TASKS] = pool.tasks[from % TASKS],
         1 => pool.tasks[to % TASKS].state = small as u16,
         2 => pool.tasks[to % TASKS].ticked = small as u16,
@@ -174,8 +228,8 @@ fn damage(pool: &mut Pool, random: &mut Random) {
         7 => pool.handles[to % 96] = small,
         8 => pool.extents[to % 96] = pool.extents[from % 96],
         9 => {
-            let sum = sum_in(pool.extents[to % 96]);
-            pool.extents[to % 96] = extent_of(random.pick(&[0, 1, 32, 33, 256, 257, 289]), sum);
+            let (sum, maker) = (sum_in(pool.extents[to % 96]), maker_in(pool.extents[to % 96]));
+            pool.extents[to % 96] = extent_of(random.pick(&[0, 1, 32, 33, 256, 257, 289]), sum, maker);
         }
         10 => {
             pool.clocks[to] = pool.clocks[from];
@@ -192,7 +246,7 @@ fn damage(pool: &mut Pool, random: &mut Random) {
         14 => pool.dues[to] = pool.dues[from],
         15 => pool.dues[to] = 0,
         16 => (pool.clocks[to], pool.dues[to]) = (PINNED, 0),
-        17 => pool.extents[to % 96] = pool.extents[to % 96].wrapping_add(small << 16),
+        17 => pool.extents[to % 96] = pool.extents[to % 96].wrapping_add(u64::from(small) << 48),
         18 => {
             let (figure, ..) = random.pick(&FIGURES);
             *figure(&mut pool.limits) = figure(&mut pool.limits.clone()).wrapping_add(small).wrapping_sub(2);
@@ -201,9 +255,35 @@ fn damage(pool: &mut Pool, random: &mut Random) {
             let (figure, least, most) = random.pick(&FIGURES);
             *figure(&mut pool.limits) = random.pick(&[least, most, most + 1, least.wrapping_sub(1)]);
         }
+        20 => pool.shares[to % TASKS] = pool.shares[from % TASKS],
+        21 => {
+            let (number, _) = random.pick(&NUMBERS);
+            *number(&mut pool.shares[to % TASKS]) = random.pick(&[0, 1, 2, 4, 8, 64, 255]);
+        }
+        22 => {
+            let (number, _) = random.pick(&NUMBERS);
+            let number = number(&mut pool.shares[to % TASKS]);
+            *number = number.wrapping_add(small as u8).wrapping_sub(2);
+        }
+        23 => pool.extents[to % 96] = with_maker(pool.extents[to % 96], maker_in(pool.extents[from % 96])),
+        24 => {
+            let maker = random.pick(&[0, 1, 5, 14, 15, NOBODY, NOBODY + 1, 32, 255]);
+            pool.extents[to % 96] = with_maker(pool.extents[to % 96], maker);
+        }
         _ => pool.dues[to] = pool.dues[to].wrapping_add(small),
     }
 }
+
+/// A number of a task's share.
+type Number = fn(&mut Share) -> &mut u8;
+
+/// The four, each with whether it is a reserve.
+const NUMBERS: [(Number, bool); 4] = [
+    (|share| &mut share.small.reserve, true),
+    (|share| &mut share.small.limit, false),
+    (|share| &mut share.large.reserve, true),
+    (|share| &mut share.large.limit, false),
+];
 
 /// With the damaged record the rules' words, the plain pool and the library agree, and it is as expected.
 fn expect(pair: &mut Pair, fit: bool, damage: impl Fn(&mut Pool)) {
@@ -244,10 +324,100 @@ fn figures_of_full_records() {
     }
 }
 
+/// An absent task has none of the four, and a limit alone or a reserve with one are no better.
+#[test]
+fn the_share_of_an_absent_task() {
+    for whole in [Memory::fresh(&mut Random::new(5)), with_shares(0), with_shares(1)] {
+        let absent: Vec<_> = (0..TASKS).filter(|&task| whole.pool.tasks[task].state == ABSENT).collect();
+        let mut pair = Pair::of(whole);
+        for task in absent {
+            for value in 0..=255 {
+                for (number, _) in NUMBERS {
+                    expect(&mut pair, value == 0, |pool| *number(&mut pool.shares[task]) = value);
+                }
+                let small = Quota { reserve: value.min(1), limit: value };
+                expect(&mut pair, value == 0, |pool| pool.shares[task] = Share { small, ..Share::NONE });
+            }
+        }
+    }
+}
+
+/// Each number of each task, at every value: what it made is at most its limit, and so is its reserve; and what it lacks of
+/// its reserve is there.
+#[test]
+fn every_number_of_a_share() {
+    for left in [0, 1] {
+        let whole = with_shares(left);
+        let made = |task: usize, small: bool| {
+            let places = if small { 0..SMALL_BLOCKS } else { SMALL_BLOCKS..BLOCKS };
+            let is_its = |&place: &usize| {
+                whole.pool.handles[place] != 0 && usize::from(maker_in(whole.pool.extents[place])) == task
+            };
+            places.filter(is_its).count()
+        };
+        let tasks: Vec<_> = (0..TASKS).filter(|&task| whole.pool.tasks[task].state != ABSENT).collect();
+        let mut pair = Pair::of(whole.clone());
+        for (task, (place, (number, is_reserve))) in
+            tasks.into_iter().flat_map(|task| NUMBERS.into_iter().enumerate().map(move |number| (task, number)))
+        {
+            let (small, made) = (place < 2, made(task, place < 2));
+            let Share { small: of_small, large: of_large } = whole.pool.shares[task];
+            let Quota { reserve, limit } = if small { of_small } else { of_large };
+            // What the reserve may be: what was made and is left, and what is held back now.
+            let most = made + left + usize::from(reserve).saturating_sub(made);
+            for value in 0..=255 {
+                let fit = if is_reserve {
+                    value <= limit && usize::from(value) <= most
+                } else {
+                    reserve <= value && made <= usize::from(value)
+                };
+                expect(&mut pair, fit, |pool| *number(&mut pool.shares[task]) = value);
+            }
+        }
+    }
+}
+
+/// Every maker of every block. That of a free one has no meaning. Else it is one that has left, or a task that has joined and
+/// is not at its limit; and where a reserve comes to lack an object, a block has to be left for it.
+#[test]
+fn every_maker_of_a_block() {
+    for left in [0, 1] {
+        let whole = with_shares(left);
+        let mut pair = Pair::of(whole.clone());
+        for (place, value) in (0..BLOCKS).flat_map(|place| (0..=255).map(move |value| (place, value))) {
+            let (maker, small) = (maker_in(whole.pool.extents[place]), place < SMALL_BLOCKS);
+            // Task 0 lacks small objects and has the large one of its reserve, and task 2 has both of its small ones.
+            let is_lost = maker == 0 || maker == 2 && small;
+            let is_found = value == 0 && small;
+            let may_be = [0, 2, 5, NOBODY].contains(&value) && (!is_lost || is_found || left > 0);
+            let fit = whole.pool.handles[place] == 0 || value == maker || may_be;
+            expect(&mut pair, fit, |pool| pool.extents[place] = with_maker(pool.extents[place], value));
+        }
+    }
+}
+
+/// Nothing is asked of the bits between the maker and the sum, nor of anything that a free block has beside its handle.
+#[test]
+fn the_spare_bits_of_a_block() {
+    let whole = with_shares(0);
+    let mut pair = Pair::of(whole.clone());
+    for place in 0..BLOCKS {
+        for bit in 24..48 {
+            expect(&mut pair, true, |pool| pool.extents[place] ^= 1 << bit);
+        }
+        if whole.pool.handles[place] == 0 {
+            for extent in [0, u64::MAX, 0x0000_0000_0011_0000, 0xFFFF_0000_00FF_0000] {
+                expect(&mut pair, true, |pool| pool.extents[place] = extent);
+            }
+        }
+    }
+}
+
 /// An object in this block with a global expiration in this entry, so many units ahead, in a pool of these figures.
 fn one_object(limits: Limits, block: usize, date: usize, units: u32) -> Pool {
     let mut pool = Pool { given: 1, ..fresh(limits) };
-    (pool.handles[block], pool.extents[block]) = (1, if block < SMALL_BLOCKS { 32 } else { 33 });
+    let length = if block < SMALL_BLOCKS { 32 } else { 33 };
+    (pool.handles[block], pool.extents[block]) = (1, extent_of(length, 0, NOBODY));
     (pool.clocks[date], pool.named[date], pool.dues[date]) = (DEPARTED, block as u8, units);
     pool
 }

@@ -11,6 +11,7 @@ use plain::calls::ANSWER_ROOM;
 use plain::limits::{Limits, LARGE_SIZE, SMALL_SIZE};
 use reference::call::{Accepted, Call, Kind};
 use reference::random::Random;
+use reference::share::Share;
 
 const UNTOLD: u32 = 0xA5A5_A5A5;
 const COUNT_UNTOLD: usize = UNTOLD as usize;
@@ -139,7 +140,7 @@ fn calls_that_touch_no_store_do_not_look() {
         let mut memory = five(limits);
         let mut told = |line: &[u8]| frame(&mut memory, stores, line, ANSWER_ROOM);
         assert_eq!(told(b"0202"), (0, b"0000\n".to_vec()));
-        assert_eq!(told(b"0102"), (0, b"00\n".to_vec()));
+        assert_eq!(told(b"010200FF00FF"), (0, b"00\n".to_vec()));
         assert_eq!(told(b"0300"), (0, b"0000\n".to_vec()));
         assert_eq!(told(b"0400"), (0, b"00\n".to_vec()));
         assert_eq!(told(b"0500"), (0, b"0000\n".to_vec()));
@@ -285,7 +286,7 @@ fn the_last_handle() {
     memory.pool.given = u32::MAX - 1;
     let mut host = Host::<Library>::new(memory);
     let make = |length| Call::Make { task: 0, kind: Kind::Local, extension: 0, length };
-    assert_eq!(host.call(&Call::Join { task: 0 }), Ok(Accepted::Done));
+    assert_eq!(host.call(&Call::Join { task: 0, share: Share::OPEN }), Ok(Accepted::Done));
     assert_eq!(host.call(&make(4)), Ok(Accepted::Handle(u32::MAX)));
     assert_eq!(host.call(&make(4)), Err(8));
     // After a bad length, and before a full store.
@@ -300,7 +301,7 @@ fn the_last_handle() {
 #[test]
 fn a_local_expiration_set_at_the_last_clock() {
     let mut host = Host::<Library>::new(Memory::fresh(&mut Random::new(2)));
-    assert_eq!(host.call(&Call::Join { task: 0 }), Ok(Accepted::Done));
+    assert_eq!(host.call(&Call::Join { task: 0, share: Share::OPEN }), Ok(Accepted::Done));
     host.memory.pool.tasks[0].clock = u32::MAX;
     let make = Call::Make { task: 0, kind: Kind::Local, extension: 0, length: 4 };
     assert_eq!(host.call(&make), Ok(Accepted::Handle(1)));

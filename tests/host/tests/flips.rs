@@ -15,13 +15,15 @@ use plain::limits::{Limits, LARGE_SIZE, SMALL_BLOCKS, TASKS};
 use plain::record::{Pool, RECORD};
 use reference::call::{Call, Kind};
 use reference::random::Random;
+use reference::share::{Quota, Share};
 use std::mem::offset_of;
-use std::ops::RangeInclusive;
+use std::ops::{Range, RangeInclusive};
 use std::path::Path;
 
 const RECORDS: u64 = 200;
 const NO_FREE_BLOCK: u8 = 9;
 const NO_FREE_EXPIRATION: u8 = 10;
+const AT_LIMIT: u8 = 26;
 const NOT_WELL_FORMED: u8 = 15;
 const SUM_DIFFERS: u8 = 23;
 
@@ -65,12 +67,24 @@ fn any(random: &mut Random, pool: &Pool) -> Call<'static> {
     }
 }
 
+/// All tasks together may have both stores full of objects.
+fn share(random: &mut Random) -> Share {
+    let mut quota = |most: usize, least: usize| Quota {
+        reserve: random.below(most) as u8,
+        limit: (least + random.below(4 * least)) as u8,
+    };
+    Share { small: quota(4, 8), large: quota(2, 4) }
+}
+
 /// Both stores are full and as many expirations stand as can, after a life of some thousand calls.
 fn full(limits: Limits, seed: u64) -> Memory {
     let mut random = Random::new(seed);
     let mut host = Host::<Library>::new(Memory::sized(limits, &mut random));
     for task in 0..TASKS as u8 {
-        host.call(&Call::Join { task }).unwrap();
+        let asked = Call::Join { task, share: share(&mut random) };
+        if host.call(&asked).is_err() {
+            host.call(&Call::Join { task, share: Share::OPEN }).unwrap();
+        }
     }
     for _ in 0..500 + random.below(4_000) {
         let _ = host.call(&any(&mut random, &host.memory.pool));
@@ -97,7 +111,7 @@ fn fill(random: &mut Random, host: &mut Host<Library>, lengths: RangeInclusive<u
     loop {
         let length = lengths.start() + random.below(lengths.len()) as u16;
         match host.call(&make(random, &host.memory.pool, length)) {
-            Ok(_) => {}
+            Ok(_) | Err(AT_LIMIT) => {}
             Err(NO_FREE_BLOCK) => return,
             Err(number) => {
                 assert_eq!(number, NO_FREE_EXPIRATION);
@@ -109,43 +123,57 @@ fn fill(random: &mut Random, host: &mut Host<Library>, lengths: RangeInclusive<u
 
 // The flips.
 
-const FIELD_COUNT: usize = 10;
+const FIELD_COUNT: usize = 12;
 
-/// The fields of a record, and where each starts. An extent has a length, and after it a sum.
+/// The fields of a record, and where each starts. An extent has a length, and after it a maker, spare bytes and a sum.
 const FIELDS: [(&str, usize); FIELD_COUNT] = [
     ("`tasks`", offset_of!(Pool, tasks)),
     ("`global`", offset_of!(Pool, global)),
     ("`given`", offset_of!(Pool, given)),
     ("`limits`", offset_of!(Pool, limits)),
+    ("`shares`", offset_of!(Pool, shares)),
     ("`handles`", offset_of!(Pool, handles)),
     ("`extents`, lengths", offset_of!(Pool, extents)),
-    ("`extents`, sums", offset_of!(Pool, extents) + 2),
+    ("`extents`, makers", offset_of!(Pool, extents) + 2),
+    ("`extents`, sums", offset_of!(Pool, extents) + 6),
     ("`clocks`", offset_of!(Pool, clocks)),
     ("`named`", offset_of!(Pool, named)),
     ("`dues`", offset_of!(Pool, dues)),
 ];
 const LIMITS: usize = 3;
-const LENGTHS: usize = 5;
-const SUMS: usize = 6;
-const NAMED: usize = 8;
-const DUES: usize = 9;
+const LENGTHS: usize = 6;
+const MAKERS: usize = 7;
+const SUMS: usize = 8;
+const NAMED: usize = 10;
+const DUES: usize = 11;
+
+/// The bytes of an extent, and the spare ones of them.
+const EXTENT: usize = size_of::<u64>();
+const SPARE: Range<usize> = 3..6;
 
 fn field_of(place: usize) -> usize {
     match FIELDS.iter().rposition(|&(_, start)| start <= place).unwrap() {
-        LENGTHS | SUMS => LENGTHS + place % 4 / 2,
+        LENGTHS | MAKERS | SUMS => match place % EXTENT {
+            0..=1 => LENGTHS,
+            2..=5 => MAKERS,
+            _ => SUMS,
+        },
         field => field,
     }
 }
 
-/// Whether a byte means nothing: it is of a length, a sum, a named block or a due number past the site's figures.
+/// Whether a byte means nothing: it is spare, or of a block, a named block or a due number past the site's figures.
 fn is_idle(limits: Limits, place: usize) -> bool {
     let entry = |start: usize, width: usize| (place - start) / width;
     let is_past = |date: usize| date >= limits.expirations as usize;
+    let is_past_blocks = |block: usize| match block.checked_sub(SMALL_BLOCKS) {
+        None => block >= limits.small_blocks as usize,
+        Some(large) => large >= limits.large_blocks as usize,
+    };
     match field_of(place) {
-        LENGTHS | SUMS => match entry(offset_of!(Pool, extents), 4).checked_sub(SMALL_BLOCKS) {
-            None => entry(offset_of!(Pool, extents), 4) >= limits.small_blocks as usize,
-            Some(large) => large >= limits.large_blocks as usize,
-        },
+        LENGTHS | MAKERS | SUMS => {
+            SPARE.contains(&(place % EXTENT)) || is_past_blocks(entry(offset_of!(Pool, extents), EXTENT))
+        }
         NAMED => is_past(entry(offset_of!(Pool, named), 1)),
         DUES => is_past(entry(offset_of!(Pool, dues), 4)),
         _ => false,
@@ -199,7 +227,7 @@ fn flip_all(mut memory: Memory) -> [Count; FIELD_COUNT] {
             number => assert_eq!(number, NOT_WELL_FORMED),
         }
         if field == SUMS {
-            let block = (place - offset_of!(Pool, extents)) / 4;
+            let block = (place - offset_of!(Pool, extents)) / EXTENT;
             assert_eq!(read(&mut memory, block), SUM_DIFFERS, "bit {bit}");
         }
         bytes_mut(&mut memory.pool)[place] ^= mask;

@@ -9,6 +9,7 @@ use host_tests::reading::of_record;
 use host_tests::samples::{full, mixed_blocks, renumber, Numbering, NUMBERINGS};
 use plain::fit::is_well_formed;
 use plain::limits::{LARGE_SIZE, SMALL_BLOCKS, SMALL_SIZE};
+use plain::record::Share;
 use plain::work;
 use reference::call::{packed, Call, Handles, Kind};
 use reference::random::Random;
@@ -29,8 +30,8 @@ fn store_of(block: usize) -> (std::ops::Range<usize>, u16) {
 fn reached(numbering: Numbering) -> Memory {
     let mut memory = Memory::fresh(&mut Random::new(1));
     let Memory { pool, small, large } = &mut memory;
-    work::join(pool, 0).unwrap();
-    work::join(pool, 1).unwrap();
+    work::join(pool, 0, Share::OPEN).unwrap();
+    work::join(pool, 1, Share::OPEN).unwrap();
     for (block, handle) in mixed_blocks().zip(numbering.handles()) {
         let (store, length) = store_of(block);
         let free = |pool: &plain::record::Pool, blocks: std::ops::Range<usize>| {

@@ -11,6 +11,7 @@ use plain::limits::{Limits, BLOCKS, EXPIRATIONS, LARGE_BLOCKS, SMALL_BLOCKS, TAS
 use plain::record::{Pool, PINNED};
 use reference::call::{packed, Accepted, Call, Handles, Kind, Lifetime};
 use reference::random::Random;
+use reference::share::Share;
 
 fn release(host: &mut Host<Library>, task: u8, handle: u32) -> u8 {
     host.told(&Call::Release { task, handle })
@@ -74,7 +75,7 @@ fn no_time_ends_it() {
     for start in STARTS {
         let mut host = Host::<Library>::new(Memory::fresh(&mut Random::new(3)));
         for task in 0..3 {
-            assert_eq!(host.call(&Call::Join { task }), Ok(Accepted::Done));
+            assert_eq!(host.call(&Call::Join { task, share: Share::OPEN }), Ok(Accepted::Done));
             host.memory.pool.tasks[usize::from(task)].clock = start;
         }
         host.memory.pool.global = start;
@@ -82,7 +83,7 @@ fn no_time_ends_it() {
             assert_eq!(host.told(&Call::Make { task, kind: Kind::Pinned, extension: 0, length }), 0);
         }
         assert_eq!(host.told(&Call::Refresh { task: 0, kind: Kind::Global, extension: 0, handle: 3 }), 0);
-        for call in [Call::Block { task: 1 }, Call::Leave { task: 2 }, Call::Join { task: 2 }] {
+        for call in [Call::Block { task: 1 }, Call::Leave { task: 2 }, Call::Join { task: 2, share: Share::OPEN }] {
             assert_eq!(host.told(&call), 0);
         }
         for round in 0..40 {

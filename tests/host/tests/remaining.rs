@@ -8,6 +8,7 @@ use host_tests::memory::Memory;
 use reference::call::{Accepted, Call, Kind, Lifetime};
 use reference::frame::decode;
 use reference::random::Random;
+use reference::share::Share;
 
 /// What global time reads at first.
 const STARTS: [u32; 7] = [0, 255, u32::MAX - 40, u32::MAX - 31, u32::MAX - 9, u32::MAX - 1, u32::MAX];
@@ -19,7 +20,7 @@ const AHEAD: [u32; 3] = [0, 3, u32::MAX - 6];
 fn starting_at(global: u32) -> Host<Library> {
     let mut host = Host::<Plain>::new(Memory::fresh(&mut Random::new(3)));
     for task in 0..AHEAD.len() as u8 {
-        assert_eq!(host.call(&Call::Join { task }), Ok(Accepted::Done));
+        assert_eq!(host.call(&Call::Join { task, share: Share::OPEN }), Ok(Accepted::Done));
     }
     host.memory.pool.global = global;
     for (task, ahead) in host.memory.pool.tasks.iter_mut().zip(AHEAD) {
@@ -124,13 +125,13 @@ const ROWS: [(&str, &str); 36] = [
     ("0B0100000001", "000205"),
     // The setter leaves, and it stands and counts on.
     ("0202", "0000"),
-    ("0102", "00"),
+    ("010200FF00FF", "00"),
     ("0302", "0000"),
     ("0B0200000001", "04"),
     ("0B0000000001", "000405"),
     // Task 0 leaves with its local one, and comes back to the others.
     ("0200", "0000"),
-    ("0100", "00"),
+    ("010000FF00FF", "00"),
     ("0B0000000001", "000005"),
     ("0700001E00000001", "00"),
     ("0B0000000001", "001F05"),

@@ -13,6 +13,7 @@ use plain::record::{fresh, Pool};
 use reference::call::{packed, Accepted, Call, Figures, Handles, Kind, Lifetime};
 use reference::generate;
 use reference::random::Random;
+use reference::share::Share;
 
 const NO_FREE_BLOCK: u8 = 9;
 const NO_FREE_EXPIRATION: u8 = 10;
@@ -39,7 +40,7 @@ fn site(limits: Limits) -> Host<Library> {
     let mut memory = Memory::sized(limits, &mut Random::new(4));
     assert_eq!(Library::fresh_sized(&mut memory.pool, limits), 0, "{limits:?}");
     let mut host = Host::new(memory);
-    assert_eq!(host.told(&Call::Join { task: 0 }), 0);
+    assert_eq!(host.told(&Call::Join { task: 0, share: Share::OPEN }), 0);
     host
 }
 
@@ -85,7 +86,7 @@ fn every_call_is_15(pool: Pool) {
     let mut host = Host::<Library>::new(Memory { pool, ..stores });
     let handles = packed(&[1]);
     let calls = [
-        Call::Join { task: 0 },
+        Call::Join { task: 0, share: Share::OPEN },
         Call::Leave { task: 0 },
         Call::Block { task: 0 },
         Call::Resume { task: 0 },

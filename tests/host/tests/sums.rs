@@ -10,6 +10,7 @@ use plain::limits::{Limits, LARGE_SIZE, SMALL_BLOCKS, SMALL_SIZE};
 use plain::record::{length_in, sum_in};
 use reference::call::{packed, Accepted, Call, Handles, Kind};
 use reference::random::Random;
+use reference::share::Share;
 
 const SUM_DIFFERS: u8 = 23;
 
@@ -34,7 +35,7 @@ fn write(handle: u32) -> Call<'static> {
 fn full(limits: Limits) -> Memory {
     let mut random = Random::new(6);
     let mut host = Host::<Library>::new(Memory::sized(limits, &mut random));
-    (0..TASKS).for_each(|task| assert_eq!(host.call(&Call::Join { task }), Ok(Accepted::Done)));
+    (0..TASKS).for_each(|task| assert_eq!(host.call(&Call::Join { task, share: Share::OPEN }), Ok(Accepted::Done)));
     for (handle, place) in (1..).zip(host.memory.places()) {
         let (first, shortest, longest) = if place < SMALL_BLOCKS { (0, 1, 32) } else { (SMALL_BLOCKS, 33, 256) };
         let length = match place - first {
@@ -181,7 +182,7 @@ fn refused_until_it_goes() {
     for (kind, extension) in kinds {
         for (length, place) in [(1, 0), (32, 31), (7, 31), (33, 0), (100, 255), (256, 128)] {
             let mut host = Host::<Library>::new(Memory::sized(CABLE, &mut Random::new(9)));
-            (0..2).for_each(|task| assert_eq!(host.told(&Call::Join { task }), 0));
+            (0..2).for_each(|task| assert_eq!(host.told(&Call::Join { task, share: Share::OPEN }), 0));
             assert_eq!(host.told(&Call::Make { task: 0, kind, extension, length }), 0);
             assert_eq!(host.told(&write(1)), 0);
             let block = host.memory.place(1).expect("it stands");
@@ -249,7 +250,7 @@ fn every_bit_of_a_sum() {
     let report = format!("{:?}", host.call(&Call::Report));
     let places = whole.places();
     for (turn, &place) in places.iter().enumerate() {
-        for bit in 16..32 {
+        for bit in 48..64 {
             host.memory.pool.extents[place] ^= 1 << bit;
             let handle = whole.pool.handles[place];
             assert_eq!(host.call(&read(handle)), Err(SUM_DIFFERS), "{place}, {bit}");
@@ -267,7 +268,7 @@ fn every_bit_of_a_sum() {
 #[test]
 fn sums_from_the_smallest_to_the_largest() {
     let mut host = Host::<Library>::new(Memory::fresh(&mut Random::new(11)));
-    assert_eq!(host.told(&Call::Join { task: 0 }), 0);
+    assert_eq!(host.told(&Call::Join { task: 0, share: Share::OPEN }), 0);
     for (handle, length, largest) in [(1, 32, 32 * 255), (2, 256, 65_280)] {
         let make = Call::Make { task: 0, kind: Kind::Pinned, extension: 0, length };
         assert_eq!(host.call(&make), Ok(Accepted::Handle(handle)));

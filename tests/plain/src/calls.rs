@@ -5,9 +5,9 @@
 use crate::fit::is_well_formed;
 use crate::frames::{answer, decode, Reply, Request, LONGEST_FRAME, MOST_NAMED};
 use crate::limits::{Limits, PINNING};
-use crate::record::{Pool, FRESH};
+use crate::record::{Pool, Share, FRESH};
 use crate::refusals::{ACCEPTED, LIMITS_OUT_OF_RANGE, NOT_WELL_FORMED, SHORT_BUFFER, UNKNOWN_KIND};
-use crate::work;
+use crate::work::{self, Holdings};
 
 /// The least room that a frame asks for its answer.
 pub const ANSWER_ROOM: usize = 531;
@@ -27,11 +27,11 @@ pub fn fresh_sized(pool: &mut Pool, limits: Limits) -> u8 {
     }
 }
 
-pub fn join(pool: &mut Pool, task: u8) -> u8 {
+pub fn join(pool: &mut Pool, task: u8, share: Share) -> u8 {
     if !is_well_formed(pool) {
         return NOT_WELL_FORMED;
     }
-    number_of(work::join(pool, task))
+    number_of(work::join(pool, task, share))
 }
 
 pub fn leave(pool: &mut Pool, task: u8, advanced: &mut u8) -> u8 {
@@ -169,6 +169,14 @@ pub fn awaited(pool: &Pool, tasks: &mut u16) -> u8 {
     ACCEPTED
 }
 
+/// What the task has of each store.
+pub fn share(pool: &Pool, task: u8, holdings: &mut Holdings) -> u8 {
+    if !is_well_formed(pool) {
+        return NOT_WELL_FORMED;
+    }
+    told(work::share(pool, task), holdings)
+}
+
 /// One frame, without its LF. The answer line goes to the start of `out`, a refusal's too.
 pub fn frame(
     pool: &mut Pool,
@@ -192,7 +200,7 @@ fn carry_out<'a>(pool: &mut Pool, small: &'a mut [u8], large: &'a mut [u8], requ
         return Err(NOT_WELL_FORMED);
     }
     match request {
-        Request::Join(task) => work::join(pool, task).map(|()| Reply::Done),
+        Request::Join(task, share) => work::join(pool, task, share).map(|()| Reply::Done),
         Request::Leave(task) => work::leave(pool, task).map(Reply::Advanced),
         Request::Block(task) => work::block(pool, task).map(Reply::Advanced),
         Request::Resume(task) => work::resume(pool, task).map(|()| Reply::Done),

@@ -1,6 +1,7 @@
 //! Frames: a line of hexadecimal to a request, a reply to its line.
 
 use crate::limits::PINNING;
+use crate::record::{Quota, Share};
 use crate::refusals::{ACCEPTED, NOT_HEXADECIMAL, UNKNOWN_KIND, UNKNOWN_OPERATION, WRONG_FRAME_LENGTH};
 use crate::work::{Figures, Lifetime};
 
@@ -14,7 +15,7 @@ pub const MOST_NAMED: usize = (LONGEST_FRAME + 1 - 4) / 4;
 /// its first handles.
 #[derive(Clone, Copy, Debug, PartialEq, Eq)]
 pub enum Request<'a> {
-    Join(u8),
+    Join(u8, Share),
     Leave(u8),
     Block(u8),
     Resume(u8),
@@ -46,7 +47,11 @@ pub fn decode<'a>(line: &[u8], room: &'a mut [u8; LONGEST_FRAME + 1]) -> Result<
     let frame = unhex(line, room)?;
     let (&operation, fields) = frame.split_first().ok_or(UNKNOWN_OPERATION)?;
     match (operation, fields) {
-        (1, &[task]) => Ok(Request::Join(task)),
+        (1, &[task, small_reserve, small_limit, large_reserve, large_limit]) => {
+            let small = Quota { reserve: small_reserve, limit: small_limit };
+            let large = Quota { reserve: large_reserve, limit: large_limit };
+            Ok(Request::Join(task, Share { small, large }))
+        }
         (2, &[task]) => Ok(Request::Leave(task)),
         (3, &[task]) => Ok(Request::Block(task)),
         (4, &[task]) => Ok(Request::Resume(task)),

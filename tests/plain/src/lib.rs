@@ -14,4 +14,5 @@ pub mod frames;
 pub mod limits;
 pub mod record;
 pub mod refusals;
+pub mod shares;
 pub mod work;

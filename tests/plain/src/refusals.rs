@@ -25,6 +25,9 @@ pub const BATCH_OUT_OF_RANGE: u8 = 20;
 pub const ONLY_MAKE_PINS: u8 = 21;
 pub const NOT_PINNED: u8 = 22;
 pub const SUM_DIFFERS: u8 = 23;
+pub const RESERVE_ABOVE_LIMIT: u8 = 24;
+pub const RESERVE_NOT_FREE: u8 = 25;
+pub const AT_LIMIT: u8 = 26;
 pub const LIMITS_OUT_OF_RANGE: u8 = 29;
 
 /// Not a refusal of the rules: a buffer is too short.

@@ -7,7 +7,7 @@ use memory::{sites, Memory};
 use plain::calls;
 use plain::fit::is_well_formed;
 use plain::limits::{BLOCKS, EXPIRATIONS};
-use plain::record::{Pool, FREE, FRESH, GLOBAL, LOCAL, RUNNING};
+use plain::record::{extent_of, Pool, Share, TaskEntry, FREE, FRESH, GLOBAL, LOCAL, NOBODY, RUNNING};
 use reference::call::{Call, Model};
 use reference::frame::decode;
 use reference::generate::{sized_script_of, Profile};
@@ -44,7 +44,7 @@ fn full(handles: impl Iterator<Item = u32>) -> Pool {
     pool.tasks[0].state = RUNNING;
     for (block, handle) in (0..BLOCKS).zip(handles) {
         pool.handles[block] = handle;
-        pool.extents[block] = 32 + u32::from(block >= 64);
+        pool.extents[block] = extent_of(32 + u16::from(block >= 64), 0, NOBODY);
         (pool.clocks[block], pool.named[block], pool.dues[block]) = (GLOBAL, block as u8, 1);
     }
     assert!(is_well_formed(&pool));
@@ -106,7 +106,8 @@ fn free_entries_of_all_places() {
 fn where_the_counters_go_round() {
     for counter in [0, u32::MAX - 31, u32::MAX - 7, u32::MAX] {
         let mut memory = Memory::of(Pool { global: counter, ..FRESH });
-        (memory.pool.tasks[0].state, memory.pool.tasks[0].clock) = (RUNNING, counter);
+        memory.pool.tasks[0] = TaskEntry { state: RUNNING, ticked: 0, clock: counter };
+        memory.pool.shares[0] = Share::OPEN;
         for handle in 1..=2 {
             assert_eq!(memory.make(0, 0, 1), 0);
             assert_eq!(memory.pool.given, handle);

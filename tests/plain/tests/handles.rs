@@ -5,7 +5,7 @@ use std::collections::BTreeSet;
 
 use plain::fit::{is_well_formed, spread};
 use plain::limits::BLOCKS;
-use plain::record::{Pool, DEPARTED, FRESH};
+use plain::record::{extent_of, Pool, DEPARTED, FRESH, NOBODY};
 use reference::random::Random;
 
 /// An object with a global expiration in each block.
@@ -13,7 +13,7 @@ fn full() -> Pool {
     let mut pool = Pool { given: u32::MAX, ..FRESH };
     for block in 0..BLOCKS {
         pool.handles[block] = 1 + block as u32;
-        pool.extents[block] = 32 + u32::from(block >= 64);
+        pool.extents[block] = extent_of(32 + u16::from(block >= 64), 0, NOBODY);
         (pool.clocks[block], pool.named[block], pool.dues[block]) = (DEPARTED, block as u8, 1);
     }
     pool

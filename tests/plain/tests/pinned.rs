@@ -7,7 +7,7 @@ use memory::{sites, Memory};
 use plain::calls;
 use plain::fit::is_well_formed;
 use plain::limits::{BLOCKS, EXPIRATIONS};
-use plain::record::{Pool, FREE, FRESH, LOCAL, PINNED, RUNNING};
+use plain::record::{extent_of, Pool, Share, TaskEntry, FREE, FRESH, LOCAL, NOBODY, PINNED, RUNNING};
 use reference::call::{Call, Model};
 use reference::frame::decode;
 use reference::generate::{sized_script_of, Profile};
@@ -43,7 +43,7 @@ fn pinned_from(first: usize) -> Pool {
     pool.tasks[0].state = RUNNING;
     for block in 0..BLOCKS {
         pool.handles[block] = 1 + block as u32;
-        pool.extents[block] = 32 + u32::from(block >= 64);
+        pool.extents[block] = extent_of(32 + u16::from(block >= 64), 0, NOBODY);
         let entry = (first + block) % EXPIRATIONS;
         (pool.clocks[entry], pool.named[entry]) = (PINNED, block as u8);
     }
@@ -81,7 +81,7 @@ fn released_from_all_places() {
 fn what_is_not_fit() {
     for (one, other) in [(0, 1), (0, 255), (31, 32), (100, 228)] {
         let mut pool = Pool { given: 1, ..FRESH };
-        (pool.handles[0], pool.extents[0]) = (1, 4);
+        (pool.handles[0], pool.extents[0]) = (1, extent_of(4, 0, NOBODY));
         (pool.clocks[one], pool.named[one]) = (PINNED, 0);
         assert!(is_well_formed(&pool));
         for due in [1, 32, u32::MAX] {
@@ -102,7 +102,8 @@ fn what_is_not_fit() {
 fn where_the_counters_go_round() {
     for counter in [0, u32::MAX - 31, u32::MAX - 1, u32::MAX] {
         let mut memory = Memory::of(Pool { global: counter, ..FRESH });
-        (memory.pool.tasks[0].state, memory.pool.tasks[0].clock) = (RUNNING, counter);
+        memory.pool.tasks[0] = TaskEntry { state: RUNNING, ticked: 0, clock: counter };
+        memory.pool.shares[0] = Share::OPEN;
         assert_eq!(memory.make(2, 0, 1), 0);
         let pool = &mut memory.pool;
         for _ in 0..40 {

@@ -4,7 +4,7 @@ mod memory;
 
 use memory::{sites, Memory};
 use plain::calls;
-use plain::record::{Pool, FRESH, RUNNING};
+use plain::record::{Pool, Share, TaskEntry, FRESH, RUNNING};
 use reference::call::{Accepted, Call, Lifetime, Model};
 use reference::frame::decode;
 use reference::generate::{sized_script_of, Profile};
@@ -48,7 +48,8 @@ fn the_answers_of_the_ledger() {
 /// Object 1 has a local expiration of task 0 and a global one, both with extension 30, set when both counters read this.
 fn set_at(counter: u32) -> Pool {
     let mut memory = Memory::of(Pool { global: counter, ..FRESH });
-    (memory.pool.tasks[0].state, memory.pool.tasks[0].clock) = (RUNNING, counter);
+    memory.pool.tasks[0] = TaskEntry { state: RUNNING, ticked: 0, clock: counter };
+    memory.pool.shares[0] = Share::OPEN;
     assert_eq!(memory.make(0, 30, 1), 0);
     assert_eq!(calls::refresh(&mut memory.pool, 0, 1, 30, 1), 0);
     memory.pool

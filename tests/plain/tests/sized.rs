@@ -6,7 +6,7 @@ use memory::Memory;
 use plain::calls;
 use plain::fit::is_well_formed;
 use plain::limits::{Limits, BLOCKS, EXPIRATIONS, LARGE_SIZE, SMALL_BLOCKS, SMALL_SIZE};
-use plain::record::{fresh, Pool, DEPARTED, FREE, FRESH, GLOBAL, LOCAL, PINNED, RUNNING};
+use plain::record::{extent_of, fresh, Pool, Share, DEPARTED, FREE, FRESH, GLOBAL, LOCAL, NOBODY, PINNED, RUNNING};
 
 /// A small site.
 const SITE: Limits = Limits { small_blocks: 3, large_blocks: 2, expirations: 7, extension: 5 };
@@ -39,7 +39,7 @@ fn figures_in_their_ranges_and_past_them() {
                 assert_eq!(calls::fresh_sized(&mut pool, limits), if allowed { 0 } else { 29 }, "{limits:?}");
                 assert_eq!(pool, fresh(limits));
                 assert_eq!((limits.is_allowed(), is_well_formed(&pool)), (allowed, allowed), "{limits:?}");
-                assert_eq!(calls::join(&mut pool, 0), if allowed { 0 } else { 15 }, "{limits:?}");
+                assert_eq!(calls::join(&mut pool, 0, Share::OPEN), if allowed { 0 } else { 15 }, "{limits:?}");
                 assert_eq!(calls::fresh(&mut pool), 0);
                 assert_eq!(pool, FRESH);
             }
@@ -51,7 +51,8 @@ fn figures_in_their_ranges_and_past_them() {
 fn one_object(limits: Limits, block: usize, entry: usize, (clock, due): (u8, u32)) -> Pool {
     let mut pool = Pool { given: 1, ..fresh(limits) };
     pool.tasks[3].state = RUNNING;
-    (pool.handles[block], pool.extents[block]) = (1, if block < SMALL_BLOCKS { 32 } else { 33 });
+    let length = if block < SMALL_BLOCKS { 32 } else { 33 };
+    (pool.handles[block], pool.extents[block]) = (1, extent_of(length, 0, NOBODY));
     (pool.clocks[entry], pool.named[entry], pool.dues[entry]) = (clock, block as u8, due);
     pool
 }
@@ -103,7 +104,7 @@ fn due_times_past_the_extension() {
 /// A pool of these figures, in which task 0 runs.
 fn site(limits: Limits) -> Memory {
     let mut memory = Memory::of(fresh(limits));
-    assert_eq!(calls::join(&mut memory.pool, 0), 0);
+    assert_eq!(calls::join(&mut memory.pool, 0, Share::OPEN), 0);
     memory
 }
 

@@ -7,7 +7,7 @@ use memory::{sites, Memory};
 use plain::calls;
 use plain::fit::is_well_formed;
 use plain::limits::{BLOCKS, LARGE_SIZE, SMALL_BLOCKS, SMALL_SIZE};
-use plain::record::{extent_of, length_in, sum_in, FRESH};
+use plain::record::{extent_of, length_in, sum_in, with_sum, Share, FRESH};
 use reference::block::Block;
 use reference::call::{Accepted, Call, Model};
 use reference::frame::{decode, encode_answer};
@@ -61,7 +61,7 @@ impl Memory {
 /// the ledger's objects say.
 #[test]
 fn the_answers_of_the_ledger() {
-    let (mut read, mut written) = ([0; 24], [0; 24]);
+    let (mut read, mut written) = ([0; 27], [0; 27]);
     for (seed, limits) in sites(0..150) {
         let script = sized_script(limits, seed);
         let mut room = vec![0; script.len()];
@@ -107,7 +107,7 @@ fn the_answers_of_the_ledger() {
 /// Task 0 runs, and an object of any length stands in each block, pinned, with bytes of chance.
 fn full(random: &mut Random) -> Memory {
     let mut memory = Memory::of(FRESH);
-    assert_eq!(calls::join(&mut memory.pool, 0), 0);
+    assert_eq!(calls::join(&mut memory.pool, 0, Share::OPEN), 0);
     for handle in 1..=BLOCKS as u32 {
         let is_small = handle <= SMALL_BLOCKS as u32;
         let length = if is_small { 1 + random.below(32) } else { 33 + random.below(224) };
@@ -151,7 +151,7 @@ fn any_sum() {
     for block in [0, 1, 63, 64, 95] {
         let extent = memory.pool.extents[block];
         for sum in [0, 1, sum_in(extent) - 1, sum_in(extent) + 1, 65_280, 65_281, u16::MAX] {
-            memory.pool.extents[block] = extent_of(length_in(extent), sum);
+            memory.pool.extents[block] = with_sum(extent, sum);
             assert!(is_well_formed(&memory.pool));
             let before = memory.clone();
             assert_eq!(memory.read(0, 1 + block as u32), (23, vec![]));
@@ -167,18 +167,18 @@ fn any_sum() {
 #[test]
 fn the_greatest_sum() {
     let mut memory = Memory::of(FRESH);
-    assert_eq!(calls::join(&mut memory.pool, 0), 0);
+    assert_eq!(calls::join(&mut memory.pool, 0, Share::OPEN), 0);
     assert_eq!(memory.make(0, 0, 256), 0);
     for byte in [255, 0] {
         for place in 0..=255 {
             assert_eq!(memory.write(0, 1, place, &[byte]), 0);
             let count = if byte == 255 { u16::from(place) + 1 } else { 255 - u16::from(place) };
-            assert_eq!(memory.pool.extents[SMALL_BLOCKS], extent_of(256, 255 * count));
+            assert_eq!(memory.pool.extents[SMALL_BLOCKS], extent_of(256, 255 * count, 0));
         }
     }
     for byte in [255, 0, 255, 1] {
         assert_eq!(memory.write(0, 1, 0, &[byte; 256]), 0);
-        assert_eq!(memory.pool.extents[SMALL_BLOCKS], extent_of(256, 256 * u16::from(byte)));
+        assert_eq!(memory.pool.extents[SMALL_BLOCKS], extent_of(256, 256 * u16::from(byte), 0));
         assert_eq!(memory.read(0, 1), (0, vec![byte; 256]));
     }
 }

@@ -7,7 +7,8 @@ use plain::calls;
 use plain::fit::is_well_formed;
 use plain::limits::{EXPIRATIONS, TASKS};
 use plain::record::{
-    Pool, TaskEntry, ABSENT, ABSENT_TASK, DEPARTED, FREE, FRESH, GLOBAL, LOCAL, PINNED, RUNNING, WAITING,
+    extent_of, Pool, Share, TaskEntry, ABSENT, ABSENT_TASK, DEPARTED, FREE, FRESH, GLOBAL, LOCAL, NOBODY, PINNED,
+    RUNNING, WAITING,
 };
 use reference::call::{Call, Model};
 use reference::expiration::{Remaining, Setter};
@@ -24,7 +25,7 @@ fn with(code: u8, units: u32) -> Pool {
     for (task, entry) in pool.tasks.iter_mut().enumerate() {
         *entry = TaskEntry { state: state_of(task), ..ABSENT_TASK };
     }
-    (pool.handles[0], pool.extents[0]) = (1, 4);
+    (pool.handles[0], pool.extents[0]) = (1, extent_of(4, 0, NOBODY));
     (pool.clocks[0], pool.named[0], pool.dues[0]) = (code, 0, units);
     pool
 }
@@ -107,7 +108,7 @@ fn check_kept(limits: Limits, profile: Profile, seed: u64) {
 fn where_global_time_goes_round() {
     for global in [0, u32::MAX - 40, u32::MAX - 2, u32::MAX] {
         let Memory { mut pool, mut small, mut large } = Memory::of(Pool { global, ..FRESH });
-        (0..2).for_each(|task| assert_eq!(calls::join(&mut pool, task), 0));
+        (0..2).for_each(|task| assert_eq!(calls::join(&mut pool, task, Share::OPEN), 0));
         assert_eq!(calls::make(&mut pool, &mut small, &mut large, 0, 1, 0, 4, &mut 0), 0);
         assert_eq!(calls::make(&mut pool, &mut small, &mut large, 1, 1, 30, 4, &mut 0), 0);
         assert_eq!(calls::block(&mut pool, 0, &mut 0), 0);

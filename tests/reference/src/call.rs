@@ -3,6 +3,7 @@
 use std::fmt;
 
 use crate::limits::Limits;
+use crate::share::Share;
 
 /// Which time an expiration goes by: its setter's local time (the paper: own) or the global time (common); or none, so that
 /// only a release ends it (order 5: kept).
@@ -43,7 +44,7 @@ pub fn packed(handles: &[u32]) -> Vec<[u8; 4]> {
 /// order 2, which refreshes several objects, all or none; or `Release`, order 5, which ends what pins an object.
 #[derive(Clone, Copy, Debug, PartialEq, Eq)]
 pub enum Call<'a> {
-    Join { task: u8 },
+    Join { task: u8, share: Share },
     Leave { task: u8 },
     Block { task: u8 },
     Resume { task: u8 },
@@ -81,7 +82,7 @@ impl Call<'_> {
     /// Who calls; nobody for a report.
     pub fn task(&self) -> Option<u8> {
         match *self {
-            Call::Join { task } | Call::Leave { task } | Call::Block { task } | Call::Resume { task } => Some(task),
+            Call::Join { task, .. } | Call::Leave { task } | Call::Block { task } | Call::Resume { task } => Some(task),
             Call::Tick { task } | Call::Make { task, .. } | Call::Refresh { task, .. } => Some(task),
             Call::Read { task, .. } | Call::Write { task, .. } => Some(task),
             Call::Remaining { task, .. } | Call::Batch { task, .. } | Call::Release { task, .. } => Some(task),
@@ -130,6 +131,9 @@ pub enum Refusal {
     OnlyMakePins = 21,
     NotPinned = 22,
     SumDiffers = 23,
+    ReserveAboveLimit = 24,
+    ReserveNotFree = 25,
+    AtLimit = 26,
     LimitsOutOfRange = 29,
 }
 
@@ -162,7 +166,7 @@ pub trait Model: Sized {
         Self::of(Limits::STANDARD)
     }
 
-    fn join(&mut self, task: u8) -> Answer<'static>;
+    fn join(&mut self, task: u8, share: Share) -> Answer<'static>;
     fn leave(&mut self, task: u8) -> Answer<'static>;
     fn block(&mut self, task: u8) -> Answer<'static>;
     fn resume(&mut self, task: u8) -> Answer<'static>;
@@ -179,7 +183,7 @@ pub trait Model: Sized {
     /// Does the call and answers it.
     fn call(&mut self, call: &Call) -> Answer<'_> {
         match *call {
-            Call::Join { task } => self.join(task),
+            Call::Join { task, share } => self.join(task, share),
             Call::Leave { task } => self.leave(task),
             Call::Block { task } => self.block(task),
             Call::Resume { task } => self.resume(task),

@@ -97,7 +97,7 @@ fn add_byte(line: &mut Vec<u8>, random: &mut Random) {
 /// The third byte of a make, a refresh or a batch is its kind.
 fn bad_kind(line: &mut Vec<u8>, random: &mut Random) {
     if ![b"06", b"07", b"0C"].iter().any(|&operation| line.starts_with(operation)) {
-        *line = b"060000000004".to_vec();
+        *line = random.pick(&[&b"060000000004"[..], b"0700000000000001", b"0C00000000000001"]).to_vec();
     }
     let kind = random.pick(&[0x03, 0x04, 0x10, 0x80, 0xFF]);
     put(line, 4, kind);

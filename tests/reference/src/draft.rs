@@ -5,8 +5,9 @@ use crate::call::{packed, Call, Handles, Kind, Model, Refusal};
 use crate::damage::{damage, noise};
 use crate::frame::{decode, encode};
 use crate::ledger::Ledger;
-use crate::limits::{Limits, Store, LARGEST_BATCH, TASKS};
+use crate::limits::{Limits, Store, LARGEST_BATCH, STORES, TASKS};
 use crate::random::Random;
+use crate::share::{Quota, Share};
 use crate::tasks::Tasks;
 
 /// At the ends of the stores' ranges, and beyond them.
@@ -56,7 +57,13 @@ impl Draft {
     }
 
     fn is_left_out(&mut self, call: &Call) -> bool {
-        let out = [Refusal::NoFreeBlock, Refusal::ExpirationsFull, Refusal::ObjectGone];
+        let out = [
+            Refusal::NoFreeBlock,
+            Refusal::ExpirationsFull,
+            Refusal::ObjectGone,
+            Refusal::ReserveNotFree,
+            Refusal::AtLimit,
+        ];
         let answer = self.ledger.call(call);
         self.in_time && call.is_compared() && answer.is_err_and(|refusal| out.contains(&refusal))
     }
@@ -78,7 +85,9 @@ impl Draft {
         let bytes = [self.random.byte()];
         let handles = vec![handle.to_be_bytes(); self.random.below(4)];
         let extension = self.cut(3);
+        let share = self.any_share(task);
         let call = self.random.pick(&[
+            Call::Join { task, share },
             Call::Tick { task },
             Call::Make { task, kind: Kind::Local, extension, length: 10 },
             Call::Refresh { task, kind: Kind::Global, extension, handle },
@@ -141,7 +150,7 @@ impl Draft {
 
     fn join(&mut self) {
         let task = self.random.pick(&[0, 1, 2, 3, 4, 15, 16]);
-        self.call(&Call::Join { task });
+        self.join_of(task);
     }
 
     /// A waiting task if there is one.
@@ -263,8 +272,9 @@ impl Draft {
         let offset = self.random.pick(&[0, 1, 31, 32, 33, 255]);
         let count = self.random.pick(&[0, 1, 31, 32, 33, 255, 256, 257]);
         let times = self.random.pick(&[0, 1, 2, LARGEST_BATCH, LARGEST_BATCH + 1]);
+        let share = Share { small: self.edge_quota(Store::Small), large: self.edge_quota(Store::Large) };
         match self.random.below(16) {
-            0 => self.call(&Call::Join { task }),
+            0 => self.call(&Call::Join { task, share }),
             1 => self.call(&Call::Leave { task }),
             2 => self.call(&Call::Block { task }),
             3 => self.call(&Call::Resume { task }),
@@ -288,9 +298,72 @@ impl Draft {
             if self.ledger.tasks().is_waiting(task) {
                 self.call(&Call::Resume { task });
             } else if !self.ledger.tasks().is_running(task) {
-                self.call(&Call::Join { task });
+                self.call(&Call::Join { task, share: Share::OPEN });
             }
         }
+    }
+
+    /// The task joins, with any share.
+    pub fn join_of(&mut self, task: u8) {
+        let share = self.any_share(task);
+        self.call(&Call::Join { task, share });
+    }
+
+    /// Every task that is there leaves.
+    pub fn leave_all(&mut self) {
+        (0..TASKS as u8).for_each(|task| self.leave_if_there(task));
+    }
+
+    pub fn leave_if_there(&mut self, task: u8) {
+        if self.is_there(task) {
+            self.call(&Call::Leave { task });
+        }
+    }
+
+    pub fn is_there(&self, task: u8) -> bool {
+        self.ledger.tasks().is_running(task) || self.ledger.tasks().is_waiting(task)
+    }
+
+    /// A task that waits resumes, and another one blocks.
+    pub fn block_or_resume(&mut self, task: u8) {
+        let waits = self.ledger.tasks().is_waiting(task);
+        self.call(&if waits { Call::Resume { task } } else { Call::Block { task } });
+    }
+
+    /// How many blocks of a store are left for this task: without an object, and not held back for another.
+    pub fn left(&self, task: u8, store: Store) -> u8 {
+        let room = self.ledger.room(store);
+        (room.blocks - room.taken(task)) as u8
+    }
+
+    /// By how much the task's objects fall short of its reserve.
+    pub fn lack(&self, task: u8, store: Store) -> usize {
+        self.ledger.room(store).unmet(task)
+    }
+
+    /// An object that is gone after the task's next tick.
+    pub fn make_local(&mut self, task: u8, store: Store) {
+        let length = self.length_in(store);
+        self.make_by(task, Kind::Local, 0, length);
+    }
+
+    /// The task makes an object in this store, of any kind that is gone soon or pinned.
+    pub fn make_of(&mut self, task: u8, store: Store) {
+        let length = self.length_in(store);
+        let extension = self.up_to(self.cut(1));
+        let (kind, extension) = match self.random.below(6) {
+            0 | 1 => (Kind::Pinned, 0),
+            2 | 3 => (Kind::Global, extension),
+            _ => (Kind::Local, extension),
+        };
+        self.make_by(task, kind, extension, length);
+    }
+
+    /// With too long an extension or no length, whatever is left for the task.
+    pub fn make_in_vain(&mut self, task: u8, store: Store) {
+        let (long, some) = (self.longest() + 1, self.length_in(store));
+        let (extension, length) = self.random.pick(&[(long, some), (long, some), (0, 0), (0, 257), (long, 257)]);
+        self.call(&Call::Make { task, kind: Kind::Global, extension, length });
     }
 
     /// Every running task ticks, so that global time advances.
@@ -423,6 +496,11 @@ impl Draft {
         self.batch_now(extension, &handles);
     }
 
+    /// The last object that was made.
+    pub fn newest(&self) -> u32 {
+        self.ledger.figures().given
+    }
+
     /// How many expirations more there is room for.
     pub fn room(&self) -> usize {
         self.limits().expirations - usize::from(self.ledger.figures().expirations)
@@ -451,6 +529,58 @@ impl Draft {
         let task = self.runner();
         let length = self.ledger.length(handle).unwrap_or(0);
         self.write_at(task, handle, 0, length);
+    }
+
+    // Shares.
+
+    /// Open as a rule.
+    fn any_share(&mut self, task: u8) -> Share {
+        if !self.random.one_in(4) {
+            return Share::OPEN;
+        }
+        Share { small: self.any_quota(task, Store::Small), large: self.any_quota(task, Store::Large) }
+    }
+
+    /// Up to what is left, or past it, with a limit that is above the reserve as a rule.
+    pub fn any_quota(&mut self, task: u8, store: Store) -> Quota {
+        let left = self.left(task, store);
+        let some = self.up_to(left);
+        let reserve = self.random.pick(&[0, 0, 0, 1, 2, 3, some, left, left + 1]);
+        let limit = self.any_limit(reserve);
+        Quota { reserve, limit }
+    }
+
+    pub fn any_limit(&mut self, reserve: u8) -> u8 {
+        let more = reserve + self.random.below(4) as u8;
+        self.random.pick(&[u8::MAX, u8::MAX, reserve, reserve, more, more, more, reserve.saturating_sub(1)])
+    }
+
+    /// Numbers at the ends of their range, and about the blocks that there are.
+    fn edge_quota(&mut self, store: Store) -> Quota {
+        let blocks = self.limits().blocks(store) as u8;
+        let ends = [0, 0, 0, 0, 0, 1, blocks - 1, blocks, blocks + 1, 127, 128, 254, 255];
+        let (reserve, limit) = (self.random.pick(&ends), self.random.pick(&ends));
+        Quota { reserve, limit: self.random.pick(&[u8::MAX, u8::MAX, limit]) }
+    }
+
+    /// Joins that are refused: a reserve above its limit, in one store or both, and more than is left.
+    pub fn join_in_vain(&mut self, task: u8) {
+        let above = |reserve: u8| Quota { reserve, limit: reserve.saturating_sub(1) };
+        let [small, large] = STORES.map(|store| self.left(task, store));
+        let past = |left: u8| Quota { reserve: left + 1, limit: u8::MAX };
+        let number = 1 + self.random.below(64) as u8;
+        let share = self.random.pick(&[
+            Share { small: above(number), large: Quota::OPEN },
+            Share { small: Quota::OPEN, large: above(number) },
+            Share { small: above(number), large: above(number) },
+            Share { small: past(small), large: above(number) },
+            Share { small: above(number), large: past(large) },
+            Share { small: past(small), large: Quota::OPEN },
+            Share { small: Quota::OPEN, large: past(large) },
+            Share { small: past(small), large: past(large) },
+        ]);
+        let task = if self.random.one_in(8) { self.random.pick(&[16, 255]) } else { task };
+        self.call(&Call::Join { task, share });
     }
 
     // Arguments.

@@ -1,6 +1,7 @@
 //! Frames: lines of hexadecimal to calls, calls and answers to lines.
 
 use crate::call::{Accepted, Answer, Call, Figures, Handles, Kind, Lifetime, Refusal};
+use crate::share::Share;
 
 const JOIN: u8 = 0x01;
 const LEAVE: u8 = 0x02;
@@ -30,7 +31,7 @@ pub fn decode<'a>(line: &[u8], room: &'a mut [u8]) -> Result<Call<'a>, Refusal> 
     let frame = unhex(line, room)?;
     let (&operation, fields) = frame.split_first().ok_or(Refusal::UnknownOperation)?;
     match operation {
-        JOIN => Ok(Call::Join { task: task(fields)? }),
+        JOIN => join(fields),
         LEAVE => Ok(Call::Leave { task: task(fields)? }),
         BLOCK => Ok(Call::Block { task: task(fields)? }),
         RESUME => Ok(Call::Resume { task: task(fields)? }),
@@ -50,6 +51,13 @@ pub fn decode<'a>(line: &[u8], room: &'a mut [u8]) -> Result<Call<'a>, Refusal> 
 fn task(fields: &[u8]) -> Result<u8, Refusal> {
     let &[task] = fields else { return Err(Refusal::WrongFrameLength) };
     Ok(task)
+}
+
+/// The task, then small reserve, small limit, large reserve, large limit.
+fn join(fields: &[u8]) -> Result<Call<'_>, Refusal> {
+    let &[task, ref share @ ..] = fields else { return Err(Refusal::WrongFrameLength) };
+    let share = share.try_into().map_err(|_| Refusal::WrongFrameLength)?;
+    Ok(Call::Join { task, share: Share::from_bytes(share) })
 }
 
 fn make(fields: &[u8]) -> Result<Call<'_>, Refusal> {
@@ -128,7 +136,10 @@ fn unhex<'a>(line: &[u8], room: &'a mut [u8]) -> Result<&'a [u8], Refusal> {
 /// Writes the call's line, LF included.
 pub fn encode(call: &Call, line: &mut Vec<u8>) {
     match *call {
-        Call::Join { task } => hex(&[JOIN, task], line),
+        Call::Join { task, share } => {
+            hex(&[JOIN, task], line);
+            hex(&share.to_bytes(), line);
+        }
         Call::Leave { task } => hex(&[LEAVE, task], line),
         Call::Block { task } => hex(&[BLOCK, task], line),
         Call::Resume { task } => hex(&[RESUME, task], line),

@@ -6,6 +6,7 @@ use crate::draft::Draft;
 use crate::limits::{Limits, Store, LARGEST_BATCH, LONGEST, TASKS};
 use crate::random::Random;
 use crate::script::LIMIT;
+use crate::share::{Quota, Share};
 
 /// An extension that is cut to the largest of any pool.
 const LARGEST: u8 = u8::MAX;
@@ -37,6 +38,8 @@ pub enum Profile {
     Waiting,
     /// Objects that are pinned: they outlive rounds and tasks, fill the tables, and are released once and again.
     Pinned,
+    /// Reserves that fill a store and limits that are reached, by tasks that wait, leave and come again.
+    Shares,
     /// Arguments at the ends of their ranges.
     Edges,
     /// Damaged lines among good ones.
@@ -45,7 +48,7 @@ pub enum Profile {
     Noise,
 }
 
-pub const PROFILES: [Profile; 15] = [
+pub const PROFILES: [Profile; 16] = [
     Profile::Everyday,
     Profile::Crowd,
     Profile::SmallFlood,
@@ -58,6 +61,7 @@ pub const PROFILES: [Profile; 15] = [
     Profile::Batch,
     Profile::Waiting,
     Profile::Pinned,
+    Profile::Shares,
     Profile::Edges,
     Profile::Damage,
     Profile::Noise,
@@ -151,6 +155,7 @@ fn phase(draft: &mut Draft, profile: Profile) {
         Profile::Batch => batch(draft),
         Profile::Waiting => waiting(draft),
         Profile::Pinned => pinned(draft),
+        Profile::Shares => shares(draft),
         Profile::Edges => edges(draft),
         Profile::Damage => damage(draft),
         Profile::Noise => noise(draft),
@@ -199,7 +204,7 @@ fn crowd_round(draft: &mut Draft) {
             0 => draft.call(&Call::Block { task }),
             1 => draft.call(&Call::Leave { task }),
             2 => draft.call(&Call::Resume { task }),
-            3 => draft.call(&Call::Join { task }),
+            3 => draft.join_of(task),
             4 => draft.any_call(),
             _ => draft.call(&Call::Tick { task }),
         }
@@ -411,7 +416,7 @@ fn wait_or_leave(draft: &mut Draft, setter: u8, extension: u8) {
         }
         2 => {
             draft.call(&leave);
-            draft.call(&Call::Join { task: setter });
+            draft.call(&Call::Join { task: setter, share: Share::OPEN });
             draft.make_global(setter, extension);
             draft.call(&block);
         }
@@ -518,6 +523,108 @@ fn pin_to_the_brim(draft: &mut Draft) {
     for _ in 0..draft.longest() + 1 {
         draft.round();
     }
+}
+
+/// All begins anew. Some tasks join, so that little or nothing of a store is left for others; then they take what is theirs
+/// and more, wait, leave and come again.
+fn shares(draft: &mut Draft) {
+    let (tasks, store) = (2 + draft.random.below(4), any_store(draft));
+    begin_anew(draft);
+    share_out(draft, tasks, store);
+    for _ in 0..12 + draft.random.below(40) {
+        share_step(draft, tasks, store);
+    }
+    if draft.random.one_in(3) {
+        batch_to_the_brim(draft);
+        (0..2).for_each(|_| (0..tasks as u8).for_each(|task| draft.make_of(task, store)));
+    }
+    if !draft.random.one_in(4) {
+        draft.leave_all();
+    }
+}
+
+/// Nobody is there, and mostly no object.
+fn begin_anew(draft: &mut Draft) {
+    draft.gather(1);
+    draft.release_all();
+    if draft.random.one_in(2) {
+        (0..draft.longest() / 4).for_each(|_| draft.round());
+    }
+    draft.leave_all();
+}
+
+/// Tasks with small reserves; then one that takes what is left, or all but a few blocks; and one with none, and a limit now
+/// and then.
+fn share_out(draft: &mut Draft, tasks: usize, store: Store) {
+    let (last, most) = (tasks as u8 - 1, draft.random.below(tasks) as u8);
+    for task in 0..last {
+        let few = draft.random.below(4) as u8;
+        let spare = draft.random.pick(&[0, 0, 1, 2, 3]);
+        let left = draft.left(task, store);
+        let reserve = if task == most { left.saturating_sub(spare) } else { few.min(left) };
+        let limit = draft.any_limit(reserve).max(reserve);
+        join_with(draft, task, store, Quota { reserve, limit });
+    }
+    let limit = draft.random.pick(&[0, 1, 2, u8::MAX, u8::MAX, u8::MAX]);
+    join_with(draft, last, store, Quota { reserve: 0, limit });
+    draft.make_of(last, store);
+}
+
+/// With this quota of one store, and any of the other.
+fn join_with(draft: &mut Draft, task: u8, store: Store, quota: Quota) {
+    let open = draft.random.one_in(2);
+    let any = |other: Store, draft: &mut Draft| if open { Quota::OPEN } else { draft.any_quota(task, other) };
+    let share = match store {
+        Store::Small => Share { small: quota, large: any(Store::Large, draft) },
+        Store::Large => Share { small: any(Store::Small, draft), large: quota },
+    };
+    draft.call(&Call::Join { task, share });
+}
+
+fn share_step(draft: &mut Draft, tasks: usize, store: Store) {
+    let task = draft.random.below(tasks) as u8;
+    match draft.random.below(30) {
+        0..=8 => draft.make_of(task, store),
+        9..=11 => {
+            let any = any_store(draft);
+            draft.make_of(task, any);
+        }
+        12 | 13 => draft.make_in_vain(task, store),
+        14 => draft.round(),
+        15 | 16 => meet_and_let_go(draft, task, store),
+        17..=19 => draft.block_or_resume(task),
+        20 | 21 => draft.join_in_vain(task),
+        22 | 23 => draft.join_in_vain(tasks as u8),
+        24 | 25 => come_again(draft, task, store),
+        26 | 27 => draft.release_pinned(),
+        28 => draft.refresh_by(tasks, 0, draft.newest()),
+        _ => draft.any_use(),
+    }
+}
+
+/// The task has its reserve met where it lacks little. After a tick it lacks as much again, and others ask for a block.
+fn meet_and_let_go(draft: &mut Draft, task: u8, store: Store) {
+    let lack = draft.lack(task, store);
+    if lack > 3 {
+        return draft.make_of(task, store);
+    }
+    (0..lack).for_each(|_| draft.make_local(task, store));
+    draft.call(&Call::Tick { task });
+    draft.make_in(store, 0);
+    draft.make_in(store, 0);
+}
+
+/// The task leaves, if it is there, and joins once more; now and then it tries for too much first.
+fn come_again(draft: &mut Draft, task: u8, store: Store) {
+    draft.leave_if_there(task);
+    if draft.random.one_in(2) {
+        draft.join_in_vain(task);
+    }
+    let left = draft.left(task, store);
+    let few = draft.up_to(left.min(3));
+    let reserve = draft.random.pick(&[0, few, left.saturating_sub(1), left]);
+    let limit = draft.any_limit(reserve).max(reserve);
+    join_with(draft, task, store, Quota { reserve, limit });
 }
 
 fn edges(draft: &mut Draft) {

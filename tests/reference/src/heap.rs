@@ -7,32 +7,45 @@ use crate::block::Block;
 use crate::call::{Accepted, Answer, Call, Handles, Kind, Model, Refusal};
 use crate::expiration::{remaining, Expiration};
 use crate::ledger::{Ledger, Standing};
-use crate::limits::{check_batch, check_refreshing, Limits, Store};
+use crate::limits::{check_batch, check_refreshing, Limits, Store, STORES};
 use crate::outside::{Change, Exposed};
+use crate::share::{Maker, Room, Share};
 use crate::tasks::Tasks;
 
-/// Objects for ever, and no refusal 9, 10 or 12 (H3, H5). `blocks[h - 1]` is the block of handle h.
+/// Objects for ever, and no refusal 9, 10, 12, 25 or 26 (H3, H5). `objects[h - 1]` is the object of handle h.
 #[derive(Clone, Debug)]
 pub struct Heap {
     limits: Limits,
     tasks: Tasks,
-    blocks: Vec<Block>,
+    objects: Vec<Object>,
     /// The handles whose pinned expiration is left.
     pinned: BTreeSet<u32>,
+}
+
+#[derive(Clone, Debug)]
+struct Object {
+    maker: Maker,
+    block: Block,
 }
 
 impl Model for Heap {
     fn sized(limits: Limits) -> Result<Heap, Refusal> {
         limits.check()?;
-        Ok(Heap { limits, tasks: Tasks::default(), blocks: Vec::new(), pinned: BTreeSet::new() })
+        Ok(Heap { limits, tasks: Tasks::default(), objects: Vec::new(), pinned: BTreeSet::new() })
     }
 
-    fn join(&mut self, task: u8) -> Answer<'static> {
-        self.tasks.join(task).map(|()| Accepted::Done)
+    /// Order 9: 1, 2, 24.
+    fn join(&mut self, task: u8, share: Share) -> Answer<'static> {
+        self.tasks.check_absent(task)?;
+        share.check()?;
+        self.tasks.join(task, share).map(|()| Accepted::Done)
     }
 
+    /// Order 9: the leaver is departed as the maker of all its objects.
     fn leave(&mut self, task: u8) -> Answer<'static> {
-        self.tasks.leave(task).map(Accepted::Advanced)
+        let advanced = self.tasks.leave(task)?;
+        self.objects.iter_mut().for_each(|object| object.maker.depart(task));
+        Ok(Accepted::Advanced(advanced))
     }
 
     fn block(&mut self, task: u8) -> Answer<'static> {
@@ -51,11 +64,11 @@ impl Model for Heap {
         self.tasks.check_running(task)?;
         self.limits.check_extension(kind, extension)?;
         let store = Store::holding(length)?;
-        if self.blocks.len() == u32::MAX as usize {
+        if self.objects.len() == u32::MAX as usize {
             return Err(Refusal::AllHandlesGiven);
         }
-        self.blocks.push(Block::zeroed(length, store));
-        let handle = self.blocks.len() as u32;
+        self.objects.push(Object { maker: Maker::Task(task), block: Block::zeroed(length, store) });
+        let handle = self.objects.len() as u32;
         if kind == Kind::Pinned {
             self.pinned.insert(handle);
         }
@@ -73,13 +86,13 @@ impl Model for Heap {
     fn read(&self, task: u8, handle: u32) -> Answer<'_> {
         self.tasks.check_running(task)?;
         let place = self.check_given(handle)?;
-        self.blocks[place].read().map(Accepted::Bytes)
+        self.objects[place].block.read().map(Accepted::Bytes)
     }
 
     fn write(&mut self, task: u8, handle: u32, offset: u8, bytes: &[u8]) -> Answer<'static> {
         self.tasks.check_running(task)?;
         let place = self.check_given(handle)?;
-        self.blocks[place].write(offset, bytes)?;
+        self.objects[place].block.write(offset, bytes)?;
         Ok(Accepted::Done)
     }
 
@@ -122,10 +135,15 @@ impl Heap {
         self.limits
     }
 
-    /// Refusal 11, else the place of the object's block.
+    /// Who made the object, also where it would be gone.
+    pub fn maker(&self, handle: u32) -> Option<Maker> {
+        self.check_given(handle).ok().map(|place| self.objects[place].maker)
+    }
+
+    /// Refusal 11, else the object's place.
     fn check_given(&self, handle: u32) -> Result<usize, Refusal> {
         let handle = handle as usize;
-        if handle == 0 || handle > self.blocks.len() {
+        if handle == 0 || handle > self.objects.len() {
             return Err(Refusal::HandleNotGiven);
         }
         Ok(handle - 1)
@@ -136,7 +154,7 @@ impl Heap {
 impl Exposed for Heap {
     fn disturb(&mut self, change: Change) {
         if let Ok(place) = self.check_given(change.handle) {
-            self.blocks[place].bytes[change.place] = change.byte;
+            self.objects[place].block.bytes[change.place] = change.byte;
         }
     }
 }
@@ -160,11 +178,19 @@ impl Book {
     }
 
     /// H9 to H13, H23: whether a call that the heap does not refuse, or refuses with 13 or 22, is a use out of time
-    /// or bounds. Asked before the book follows the call. Order 2: all objects of a batch stand, and there is room
-    /// for an expiration on each. Order 12: room and blocks go by the pool's figures.
-    fn is_out(&self, call: &Call) -> bool {
+    /// or bounds. Asked before the book follows the call, with the tasks as they were before it. Order 2: all objects of a
+    /// batch stand, and there is room for an expiration on each. Order 9: 25, 26 and 9 by the ledger's rules. Order 12:
+    /// room and blocks go by the pool's figures.
+    fn is_out(&self, call: &Call, tasks: &Tasks, heap: &[Object]) -> bool {
+        let room = |store: Store| self.room(store, tasks, heap);
         match *call {
-            Call::Make { length, .. } => self.is_store_full(length) || !self.has_room(1),
+            Call::Join { task, share } => {
+                STORES.iter().any(|&store| room(store).check_reserve(task, share.of(store).reserve).is_err())
+            }
+            Call::Make { task, length, .. } => {
+                let is_out = |room: Room| room.check_limit(task).is_err() || room.check_block(task).is_err();
+                Store::holding(length).is_ok_and(|store| is_out(room(store))) || !self.has_room(1)
+            }
             Call::Refresh { handle, .. } => self.is_gone(handle) || !self.has_room(1),
             Call::Batch { handles, .. } => {
                 handles.iter().any(|handle| self.is_gone(handle)) || !self.has_room(handles.count())
@@ -240,10 +266,11 @@ impl Book {
         expirations + more <= self.limits.expirations
     }
 
-    fn is_store_full(&self, length: u16) -> bool {
-        let store = Store::holding(length);
-        let standing = self.objects.values().filter(|entry| Store::holding(entry.length) == store);
-        store.is_ok_and(|store| standing.count() >= self.limits.blocks(store))
+    /// One store, by the objects that stand in the book.
+    fn room(&self, store: Store, tasks: &Tasks, heap: &[Object]) -> Room {
+        let standing = self.objects.iter().filter(|(_, entry)| Store::holding(entry.length) == Ok(store));
+        let makers = standing.map(|(&handle, _)| heap[handle as usize - 1].maker).collect();
+        Room { blocks: self.limits.blocks(store), makers, quotas: tasks.quotas(store) }
     }
 }
 
@@ -279,9 +306,11 @@ impl Judge {
 
     /// Feeds one call; false if it is a use out of time or bounds, after which nothing more is to be told.
     pub fn is_in_time(&mut self, call: &Call) -> bool {
+        let before = self.heap.tasks.clone();
         let told = self.heap.call(call).map(Told::by);
+        let is_out = || self.book.is_out(call, &before, &self.heap.objects);
         match told {
-            Ok(_) | Err(Refusal::RangeAboveLength | Refusal::NotPinned) if self.book.is_out(call) => return false,
+            Ok(_) | Err(Refusal::RangeAboveLength | Refusal::NotPinned) if is_out() => return false,
             Ok(told) => self.book.follow(call, &self.heap.tasks, told),
             Err(_) => {}
         }
@@ -297,7 +326,8 @@ impl Judge {
     pub fn standing(&self) -> Vec<Standing> {
         let show = |(&handle, entry): (&u32, &Entry)| Standing {
             handle,
-            block: self.heap.blocks[handle as usize - 1].clone(),
+            maker: self.heap.objects[handle as usize - 1].maker,
+            block: self.heap.objects[handle as usize - 1].block.clone(),
             expirations: remaining(&entry.expirations, &self.heap.tasks),
         };
         self.book.objects.iter().map(show).collect()

@@ -3,6 +3,7 @@
 
 use crate::call::{packed, Accepted, Call, Handles, Kind, Lifetime, Model, Refusal};
 use crate::limits::{Limits, Store};
+use crate::share::{Quota, Share};
 use crate::{indexed, ledger};
 
 const MAKE: Call = Call::Make { task: 0, kind: Kind::Local, extension: 0, length: 4 };
@@ -17,7 +18,7 @@ pub trait LateStart: Model {
 
 fn started<L: LateStart>(limits: Limits, clock: u64, given: u32) -> L {
     let mut ledger = L::of(limits);
-    ledger.join(0).unwrap();
+    ledger.join(0, Share::OPEN).unwrap();
     let parts = ledger.clock_and_given();
     (*parts.0, *parts.1) = (clock, given);
     ledger
@@ -37,7 +38,7 @@ fn local_expiration_set_at_the_highest_32_bit_clock<L: LateStart>(limits: Limits
 /// Order 4: what waits is put off beyond a global time of 32 bits, and what counts goes there.
 fn a_setter_waits_across_the_highest_32_bit_global_time<L: LateStart>(limits: Limits) {
     let mut ledger: L = started(limits, 0, 0);
-    ledger.join(1).unwrap();
+    ledger.join(1, Share::OPEN).unwrap();
     *ledger.global_mut() = u64::from(u32::MAX) - 1;
     for task in [0, 1] {
         ledger.make(task, Kind::Global, 0, 4).unwrap();
@@ -85,12 +86,28 @@ fn all_handles_given_is_told_after_a_bad_length_and_before_a_full_store<L: LateS
     assert_eq!(ledger.make(0, Kind::Local, 0, 257), Err(Refusal::LengthOutOfRange));
 }
 
+/// Order 9: 8 before 26 and before 9, with a limit of 0 and with all blocks held back.
+fn all_handles_given_is_told_before_what_shares_refuse<L: LateStart>(limits: Limits) {
+    let mut ledger: L = started(limits, 0, u32::MAX);
+    ledger.join(1, Share::NONE).unwrap();
+    let all = Quota { reserve: limits.small_blocks as u8, limit: u8::MAX };
+    ledger.join(2, Share { small: all, large: Quota::NONE }).unwrap();
+    for task in 0..3 {
+        assert_eq!(ledger.make(task, Kind::Local, 0, 4), Err(Refusal::AllHandlesGiven));
+    }
+    *ledger.clock_and_given().1 = u32::MAX - 1;
+    assert_eq!(ledger.call(&MAKE), Err(Refusal::NoFreeBlock));
+    assert_eq!(ledger.make(1, Kind::Local, 0, 4), Err(Refusal::AtLimit));
+    assert_eq!(ledger.make(2, Kind::Local, 0, 4), Ok(Accepted::Handle(u32::MAX)));
+}
+
 fn all<L: LateStart>(limits: Limits) {
     local_expiration_set_at_the_highest_32_bit_clock::<L>(limits);
     a_setter_waits_across_the_highest_32_bit_global_time::<L>(limits);
     a_pinned_object_stands_across_the_highest_32_bit_clocks::<L>(limits);
     after_the_highest_handle_all_are_given::<L>(limits);
     all_handles_given_is_told_after_a_bad_length_and_before_a_full_store::<L>(limits);
+    all_handles_given_is_told_before_what_shares_refuse::<L>(limits);
 }
 
 /// As few as these tests need.

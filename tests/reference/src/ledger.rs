@@ -4,8 +4,9 @@
 use crate::block::Block;
 use crate::call::{Accepted, Answer, Figures, Handles, Kind, Lifetime, Model, Refusal};
 use crate::expiration::{remaining, Expiration, Remaining};
-use crate::limits::{check_batch, check_refreshing, Limits, Store};
+use crate::limits::{check_batch, check_refreshing, Limits, Store, STORES};
 use crate::outside::{Change, Exposed};
+use crate::share::{Maker, Room, Share};
 use crate::tasks::Tasks;
 
 #[derive(Clone, Debug)]
@@ -18,10 +19,11 @@ pub struct Ledger {
     objects: Vec<Object>,
 }
 
-/// O1.
+/// O1, and its maker by order 9.
 #[derive(Clone, Debug)]
 struct Object {
     handle: u32,
+    maker: Maker,
     block: Block,
     expirations: Vec<Expiration>,
 }
@@ -30,6 +32,7 @@ struct Object {
 #[derive(Clone, Debug, PartialEq, Eq)]
 pub struct Standing {
     pub handle: u32,
+    pub maker: Maker,
     pub block: Block,
     pub expirations: Vec<Remaining>,
 }
@@ -42,14 +45,19 @@ impl Model for Ledger {
         Ok(Ledger { limits, tasks: Tasks::default(), given: 0, objects: Vec::new() })
     }
 
-    fn join(&mut self, task: u8) -> Answer<'static> {
-        self.tasks.join(task)?;
+    /// 1, 2, and order 9: 24, 25 in either store.
+    fn join(&mut self, task: u8, share: Share) -> Answer<'static> {
+        self.tasks.check_absent(task)?;
+        share.check()?;
+        STORES.iter().try_for_each(|&store| self.room(store).check_reserve(task, share.of(store).reserve))?;
+        self.tasks.join(task, share)?;
         Ok(Accepted::Done)
     }
 
-    /// T12, E9 and E21: the task's local expirations end, and of its global ones it is departed.
+    /// T12, E9 and E21: the task's local expirations end, and of its global ones and of its objects it is departed.
     fn leave(&mut self, task: u8) -> Answer<'static> {
         let advanced = self.tasks.leave(task)?;
+        self.objects.iter_mut().for_each(|object| object.maker.depart(task));
         self.end(|expiration, _| expiration.is_local_of(task));
         self.change(|expiration, _| _ = expiration.depart(task));
         self.expire(advanced);
@@ -73,18 +81,21 @@ impl Model for Ledger {
         Ok(Accepted::Advanced(advanced))
     }
 
-    /// R40, then O12 to O14: a new object, all zeros, with one expiration.
+    /// R40, with 26 before 9, then O12 to O14: a new object, all zeros, with one expiration.
     fn make(&mut self, task: u8, kind: Kind, extension: u8, length: u16) -> Answer<'static> {
         self.tasks.check_running(task)?;
         self.limits.check_extension(kind, extension)?;
         let store = Store::holding(length)?;
         self.check_handles()?;
-        self.check_blocks(store)?;
+        let room = self.room(store);
+        room.check_limit(task)?;
+        room.check_block(task)?;
         self.check_expirations(1)?;
         // One above the last, so that the new object is the last in order.
         self.given += 1;
         self.objects.push(Object {
             handle: self.given,
+            maker: Maker::Task(task),
             block: Block::zeroed(length, store),
             expirations: vec![Expiration::set(&self.tasks, task, kind, extension)],
         });
@@ -183,11 +194,17 @@ impl Ledger {
     /// O24: what report counts.
     pub fn figures(&self) -> Figures {
         Figures {
-            small: self.standing_in(Store::Small) as u8,
-            large: self.standing_in(Store::Large) as u8,
+            small: self.standing_in(Store::Small).count() as u8,
+            large: self.standing_in(Store::Large).count() as u8,
             expirations: self.expirations() as u16,
             given: self.given,
         }
+    }
+
+    /// One store, by its standing objects.
+    pub fn room(&self, store: Store) -> Room {
+        let makers = self.standing_in(store).map(|object| object.maker).collect();
+        Room { blocks: self.limits.blocks(store), makers, quotas: self.tasks.quotas(store) }
     }
 
     /// The handles of the standing objects, in order.
@@ -220,6 +237,7 @@ impl Ledger {
     pub fn standing(&self) -> Vec<Standing> {
         let show = |object: &Object| Standing {
             handle: object.handle,
+            maker: object.maker,
             block: object.block.clone(),
             expirations: remaining(&object.expirations, &self.tasks),
         };
@@ -260,14 +278,6 @@ impl Ledger {
         Ok(())
     }
 
-    /// 9: every block of the store belongs to a standing object.
-    fn check_blocks(&self, store: Store) -> Result<(), Refusal> {
-        if self.standing_in(store) == self.limits.blocks(store) {
-            return Err(Refusal::NoFreeBlock);
-        }
-        Ok(())
-    }
-
     /// 10, by E14: no room for so many more.
     fn check_expirations(&self, more: usize) -> Result<(), Refusal> {
         if self.expirations() + more > self.limits.expirations {
@@ -294,9 +304,9 @@ impl Ledger {
         self.objects.iter().position(|object| object.handle == handle)
     }
 
-    /// How many objects of this store stand.
-    fn standing_in(&self, store: Store) -> usize {
-        self.objects.iter().filter(|object| Store::holding(object.block.length) == Ok(store)).count()
+    /// The objects of this store.
+    fn standing_in(&self, store: Store) -> impl Iterator<Item = &Object> {
+        self.objects.iter().filter(move |object| Store::holding(object.block.length) == Ok(store))
     }
 
     /// How many expirations stand in all, equal ones each for itself (E13).

@@ -25,6 +25,7 @@ pub mod outside;
 pub mod program;
 pub mod random;
 pub mod script;
+pub mod share;
 pub mod tasks;
 
 #[cfg(test)]

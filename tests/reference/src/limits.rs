@@ -11,6 +11,9 @@ const SHORTEST_LARGE: u16 = LONGEST_SMALL + 1;
 pub const LONGEST: u16 = 256;
 pub const LARGEST_BATCH: usize = 32;
 
+/// In the order in which they are tested.
+pub const STORES: [Store; 2] = [Store::Small, Store::Large];
+
 #[derive(Clone, Copy, Debug, PartialEq, Eq, PartialOrd, Ord)]
 pub enum Store {
     Small,
@@ -24,6 +27,13 @@ impl Store {
             1..=LONGEST_SMALL => Ok(Store::Small),
             SHORTEST_LARGE..=LONGEST => Ok(Store::Large),
             _ => Err(Refusal::LengthOutOfRange),
+        }
+    }
+
+    pub const fn name(self) -> &'static str {
+        match self {
+            Store::Small => "small",
+            Store::Large => "large",
         }
     }
 

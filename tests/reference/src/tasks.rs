@@ -1,7 +1,8 @@
 //! The sixteen tasks and the two times. A number such as T9 is a rule's in docs/RULES.md.
 
 use crate::call::Refusal;
-use crate::limits::TASKS;
+use crate::limits::{Store, TASKS};
+use crate::share::{Quota, Share};
 
 /// T2: the state of a task.
 #[derive(Clone, Copy, Debug, Default, PartialEq, Eq)]
@@ -12,12 +13,13 @@ pub enum State {
     Waiting,
 }
 
-/// T3: a task's entry. The scope paper's mark is `ticked`.
+/// T3: a task's entry. The scope paper's mark is `ticked`. Order 9 adds the share, which only a join and a leave change.
 #[derive(Clone, Copy, Debug, Default, PartialEq, Eq)]
 pub struct Task {
     pub state: State,
     pub ticked: bool,
     pub clock: u64,
+    pub share: Share,
 }
 
 /// T4, T7: local times with the tasks, and the global time beside them.
@@ -41,6 +43,11 @@ impl Tasks {
         self.global
     }
 
+    /// Of one store, what each task has joined with.
+    pub fn quotas(&self, store: Store) -> [Quota; TASKS] {
+        self.entries.map(|task| task.share.of(store))
+    }
+
     pub fn is_running(&self, task: u8) -> bool {
         self.check_running(task).is_ok()
     }
@@ -49,17 +56,17 @@ impl Tasks {
         self.check_waiting(task).is_ok()
     }
 
-    /// T9: it runs, from local time 0 on.
-    pub fn join(&mut self, task: u8) -> Result<(), Refusal> {
+    /// T9: it runs, from local time 0 on, with this share.
+    pub fn join(&mut self, task: u8, share: Share) -> Result<(), Refusal> {
         let place = self.check_absent(task)?;
-        self.entries[place] = Task { state: State::Running, ticked: false, clock: 0 };
+        self.entries[place] = Task { state: State::Running, ticked: false, clock: 0, share };
         Ok(())
     }
 
-    /// T12: it is absent. Leave, block and tick tell whether global time advanced.
+    /// T12: it is absent, and has no share. Leave, block and tick tell whether global time advanced.
     pub fn leave(&mut self, task: u8) -> Result<bool, Refusal> {
         let place = self.check_present(task)?;
-        self.entries[place] = Task { state: State::Absent, ticked: false, clock: 0 };
+        self.entries[place] = Task { state: State::Absent, ticked: false, clock: 0, share: Share::NONE };
         Ok(self.advance())
     }
 
@@ -101,7 +108,7 @@ impl Tasks {
     // The refusals of a task: 1, then those of its state. Else the place of its entry.
 
     /// 1, 2.
-    fn check_absent(&self, task: u8) -> Result<usize, Refusal> {
+    pub fn check_absent(&self, task: u8) -> Result<usize, Refusal> {
         let place = check_number(task)?;
         match self.entries[place].state {
             State::Absent => Ok(place),

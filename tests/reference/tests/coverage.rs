@@ -2,7 +2,7 @@
 
 mod census;
 
-use census::{batch, pinned, remaining, sized, waiting, Census, OPERATIONS};
+use census::{batch, pinned, remaining, shares, sized, waiting, Census, OPERATIONS};
 use reference::generate::{limits, script, script_of, sized_script, Profile, PROFILES};
 use reference::limits::Limits;
 use reference::script::LIMIT;
@@ -15,7 +15,7 @@ const SUM_DIFFERS: usize = 23;
 
 #[test]
 fn all_is_met() {
-    let census = Census::of((1..=400).map(script).filter(|script| script.len() <= LIMIT));
+    let census = Census::of((1..=500).map(script).filter(|script| script.len() <= LIMIT));
     census.print();
     for (place, (name, tests)) in OPERATIONS.iter().enumerate() {
         assert!(census.accepted[place] >= 100, "{name}");
@@ -37,6 +37,9 @@ fn all_is_met() {
     for ((name, _), count) in pinned::SITUATIONS.iter().zip(census.pinned) {
         assert!(count >= 50, "pinned, {name}");
     }
+    for ((name, _), count) in shares::SITUATIONS.iter().zip(census.shares.0) {
+        assert!(count >= 50, "shares, {name}");
+    }
     assert_eq!((census.most_small, census.most_large, census.most_expirations), (64, 32, 256));
     assert_eq!(census.most_running, 16);
     assert!(census.longest_output > 500_000);
@@ -51,6 +54,9 @@ fn all_is_met_with_chosen_figures() {
     census.print();
     for ((name, _), count) in sized::SITUATIONS.iter().zip(census.sized) {
         assert!(count >= 50, "sized, {name}");
+    }
+    for ((name, _), count) in shares::SITUATIONS.iter().zip(census.shares.0) {
+        assert!(count >= 50, "shares, {name}");
     }
     for (place, (name, tests)) in OPERATIONS.iter().enumerate() {
         assert!(census.accepted[place] >= 100, "{name}");
@@ -103,7 +109,7 @@ fn sizes_and_ends() {
 #[test]
 fn each_profile_meets_its_own() {
     for profile in PROFILES {
-        let census = Census::of((1..=20).map(|seed| script_of(Some(profile), seed, 30_000)));
+        let census = Census::of((1..=24).map(|seed| script_of(Some(profile), seed, 30_000)));
         let least = |numbers: &[usize]| numbers.iter().map(|&number| census.refused[number]).min().unwrap_or(0);
         let met = match profile {
             Profile::Everyday => {
@@ -120,11 +126,13 @@ fn each_profile_meets_its_own() {
             Profile::Batch => census.batch.iter().all(|&count| count > 5) && census.accepted[11] > 500,
             Profile::Waiting => census.waiting.iter().all(|&count| count > 20),
             Profile::Pinned => census.pinned.iter().all(|&count| count > 20) && census.accepted[12] > 500,
+            Profile::Shares => census.shares.0.iter().all(|&count| count > 20),
             Profile::Edges => least(&[1, 3, 6, 7, 11, 13]) > 100 && census.empty_writes.min(census.whole_writes) > 10,
             Profile::Damage => least(&[16, 17, 18, 19]) > 100,
             Profile::Noise => least(&[16, 17, 18]) > 100,
         };
-        assert!(met, "{profile:?} {:?} {:?} {:?} {:?}", census.accepted, census.refused, census.waiting, census.pinned);
+        let Census { accepted, refused, waiting, pinned, shares, .. } = &census;
+        assert!(met, "{profile:?} {accepted:?} {refused:?} {waiting:?} {pinned:?} {:?}", shares.0);
     }
 }
 

@@ -52,31 +52,31 @@ fn times(count: usize, frame: &str) -> String {
 #[test]
 fn words_of_each_call() {
     for (script, words) in [
-        ("0103", "join of task 3: it runs, from local time 0 on"),
-        ("0103 0203", "leave of task 3: it is absent; no task runs, and global time stands"),
-        ("0103 0104 0203", "leave of task 3: it is absent; global time waits for task 4"),
-        ("0103 0104 0503 0204", "leave of task 4: it is absent; global time advances to 1"),
-        ("0103 0303", "block of task 3: it waits; no task runs, and global time stands"),
-        ("0103 0104 0503 0304", "block of task 4: it waits; global time advances to 1"),
-        ("0103 0303 0403", "resume of task 3: it runs again, after it waited since line 2"),
-        ("0103 0503", "tick of task 3: global time advances to 1"),
-        ("0103 060301020004", "task 3, make of 4 bytes, global with extension 2: object 1 in the small store, until global time 4"),
-        ("0103 060300000001", "task 3, make of 1 byte, local with extension 0: object 1 in the small store, until local time 1 of task 3"),
-        ("0103 060300000021", "task 3, make of 33 bytes, local with extension 0: object 1 in the large store, until local time 1 of task 3"),
-        ("0103 060300000004 0703010100000001", "task 3, refresh of object 1, global with extension 1: one expiration more, until global time 3; it has 2"),
-        ("0103 060300000004 0903000000010107A5 080300000001", "task 3, read of object 1: 00 07 A5 00"),
-        ("0103 060300000004 0903000000010107A5", "task 3, write of 2 bytes at offset 1 of object 1: done"),
-        ("0103 060300000004 060300000040 0A", "report: 1 of 64 small objects, 1 of 32 large, 2 of 256 expirations, 2 handles given"),
-        ("0103 060301010004 0B0300000001", "task 3, remaining life of object 1: 0 ticks of task 3 by its local expirations, 3 advances by global ones"),
-        ("0103 060300000004 0C03000000000001", "task 3, refresh of object 1, local with extension 0: one expiration more for each, until local time 1 of task 3"),
+        ("010300FF00FF", "join of task 3: it runs, from local time 0 on"),
+        ("010300FF00FF 0203", "leave of task 3: it is absent; no task runs, and global time stands"),
+        ("010300FF00FF 010400FF00FF 0203", "leave of task 3: it is absent; global time waits for task 4"),
+        ("010300FF00FF 010400FF00FF 0503 0204", "leave of task 4: it is absent; global time advances to 1"),
+        ("010300FF00FF 0303", "block of task 3: it waits; no task runs, and global time stands"),
+        ("010300FF00FF 010400FF00FF 0503 0304", "block of task 4: it waits; global time advances to 1"),
+        ("010300FF00FF 0303 0403", "resume of task 3: it runs again, after it waited since line 2"),
+        ("010300FF00FF 0503", "tick of task 3: global time advances to 1"),
+        ("010300FF00FF 060301020004", "task 3, make of 4 bytes, global with extension 2: object 1 in the small store, until global time 4"),
+        ("010300FF00FF 060300000001", "task 3, make of 1 byte, local with extension 0: object 1 in the small store, until local time 1 of task 3"),
+        ("010300FF00FF 060300000021", "task 3, make of 33 bytes, local with extension 0: object 1 in the large store, until local time 1 of task 3"),
+        ("010300FF00FF 060300000004 0703010100000001", "task 3, refresh of object 1, global with extension 1: one expiration more, until global time 3; it has 2"),
+        ("010300FF00FF 060300000004 0903000000010107A5 080300000001", "task 3, read of object 1: 00 07 A5 00"),
+        ("010300FF00FF 060300000004 0903000000010107A5", "task 3, write of 2 bytes at offset 1 of object 1: done"),
+        ("010300FF00FF 060300000004 060300000040 0A", "report: 1 of 64 small objects, 1 of 32 large, 2 of 256 expirations, 2 handles given"),
+        ("010300FF00FF 060301010004 0B0300000001", "task 3, remaining life of object 1: 0 ticks of task 3 by its local expirations, 3 advances by global ones"),
+        ("010300FF00FF 060300000004 0C03000000000001", "task 3, refresh of object 1, local with extension 0: one expiration more for each, until local time 1 of task 3"),
         (
-            "0103 060300000004 060300000004 060300000004 0C030001000000010000000200000003",
+            "010300FF00FF 060300000004 060300000004 060300000004 0C030001000000010000000200000003",
             "task 3, refresh of objects 1 to 3, local with extension 1: one expiration more for each, until local time 2 of task 3",
         ),
-        ("0103 060302000004", "task 3, make of 4 bytes, pinned: object 1 in the small store, until its release"),
-        ("0103 060302000004 0D0300000001", "task 3, release of object 1: it is pinned no longer; object 1 is gone"),
+        ("010300FF00FF 060302000004", "task 3, make of 4 bytes, pinned: object 1 in the small store, until its release"),
+        ("010300FF00FF 060302000004 0D0300000001", "task 3, release of object 1: it is pinned no longer; object 1 is gone"),
         (
-            "0103 060302000004 0703000000000001 0D0300000001",
+            "010300FF00FF 060302000004 0703000000000001 0D0300000001",
             "task 3, release of object 1: it is pinned no longer; it has 1 expiration",
         ),
     ] {
@@ -86,7 +86,7 @@ fn words_of_each_call() {
 
 #[test]
 fn for_whom_global_time_waits() {
-    let joined = "0103 0107 0109 0101 0301";
+    let joined = "010300FF00FF 010700FF00FF 010900FF00FF 010100FF00FF 0301";
     assert_eq!(last_words(&format!("{joined} 0503")), "tick of task 3: global time waits for tasks 7 and 9");
     assert_eq!(last_words(&format!("{joined} 0503 0503")), "tick of task 3: global time waits for tasks 7 and 9");
     assert_eq!(last_words(&format!("{joined} 0503 0509")), "tick of task 9: global time waits for task 7");
@@ -96,22 +96,22 @@ fn for_whom_global_time_waits() {
 #[test]
 fn what_goes() {
     assert_eq!(
-        last_words("0103 0104 060300000004 0503"),
+        last_words("010300FF00FF 010400FF00FF 060300000004 0503"),
         "tick of task 3: global time waits for task 4; object 1 is gone"
     );
     assert_eq!(
-        last_words("0103 060300000004 060300000004 0503"),
+        last_words("010300FF00FF 060300000004 060300000004 0503"),
         "tick of task 3: global time advances to 1; objects 1 and 2 are gone"
     );
     assert_eq!(
-        last_words("0103 0104 060300050004 0203"),
+        last_words("010300FF00FF 010400FF00FF 060300050004 0203"),
         "leave of task 3: it is absent; global time waits for task 4; object 1 is gone"
     );
 }
 
 #[test]
 fn what_is_put_off_and_who_departed() {
-    let made = "0103 0104 060301000004 060301000004 060301000004 060401050004";
+    let made = "010300FF00FF 010400FF00FF 060301000004 060301000004 060301000004 060401050004";
     assert_eq!(
         last_words(&format!("{made} 0504 0303")),
         "block of task 3: it waits; global time advances to 1; expirations of objects 1 to 3 are put off"
@@ -133,7 +133,7 @@ fn what_is_put_off_and_who_departed() {
         "leave of task 3: it is absent, and departed as the setter of 3 global expirations; global time waits for task 4"
     );
     assert_eq!(
-        last_words(&format!("{made} 0204 0104 0304 0503")),
+        last_words(&format!("{made} 0204 010400FF00FF 0304 0503")),
         "tick of task 3: global time advances to 1",
         "it departed"
     );
@@ -144,49 +144,55 @@ fn since_when_an_object_is_gone_and_with_what() {
     let read = "080100000001";
     for (script, gone) in [
         // By its only one.
-        ("0101 060100000004 0501", "gone at line 3 with its last expiration, set by task 1 at line 2"),
+        ("010100FF00FF 060100000004 0501", "gone at line 3 with its last expiration, set by task 1 at line 2"),
         // By another task's refresh, which was due later.
         (
-            "0101 0102 060100000004 0702000100000001 0501 0502 0502",
+            "010100FF00FF 010200FF00FF 060100000004 0702000100000001 0501 0502 0502",
             "gone at line 7 with its last expiration, set by task 2 at line 4",
         ),
         // The refresh was due before what the make had set.
         (
-            "0101 0102 060100010004 0702000000000001 0502 0501 0501",
+            "010100FF00FF 010200FF00FF 060100010004 0702000000000001 0502 0501 0501",
             "gone at line 7 with its last expiration, set by task 1 at line 3",
         ),
         // Both together: the one that was set last.
-        ("0101 060100000004 0701000000000001 0501", "gone at line 4 with its last expiration, set by task 1 at line 3"),
+        (
+            "010100FF00FF 060100000004 0701000000000001 0501",
+            "gone at line 4 with its last expiration, set by task 1 at line 3",
+        ),
         // With its setter's leave.
-        ("0101 0102 060200050004 0202", "gone at line 4 with its last expiration, set by task 2 at line 3"),
+        (
+            "010100FF00FF 010200FF00FF 060200050004 0202",
+            "gone at line 4 with its last expiration, set by task 2 at line 3",
+        ),
         // By a batch.
         (
-            "0101 060100000004 0C01000100000001 0501 0501",
+            "010100FF00FF 060100000004 0C01000100000001 0501 0501",
             "gone at line 5 with its last expiration, set by task 1 at line 3",
         ),
         // By a block that lets global time advance.
         (
-            "0101 0102 060101000004 0501 0502 0501 0302",
+            "010100FF00FF 010200FF00FF 060101000004 0501 0502 0501 0302",
             "gone at line 7 with its last expiration, set by task 1 at line 3",
         ),
         // By its release.
         (
-            "0101 0102 060202000004 0501 0202 0D0100000001",
+            "010100FF00FF 010200FF00FF 060202000004 0501 0202 0D0100000001",
             "gone at line 6 with its last expiration, pinned by task 2 at line 3",
         ),
         // By time, after its release.
         (
-            "0101 060102000004 0701000000000001 0D0100000001 0501",
+            "010100FF00FF 060102000004 0701000000000001 0D0100000001 0501",
             "gone at line 5 with its last expiration, set by task 1 at line 3",
         ),
         // Put off while its setter waited.
         (
-            "0101 0102 060201000004 0302 0501 0501 0402 0501 0502 0501 0502",
+            "010100FF00FF 010200FF00FF 060201000004 0302 0501 0501 0402 0501 0502 0501 0502",
             "gone at line 11 with its last expiration, set by task 2 at line 3 and put off by 2 advances",
         ),
         // Put off, and on its way again when its setter left.
         (
-            "0101 0102 060201000004 0302 0501 0202 0501 0501",
+            "010100FF00FF 010200FF00FF 060201000004 0302 0501 0202 0501 0501",
             "gone at line 8 with its last expiration, set by task 2, departed, at line 3 and put off by 1 advance",
         ),
     ] {
@@ -196,23 +202,23 @@ fn since_when_an_object_is_gone_and_with_what() {
 
 #[test]
 fn words_of_each_refusal() {
-    let smalls = format!("0101{}", times(65, "060101000004"));
-    let pinned = format!("0101{}{}", times(3, "060102000004"), times(62, "060101000004"));
-    let larges = format!("0101 0501{}", times(33, "060101000100"));
-    let dates = format!("0101 060101000004{}", times(256, "0701010000000001"));
-    let batch = format!("0101 060101000004{} 0C0101000000000100000001", times(254, "0701010000000001"));
-    let crowd = format!("0101 0C010000{}", "00000001".repeat(33));
+    let smalls = format!("010100FF00FF{}", times(65, "060101000004"));
+    let pinned = format!("010100FF00FF{}{}", times(3, "060102000004"), times(62, "060101000004"));
+    let larges = format!("010100FF00FF 0501{}", times(33, "060101000100"));
+    let dates = format!("010100FF00FF 060101000004{}", times(256, "0701010000000001"));
+    let batch = format!("010100FF00FF 060101000004{} 0C0101000000000100000001", times(254, "0701010000000001"));
+    let crowd = format!("010100FF00FF 0C010000{}", "00000001".repeat(33));
     for (number, script, words) in [
-        (1, "0110", "join of task 16: tasks are 0 to 15"),
-        (2, "0103 0103", "join of task 3: task 3 runs since line 1; only an absent task can join"),
-        (2, "0103 0303 0103", "join of task 3: task 3 waits since line 2; only an absent task can join"),
+        (1, "011000FF00FF", "join of task 16: tasks are 0 to 15"),
+        (2, "010300FF00FF 010300FF00FF", "join of task 3: task 3 runs since line 1; only an absent task can join"),
+        (2, "010300FF00FF 0303 010300FF00FF", "join of task 3: task 3 waits since line 2; only an absent task can join"),
         (3, "0503", "tick of task 3: task 3 has not joined; it has to join first"),
-        (3, "0103 0203 0303", "block of task 3: task 3 left at line 2; it has to join first"),
-        (4, "0103 0303 0503", "tick of task 3: task 3 waits since line 2; it has to resume first"),
-        (5, "0103 0403", "resume of task 3: task 3 runs since line 1; only a waiting task can resume"),
-        (6, "0101 0601001F0004", "task 1, make of 4 bytes, local with extension 31: an extension is at most 30"),
-        (6, "0101 060102010004", "task 1, make of 4 bytes, pinned with extension 1: what is pinned has extension 0"),
-        (7, "0101 060100000101", "task 1, make of 257 bytes, local with extension 0: a length is 1 to 256"),
+        (3, "010300FF00FF 0203 0303", "block of task 3: task 3 left at line 2; it has to join first"),
+        (4, "010300FF00FF 0303 0503", "tick of task 3: task 3 waits since line 2; it has to resume first"),
+        (5, "010300FF00FF 0403", "resume of task 3: task 3 runs since line 1; only a waiting task can resume"),
+        (6, "010100FF00FF 0601001F0004", "task 1, make of 4 bytes, local with extension 31: an extension is at most 30"),
+        (6, "010100FF00FF 060102010004", "task 1, make of 4 bytes, pinned with extension 1: what is pinned has extension 0"),
+        (7, "010100FF00FF 060100000101", "task 1, make of 257 bytes, local with extension 0: a length is 1 to 256"),
         (
             9,
             &smalls,
@@ -243,46 +249,46 @@ fn words_of_each_refusal() {
             "task 1, refresh of objects 1 and 1, global with extension 0: 255 expirations stand, and with 2 more they are \
              above 256; global time is 0 from the start on and waits for task 1",
         ),
-        (11, "0101 080100000001", "task 1, read of object 1: handle 1 was not given; none was so far"),
+        (11, "010100FF00FF 080100000001", "task 1, read of object 1: handle 1 was not given; none was so far"),
         (
             11,
-            "0101 060100000004 0C0100000000000100000009",
+            "010100FF00FF 060100000004 0C0100000000000100000009",
             "task 1, refresh of objects 1 and 9, local with extension 0: handle 9 was not given; the last was 1",
         ),
         (
             12,
-            "0101 060100000004 060100010004 0501 0C0100000000000100000002",
+            "010100FF00FF 060100000004 060100010004 0501 0C0100000000000100000002",
             "task 1, refresh of objects 1 and 2, local with extension 0: object 1 is gone at line 4 with its last \
              expiration, set by task 1 at line 2",
         ),
         (
             12,
-            "0101 060100000004 060100000004 0501 0C0100000000000100000002",
+            "010100FF00FF 060100000004 060100000004 0501 0C0100000000000100000002",
             "task 1, refresh of objects 1 and 2, local with extension 0: object 1 is gone at line 4 with its last \
              expiration, set by task 1 at line 2; 1 object more gone",
         ),
         (
             13,
-            "0101 060100000004 09010000000103A5A5",
+            "010100FF00FF 060100000004 09010000000103A5A5",
             "task 1, write of 2 bytes at offset 3 of object 1: it would end at 5, and the object has 4 bytes",
         ),
         (16, "01x0", "frame \"01x0\": character 3 is no digit, 0 to 9 or A to F"),
         (16, "010", "frame \"010\": 3 digits, and a byte has two"),
         (17, "0E01", "frame \"0E01\": operations are 01 to 0D"),
-        (17, "0101  ", "frame \"\": an empty line has no operation"),
-        (18, "010101", "frame \"010101\": a join has 2 bytes, and not 3"),
+        (17, "010100FF00FF  ", "frame \"\": an empty line has no operation"),
+        (18, "010101", "frame \"010101\": a join has 6 bytes, and not 3"),
         (3, "0C000000", "task 0, refresh of no object, local with extension 0: task 0 has not joined; it has to join first"),
         (18, "0C00000001", "frame \"0C00000001\": a batch has 4 bytes and 4 for each object, and not 5"),
         (18, "0D01", "frame \"0D01\": a release has 6 bytes, and not 2"),
         (19, "060103000004", "frame \"060103000004\": kind 03 is none of 00, local, 01, global, and 02, pinned"),
-        (20, "0101 0C010000", "task 1, refresh of no object, local with extension 0: a batch has 1 to 32 objects"),
+        (20, "010100FF00FF 0C010000", "task 1, refresh of no object, local with extension 0: a batch has 1 to 32 objects"),
         (20, &crowd, "task 1, refresh of 33 objects, local with extension 0: a batch has 1 to 32 objects"),
-        (21, "0101 0701020000000001", "task 1, refresh of object 1, pinned: only a make pins an object"),
-        (21, "0101 0C01020100000001", "task 1, refresh of object 1, pinned with extension 1: only a make pins an object"),
-        (22, "0101 060100000004 0D0100000001", "task 1, release of object 1: it was never pinned"),
+        (21, "010100FF00FF 0701020000000001", "task 1, refresh of object 1, pinned: only a make pins an object"),
+        (21, "010100FF00FF 0C01020100000001", "task 1, refresh of object 1, pinned with extension 1: only a make pins an object"),
+        (22, "010100FF00FF 060100000004 0D0100000001", "task 1, release of object 1: it was never pinned"),
         (
             22,
-            "0101 060102000004 0701000000000001 0D0100000001 0D0100000001",
+            "010100FF00FF 060102000004 0701000000000001 0D0100000001 0D0100000001",
             "task 1, release of object 1: it was released at line 4",
         ),
     ] {
@@ -291,41 +297,114 @@ fn words_of_each_refusal() {
     }
 }
 
+/// A join tells what it asks of each store, and nothing of one in which it asks for nothing.
+#[test]
+fn words_of_a_share() {
+    for (frame, words) in [
+        ("010300FF00FF", ""),
+        ("010302FF00FF", " with a reserve of 2 in the small store"),
+        ("010300FF0004", " with a limit of 4 in the large store"),
+        (
+            "010302080004",
+            " with a reserve of 2 and a limit of 8 in the small store, and a limit of 4 in the large store",
+        ),
+        ("010300000000", " with a limit of 0 in the small store, and a limit of 0 in the large store"),
+    ] {
+        assert_eq!(last_words(frame), format!("join of task 3{words}: it runs, from local time 0 on"));
+    }
+}
+
+/// Why a share is refused, and what it refuses, in a pool of four small blocks and two large ones.
+#[test]
+fn words_of_reserves_and_limits() {
+    for (number, script, words) in [
+        (24, "010103020000", "the reserve in the small store is above the limit"),
+        (24, "010100000100", "the reserve in the large store is above the limit"),
+        (24, "0101FF00FF00", "the reserve in the small store is above the limit"),
+        (25, "010105FF00FF", "the small store has 4 of 4 blocks left, beside 0 objects"),
+        (
+            25,
+            "010002FF00FF 060002000004 010102FF00FF 010201FF01FF",
+            "the small store has 0 of 4 blocks left, beside 1 object and 3 blocks held back for tasks 0 and 1",
+        ),
+        (
+            25,
+            "010000FF01FF 010100FF02FF",
+            "the large store has 1 of 2 blocks left, beside 0 objects and 1 block held back for task 0",
+        ),
+        (25, "010000FF00FF 060002000040 010100FF02FF", "the large store has 1 of 2 blocks left, beside 1 object"),
+        (26, "010100000000 060100000004", "task 1 has 0 small objects, and its limit is 0"),
+        (26, "010100010001 060102000040 060102000040", "task 1 has 1 large object, and its limit is 1"),
+        (
+            9,
+            "010003FF00FF 010101FF00FF 010200FF00FF 060200000004",
+            "the small store has 4 free blocks, held back for tasks 0 and 1; \
+             global time is 0 from the start on and waits for tasks 0 to 2",
+        ),
+        (
+            9,
+            "010000FF01FF 0300 010100FF00FF 060102000040 060102000040",
+            "the large store has 1 free block, held back for task 0; \
+             global time is 0 from the start on and waits for task 1",
+        ),
+        (
+            9,
+            "010004FF00FF 060002000004 060002000004 060002000004 060002000004 060002000004",
+            "the small store is full with 4 objects, 4 of them pinned; \
+             global time is 0 from the start on and waits for task 0",
+        ),
+    ] {
+        let line = explain("4,2,256,30".parse().unwrap(), &script_of(script)).pop().unwrap();
+        assert_eq!(line.number(), number, "{script}");
+        assert!(line.words.ends_with(&format!(": {words}")), "{script}: {}", line.words);
+    }
+}
+
 #[test]
 fn words_go_by_the_figures() {
     for (figures, number, script, words) in [
-        ("1,2,4,5", 6, "0101 060100060004", "an extension is at most 5"),
-        ("1,1,1,0", 6, "0101 060101010004", "an extension is at most 0"),
-        ("1,1,1,0", 6, "0101 060102010004", "what is pinned has extension 0"),
+        ("1,2,4,5", 6, "010100FF00FF 060100060004", "an extension is at most 5"),
+        ("1,1,1,0", 6, "010100FF00FF 060101010004", "an extension is at most 0"),
+        ("1,1,1,0", 6, "010100FF00FF 060102010004", "what is pinned has extension 0"),
         (
             "1,2,4,5",
             9,
-            "0101 060101000004 060101000004",
+            "010100FF00FF 060101000004 060101000004",
             "the small store is full with 1 object; global time is 0 from the start on and waits for task 1",
         ),
         (
             "1,2,4,5",
             9,
-            "0101 060102000100 060101000100 060101000100",
+            "010100FF00FF 060102000100 060101000100 060101000100",
             "the large store is full with 2 objects, 1 of them pinned; \
              global time is 0 from the start on and waits for task 1",
         ),
         (
             "1,1,1,0",
             10,
-            "0101 060101000004 060101000100",
+            "010100FF00FF 060101000004 060101000100",
             "1 expiration stands, and with 1 more they are above 1; \
              global time is 0 from the start on and waits for task 1",
         ),
         (
             "1,2,4,5",
             10,
-            "0101 060101000004 060101000100 0C0101000000000100000001 0701010000000002",
+            "010100FF00FF 060101000004 060101000100 0C0101000000000100000001 0701010000000002",
             "4 expirations stand, and with 1 more they are above 4; \
              global time is 0 from the start on and waits for task 1",
         ),
-        ("1,1,1,0", 0, "0101 060101000004 0A", "1 of 1 small object, 0 of 1 large, 1 of 1 expiration, 1 handle given"),
-        ("1,2,4,5", 0, "0101 060102000100 0A", "0 of 1 small object, 1 of 2 large, 1 of 4 expirations, 1 handle given"),
+        (
+            "1,1,1,0",
+            0,
+            "010100FF00FF 060101000004 0A",
+            "1 of 1 small object, 0 of 1 large, 1 of 1 expiration, 1 handle given",
+        ),
+        (
+            "1,2,4,5",
+            0,
+            "010100FF00FF 060102000100 0A",
+            "0 of 1 small object, 1 of 2 large, 1 of 4 expirations, 1 handle given",
+        ),
     ] {
         let line = explain(figures.parse().unwrap(), &script_of(script)).pop().unwrap();
         let (refused, (_, told)) =
@@ -352,7 +431,7 @@ fn generated_scripts_are_explained_as_they_run() {
 
 #[test]
 fn every_line_has_its_number_and_what_became_of_it() {
-    let text = in_words(&explained(b"0100\n\n0500\n"));
+    let text = in_words(&explained(b"010000FF00FF\n\n0500\n"));
     let lines = [
         "1  done        join of task 0: it runs, from local time 0 on",
         "2  refused 17  frame \"\": an empty line has no operation",
@@ -365,7 +444,7 @@ fn every_line_has_its_number_and_what_became_of_it() {
 #[test]
 fn a_script_is_summed_up() {
     // Task 4 never ticks; of five objects of task 3 one is pinned, two go, and one is refused.
-    let frames = "0103 0104 060302000040 060300000004 060300000004 060101000004 0503 060401000004 0503 080300000009";
+    let frames = "010300FF00FF 010400FF00FF 060302000040 060300000004 060300000004 060101000004 0503 060401000004 0503 080300000009";
     let lines = explained(&script_of(frames));
     let expected = [
         "A script of 10 lines, 2 refused",
@@ -387,7 +466,15 @@ fn what_a_summary_says_of_time_and_refusals() {
         let summary = summary(Limits::STANDARD, &explained(&script_of(frames)));
         assert!(summary.lines().any(|line| line == words), "{frames}: {summary}");
     };
-    says("0103 0503 0503 060300000004 0503", "global time: longest at 2, 2 lines from 3 to 4, at last for task 3");
+    says(
+        "010300FF00FF 0503 0503 060300000004 0503",
+        "global time: longest at 2, 2 lines from 3 to 4, at last for task 3",
+    );
+    says(
+        "010300010000 060302000004 060302000004 0203 010300010000 060302000004",
+        "blocks of task 3: 2 made, at most 1 at a time, 1 at the end",
+    );
+    says("010300010000 060302000004 060302000004", "1 x refusal 26: at its limit, at line 3");
     says("0A 0A", "global time: longest at 0, 2 lines from 1 to 2, at last no task ran");
     says("0203 0A 0403", "2 x refusal 3: task absent, at lines 1 to 3");
     says("0A", "small objects: none of 64");
@@ -397,7 +484,7 @@ fn what_a_summary_says_of_time_and_refusals() {
 
 #[test]
 fn a_script_as_a_table() {
-    let frames = "0103 x 060301000004 060300000040 0A 0503 080300000009";
+    let frames = "010300FF00FF x 060301000004 060300000040 0A 0503 080300000009";
     let expected = [
         "line,task,operation,answer,small,large,expirations,global",
         "1,3,join,0,0,0,0,0",
@@ -482,11 +569,11 @@ fn pictures_can_be_read() {
     }
     let scripts: [(&str, Vec<u8>); 6] = [
         ("empty", Vec::new()),
-        ("one line", b"0100".to_vec()),
+        ("one line", b"010000FF00FF".to_vec()),
         ("one refused", b"0500".to_vec()),
         ("as many lines as there can be", vec![b'\n'; LIMIT]),
-        ("refused in turn", b"\nx\n010\n0110\n".repeat(900)),
-        ("only ticks", [&b"0100\n"[..], &b"0500\n".repeat(13_000)].concat()),
+        ("refused in turn", b"\nx\n010\n011000FF00FF\n".repeat(900)),
+        ("only ticks", [&b"010000FF00FF\n"[..], &b"0500\n".repeat(13_000)].concat()),
     ];
     for (name, script) in scripts {
         check_picture(name, &pictured(&script));
@@ -508,7 +595,7 @@ fn pictures_go_by_the_figures() {
         ("30,3,40,5", 30, &["0", "8", "16", "24"], "at most 30 of 30"),
     ] {
         let limits = figures.parse().unwrap();
-        let script = format!("0100\n{}", "060000000004\n".repeat(count));
+        let script = format!("010000FF00FF\n{}", "060000000004\n".repeat(count));
         let picture = plain_picture(limits, &explain(limits, script.as_bytes()));
         let panel = group(&picture, "small-objects");
         assert!(panel.contains(&format!("Small objects (count): {name}<")), "{figures}: {panel}");
@@ -536,7 +623,7 @@ fn pictures_name_the_refusals() {
     assert_eq!(labels(&many)[0], "3, 16");
     let name = "Refusals (number): 900 x refusal 3: task absent, 900 x refusal 16: not hexadecimal<";
     assert!(group(&pictured(&many), "refusals").contains(name));
-    assert_eq!(labels(b"0100\n"), [""; 0]);
+    assert_eq!(labels(b"010000FF00FF\n"), [""; 0]);
 }
 
 /// The tick that brings the advance has its mark too.
@@ -547,15 +634,21 @@ fn pictures_have_a_mark_for_each_tick() {
         let style = "stroke=\"#000000\"";
         group(&picture, "tasks").lines().find(|line| line.contains(style)).map_or(0, |path| path.matches('M').count())
     };
-    assert_eq!(marks(b"0100\n0101\n0500\n0501\n0500\n"), 3);
-    assert_eq!(marks(b"0100\n0501\n"), 0);
+    assert_eq!(marks(b"010000FF00FF\n010100FF00FF\n0500\n0501\n0500\n"), 3);
+    assert_eq!(marks(b"010000FF00FF\n0501\n"), 0);
 }
 
 #[test]
 fn pictures_show_what_is_pinned() {
     let shows = |script: &[u8], id| group(&pictured(script), id).contains("#e3c9a8");
-    assert!(shows(b"0100\n060002000004\n", "small-objects") && shows(b"0100\n060002000040\n", "large-objects"));
-    assert!(!shows(b"0100\n060002000004\n", "large-objects") && !shows(b"0100\n060000000004\n", "small-objects"));
+    assert!(
+        shows(b"010000FF00FF\n060002000004\n", "small-objects")
+            && shows(b"010000FF00FF\n060002000040\n", "large-objects")
+    );
+    assert!(
+        !shows(b"010000FF00FF\n060002000004\n", "large-objects")
+            && !shows(b"010000FF00FF\n060000000004\n", "small-objects")
+    );
 }
 
 /// As many captions as there may be, as long as they may be, and near each other.
@@ -583,7 +676,7 @@ fn text_of(rest: &str) -> &str {
 fn a_picture_has_a_row_for_each_task_that_joins() {
     let count = |script: &[u8]| group(&pictured(script), "tasks").matches("text-anchor=\"end\"").count();
     assert_eq!(count(b""), 0);
-    assert_eq!(count(b"0100\n0107\n0200\n"), 2);
+    assert_eq!(count(b"010000FF00FF\n010700FF00FF\n0200\n"), 2);
 }
 
 fn document(name: &str) -> PathBuf {

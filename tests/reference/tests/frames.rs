@@ -3,6 +3,7 @@
 use reference::call::{packed, Accepted, Answer, Call, Figures, Handles, Kind, Lifetime, Refusal};
 use reference::frame::{decode, encode, encode_answer};
 use reference::random::Random;
+use reference::share::{Quota, Share};
 
 /// The longest frame here, a batch of 100.
 const ROOM: usize = 4 + 4 * 100;
@@ -13,8 +14,9 @@ fn random_call<'a>(random: &mut Random, bytes: &'a [u8; 256], objects: &'a [[u8;
     let (handle, length) = (random.number() as u32, random.number() as u16);
     let bytes = &bytes[random.below(257)..];
     let handles = Handles(&objects[random.below(101)..]);
+    let share = Share::from_bytes(std::array::from_fn(|_| random.byte()));
     random.pick(&[
-        Call::Join { task },
+        Call::Join { task, share },
         Call::Leave { task },
         Call::Block { task },
         Call::Resume { task },
@@ -103,8 +105,13 @@ const REFUSED: &[(&[u8], u8)] = &[
     (b"0E00", 17),
     (b"FF0000", 17),
     (b"01", 18),
-    (b"06", 18),
+    (b"0100", 18),
     (b"010000", 18),
+    (b"010000FF", 18),
+    (b"010000FF00", 18),
+    (b"010000FF00FF00", 18),
+    (b"06", 18),
+    (b"020000", 18),
     (b"0600000004", 18),
     (b"0600030004", 18),
     (b"06000300000400", 18),
@@ -141,6 +148,10 @@ const REFUSED: &[(&[u8], u8)] = &[
 #[test]
 fn arguments_out_of_range_are_calls() {
     let mut room = [0; 263];
+    let share = Share { small: Quota { reserve: 1, limit: 2 }, large: Quota { reserve: 3, limit: 4 } };
+    assert_eq!(decode(b"01FF01020304", &mut room), Ok(Call::Join { task: 255, share }));
+    let above = Share { small: Quota { reserve: 255, limit: 0 }, large: Quota { reserve: 65, limit: 64 } };
+    assert_eq!(decode(b"0100FF004140", &mut room), Ok(Call::Join { task: 0, share: above }));
     let make = Call::Make { task: 255, kind: Kind::Global, extension: 255, length: 40_000 };
     assert_eq!(decode(b"06FF01FF9C40", &mut room), Ok(make));
     assert_eq!(decode(b"080000000000", &mut room), Ok(Call::Read { task: 0, handle: 0 }));
@@ -186,7 +197,7 @@ fn every_character() {
 #[test]
 fn answers() {
     let figures = Figures { small: 64, large: 32, expirations: 256, given: 0x0102_0304 };
-    let rows: [(Answer, &[u8]); 11] = [
+    let rows: [(Answer, &[u8]); 14] = [
         (Ok(Accepted::Done), b"00\n"),
         (Ok(Accepted::Advanced(false)), b"0000\n"),
         (Ok(Accepted::Advanced(true)), b"0001\n"),
@@ -198,6 +209,9 @@ fn answers() {
         (Err(Refusal::BatchOutOfRange), b"14\n"),
         (Err(Refusal::OnlyMakePins), b"15\n"),
         (Err(Refusal::NotPinned), b"16\n"),
+        (Err(Refusal::ReserveAboveLimit), b"18\n"),
+        (Err(Refusal::ReserveNotFree), b"19\n"),
+        (Err(Refusal::AtLimit), b"1A\n"),
     ];
     for (answer, expected) in rows {
         let mut line = Vec::new();

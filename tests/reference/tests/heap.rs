@@ -11,6 +11,7 @@ use reference::ledger::Ledger;
 use reference::limits::Limits;
 use reference::random::Random;
 use reference::script::calls;
+use reference::share::{Maker, Quota, Share};
 
 /// In a pool of the scope paper's figures.
 fn check(list: &[Call]) -> Option<usize> {
@@ -23,6 +24,10 @@ fn check_in(limits: Limits, list: &[Call]) -> Option<usize> {
     out
 }
 
+fn join(task: u8) -> Call<'static> {
+    Call::Join { task, share: Share::OPEN }
+}
+
 /// Each seed with the scope paper's figures and with its own.
 fn pools(seeds: std::ops::Range<u64>) -> impl Iterator<Item = (Limits, u64)> {
     seeds.flat_map(|seed| [(Limits::STANDARD, seed), (limits(seed), seed)])
@@ -30,9 +35,9 @@ fn pools(seeds: std::ops::Range<u64>) -> impl Iterator<Item = (Limits, u64)> {
 
 // Lists of chance.
 
-/// `longest` is the largest extension. `haste` is how often a tick comes: the rarer, the longer use stays in time.
-fn random_call(random: &mut Random, longest: u8, given: usize, haste: usize) -> Call<'static> {
-    let task = random.below(4) as u8;
+/// `haste` is how often a tick comes: the rarer, the longer use stays in time.
+fn random_call(random: &mut Random, limits: Limits, given: usize, haste: usize) -> Call<'static> {
+    let (task, longest) = (random.below(4) as u8, limits.extension as u8);
     if random.below(100) < haste {
         return Call::Tick { task };
     }
@@ -43,7 +48,7 @@ fn random_call(random: &mut Random, longest: u8, given: usize, haste: usize) -> 
     };
     let handle = random.below(given + 2) as u32;
     match random.below(24) {
-        0 | 1 => Call::Join { task },
+        0 | 1 => Call::Join { task, share: random_share(random, limits) },
         2 => Call::Leave { task },
         3 => Call::Block { task },
         4 | 5 => Call::Resume { task },
@@ -63,14 +68,29 @@ fn random_call(random: &mut Random, longest: u8, given: usize, haste: usize) -> 
     }
 }
 
+/// Open, or with some of the blocks.
+fn random_share(random: &mut Random, limits: Limits) -> Share {
+    if random.one_in(2) {
+        return Share::OPEN;
+    }
+    let [small, large] = [limits.small_blocks, limits.large_blocks].map(|blocks| random_quota(random, blocks as u8));
+    Share { small, large }
+}
+
+fn random_quota(random: &mut Random, blocks: u8) -> Quota {
+    let reserve = random.pick(&[0, 0, 0, 1, 2, blocks / 2, blocks, blocks + 1]);
+    let limit = random.pick(&[255, 255, 255, reserve, reserve + 1, 3, 0]);
+    Quota { reserve, limit }
+}
+
 fn random_list(limits: Limits, seed: u64) -> List {
     let mut random = Random::new(seed);
     let (length, haste) = (random.below(300), random.below(30));
     let mut heap = Heap::of(limits);
     let mut given = 0;
-    let mut list = vec![Call::Join { task: 0 }, Call::Join { task: 1 }];
+    let mut list = vec![join(0), Call::Join { task: 1, share: random_share(&mut random, limits) }];
     for _ in 0..length {
-        let call = random_call(&mut random, limits.extension as u8, given, haste);
+        let call = random_call(&mut random, limits, given, haste);
         given += usize::from(matches!(heap.call(&call), Ok(Accepted::Handle(_))));
         list.push(call);
     }
@@ -87,11 +107,25 @@ fn lists_of_chance_with_chosen_figures() {
     check_chance(limits);
 }
 
+/// The refusals are 1 to 26, and these the pool's alone.
+const NUMBERS: usize = 27;
+const OUT: [usize; 5] = [9, 10, 12, 25, 26];
+
 fn check_chance(limits: fn(u64) -> Limits) {
-    let outs: Vec<_> = (0..6_000).map(|seed| check_in(limits(seed), &random_list(limits(seed), seed))).collect();
-    let stayed = outs.iter().filter(|out| out.is_none()).count();
-    assert!(stayed > 200 && stayed < 5_800, "{stayed}");
-    assert!(outs.iter().flatten().any(|&out| out > 100));
+    let (mut stayed, mut latest, mut refused) = (0, 0, [0; NUMBERS]);
+    for seed in 0..6_000 {
+        let (limits, list) = (limits(seed), random_list(limits(seed), seed));
+        match check_in(limits, &list) {
+            None => stayed += 1,
+            Some(out) => {
+                latest = latest.max(out);
+                refused[number_of(limits, &list[..=out])] += 1;
+            }
+        }
+    }
+    println!("{stayed} stay in; out by number {:?}", OUT.map(|number| (number, refused[number])));
+    assert!(stayed > 200 && stayed < 5_800 && latest > 100, "{stayed}, {latest}");
+    assert!(refused[9].min(refused[12]).min(refused[25]).min(refused[26]) > 100, "{refused:?}");
 }
 
 /// A script that keeps all use in does so by its figures.
@@ -121,7 +155,7 @@ fn lists_that_stay_in_time() {
 
 #[test]
 fn lists_that_go_out_once() {
-    let mut refused = [0; 13];
+    let mut refused = [0; NUMBERS];
     for (limits, seed) in pools(0..1_500) {
         let mut plan = Plan::new(limits, seed);
         plan.rounds(10);
@@ -132,8 +166,8 @@ fn lists_that_go_out_once() {
             refused[number_of(limits, &plan.list[..=out])] += 1;
         }
     }
-    println!("with chosen figures: 9 {}, 10 {}, 12 {}", refused[9], refused[10], refused[12]);
-    assert!(refused[9].min(refused[10]).min(refused[12]) > 100, "{refused:?}");
+    println!("with chosen figures: {:?}", OUT.map(|number| (number, refused[number])));
+    assert!(OUT.iter().all(|&number| refused[number] > 100), "{refused:?}");
 }
 
 /// The number of the refusal that the list ends with.
@@ -149,7 +183,7 @@ fn the_last_of_each_figure() {
     let make = |extension, length| Call::Make { task, kind, extension, length };
     let refresh = Call::Refresh { task, kind, extension: 0, handle: 1 };
     let (small, large) = (make(2, 32), make(2, 33));
-    let list = [Call::Join { task }, small, small, large, large, large, refresh];
+    let list = [join(task), small, small, large, large, large, refresh];
     let limits = Limits { small_blocks: 2, large_blocks: 3, expirations: 6, extension: 2 };
     assert_eq!(check_in(limits, &list), None);
     assert_eq!(check_in(Limits { small_blocks: 1, ..limits }, &list), Some(2));
@@ -189,7 +223,7 @@ fn the_heap_keeps_for_ever() {
     let (task, handle) = (0, 1);
     let make = Call::Make { task, kind: Kind::Local, extension: 0, length: 3 };
     assert_eq!(heap.call(&make), Err(Refusal::TaskAbsent));
-    assert_eq!(heap.call(&Call::Join { task }), Ok(Accepted::Done));
+    assert_eq!(heap.call(&join(task)), Ok(Accepted::Done));
     for count in 1..=300 {
         assert_eq!(heap.call(&make), Ok(Accepted::Handle(count)));
     }
@@ -219,7 +253,7 @@ fn what_is_not_compared_may_ask_for_a_gone_object() {
     let (task, handle) = (0, 1);
     let make = Call::Make { task, kind: Kind::Local, extension: 0, length: 4 };
     let (ask, read) = (Call::Remaining { task, handle }, Call::Read { task, handle });
-    let list = [Call::Join { task }, ask, make, ask, Call::Tick { task }, ask, Call::Report, read];
+    let list = [join(task), ask, make, ask, Call::Tick { task }, ask, Call::Report, read];
     assert_eq!(check(&list), Some(list.len() - 1));
 }
 
@@ -231,7 +265,7 @@ fn a_batch_is_a_use() {
     let make = |extension| Call::Make { task, kind: Kind::Local, extension, length: 4 };
     let batch = |handles: &[u32]| Call::Batch { task, kind: Kind::Local, extension: 30, handles: kept(handles) };
     // Object 1 is gone, object 2 stands.
-    let list = |last: Call<'static>| [Call::Join { task }, make(0), Call::Tick { task }, make(30), last];
+    let list = |last: Call<'static>| [join(task), make(0), Call::Tick { task }, make(30), last];
     for in_time in [&[2][..], &[2, 2], &[2; 32], &[], &[1; 33], &[1, 3], &[3, 1], &[0], &[2, 1, 0]] {
         assert_eq!(check(&list(batch(in_time))), None, "{in_time:?}");
     }
@@ -252,10 +286,10 @@ fn a_batch_is_a_use() {
 fn a_setter_that_waits_comes_back_in_time() {
     let (task, handle) = (0, 1);
     let make = Call::Make { task, kind: Kind::Global, extension: 0, length: 4 };
-    let (block, resume, leave, join) =
-        (Call::Block { task }, Call::Resume { task }, Call::Leave { task }, Call::Join { task });
+    let (join, other) = (join(task), join(1));
+    let (block, resume, leave) = (Call::Block { task }, Call::Resume { task }, Call::Leave { task });
     let (tick, read) = (Call::Tick { task: 1 }, Call::Read { task, handle });
-    let list = |then: &[Call<'static>]| [&[join, Call::Join { task: 1 }, make][..], then].concat();
+    let list = |then: &[Call<'static>]| [&[join, other, make][..], then].concat();
     assert_eq!(check(&list(&[block, tick, tick, tick, resume, read])), None);
     assert_eq!(check(&list(&[tick, block, tick, tick, resume, read])), None);
     assert_eq!(check(&list(&[block, tick, leave, tick, join, read])), None);
@@ -269,7 +303,7 @@ fn a_setter_that_waits_comes_back_in_time() {
 fn a_release_is_a_use() {
     let (task, handle) = (0, 1);
     let make = |kind| Call::Make { task, kind, extension: 0, length: 4 };
-    let (join, tick, release) = (Call::Join { task }, Call::Tick { task }, Call::Release { task, handle });
+    let (join, tick, release) = (join(task), Call::Tick { task }, Call::Release { task, handle });
     let refresh = |kind| Call::Refresh { task, kind, extension: 0, handle };
     let list = |kind, then: &[Call<'static>]| [&[join, make(kind)][..], then].concat();
     assert_eq!(check(&list(Kind::Pinned, &[tick, tick, tick, release])), None);
@@ -288,6 +322,89 @@ fn a_refused_range_of_a_gone_object_is_a_use_out_of_time() {
     let (task, handle) = (0, 1);
     let make = Call::Make { task, kind: Kind::Local, extension: 0, length: 4 };
     let write = Call::Write { task, handle, offset: 4, bytes: &[1] };
-    assert_eq!(check(&[Call::Join { task }, make, write]), None);
-    assert_eq!(check(&[Call::Join { task }, make, Call::Tick { task }, write]), Some(3));
+    assert_eq!(check(&[join(task), make, write]), None);
+    assert_eq!(check(&[join(task), make, Call::Tick { task }, write]), Some(3));
+}
+
+fn quota(reserve: u8, limit: u8) -> Quota {
+    Quota { reserve, limit }
+}
+
+/// 24 is the heap's too and left aside. 25, 26 and 9 are the pool's alone: out of bounds, by the objects that stand.
+#[test]
+fn shares_are_bounds() {
+    let limits = Limits { small_blocks: 2, large_blocks: 1, ..Limits::STANDARD };
+    let small = |task, reserve, limit| {
+        let share = Share { small: quota(reserve, limit), ..Share::OPEN };
+        Call::Join { task, share }
+    };
+    let large = |task, reserve, limit| {
+        let share = Share { large: quota(reserve, limit), ..Share::OPEN };
+        Call::Join { task, share }
+    };
+    let make = |task| Call::Make { task, kind: Kind::Local, extension: 0, length: 4 };
+    let make_large = |task| Call::Make { task, kind: Kind::Local, extension: 0, length: 33 };
+    let tick = |task| Call::Tick { task };
+    let leave = |task| Call::Leave { task };
+    let both = |task| Call::Join { task, share: Share { small: quota(3, 255), large: quota(2, 1) } };
+    let rows: &[(&[Call], Option<usize>)] = &[
+        (&[small(0, 2, 1), large(0, 1, 0), both(0), small(16, 3, 3), join(0), small(0, 3, 3)], None),
+        (&[small(0, 2, 2), make(0), make(0)], None),
+        (&[small(0, 3, 3)], Some(0)),
+        (&[large(0, 2, 2)], Some(0)),
+        (&[small(0, 1, 1), small(1, 2, 2)], Some(1)),
+        (&[small(0, 1, 1), Call::Block { task: 0 }, small(1, 2, 2)], Some(2)),
+        (&[small(0, 1, 1), leave(0), small(1, 2, 2)], None),
+        (&[small(0, 0, 1), make(0), make(0)], Some(2)),
+        (&[small(0, 0, 1), make(0), tick(0), make(0)], None),
+        (&[small(0, 0, 1), make(0), make_large(0)], None),
+        (&[small(0, 0, 0), make(0)], Some(1)),
+        (&[join(0), small(1, 2, 2), make(0)], Some(2)),
+        (&[join(0), small(1, 1, 1), make(0), make(1)], None),
+        (&[join(0), small(1, 1, 1), make(0), make(0)], Some(3)),
+        (&[join(0), large(1, 1, 1), make(0), make(0), make_large(1)], None),
+        (&[join(0), large(1, 1, 1), make_large(0)], Some(2)),
+    ];
+    for (list, out) in rows {
+        assert_eq!(check_in(limits, list), *out, "{list:?}");
+    }
+}
+
+/// What a leaver made is nobody's, on the heap all of it, so that another of its number begins with none.
+#[test]
+fn a_leaver_is_no_maker() {
+    let limits = Limits { small_blocks: 2, ..Limits::STANDARD };
+    let share = Share { small: quota(1, 1), large: Quota::NONE };
+    let (task, pinned) = (0, Call::Make { task: 0, kind: Kind::Pinned, extension: 0, length: 4 });
+    let (join, leave) = (Call::Join { task, share }, Call::Leave { task });
+    let short = Call::Make { task, kind: Kind::Local, extension: 0, length: 4 };
+    assert_eq!(check_in(limits, &[join, pinned, leave, join, pinned]), None);
+    assert_eq!(check_in(limits, &[join, pinned, leave, join, pinned, leave, join]), Some(6));
+    assert_eq!(check_in(limits, &[join, short, leave, join, short, leave, join, short]), None);
+    let mut heap = Heap::of(limits);
+    for call in [join, short, Call::Tick { task }, pinned] {
+        assert!(heap.call(&call).is_ok(), "{call:?}");
+    }
+    assert_eq!([1, 2].map(|handle| heap.maker(handle)), [Some(Maker::Task(0)); 2]);
+    assert!(heap.call(&leave).is_ok() && heap.call(&join).is_ok());
+    assert_eq!([1, 2, 3].map(|handle| heap.maker(handle)), [Some(Maker::Departed), Some(Maker::Departed), None]);
+}
+
+/// The heap holds nothing back and has no limits.
+#[test]
+fn the_heap_has_no_bounds_of_shares() {
+    let mut heap = Heap::of(Limits::SMALLEST);
+    for task in 0..16 {
+        let share = Share { small: quota(255, 255), large: quota(3, 4) };
+        assert_eq!(heap.call(&Call::Join { task, share }), Ok(Accepted::Done));
+    }
+    let above = Share { small: Quota::OPEN, large: quota(4, 3) };
+    assert_eq!(heap.call(&Call::Join { task: 0, share: above }), Err(Refusal::TaskNotAbsent));
+    assert_eq!(heap.call(&Call::Leave { task: 0 }), Ok(Accepted::Advanced(false)));
+    assert_eq!(heap.call(&Call::Join { task: 0, share: above }), Err(Refusal::ReserveAboveLimit));
+    assert_eq!(heap.call(&Call::Join { task: 0, share: Share::NONE }), Ok(Accepted::Done));
+    let make = Call::Make { task: 0, kind: Kind::Local, extension: 0, length: 4 };
+    for count in 1..=300 {
+        assert_eq!(heap.call(&make), Ok(Accepted::Handle(count)));
+    }
 }

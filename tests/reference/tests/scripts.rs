@@ -10,8 +10,8 @@ fn lines_and_their_ends() {
         (b"\n\n", b"11\n11\n"),
         (b"0A", b"000000000000000000\n"),
         (b"0A\n", b"000000000000000000\n"),
-        (b"0100\n\n0500", b"00\n11\n0001\n"),
-        (b"0100\r\n0500\r\n", b"10\n10\n"),
+        (b"010000FF00FF\n\n0500", b"00\n11\n0001\n"),
+        (b"010000FF00FF\r\n0500\r\n", b"10\n10\n"),
         (b"\r", b"10\n"),
         (b"0", b"10\n"),
     ];
@@ -40,8 +40,8 @@ fn the_longest_line() {
 /// As many objects as a script can name at once, and a byte of one more.
 #[test]
 fn the_largest_batch() {
-    let joined = |batch: &[u8]| [b"0100\n", batch].concat();
-    let batch = [b"0C000000".to_vec(), b"00000001".repeat(8_190)].concat();
+    let joined = |batch: &[u8]| [b"010000FF00FF\n", batch].concat();
+    let batch = [b"0C000000".to_vec(), b"00000001".repeat(8_189)].concat();
     assert_eq!(joined(&batch).len(), LIMIT - 3);
     assert_eq!(run(&joined(&batch)), b"00\n14\n");
     assert_eq!(run(&joined(&[&batch[..], b"00"].concat())), b"00\n12\n");
@@ -51,13 +51,13 @@ fn the_largest_batch() {
 /// As far as a clock gets in one script.
 #[test]
 fn the_most_ticks() {
-    let script = [b"0100\n".to_vec(), b"0500\n".repeat(LIMIT / 5 - 1)].concat();
+    let script = [b"010000FF00FF\n".to_vec(), b"0500\n".repeat((LIMIT - 13) / 5)].concat();
     assert!(run(&script).ends_with(b"0001\n0001\n"));
 }
 
 #[test]
 fn the_calls_of_a_script_have_no_refused_frames() {
     let mut room = [0; 64];
-    let calls = calls(b"0100\n0A\n\n0G\n09000000000100A5\n0500", &mut room);
+    let calls = calls(b"010000FF00FF\n0A\n\n0G\n09000000000100A5\n0500", &mut room);
     assert_eq!(calls.len(), 4);
 }

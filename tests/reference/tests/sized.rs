@@ -1,5 +1,5 @@
 //! Order 12: figures that a site chooses. Which it may choose, rows worked out by hand, and that they decide nothing
-//! but 6, 9 and 10.
+//! but 6, 9, 10 and 25.
 
 #[macro_use]
 mod rows;
@@ -87,11 +87,11 @@ fn rows() {
     }
 }
 
-/// A list has the same answers with the scope paper's figures, up to a 6, 9 or 10 that those do not give.
+/// A list has the same answers with the scope paper's figures, up to a 6, 9, 10 or 25 that those do not give.
 #[test]
 fn figures_decide_nothing_else() {
-    let mut parted = [0; 3];
-    for seed in 0..400 {
+    let mut parted = [0; 4];
+    for seed in 0..800 {
         let (limits, script) = (limits(seed), sized_script(limits(seed), seed));
         let mut room = vec![0; script.len() / 2];
         let (mut site, mut standard) = (Ledger::of(limits), Ledger::fresh());
@@ -104,12 +104,13 @@ fn figures_decide_nothing_else() {
                 Err(Refusal::ExtensionTooLong) => parted[0] += 1,
                 Err(Refusal::NoFreeBlock) => parted[1] += 1,
                 Err(Refusal::ExpirationsFull) => parted[2] += 1,
+                Err(Refusal::ReserveNotFree) => parted[3] += 1,
                 _ => panic!("{call:?}: {told:?} and not {expected:?}, {limits:?}"),
             }
             break;
         }
     }
-    println!("first by 6, 9, 10: {parted:?}");
+    println!("first by 6, 9, 10, 25: {parted:?}");
     assert!(parted.iter().all(|&count| count > 20), "{parted:?}");
 }
 
@@ -118,7 +119,7 @@ const ROWS: &[(Limits, &str, &[Row])] = &[
         chosen(1, 2, 4, 5),
         "each figure is the bound of what it is named for",
         &[
-            (1, "0100", "00"),
+            (1, "010000FF00FF", "00"),
             (1, "060000060020", "06"),
             (1, "060000050020", "0000000001"),
             (1, "060000050001", "09"),
@@ -143,7 +144,7 @@ const ROWS: &[(Limits, &str, &[Row])] = &[
         chosen(1, 2, 4, 5),
         "a block and an expiration come back",
         &[
-            (1, "0100", "00"),
+            (1, "010000FF00FF", "00"),
             (1, "060000000020", "0000000001"),
             (3, "0700000500000001", "00"),
             (1, "060000000021", "0A"),
@@ -160,7 +161,7 @@ const ROWS: &[(Limits, &str, &[Row])] = &[
         chosen(1, 2, 4, 5),
         "local with the largest extension: stands after 5 ticks, gone after 6",
         &[
-            (1, "0100", "00"),
+            (1, "010000FF00FF", "00"),
             (1, "060000050001", "0000000001"),
             (5, "0500", "0001"),
             (1, "080000000001", "0000"),
@@ -173,7 +174,7 @@ const ROWS: &[(Limits, &str, &[Row])] = &[
         chosen(1, 2, 4, 5),
         "global with the largest extension: stands after 6 advances, gone after 7",
         &[
-            (1, "0100", "00"),
+            (1, "010000FF00FF", "00"),
             (1, "060001050001", "0000000001"),
             (6, "0500", "0001"),
             (1, "080000000001", "0000"),
@@ -186,8 +187,8 @@ const ROWS: &[(Limits, &str, &[Row])] = &[
         chosen(1, 2, 4, 5),
         "a setter that waits puts its expirations off, whatever the largest extension is",
         &[
-            (1, "0100", "00"),
-            (1, "0101", "00"),
+            (1, "010000FF00FF", "00"),
+            (1, "010100FF00FF", "00"),
             (1, "060001050001", "0000000001"),
             (1, "0300", "0000"),
             (20, "0501", "0001"),
@@ -199,7 +200,7 @@ const ROWS: &[(Limits, &str, &[Row])] = &[
         chosen(1, 2, 4, 5),
         "tests in their order: 6, 7, 9, 10, and of a batch 20, 6, 11, 12, 10",
         &[
-            (1, "0100", "00"),
+            (1, "010000FF00FF", "00"),
             (1, "060000000001", "0000000001"),
             (1, "0500", "0001"),
             (1, "060000050001", "0000000002"),
@@ -222,7 +223,7 @@ const ROWS: &[(Limits, &str, &[Row])] = &[
         chosen(1, 2, 4, 5),
         "a batch of more objects than expirations can stand",
         &[
-            (1, "0100", "00"),
+            (1, "010000FF00FF", "00"),
             (1, "060000050001", "0000000001"),
             (1, "0C0000000000000100000001000000010000000100000001", "0A"),
             (1, concat!("0C000000", thirty_two!("00000001")), "0A"),
@@ -235,7 +236,7 @@ const ROWS: &[(Limits, &str, &[Row])] = &[
         chosen(1, 1, 1, 0),
         "the smallest pool",
         &[
-            (1, "0100", "00"),
+            (1, "010000FF00FF", "00"),
             (1, "060000010004", "06"),
             (1, "060000000004", "0000000001"),
             (1, "060000000004", "09"),
@@ -263,7 +264,7 @@ const ROWS: &[(Limits, &str, &[Row])] = &[
         chosen(4, 4, 2, 0),
         "fewer expirations than blocks: 10, and never 9",
         &[
-            (1, "0100", "00"),
+            (1, "010000FF00FF", "00"),
             (2, "060000000004", ACCEPTED),
             (2, "060000000004", "0A"),
             (2, "060000000021", "0A"),
@@ -279,7 +280,7 @@ const ROWS: &[(Limits, &str, &[Row])] = &[
         chosen(3, 1, 256, 30),
         "each store has its own figure, with no spilling over",
         &[
-            (1, "0100", "00"),
+            (1, "010000FF00FF", "00"),
             (3, "0600001E0020", ACCEPTED),
             (1, "0600001E0020", "09"),
             (1, "0600001E0021", "0000000004"),

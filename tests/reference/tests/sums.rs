@@ -5,13 +5,14 @@ use reference::heap::Heap;
 use reference::indexed;
 use reference::ledger::Ledger;
 use reference::outside::{Change, Exposed};
+use reference::share::Share;
 
 const LOCAL: Kind = Kind::Local;
 
 /// Tasks 0 and 1 run, and object 1 stands for three ticks of task 0. Its bytes are 1, 2, 3 and so on.
 fn started<M: Exposed>(length: u16) -> M {
     let mut model = M::fresh();
-    (0..2).for_each(|task| assert_eq!(model.join(task), Ok(Accepted::Done)));
+    (0..2).for_each(|task| assert_eq!(model.join(task, Share::OPEN), Ok(Accepted::Done)));
     assert_eq!(model.make(0, LOCAL, 2, length), Ok(Accepted::Handle(1)));
     assert_eq!(model.write(0, 1, 0, &own(length)), Ok(Accepted::Done));
     model

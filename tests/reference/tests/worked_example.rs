@@ -3,7 +3,7 @@
 use reference::script::run;
 
 const SCRIPT: &str = "\
-0100
+010000FF00FF
 060000000004
 09000000000101A5
 080000000001

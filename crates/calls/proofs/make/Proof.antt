@@ -17,7 +17,7 @@ use Rattle.calls.proofs.make.Tie as tie
 -- the plan, by what stands
 planned : (p : tie.After-plan-make)
     → let a = p .before .before .before .before .before .before .args in
-    p .plan-make .result ≡ makePlan (a .task) (a .kind) (a .extension) (a .size) (a .h) (freePlaceIn (a .h .limits) (a .size) (a .handles .now)) (standingOf (a .clocks .now))
+    p .plan-make .result ≡ makePlan (a .task) (a .kind) (a .extension) (a .size) (a .h) (freePlaceIn (a .h .limits) (a .size) (a .handles .now)) (a .holding) (standingOf (a .clocks .now))
 planned p = rw (← p .before .standing .ensures) (p .plan-make .ensures)
 
 returns : tie.Need-returns
@@ -26,7 +26,7 @@ returns c =
     let start = p .before .before .before .before .before .before in
     rw (c .refused-by .ensures, c .before .enum-told2 .given .1) (
       start .pre .0,
-      make-refused-lent _ _ _ (head-typed _ _ (start .good .0)) (start .pre .0) (start .pre .1) (planned p) (c .before .enum-told2 .given .1),
+      make-refused-lent _ _ _ (head-typed _ _ (start .good .0)) (start .pre .0) (start .pre .1) (start .pre .2) (planned p) (c .before .enum-told2 .given .1),
     )
 
 -- where it is accepted
@@ -36,18 +36,18 @@ module _ (t : tie.After-enum-told) where
 
   may-set : (standingOf (start .args .clocks .now) < expirationEntries) × (start .args .task < taskCount) × (t .before .before .plan-make .result .place < blockEntries)
   may-set =
-      make-may-set (start .args .handles .now) (start .args .extents .now) (start .args .clocks .now) (head-typed _ _ (start .good .0)) (start .pre .0) (start .pre .1)
+      make-may-set (start .args .handles .now) (start .args .extents .now) (start .args .clocks .now) (head-typed _ _ (start .good .0)) (start .pre .0) (start .pre .1) (start .pre .2)
       (planned (t .before .before)) (t .enum-told .given .1)
 
   unspent : start .args .h .given + 1 < 4294967296
   unspent =
-      make-unspent (start .args .handles .now) (start .args .extents .now) (start .args .clocks .now) (head-typed _ _ (start .good .0)) (start .pre .0) (start .pre .1)
+      make-unspent (start .args .handles .now) (start .args .extents .now) (start .args .clocks .now) (head-typed _ _ (start .good .0)) (start .pre .0) (start .pre .1) (start .pre .2)
       (planned (t .before .before)) (t .enum-told .given .1)
 
 clear-place-requires : tie.Need-clear-place-requires
 clear-place-requires c κs =
     let t = c .before .before .before .before .before .before in
-    make-clears (start t .args .handles .now) (start t .args .extents .now) (start t .args .clocks .now) (head-typed _ _ (start t .good .0)) (start t .pre .0) (start t .pre .1)
+    make-clears (start t .args .handles .now) (start t .args .extents .now) (start t .args .clocks .now) (head-typed _ _ (start t .good .0)) (start t .pre .0) (start t .pre .1) (start t .pre .2)
     (planned (t .before .before)) (t .enum-told .given .1)
 
 set-requires : tie.Need-set-requires
@@ -63,7 +63,7 @@ returns-2 c =
     let t = told (c .before .before) in
     let cleared = c .before .before .before .before .before .before .before .clear-place .ensures in
     rw (c .with-given .ensures, c .before .extent-of .ensures)
-    (make-set-lent _ _ _ (head-typed _ _ (start t .good .0)) (start t .pre .0) (start t .pre .1) (planned (t .before .before)) (t .enum-told .given .1)
+    (make-set-lent _ _ _ (head-typed _ _ (start t .good .0)) (start t .pre .0) (start t .pre .1) (start t .pre .2) (planned (t .before .before)) (t .enum-told .given .1)
     (c .before .before .before .before .before .before .before .before .before .before .set .ensures) (cleared .0) (cleared .1))
 
 pub make-spec : {M : Type 1} → statement M

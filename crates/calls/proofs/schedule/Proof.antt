@@ -9,22 +9,22 @@ use Rattle.calls.proofs.schedule.Tie as tie
 
 returns : tie.Need-returns
 returns c =
-    let planned = c .before .before .before .before .before in
-    let start = planned .before .before .before .before in
-    schedule-still (head-typed _ _ (start .good .0)) (start .pre .0) (start .pre .1) _ _ (planned .plan .ensures) (not-true _ (c .if1 .taken))
+    let planned = c .before .before .before .before .before .before in
+    let start = planned .before .before .before .before .before in
+    rw (c .before .before .shares-left .ensures) (schedule-still (head-typed _ _ (start .good .0)) (start .pre) _ _ (planned .plan .ensures) (not-true _ (c .if1 .taken)))
 
 end-requires : tie.Need-end-requires
 end-requires c κs =
-    let planned = c .before .before .before .before .before .before .before .before in
-    let start = planned .before .before .before .before in
-    (ends-known _ _ _ _ (planned .plan .ensures) (not-false _ (c .before .before .before .if1 .left)), start .pre .0, start .pre .1)
+    let planned = c .before .before .before .before .before .before .before .before .before in
+    let start = planned .before .before .before .before .before in
+    (ends-known _ _ _ _ (planned .plan .ensures) (not-false _ (c .before .before .before .if1 .left)), start .pre .blocks .of-handles, start .pre .entries)
 
 returns-2 : tie.Need-returns-2
 returns-2 c =
-    let planned = c .before .before .before .before .before .before .before .before .before in
-    let start = planned .before .before .before .before in
-    schedule-ended (head-typed _ _ (start .good .0)) (start .pre .0) (start .pre .1) _ _ (planned .plan .ensures) (not-false _ (c .before .before .before .before .if1 .left))
-    (c .end .ensures)
+    let planned = c .before .before .before .before .before .before .before .before .before .before .before .before in
+    let start = planned .before .before .before .before .before in
+    rw (c .before .before .before .before .before .before .before .before .shares-left .ensures) (schedule-ended (head-typed _ _ (start .good .0)) (start .pre) _ _ (planned .plan .ensures) (not-false _ (c .before .before .before .before .before .before .if1 .left))
+    (c .before .before .end .ensures) (c .orphan .ensures))
 
 pub schedule-spec : {M : Type 1} → statement M
-schedule-spec = tie.close (tie.spec (λ c κs. search needs) returns end-requires returns-2)
+schedule-spec = tie.close (tie.spec (λ c κs. search needs) (λ c κs. search needs) returns end-requires (λ c κs. search needs) returns-2)

@@ -1,6 +1,7 @@
 -- Why the bytes may not be written; or the bytes in their block, and their sum in its entry.
 use Prim.Native.Nat.{_<_}
 use mathlib.Core.Path.{refl}
+use native.Mathlib.Omega.{arith}
 use borrow.Author.Needs.{needs}
 use Rattle.record.proofs.Types.{head-typed}
 use Rattle.record.specs.Tables.{blockEntries}
@@ -53,16 +54,16 @@ returns c =
     )
 
 -- from the sum on
-abbrev told : tie.After-extent-of → tie.After-known-told2
-told c = c .before .before .before .before .before .before .before .before .before .before .before
+abbrev told : tie.After-with-sum → tie.After-known-told2
+told c = c .before .before .before .before .before .before .before .before .before .before .before .before
 
 returns-2 : tie.Need-returns-2
 returns-2 c =
     let t = told c in
     let found = t .before .before .before in
     let s = start found in
-    let written = c .before .before .before .before .before in
-    rw (c .extent-of .ensures)
+    let written = c .before .before .before .before .before .before in
+    rw (c .with-sum .ensures)
     (write-done-lent (head-typed _ _ (s .good .0)) (s .pre .0) _ _ _ (s .args .bytes .now) (s .pre .1) _ (found .find-for-write .ensures) (t .before .block .given .1) _
     (written .before .before .before .sum-after .ensures) (written .write-place .ensures .0) (written .write-place .ensures .1))
 
@@ -75,6 +76,8 @@ write-spec =
     (λ c. search needs)
     sum-after-requires
     write-place-requires
+    (λ c. let h = listed (c .before .before .before .before .before .before .before .before .before .before) in omega (arith, h))
+    (λ c. let h = listed (c .before .before .before .before .before .before .before .before .before .before) in omega (arith, h))
     (λ c κs. search needs)
     (λ c. let h = listed (told c) in search needs)
     (λ c. let h = listed (told c) in search needs)

@@ -3,21 +3,29 @@ use mathlib.Core.Path.{refl}
 use borrow.Author.Needs.{needs}
 use Rattle.ledger.specs.declared.Call.the-variants.{Make}
 use Rattle.ledger.specs.declared.Request.the-variants.{Use}
-use Rattle.checked.proofs.Tested.{unfit-made, wrong-made, ready-lent}
+use Rattle.shares.proofs.Either.{held-in}
+use Rattle.ledger.specs.Limits.{isSmall}
+use Rattle.checked.proofs.Tested.{unfit-made, wrong-made, ready-lent, held-lent}
 use Rattle.checked.proofs.make.Statement.{statement}
 use Rattle.checked.proofs.make.Tie as tie
 
 returns : tie.Need-returns
-returns c = unfit-made (c .before .before .before .before .before .before .before .before .before .pre) (c .before .is-well-formed .ensures) (c .if1 .taken)
+returns c = unfit-made (c .before .before .before .before .before .before .before .before .before .before .pre) (c .before .before .fitness-of .ensures .fit) (c .if1 .taken)
 
 returns-2 : tie.Need-returns-2
-returns-2 c = wrong-made (c .before .before .before .before .before .before .before .before .before .before .before .pre) (c .before .before .before .is-well-formed .ensures) (c .before .before .if1 .left) (c .before .are-whole .ensures) (c .if2 .taken)
+returns-2 c = wrong-made (c .before .before .before .before .before .before .before .before .before .before .before .before .pre) (c .before .before .before .before .fitness-of .ensures .fit) (c .before .before .if1 .left) (c .before .are-whole .ensures) (c .if2 .taken)
 
 make-requires : tie.Need-make-requires
 make-requires c κs =
-    let whole = c .before .before .before .before .before .before .before in
-    let start = whole .before .before .before .before .before .before .before .before .before .before .before in
-    (start .pre, ready-lent (start .pre) (whole .before .before .before .is-well-formed .ensures) (whole .before .before .if1 .left) (whole .before .are-whole .ensures) (Use (Make _ _ _ _)) refl (whole .if2 .left))
+    let held = c .before .before .before .before .before .before .before in
+    let whole = held .before in
+    let start = whole .before .before .before .before .before .before .before .before .before .before .before .before in
+    let told = whole .before .before .before .before .fitness-of .ensures in
+    let left = whole .before .before .if1 .left in (
+      start .pre,
+      ready-lent (start .pre) (told .fit) left (whole .before .are-whole .ensures) (Use (Make _ _ _ _)) refl (whole .if2 .left),
+      rw (held .holding-in .ensures) (held-in (held-lent told left) (isSmall (start .args .size))),
+    )
 
 pub make-spec : {M : Type 1} → statement M
 make-spec =
@@ -27,6 +35,7 @@ make-spec =
     returns
     (λ c κs. search needs)
     returns-2
+    (λ c κs. search needs)
     make-requires
     (λ c. search needs)
     (λ c. search needs)

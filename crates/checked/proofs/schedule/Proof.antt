@@ -5,12 +5,12 @@ use Rattle.checked.proofs.schedule.Statement.{statement}
 use Rattle.checked.proofs.schedule.Tie as tie
 
 returns : tie.Need-returns
-returns c = unfit-lent (c .before .before .before .before .before .pre) (c .before .is-well-formed .ensures) (c .if1 .taken)
+returns c = unfit-lent (c .before .before .before .before .before .before .pre) (c .before .is-well-formed .ensures) (c .if1 .taken)
 
 returns-2 : tie.Need-returns-2
 returns-2 c =
-    let tested = c .before .before .before .before .before in
-    fit-lent (tested .before .before .before .before .pre) (tested .is-well-formed .ensures) (c .before .before .before .before .if1 .left) (c .schedule .ensures)
+    let tested = c .before .before .before .before .before .before in
+    fit-lent (tested .before .before .before .before .before .pre) (tested .is-well-formed .ensures) (c .before .before .before .before .before .if1 .left) (c .schedule .ensures)
 
 pub schedule-spec : {M : Type 1} → statement M
 schedule-spec =

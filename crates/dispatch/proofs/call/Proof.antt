@@ -11,7 +11,7 @@ serve-requires : tie.Need-serve-requires
 serve-requires c κs =
     let told = c .before .before .before .before .before .before .before .before in
     let s = told .before .before .before .before .before in
-    (s .pre .0, ready-for (s .pre .1) (told .request .given .1))
+    (s .pre .0, ready-for (s .pre .1) (told .request .given .1), rw (told .request .given .1) at (s .pre .2))
 
 returns : tie.Need-returns
 returns c =

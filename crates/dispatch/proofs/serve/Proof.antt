@@ -2,10 +2,11 @@
 use mathlib.Core.Path.{refl, ap}
 use borrow.Author.Needs.{needs}
 use Rattle.ledger.specs.declared.Request.the-variants.{Use}
+use Rattle.record.specs.Tables.{blocksOf}
 use Rattle.record.proofs.Types.{head-typed}
 use Rattle.calls.proofs.Lent.{lent-fits}
 use Rattle.calls.proofs.Meets.{halves}
-use Rattle.dispatch.proofs.Arms.{ready-for, schedule-arm, refresh-arm, make-arm, read-arm, write-arm, batch-arm, release-arm}
+use Rattle.dispatch.proofs.Arms.{ready-for, holds-made, join-arm, schedule-arm, refresh-arm, make-arm, read-arm, write-arm, batch-arm, release-arm}
 use Rattle.dispatch.proofs.serve.Statement.{statement}
 use Rattle.dispatch.proofs.serve.Tie as tie
 
@@ -15,9 +16,14 @@ start c = c .before .before .before
 
 make-requires : tie.Need-make-requires
 make-requires c κs =
-    let made = c .before .before .before .before .before .before .before .before in
-    let s = start (made .before .before) in
-    (s .pre .0, ready-for (s .pre .1) (ap Use (made .call2 .given .1)))
+    let chosen = c .before .before .before .before .before .before .before .before in
+    let made = chosen .before in
+    let s = start (made .before .before) in (
+      s .pre .0,
+      ready-for (s .pre .1) (ap Use (made .call2 .given .1)),
+      holds-made (s .args .h .shares) (blocksOf (s .args .handles .now) (s .args .extents .now)) (s .args .holdings) (made .call2 .given .1) (s .pre .2)
+          (c .before .before .before .before .before .before .before .holding-for .ensures),
+    )
 
 find-for-read-requires : tie.Need-find-for-read-requires
 find-for-read-requires c κs =
@@ -34,14 +40,14 @@ write-requires c κs =
 
 returns : tie.Need-returns
 returns c =
-    let told = c .before .before .before .before .before .before .before .before in
+    let told = c .before .before .before .before .before .before .before .before .before in
     let s = start (told .before .before) in
     schedule-arm _ (s .pre .0) (s .pre .1) (told .call .given .1) (c .before .before .schedule .ensures) (c .without-bytes .ensures)
 
 returns-2 : tie.Need-returns-2
 returns-2 c =
     let made = c .before .before .before .before .before .before in
-    let told = made .before .before .before .before .before .before .before .before .before in
+    let told = made .before .before .before .before .before .before .before .before .before .before in
     let s = start (told .before .before) in
     make-arm _ (s .pre .0) (s .pre .1) (told .call2 .given .1) (made .make .ensures) (c .without-bytes2 .ensures)
 
@@ -86,6 +92,12 @@ returns-7 c =
     let s = start (told .before .before) in
     release-arm _ (s .pre .0) (s .pre .1) (told .call7 .given .1) (c .before .before .release .ensures) (c .without-bytes6 .ensures)
 
+returns-8 : tie.Need-returns-8
+returns-8 c =
+    let told = c .before .before .before .before in
+    let s = start (told .before .before) in
+    join-arm _ (s .pre .0) (s .pre .1) (told .call8 .given .1) (s .pre .2) (c .before .before .join .ensures) (c .without-bytes7 .ensures)
+
 pub serve-spec : {M : Type 1} → statement M
 serve-spec =
     tie.close
@@ -94,6 +106,7 @@ serve-spec =
     (λ c κs. search needs)
     (λ c κs. search needs)
     (λ c. search needs)
+    (λ c κs. search needs)
     make-requires
     (λ c κs. search needs)
     (λ c. search needs)
@@ -111,6 +124,9 @@ serve-spec =
     (λ c. search needs)
     release-requires
     (λ c κs. search needs)
+    (λ c. search needs)
+    (λ c κs. search needs)
+    (λ c κs. search needs)
     returns
     (λ c. search needs)
     (λ c. search needs)
@@ -123,4 +139,5 @@ serve-spec =
     (λ c. search needs)
     returns-5
     returns-6
-    returns-7)
+    returns-7
+    returns-8)

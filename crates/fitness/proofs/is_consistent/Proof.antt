@@ -80,7 +80,7 @@ by-flags c =
 returns-5 : tie.Need-returns-5
 returns-5 c =
     let blocks = c .before .check-blocks in
-    sym (by-flags (c .before .before .before) ∙ rw (sym (blocks .ensures) ∙ not-true (blocks .result) (c .if5 .taken)))
+    sym (by-flags (c .before .before) ∙ rw (sym (blocks .ensures) ∙ not-true (blocks .result) (c .if5 .taken)))
 
 -- and last by handles and pins
 returns-6 : tie.Need-returns-6
@@ -88,9 +88,9 @@ returns-6 c =
     let apart = c .before in
     let five = apart .before .before in
     let blocks = five .before .check-blocks in
-    let s = five .before .before .before .before .before .before .before .before .before .before .before .before .before in
+    let s = five .before .before .before .before .before .before .before .before .before .before .before .before in
     rw (apart .distinct .ensures, c .pinned-once .ensures .so (s .args .dues .now) (s .pre .0 .entries .of-dues))
-    (sym (by-flags (five .before .before .before) ∙ rw (sym (blocks .ensures) ∙ not-false (blocks .result) (five .if5 .left))))
+    (sym (by-flags (five .before .before) ∙ rw (sym (blocks .ensures) ∙ not-false (blocks .result) (five .if5 .left))))
 
 pub is-consistent-spec : {M : Type 1} → statement M
 is-consistent-spec =
@@ -104,7 +104,6 @@ is-consistent-spec =
     returns-3
     (λ c κs. let s = c .before .before .before .before .before .before .before in (coded-times (s .pre .0 .entries) (coded c), s .pre .1, fit (c .before .before .before .before)))
     returns-4
-    (λ c κs. search needs)
     (λ c κs. search needs)
     (λ c κs. search needs)
     returns-5

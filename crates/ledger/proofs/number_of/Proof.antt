@@ -11,5 +11,5 @@ number-of-spec =
     tie.close
     (tie.spec
     (λ c κs. search needs)
-    (λ c. ap (λ b. cond b (c .before .place-of .result) 29) (sym (lt-ltb _ 24 (c .if1 .taken))) ∙ c .before .place-of .ensures)
-    (λ c. ap (λ b. cond b (c .before .place-of .result) 29) (sym (le-ltb _ 24 (c .if1 .left))) ∙ c .before .place-of .ensures))
+    (λ c. ap (λ b. cond b (c .before .place-of .result) 29) (sym (lt-ltb _ 27 (c .if1 .taken))) ∙ c .before .place-of .ensures)
+    (λ c. ap (λ b. cond b (c .before .place-of .result) 29) (sym (le-ltb _ 27 (c .if1 .left))) ∙ c .before .place-of .ensures))

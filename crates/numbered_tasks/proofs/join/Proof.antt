@@ -1,20 +1,20 @@
--- The event on the columns, which tells nothing.
+-- The join on the columns, which tells nothing.
 use mathlib.Core.Path.{refl}
 use borrow.Author.Needs.{needs}
 use Rattle.pool.proofs.ByValue.{out-sized, out-whole}
-use Rattle.numbered_tasks.proofs.Events.{event-silent}
+use Rattle.numbered_tasks.proofs.Events.{join-silent}
 use Rattle.numbered_tasks.proofs.join.Statement.{statement}
 use Rattle.numbered_tasks.proofs.join.Tie as tie
 
-schedule-requires : tie.Need-schedule-requires
-schedule-requires c κs = let start = c .before .before .before .before .before .before .before .before .before .before .before in out-sized (start .args .p) refl refl _ (start .good .0)
+join-requires : tie.Need-join-requires
+join-requires c κs = let start = c .before .before .before .before .before .before .before in out-sized (start .args .t1) refl refl _ (start .good .0)
 
 returns : tie.Need-returns
 returns c =
     let called = c .before .before .before in
-    let made = called .before .before .before .before .before .before .before .before .before .before .before in
+    let made = called .before .before .before .before .before .before .before in
     let start = made .before in
-    event-silent (start .good .0) (out-whole (start .args .p) refl refl (made .head-of .ensures)) (c .before .answer-number .ensures, c .put-together .ensures) (called .schedule .ensures .1) refl
+    join-silent (start .good .0) (out-whole (start .args .t1) refl refl (made .head-of .ensures)) (c .before .answer-number .ensures, c .with-head .ensures) (called .join .ensures)
 
 pub join-spec : {M : Type 1} → statement M
-join-spec = tie.close (tie.spec (λ c κs. search needs) schedule-requires (λ c κs. search needs) (λ c κs. search needs) returns)
+join-spec = tie.close (tie.spec (λ c κs. search needs) join-requires (λ c κs. search needs) (λ c κs. search needs) returns)

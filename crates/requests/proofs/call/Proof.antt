@@ -1,23 +1,36 @@
 -- 15, 14, or the call itself.
 use borrow.Author.Needs.{needs}
-use Rattle.requests.proofs.Called.{unfit-served, wrong-served, lent-ready}
+use Rattle.requests.proofs.Called.{unfit-served, wrong-served, lent-ready, lent-holds}
 use Rattle.requests.proofs.call.Statement.{statement}
 use Rattle.requests.proofs.call.Tie as tie
 
+-- where the test of well-formedness begins
+abbrev start : tie.After-fitness-of → tie.Start
+start c = c .before .before .before .before .before .before .before .before .before
+
 returns : tie.Need-returns
-returns c = rw (c .refused .ensures) (unfit-served (c .before .before .before .before .before .before .before .before .before .before .before .pre) (c .before .before .is-well-formed .ensures) (c .before .if1 .taken))
+returns c =
+    let tested = c .before .before .before in
+    rw (c .refused .ensures) (unfit-served (start tested .pre) (tested .fitness-of .ensures) (c .before .if1 .taken))
 
 returns-2 : tie.Need-returns-2
 returns-2 c =
-    let whole = c .before in
+    let whole = c .before .before in
+    let passed = whole .before .before in
+    let tested = passed .before .before in
     rw (c .refused2 .ensures)
-    (wrong-served (whole .before .before .before .before .before .before .before .before .before .before .before .before .before .pre) (whole .before .before .before .before .is-well-formed .ensures) (whole .before .before .before .if1 .left) (whole .before .before .is-stored .ensures) (whole .before .are-whole .ensures) (whole .if2 .taken))
+    (wrong-served (start tested .pre) (tested .fitness-of .ensures) (passed .if1 .left) (whole .before .is-stored .ensures) (whole .are-whole .ensures) (c .before .if2 .taken))
 
 call-requires : tie.Need-call-requires
 call-requires c κs =
-    let whole = c .before .before .before .before .before .before .before in
-    let start = whole .before .before .before .before .before .before .before .before .before .before .before .before .before in
-    (start .pre, lent-ready (start .pre) (whole .before .before .before .before .is-well-formed .ensures) (whole .before .before .before .if1 .left) (whole .before .before .is-stored .ensures) (whole .before .are-whole .ensures) (whole .if2 .left))
+    let stored = c .before .before .before .before .before .before .before .before in
+    let whole = stored .before in
+    let passed = whole .before .before in
+    let tested = passed .before .before in (
+      start tested .pre,
+      lent-ready (start tested .pre) (tested .fitness-of .ensures) (passed .if1 .left) (whole .before .is-stored .ensures) (whole .are-whole .ensures) (stored .if2 .left),
+      lent-holds (tested .fitness-of .ensures) (passed .if1 .left) (start tested .args .request),
+    )
 
 pub call-spec : {M : Type 1} → statement M
 call-spec =

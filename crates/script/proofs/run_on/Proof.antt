@@ -16,7 +16,7 @@ use Rattle.text.specs.Hex.{Puts}
 use Rattle.script.specs.Output.{lineIn, LinesRun}
 use Rattle.execute.proofs.Showing.{serves-showable, short-line}
 use Rattle.execute.proofs.Carrying.{bytes-in}
-use Rattle.script.proofs.Running.{Running, ready, refused-run, served-run, run-starts-lent, run-keeps, run-runnable, run-line, run-room, run-nears, run-turns, run-ends}
+use Rattle.script.proofs.Running.{Running, ready, placed, refused-run, served-run, run-starts-lent, run-keeps, run-runnable, run-line, run-room, run-nears, run-turns, run-ends}
 use Rattle.script.proofs.run_on.Statement.{statement}
 use Rattle.script.proofs.run_on.Tie as tie
 
@@ -79,27 +79,51 @@ loop-again c =
       loop r .loop .inv .1,
     )
 
+-- the holdings that a call asks for
+holdings-for-requires : tie.Need-holdings-for-requires Inv-loop μ-loop
+holdings-for-requires c κs = let l = c .before .before .before .before .before .before .before .before .before .loop in (l .inv .1 .blocks, placed (run-runnable (l .inv .0)))
+
+-- the line whose call they are for
+abbrev line : tie.After-holdings-for Inv-loop μ-loop → tie.After-next-frame Inv-loop μ-loop
+line c = c .before .before .before .before .before .before .before
+
+-- where a call that was carried out has them from
+abbrev held : tie.After-call Inv-loop μ-loop → tie.After-holdings-for Inv-loop μ-loop
+held c = c .before .before .before .before .before .before .before .before .before
+
 -- the bytes of a request are in the buffer
 array-share-prefix-bytes : tie.Need-array-share-prefix-bytes Inv-loop μ-loop
-array-share-prefix-bytes c = bytes-in (c .before .before .before .before .before .before .before .before .before .before .before .next-frame .ensures .decodes) (c .before .before .before .before .before .before .before .before .frame .given .1)
+array-share-prefix-bytes c =
+    let asked = c .before .before .before .before .before .before .before in
+    bytes-in (line asked .next-frame .ensures .decodes) (asked .before .before .before .before .frame .given .1)
 
 call-requires : tie.Need-call-requires Inv-loop μ-loop
-call-requires c κs = let l = c .before .before .before .before .before .before .before .before .before .before .before .before .before .before .before .loop in (l .inv .1, ready _ (run-runnable (l .inv .0)))
+call-requires c κs =
+    let asked = c .before .before .before .before .before .before .before .before in
+    let l = loop (line asked) .loop in
+    (l .inv .1, ready _ (run-runnable (l .inv .0)), asked .holdings-for .ensures)
 
 show-requires : tie.Need-show-requires Inv-loop μ-loop
-show-requires c κs = serves-showable (c .before .before .before .before .before .before .before .before .call .ensures .1) _ _ (room (c .before .before .before .before .before .before .before .before .before .before .before .before .before .before .before .before .before .before .before .before .before))
+show-requires c κs =
+    let called = c .before .before .before .before .before .before .before .before in
+    serves-showable (called .call .ensures .1) _ _ (room (line (held called)))
 
 loop-again-2 : tie.Need-loop-again-2 Inv-loop μ-loop
 loop-again-2 c =
-    let r = c .before .before .before .before .before .before .before .before .before .before .before .before .before .before .before .before .before .before .before .before .before .before .before .before in
-    let served = c .before .before .before .before .before .before .before .before .before .before .before .call .ensures in
-    let one = served-run (r .next-frame .ensures .decodes) (c .before .before .before .before .before .before .before .before .before .before .before .before .before .before .before .before .before .before .before .before .before .frame .given .1) (served .1) in (
+    let called = c .before .before .before .before .before .before .before .before .before .before .before in
+    let r = line (held called) in
+    let served = called .call .ensures in
+    let one = served-run (r .next-frame .ensures .decodes) (held called .before .before .before .before .frame .given .1) (served .1) in (
       turns r one (serves-showable (served .1) (loop r .loop .out) (loop r .loop .written) (room r) .room) (c .before .before .show .ensures),
       served .0,
     )
 
+-- where the last test of the loop was
+abbrev stopped : tie.After-global Inv-loop μ-loop → tie.After-loop Inv-loop μ-loop
+stopped c = c .before .before .before .before
+
 returns : tie.Need-returns Inv-loop μ-loop
-returns c = run-ends (c .before .before .before .before .loop .inv .0) (c .before .before .before .loop-test .left)
+returns c = run-ends (stopped c .before .loop .inv .0) (stopped c .loop-test .left)
 
 pub run-on-spec : {M : Type 1} → statement M
 run-on-spec =
@@ -119,13 +143,14 @@ run-on-spec =
     put-answer-requires
     (λ c. nears (c .before .before .before .before .before .before .before .before .before .before))
     loop-again
+    holdings-for-requires
     array-share-prefix-bytes
     (λ c. sym (length-take-le _ _ (array-share-prefix-bytes (c .before))))
     call-requires
     show-requires
-    (λ c. nears (c .before .before .before .before .before .before .before .before .before .before .before .before .before .before .before .before .before .before .before .before .before .before .before .before))
+    (λ c. nears (line (held (c .before .before .before .before .before .before .before .before .before .before .before))))
     loop-again-2
-    (λ c. run-keeps (c .before .before .before .before .loop .inv .0) .sizes .0)
-    (λ c. run-keeps (c .before .before .before .before .loop .inv .0) .sizes .1)
-    (λ c. c .before .before .before .before .loop .inv .0 .size)
+    (λ c. run-keeps (stopped c .before .loop .inv .0) .sizes .0)
+    (λ c. run-keeps (stopped c .before .loop .inv .0) .sizes .1)
+    (λ c. stopped c .before .loop .inv .0 .size)
     returns)

@@ -14,7 +14,7 @@ mod memory;
 
 use core::fmt;
 use memory::Pool;
-use ramsummer::{Handle, Kind, Refusal};
+use ramsummer::{Handle, Kind, Refusal, Share};
 
 const LEVEL: u8 = 0;
 const RAIN: u8 = 1;
@@ -52,7 +52,7 @@ impl Station {
     /// The superloop. One of firmware has no end.
     fn run(&mut self) -> Result<(), Refusal> {
         for task in [LEVEL, RAIN, RADIO] {
-            self.pool.join(task)?;
+            self.pool.join(task, Share::OPEN)?;
         }
         self.pool.block(RAIN)?; // its sensor has begun
         for turn in 1..=TURNS {

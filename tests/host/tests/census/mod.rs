@@ -6,9 +6,9 @@ use plain::limits::TASKS;
 use plain::record::{Pool, DEPARTED, FREE, GLOBAL, LOCAL, PINNED, WAITING};
 use reference::call::{Accepted, Answer, Call};
 
-/// The operations, and the refusals by number, 0 to 23.
+/// The operations, and the refusals by number, 0 to 26.
 const OPERATIONS: usize = 13;
-pub const NUMBERS: usize = 24;
+pub const NUMBERS: usize = 27;
 
 #[derive(Default)]
 pub struct Census {

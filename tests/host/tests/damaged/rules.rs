@@ -1,7 +1,9 @@
 //! When a record is well-formed, in the words of the rules W of docs/RULES.md. Nothing here is arranged for speed.
 
-use plain::limits::{Limits, EXPIRATIONS};
-use plain::record::{length_in, Pool, ABSENT, DEPARTED, FREE, GLOBAL, LOCAL, PINNED, RUNNING};
+use std::ops::Range;
+
+use plain::limits::{Limits, EXPIRATIONS, TASKS};
+use plain::record::{length_in, maker_in, Pool, Quota, Share, ABSENT, DEPARTED, FREE, GLOBAL, LOCAL, PINNED, RUNNING};
 
 /// All of them, W18 and W19 as `past`.
 pub fn is_fit(pool: &Pool) -> bool {
@@ -16,6 +18,7 @@ pub fn is_fit(pool: &Pool) -> bool {
         let range = if place < 64 { 1..=32 } else { 33..=256 };
         dates().any(|date| block_of(date) == place)
             && range.contains(&length)
+            && maker_in(pool.extents[place]) <= 16
             && handle <= pool.given
             && pool.handles.iter().filter(|&&other| other == handle).count() == 1
             && dates().filter(|&date| block_of(date) == place && pool.clocks[date] == PINNED).count() <= 1
@@ -35,6 +38,28 @@ pub fn is_fit(pool: &Pool) -> bool {
         && marks
         && pending
         && absent
+        && is_shared(pool)
+}
+
+/// Order 9's: an absent task has asked for nothing, and both stores are shared as the tasks have asked.
+fn is_shared(pool: &Pool) -> bool {
+    let nothing = pool.tasks.iter().zip(pool.shares).all(|(task, share)| task.state != ABSENT || share == Share::NONE);
+    let Limits { small_blocks, large_blocks, .. } = pool.limits;
+    nothing
+        && is_shared_in(pool, 0..64, small_blocks, |share| share.small)
+        && is_shared_in(pool, 64..96, large_blocks, |share| share.large)
+}
+
+/// No reserve is above its limit, no task has made more than its limit, so that an absent one has made nothing, and there are
+/// blocks for what is in use and for all that is unmet.
+fn is_shared_in(pool: &Pool, places: Range<usize>, blocks: u32, of: fn(Share) -> Quota) -> bool {
+    let used = || places.clone().filter(|&place| pool.handles[place] != 0);
+    let made = |task: usize| used().filter(|&place| usize::from(maker_in(pool.extents[place])) == task).count();
+    let quota = |task: usize| of(pool.shares[task]);
+    let unmet = |task: usize| usize::from(quota(task).reserve).saturating_sub(made(task));
+    (0..TASKS).all(|task| quota(task).reserve <= quota(task).limit)
+        && (0..TASKS).all(|task| made(task) <= usize::from(quota(task).limit))
+        && used().count() + (0..TASKS).map(unmet).sum::<usize>() <= blocks as usize
 }
 
 /// W17.

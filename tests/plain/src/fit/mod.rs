@@ -8,8 +8,10 @@ use core::mem::replace;
 
 use crate::limits::{BLOCKS, GLOBAL_EXTRA, LARGE_SIZE, LOCAL_EXTRA, SMALL_BLOCKS, SMALL_SIZE, TASKS};
 use crate::record::{
-    length_in, Pool, TaskEntry, ABSENT, DEPARTED, FREE, GLOBAL, GROUP, LOCAL, PINNED, RUNNING, WAITING,
+    length_in, maker_in, Pool, Share, TaskEntry, ABSENT, DEPARTED, FREE, GLOBAL, GROUP, LOCAL, NOBODY, PINNED, RUNNING,
+    WAITING,
 };
+use crate::shares::Room;
 
 /// For each number that a byte can be, whether an expiration in use names it as its block: not 0 if so.
 type Named = [u8; 256];
@@ -18,9 +20,11 @@ pub fn is_well_formed(pool: &Pool) -> bool {
     let mut named: Named = [0; 256];
     pool.limits.is_allowed()
         && none_past_limits(pool)
-        && fit_tasks(&pool.tasks)
+        && fit_tasks(&pool.tasks, &pool.shares)
         && fit_expirations(pool, &mut named)
         && fit_blocks(pool, &named)
+        && Room::small(pool).is_fit()
+        && Room::large(pool).is_fit()
         && handles::distinct(&pool.handles)
 }
 
@@ -33,11 +37,11 @@ fn none_past_limits(pool: &Pool) -> bool {
 }
 
 /// Each entry is fit, and if any task runs, one of them has not ticked.
-fn fit_tasks(tasks: &[TaskEntry; TASKS]) -> bool {
+fn fit_tasks(tasks: &[TaskEntry; TASKS], shares: &[Share; TASKS]) -> bool {
     let (mut ticked, mut pending) = (false, false);
-    for task in tasks {
+    for (task, share) in tasks.iter().zip(shares) {
         match (task.state, task.ticked) {
-            (ABSENT, 0) if task.clock == 0 => {}
+            (ABSENT, 0) if task.clock == 0 && *share == Share::NONE => {}
             (RUNNING, 0) => pending = true,
             (RUNNING, 1) => ticked = true,
             (WAITING, 0) => {}
@@ -110,8 +114,8 @@ impl Spans {
     }
 }
 
-/// The blocks in use are those that are named, with a length of their store's range, whatever their sum, and a handle that
-/// was given. The loops have no way out before the end, so that several blocks are tested at once.
+/// The blocks in use are those that are named, with a length of their store's range, whatever their sum, a maker that there
+/// may be, and a handle that was given. The loops have no way out before the end, so that several blocks are tested at once.
 fn fit_blocks(pool: &Pool, named: &Named) -> bool {
     let (named, beyond) = named.split_at(BLOCKS);
     let (mut used, mut sized) = ([false; BLOCKS], [false; BLOCKS]);
@@ -120,8 +124,12 @@ fn fit_blocks(pool: &Pool, named: &Named) -> bool {
         *used = handle != 0;
         fit &= handle <= pool.given;
     }
+    let (lengths, makers) = (pool.extents.map(length_in), pool.extents.map(maker_in));
     for i in 0..BLOCKS {
-        sized[i] = length_in(pool.extents[i]).wrapping_sub(SHORTEST[i]) <= REST[i];
+        sized[i] = lengths[i].wrapping_sub(SHORTEST[i]) <= REST[i];
+    }
+    for i in 0..BLOCKS {
+        sized[i] &= makers[i] <= NOBODY;
     }
     for i in 0..BLOCKS {
         fit &= (used[i] == (named[i] != 0)) & (!used[i] | sized[i]);

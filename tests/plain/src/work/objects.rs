@@ -7,13 +7,14 @@ use crate::limits::{
     SMALL_SIZE,
 };
 use crate::record::{
-    extent_of, is_global, length_in, sum_in, Pool, ABSENT, FREE, GLOBAL, GROUP, LOCAL, PINNED, WAITING,
+    extent_of, is_global, length_in, sum_in, with_sum, Pool, ABSENT, FREE, GLOBAL, GROUP, LOCAL, PINNED, WAITING,
 };
 use crate::refusals::{
-    BATCH_OUT_OF_RANGE, EXTENSION_TOO_LONG, HANDLES_SPENT, HANDLE_NOT_GIVEN, LENGTH_OUT_OF_RANGE, NOT_PINNED,
+    AT_LIMIT, BATCH_OUT_OF_RANGE, EXTENSION_TOO_LONG, HANDLES_SPENT, HANDLE_NOT_GIVEN, LENGTH_OUT_OF_RANGE, NOT_PINNED,
     NO_FREE_BLOCK, NO_FREE_EXPIRATION, NO_SUCH_TASK, OBJECT_GONE, ONLY_MAKE_PINS, OUTSIDE_OBJECT, SUM_DIFFERS,
     TASK_ABSENT, TASK_WAITING, WRONG_STORE_LENGTH,
 };
+use crate::shares::Room;
 
 const SHORTEST_LARGE: usize = SMALL_SIZE + 1;
 
@@ -44,11 +45,12 @@ pub fn make(
     if pool.given == u32::MAX {
         return Err(HANDLES_SPENT);
     }
+    check_room(if first == 0 { Room::small(pool) } else { Room::large(pool) }, task)?;
     let free = first + free_place(0, &pool.handles[first..end], count).ok_or(NO_FREE_BLOCK)?;
     set(pool, clock, (task, kind, extension), free)?;
     pool.given += 1;
     pool.handles[free] = pool.given;
-    pool.extents[free] = extent_of(length, 0);
+    pool.extents[free] = extent_of(length, 0, task);
     block_mut(small, large, free).fill(0);
     Ok(pool.given)
 }
@@ -134,7 +136,7 @@ pub fn write(
     let part = part.ok_or(OUTSIDE_OBJECT)?;
     let sum = sum_in(extent) - sum_of(part) + sum_of(bytes);
     part.copy_from_slice(bytes);
-    pool.extents[block] = extent_of(length_in(extent), sum);
+    pool.extents[block] = with_sum(extent, sum);
     Ok(())
 }
 
@@ -209,6 +211,17 @@ fn check_extension(limits: Limits, kind: u8, extension: u8) -> Result<(), u8> {
     Ok(())
 }
 
+/// 26, 9.
+fn check_room(room: Room, task: u8) -> Result<(), u8> {
+    if room.is_at_limit(task) {
+        return Err(AT_LIMIT);
+    }
+    if !room.has_block(task) {
+        return Err(NO_FREE_BLOCK);
+    }
+    Ok(())
+}
+
 /// 21.
 fn check_refreshing(kind: u8) -> Result<(), u8> {
     if kind == PINNING {
@@ -226,7 +239,7 @@ fn find(pool: &Pool, handle: u32) -> Result<usize, u8> {
 }
 
 /// 23.
-fn check_sum(block: &[u8], extent: u32) -> Result<(), u8> {
+fn check_sum(block: &[u8], extent: u64) -> Result<(), u8> {
     if sum_of(block) != sum_in(extent) {
         return Err(SUM_DIFFERS);
     }

@@ -2,16 +2,30 @@
 
 use crate::limits::TASKS;
 use crate::record::{
-    is_global, Pool, TaskEntry, ABSENT, ABSENT_TASK, DEPARTED, FREE, GLOBAL, GROUP, LOCAL, RUNNING, WAITING,
+    is_global, maker_in, with_maker, Pool, Quota, Share, TaskEntry, ABSENT, ABSENT_TASK, DEPARTED, FREE, GLOBAL, GROUP,
+    LOCAL, NOBODY, RUNNING, WAITING,
 };
-use crate::refusals::{NO_SUCH_TASK, TASK_ABSENT, TASK_PRESENT, TASK_RUNNING, TASK_WAITING};
+use crate::refusals::{
+    NO_SUCH_TASK, RESERVE_ABOVE_LIMIT, RESERVE_NOT_FREE, TASK_ABSENT, TASK_PRESENT, TASK_RUNNING, TASK_WAITING,
+};
+use crate::shares::Room;
 
-pub fn join(pool: &mut Pool, task: u8) -> Result<(), u8> {
-    let entry = entry_of(&mut pool.tasks, task)?;
-    if entry.state != ABSENT {
+pub fn join(pool: &mut Pool, task: u8, share: Share) -> Result<(), u8> {
+    if entry_of(&mut pool.tasks, task)?.state != ABSENT {
         return Err(TASK_PRESENT);
     }
-    *entry = TaskEntry { state: RUNNING, ..ABSENT_TASK };
+    let Share { small, large } = share;
+    if small.reserve > small.limit || large.reserve > large.limit {
+        return Err(RESERVE_ABOVE_LIMIT);
+    }
+    // What is spoken for has its blocks: none is asked for where nothing is to be held back.
+    if small.reserve > 0 && !Room::small(pool).can_hold_back(small.reserve)
+        || large.reserve > 0 && !Room::large(pool).can_hold_back(large.reserve)
+    {
+        return Err(RESERVE_NOT_FREE);
+    }
+    pool.tasks[usize::from(task)] = TaskEntry { state: RUNNING, ..ABSENT_TASK };
+    pool.shares[usize::from(task)] = share;
     Ok(())
 }
 
@@ -22,6 +36,8 @@ pub fn leave(pool: &mut Pool, task: u8) -> Result<bool, u8> {
         return Err(TASK_ABSENT);
     }
     *entry = ABSENT_TASK;
+    pool.shares[usize::from(task)] = Share::NONE;
+    disown(pool, task);
     let ended = depart(pool, task);
     Ok(settle(pool, ended))
 }
@@ -91,6 +107,32 @@ pub fn awaited(pool: &Pool) -> u16 {
     pool.tasks.iter().rev().fold(0, |bits, task| bits << 1 | bit(task))
 }
 
+/// What a task has of one store: its objects there, and what it has joined with.
+#[derive(Clone, Copy, Debug, PartialEq, Eq)]
+pub struct Holding {
+    pub made: u8,
+    pub reserve: u8,
+    pub limit: u8,
+}
+
+#[derive(Clone, Copy, Debug, PartialEq, Eq)]
+pub struct Holdings {
+    pub small: Holding,
+    pub large: Holding,
+}
+
+/// All 0 of an absent task.
+pub fn share(pool: &Pool, task: u8) -> Result<Holdings, u8> {
+    if usize::from(task) >= TASKS {
+        return Err(NO_SUCH_TASK);
+    }
+    let holding = |room: Room| {
+        let Quota { reserve, limit } = room.quota(task);
+        Holding { made: room.made(task), reserve, limit }
+    };
+    Ok(Holdings { small: holding(Room::small(pool)), large: holding(Room::large(pool)) })
+}
+
 /// At least one task runs, and every running one has ticked.
 fn all_ticked(tasks: &[TaskEntry; TASKS]) -> bool {
     let (mut running, mut pending) = (false, false);
@@ -112,6 +154,13 @@ fn depart(pool: &mut Pool, leaver: u8) -> bool {
         *clock = if *clock == local { FREE } else { *clock };
     }
     ended
+}
+
+/// What the leaver has made is nobody's.
+fn disown(pool: &mut Pool, leaver: u8) {
+    for extent in &mut pool.extents {
+        *extent = if maker_in(*extent) == leaver { with_maker(*extent, NOBODY) } else { *extent };
+    }
 }
 
 /// More than there are codes of clocks.

@@ -3,12 +3,13 @@
 use crate::call::{Accepted, Call, Figures, Kind, Lifetime, Model};
 use crate::explain::phrases::{counted, due, listed, shown_bytes};
 use crate::explain::watch::{Change, Watch};
-use crate::limits::{Limits, Store, LARGEST_BATCH};
+use crate::limits::{Limits, Store, LARGEST_BATCH, STORES};
+use crate::share::{Quota, Share};
 
 /// What the call asks.
 pub fn asked(call: &Call) -> String {
     match *call {
-        Call::Join { task } => format!("join of task {task}"),
+        Call::Join { task, share } => format!("join of task {task}{}", share_words(share)),
         Call::Leave { task } => format!("leave of task {task}"),
         Call::Block { task } => format!("block of task {task}"),
         Call::Resume { task } => format!("resume of task {task}"),
@@ -36,6 +37,26 @@ pub fn asked(call: &Call) -> String {
     }
 }
 
+/// Nothing of a store in which the task has neither a reserve nor a limit.
+fn share_words(share: Share) -> String {
+    let words = |store: Store| Some(format!("{} in the {} store", quota_words(share.of(store))?, store.name()));
+    let parts: Vec<_> = STORES.into_iter().filter_map(words).collect();
+    if parts.is_empty() {
+        return String::new();
+    }
+    format!(" with {}", parts.join(", and "))
+}
+
+fn quota_words(Quota { reserve, limit }: Quota) -> Option<String> {
+    let open = Quota::OPEN;
+    match (reserve != open.reserve, limit != open.limit) {
+        (false, false) => None,
+        (true, false) => Some(format!("a reserve of {reserve}")),
+        (false, true) => Some(format!("a limit of {limit}")),
+        (true, true) => Some(format!("a reserve of {reserve} and a limit of {limit}")),
+    }
+}
+
 fn kind_words(kind: Kind, extension: u8) -> String {
     match (kind, extension) {
         (Kind::Local, _) => format!("local with extension {extension}"),
@@ -54,7 +75,7 @@ pub fn told(watch: &Watch, call: &Call, change: &Change) -> String {
         Call::Resume { .. } => format!("it runs again, after it waited since line {}", change.before),
         Call::Tick { .. } => time(watch, change),
         Call::Make { task, kind, extension, length } => {
-            let (handle, store) = (watch.ledger.figures().given, store_name(length));
+            let (handle, store) = (watch.ledger.figures().given, store_of(length).name());
             format!("object {handle} in the {store} store, until {}", due(watch.expiration(task, kind, extension)))
         }
         Call::Refresh { task, kind, extension, handle } => {
@@ -117,11 +138,8 @@ fn awaited(watch: &Watch) -> String {
 }
 
 /// The store of a length that is none of refusal 7's.
-pub fn store_name(length: u16) -> &'static str {
-    match Store::holding(length) {
-        Ok(Store::Large) => "large",
-        _ => "small",
-    }
+pub fn store_of(length: u16) -> Store {
+    Store::holding(length).expect("a length of a store")
 }
 
 fn bytes(watch: &Watch, task: u8, handle: u32) -> String {

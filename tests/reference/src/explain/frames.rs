@@ -5,7 +5,7 @@ use crate::explain::phrases::{counted, shown_line};
 
 /// By operation, from 01 on: its name and its frame's size.
 const OPERATIONS: [(&str, &str); 13] = [
-    ("join", "2 bytes"),
+    ("join", "6 bytes"),
     ("leave", "2 bytes"),
     ("block", "2 bytes"),
     ("resume", "2 bytes"),

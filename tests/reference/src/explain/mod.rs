@@ -43,7 +43,7 @@ pub struct Moment {
     pub figures: Figures,
     /// How many of the objects are pinned.
     pub pinned: Pinned,
-    /// How many of the objects each task has made.
+    /// How many of the objects each task has made since it joined.
     pub held: [u8; TASKS],
     pub global: u64,
     pub tasks: [Task; TASKS],

@@ -1,11 +1,12 @@
 //! Why a call is refused, and what would have been needed, in words; and a name for each refusal.
 
 use crate::call::{Call, Kind, Refusal};
-use crate::explain::answers::store_name;
+use crate::explain::answers::store_of;
 use crate::explain::phrases::{counted, listed};
 use crate::explain::trail::Set;
 use crate::explain::watch::Watch;
-use crate::limits::{LARGEST_BATCH, LONGEST, TASKS};
+use crate::limits::{Store, LARGEST_BATCH, LONGEST, STORES, TASKS};
+use crate::share::{Room, Share};
 use crate::tasks::State;
 
 /// From the ledger, which a refusal leaves as it was.
@@ -28,6 +29,9 @@ pub fn reason(watch: &Watch, call: &Call, refusal: Refusal) -> String {
         Refusal::OnlyMakePins => "only a make pins an object".into(),
         Refusal::NotPinned => not_pinned(watch, call),
         Refusal::SumDiffers => "bytes of its block were changed from outside".into(),
+        Refusal::ReserveAboveLimit => above_limit(call),
+        Refusal::ReserveNotFree => not_free(watch, call),
+        Refusal::AtLimit => at_limit(watch, call),
         Refusal::NotHexadecimal | Refusal::UnknownOperation | Refusal::WrongFrameLength | Refusal::KindAbove2 => {
             unreachable!("refusal {} is a frame's", refusal as u8)
         }
@@ -59,6 +63,9 @@ pub fn name(refusal: Refusal) -> &'static str {
         Refusal::OnlyMakePins => "only a make pins",
         Refusal::NotPinned => "not pinned",
         Refusal::SumDiffers => "sum differs",
+        Refusal::ReserveAboveLimit => "reserve above its limit",
+        Refusal::ReserveNotFree => "reserve not free",
+        Refusal::AtLimit => "at its limit",
         Refusal::LimitsOutOfRange => "figures out of range",
     }
 }
@@ -83,16 +90,59 @@ fn too_long(watch: &Watch, call: &Call) -> String {
 }
 
 fn no_block(watch: &Watch, call: &Call) -> String {
-    let &Call::Make { length, .. } = call else { unreachable!("only a make asks for a block") };
-    let (store, figures) = (store_name(length), watch.ledger.figures());
-    let objects = if store == "small" { figures.small } else { figures.large };
-    let is_there = |&handle: &u32| watch.ledger.length(handle).is_some_and(|length| store_name(length as u16) == store);
+    let &Call::Make { task, length, .. } = call else { unreachable!("only a make asks for a block") };
+    let (store, room) = (store_of(length), watch.ledger.room(store_of(length)));
+    let (name, still) = (store.name(), still(watch));
+    if room.makers.len() < room.blocks {
+        let (free, others) = (counted(room.blocks - room.makers.len(), "free block"), held_back(&room, task));
+        return format!("the {name} store has {free}, held back for {others}; {still}");
+    }
+    let is_there = |&handle: &u32| watch.ledger.length(handle).is_some_and(|length| store_of(length as u16) == store);
     let pinned = match watch.ledger.pinned().filter(is_there).count() {
         0 => String::new(),
         count => format!(", {count} of them pinned"),
     };
-    let objects = counted(objects.into(), "object");
-    format!("the {store} store is full with {objects}{pinned}; {}", still(watch))
+    format!("the {name} store is full with {}{pinned}; {still}", counted(room.blocks, "object"))
+}
+
+/// The tasks but this one that have less than their reserve.
+fn held_back(room: &Room, task: u8) -> String {
+    let others = (0..TASKS as u8).filter(|&other| other != task && room.unmet(other) > 0);
+    listed("task", &others.map(u32::from).collect::<Vec<_>>())
+}
+
+fn at_limit(watch: &Watch, call: &Call) -> String {
+    let &Call::Make { task, length, .. } = call else { unreachable!("only a make comes to a limit") };
+    let store = store_of(length);
+    let (room, name) = (watch.ledger.room(store), store.name());
+    let made = counted(room.made(task), &format!("{name} object"));
+    format!("task {task} has {made}, and its limit is {}", room.limit(task))
+}
+
+fn above_limit(call: &Call) -> String {
+    let (_, share) = joining(call);
+    let is_above = |store: &Store| share.of(*store).reserve > share.of(*store).limit;
+    let store = STORES.into_iter().find(is_above).expect("a store with a reserve above its limit");
+    format!("the reserve in the {} store is above the limit", store.name())
+}
+
+fn not_free(watch: &Watch, call: &Call) -> String {
+    let (task, share) = joining(call);
+    let is_short = |store: &Store| watch.ledger.room(*store).check_reserve(task, share.of(*store).reserve).is_err();
+    let store = STORES.into_iter().find(is_short).expect("a store with too few blocks");
+    let (room, name) = (watch.ledger.room(store), store.name());
+    let (objects, taken) = (room.makers.len(), room.taken(task));
+    let held_back = match taken - objects {
+        0 => String::new(),
+        count => format!(" and {} held back for {}", counted(count, "block"), held_back(&room, task)),
+    };
+    let (left, blocks, objects) = (room.blocks - taken, counted(room.blocks, "block"), counted(objects, "object"));
+    format!("the {name} store has {left} of {blocks} left, beside {objects}{held_back}")
+}
+
+fn joining(call: &Call) -> (u8, Share) {
+    let &Call::Join { task, share } = call else { unreachable!("only a join has a share") };
+    (task, share)
 }
 
 fn no_expiration(watch: &Watch, call: &Call) -> String {

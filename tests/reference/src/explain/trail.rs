@@ -34,7 +34,7 @@ pub struct Gone {
 #[derive(Debug, Default)]
 pub struct Trail {
     standing: BTreeMap<u32, Vec<Set>>,
-    /// Who made each standing object.
+    /// Who made each standing object, of those whose maker has not left.
     makers: BTreeMap<u32, u8>,
     gone: BTreeMap<u32, Gone>,
     released: BTreeMap<u32, usize>,
@@ -76,8 +76,9 @@ impl Trail {
         held
     }
 
-    /// From its leave on the leaver is departed. Tells how many global expirations it has set.
+    /// From its leave on the leaver is departed, and its objects are nobody's. Tells how many global expirations it has set.
     pub fn depart(&mut self, leaver: u8) -> usize {
+        self.makers.retain(|_, maker| *maker != leaver);
         let sets = self.standing.values_mut().flatten();
         sets.filter_map(|set| set.expiration.depart(leaver).then_some(())).count()
     }

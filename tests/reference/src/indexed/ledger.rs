@@ -1,4 +1,4 @@
-//! The pool's rules and refusals 1 to 13, 20 to 23 and 29, by schedules and slots.
+//! The pool's rules and refusals 1 to 13, 20 to 26 and 29, by schedules, slots and accounts.
 
 use super::globals::Globals;
 use super::objects::Objects;
@@ -10,6 +10,7 @@ use crate::expiration::Remaining;
 use crate::ledger::Standing;
 use crate::limits::{check_batch, check_refreshing, Limits, Store, LARGEST_BATCH, TASKS};
 use crate::outside::{Change, Exposed};
+use crate::share::Share;
 use crate::tasks::Task;
 
 #[derive(Clone, Debug)]
@@ -23,21 +24,24 @@ pub struct Ledger {
 }
 
 impl Model for Ledger {
-    /// All tasks absent, both times 0, no object, no expiration, no handle given. A slot for each block.
+    /// All tasks absent, both times 0, no object, no expiration, no handle given.
     fn sized(limits: Limits) -> Result<Ledger, Refusal> {
         limits.check()?;
         Ok(Ledger {
             limits,
             tasks: Tasks::default(),
             given: 0,
-            objects: Objects::none(limits.small_blocks + limits.large_blocks),
+            objects: Objects::none(limits),
             local: Default::default(),
             global: Globals::default(),
         })
     }
 
-    fn join(&mut self, task: u8) -> Answer<'static> {
-        self.tasks.join(task)?;
+    fn join(&mut self, task: u8, share: Share) -> Answer<'static> {
+        let absent = self.tasks.check_absent(task)?;
+        self.objects.accounts.check_join(share)?;
+        self.objects.accounts.join(task, share);
+        self.tasks.join(absent, task);
         Ok(Accepted::Done)
     }
 
@@ -47,6 +51,7 @@ impl Model for Ledger {
             self.objects.let_go(slot);
         }
         self.global.depart(task);
+        self.objects.accounts.leave(task);
         self.expire_global(advanced)
     }
 
@@ -75,12 +80,10 @@ impl Model for Ledger {
         if self.given == u32::MAX {
             return Err(Refusal::AllHandlesGiven);
         }
-        if self.objects.standing(store) == self.limits.blocks(store) {
-            return Err(Refusal::NoFreeBlock);
-        }
+        self.objects.accounts.check_make(task, store)?;
         self.check_expirations()?;
         self.given += 1;
-        let slot = self.objects.make(self.given, length, store);
+        let slot = self.objects.make(task, self.given, length, store);
         self.set_expiration(slot, task, kind, extension);
         Ok(Accepted::Handle(self.given))
     }
@@ -169,7 +172,7 @@ impl Ledger {
 
     /// The tasks as the ledger has them.
     pub fn entries(&self) -> [Task; TASKS] {
-        self.tasks.entries()
+        self.tasks.entries(self.objects.accounts.shares())
     }
 
     pub fn global(&self) -> u64 {
@@ -178,8 +181,8 @@ impl Ledger {
 
     pub fn figures(&self) -> Figures {
         Figures {
-            small: self.objects.standing(Store::Small) as u8,
-            large: self.objects.standing(Store::Large) as u8,
+            small: self.objects.accounts.standing(Store::Small) as u8,
+            large: self.objects.accounts.standing(Store::Large) as u8,
             expirations: self.objects.expirations() as u16,
             given: self.given,
         }
@@ -189,6 +192,7 @@ impl Ledger {
     pub fn standing(&self) -> Vec<Standing> {
         let show = |&(handle, slot): &(u32, u8)| Standing {
             handle,
+            maker: self.objects.maker(slot),
             block: Block {
                 length: self.objects.bytes(slot).len() as u16,
                 bytes: self.objects.block(slot).to_vec(),

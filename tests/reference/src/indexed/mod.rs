@@ -1,7 +1,9 @@
 //! The rules of the ledger once more, written for speed: tasks as sets of bits, expirations found by the
-//! time at which they are due, global ones by the advances that count for their setter, objects in slots. But for the limits it shares no rule with the ledger, and
-//! the two are held against each other.
+//! time at which they are due, global ones by the advances that count for their setter, objects in slots, and what a task
+//! has of a store in an account. But for the limits it shares no rule with the ledger, and the two are held against each
+//! other.
 
+mod accounts;
 mod globals;
 mod ledger;
 mod objects;

@@ -1,11 +1,14 @@
 //! The standing objects in order of handle, with the bytes of their blocks and the sum of these, the count of their
-//! expirations, and whether one of these is pinned.
+//! expirations, whether one of these is pinned, and in which life of which task they were made.
 
-use crate::limits::{Store, LONGEST};
+use super::accounts::{Accounts, Life};
+use crate::limits::{Limits, Store, LONGEST};
+use crate::share::Maker;
 
 #[derive(Clone, Debug)]
 struct Object {
     handle: u32,
+    life: Life,
     length: u16,
     store: Store,
     expirations: u16,
@@ -24,6 +27,7 @@ impl Object {
 
 const UNUSED: Object = Object {
     handle: 0,
+    life: Life::NONE,
     length: 0,
     store: Store::Small,
     expirations: 0,
@@ -38,25 +42,22 @@ pub struct Objects {
     slots: Vec<Object>,
     free: Vec<u8>,
     order: Vec<(u32, u8)>,
-    standing: [usize; 2],
+    /// Who has which blocks.
+    pub accounts: Accounts,
     expirations: usize,
 }
 
 impl Objects {
-    /// With room for so many.
-    pub fn none(slots: usize) -> Objects {
+    /// With a slot for each block.
+    pub fn none(limits: Limits) -> Objects {
+        let slots = limits.small_blocks + limits.large_blocks;
         Objects {
             slots: vec![UNUSED; slots],
             free: (0..slots as u8).rev().collect(),
             order: Vec::with_capacity(slots),
-            standing: [0; 2],
+            accounts: Accounts::new(limits),
             expirations: 0,
         }
-    }
-
-    /// How many objects of this store stand.
-    pub fn standing(&self, store: Store) -> usize {
-        self.standing[store as usize]
     }
 
     /// How many expirations stand in all.
@@ -84,6 +85,10 @@ impl Objects {
         self.slots[usize::from(slot)].block()
     }
 
+    pub fn maker(&self, slot: u8) -> Maker {
+        self.accounts.maker(self.slots[usize::from(slot)].life)
+    }
+
     pub fn sum(&self, slot: u8) -> u16 {
         self.slots[usize::from(slot)].sum
     }
@@ -109,13 +114,13 @@ impl Objects {
 
     /// A new object of zero bytes. It stands from its first expiration on, which is set next. The
     /// store has a free block.
-    pub fn make(&mut self, handle: u32, length: u16, store: Store) -> u8 {
+    pub fn make(&mut self, maker: u8, handle: u32, length: u16, store: Store) -> u8 {
         let slot = self.free.pop().expect("a free block has a slot");
         let object = &mut self.slots[usize::from(slot)];
+        object.life = self.accounts.make(maker, store);
         (object.handle, object.length, object.store, object.sum) = (handle, length, store, 0);
         object.bytes[..store.block_size()].fill(0);
         self.order.push((handle, slot));
-        self.standing[store as usize] += 1;
         slot
     }
 
@@ -151,10 +156,10 @@ impl Objects {
     }
 
     fn remove(&mut self, slot: u8) {
-        let Object { handle, store, .. } = self.slots[usize::from(slot)];
+        let Object { handle, life, store, .. } = self.slots[usize::from(slot)];
         let place = self.place(handle).expect("a standing object is in order");
         self.order.remove(place);
-        self.standing[store as usize] -= 1;
+        self.accounts.gone(life, store);
         self.free.push(slot);
     }
 

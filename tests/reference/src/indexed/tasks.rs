@@ -2,6 +2,7 @@
 
 use crate::call::Refusal;
 use crate::limits::TASKS;
+use crate::share::Share;
 use crate::tasks::{State, Task};
 
 /// States and marks are sets with one bit for each task. A task that is neither running nor waiting
@@ -29,8 +30,8 @@ impl Tasks {
         self.waiting
     }
 
-    /// The tasks as the ledger has them.
-    pub fn entries(&self) -> [Task; TASKS] {
+    /// The tasks as the ledger has them, with the shares that are kept elsewhere.
+    pub fn entries(&self, shares: [Share; TASKS]) -> [Task; TASKS] {
         std::array::from_fn(|task| {
             let has = |set: u16| set >> task & 1 == 1;
             let state = match (has(self.running), has(self.waiting)) {
@@ -38,7 +39,7 @@ impl Tasks {
                 (_, true) => State::Waiting,
                 _ => State::Absent,
             };
-            Task { state, ticked: has(self.ticked), clock: self.clocks[task] }
+            Task { state, ticked: has(self.ticked), clock: self.clocks[task], share: shares[task] }
         })
     }
 
@@ -51,15 +52,20 @@ impl Tasks {
         Ok(bit)
     }
 
-    pub fn join(&mut self, task: u8) -> Result<(), Refusal> {
+    /// Refusals 1 and 2, else the task's bit.
+    pub fn check_absent(&self, task: u8) -> Result<u16, Refusal> {
         let bit = bit_of(task)?;
         if (self.running | self.waiting) & bit != 0 {
             return Err(Refusal::TaskNotAbsent);
         }
+        Ok(bit)
+    }
+
+    /// Of a task that is absent, with its bit.
+    pub fn join(&mut self, bit: u16, task: u8) {
         self.running |= bit;
         self.ticked &= !bit;
         self.clocks[usize::from(task)] = 0;
-        Ok(())
     }
 
     /// Leave, block and tick tell whether global time advanced.

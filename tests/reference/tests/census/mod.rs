@@ -3,6 +3,7 @@
 pub mod batch;
 pub mod pinned;
 pub mod remaining;
+pub mod shares;
 pub mod sized;
 pub mod waiting;
 
@@ -12,17 +13,18 @@ use reference::frame::decode;
 use reference::ledger::Ledger;
 use reference::limits::Limits;
 use reference::script::{lines, run_from};
+use shares::Makers;
 use waiting::{Before, Setters};
 
 /// Each operation and the refusals that its frames and calls may give, in the order of the tests. The ledger gives neither
 /// 14 nor 15, and of a script not 23: no line changes a byte from outside.
 pub const OPERATIONS: [(&str, &[usize]); 13] = [
-    ("join", &[18, 1, 2]),
+    ("join", &[18, 1, 2, 24, 25]),
     ("leave", &[18, 1, 3]),
     ("block", &[18, 1, 3, 4]),
     ("resume", &[18, 1, 3, 5]),
     ("tick", &[18, 1, 3, 4]),
-    ("make", &[18, 19, 1, 3, 4, 6, 7, 8, 9, 10]),
+    ("make", &[18, 19, 1, 3, 4, 6, 7, 8, 26, 9, 10]),
     ("refresh", &[18, 19, 1, 3, 4, 21, 6, 11, 12, 10]),
     ("read", &[18, 1, 3, 4, 11, 12, 23]),
     ("write", &[18, 1, 3, 4, 11, 12, 23, 13]),
@@ -32,8 +34,17 @@ pub const OPERATIONS: [(&str, &[usize]); 13] = [
     ("release", &[18, 1, 3, 4, 11, 12, 22]),
 ];
 
-/// The refusals are 1 to 23.
-const NUMBERS: usize = 24;
+/// The refusals are 1 to 26.
+const NUMBERS: usize = 27;
+
+/// More than an array's default goes to.
+pub struct Shares(pub [usize; shares::SITUATIONS.len()]);
+
+impl Default for Shares {
+    fn default() -> Shares {
+        Shares([0; shares::SITUATIONS.len()])
+    }
+}
 
 #[derive(Default)]
 pub struct Census {
@@ -54,6 +65,7 @@ pub struct Census {
     pub batch: [usize; batch::SITUATIONS.len()],
     pub waiting: [usize; waiting::SITUATIONS.len()],
     pub pinned: [usize; pinned::SITUATIONS.len()],
+    pub shares: Shares,
     pub sized: [usize; sized::SITUATIONS.len()],
 }
 
@@ -73,13 +85,14 @@ impl Census {
     fn take(&mut self, limits: Limits, script: &[u8]) {
         self.longest_output = self.longest_output.max(run_from(Ledger::of(limits), script).len());
         let (mut ledger, mut room) = (Ledger::of(limits), vec![0; script.len()]);
-        let (mut setters, mut pins) = (Setters::default(), Pins::default());
+        let (mut setters, mut pins, mut makers) = (Setters::default(), Pins::default(), Makers::default());
         for line in lines(script) {
             match decode(line, &mut room) {
                 Err(refusal) => self.note_frame(line, refusal),
                 Ok(call) => {
                     batch::note(&mut self.batch, &call, &ledger);
                     let before = (Before::of(&call, &ledger), pins.before(&call, &ledger));
+                    let shared = makers.before(&call, &ledger);
                     let figures = ledger.figures();
                     let answer = ledger.call(&call);
                     self.note(&call, answer);
@@ -88,6 +101,7 @@ impl Census {
                         setters.note(&mut self.waiting, &call, before.0, &ledger);
                     }
                     pins.note(&mut self.pinned, &call, number, before.1, &ledger);
+                    makers.note(&mut self.shares.0, &call, number, shared, &ledger);
                     sized::note(&mut self.sized, &sized::Seen { call: &call, number, limits, figures });
                     self.note_state(&ledger);
                     remaining::note(&mut self.remaining, &call, &ledger);
@@ -154,6 +168,9 @@ impl Census {
         }
         for ((name, _), count) in pinned::SITUATIONS.iter().zip(self.pinned) {
             println!("pinned, {name}: {count}");
+        }
+        for ((name, _), count) in shares::SITUATIONS.iter().zip(self.shares.0) {
+            println!("shares, {name}: {count}");
         }
         for ((name, _), count) in sized::SITUATIONS.iter().zip(self.sized) {
             println!("sized, {name}: {count}");

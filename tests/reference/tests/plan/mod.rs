@@ -2,11 +2,13 @@
 //! use comes first and then every task ticks once, so that each clock, and global time, is the number
 //! of the round. But for one task that may wait for the round: what it has set lasts a round longer, by
 //! its clock, which stands, and by global time, since it is put off. The bounds are the figures of the
-//! pool that the list is for.
+//! pool that the list is for, and what its tasks have joined with: all with neither reserve nor limit, or all but task 0
+//! with some.
 
 use reference::call::{packed, Call, Handles, Kind};
-use reference::limits::{Limits, Store, LARGEST_BATCH};
+use reference::limits::{Limits, Store, LARGEST_BATCH, STORES};
 use reference::random::Random;
+use reference::share::{Quota, Share};
 
 pub type List = Vec<Call<'static>>;
 
@@ -40,6 +42,7 @@ pub fn random_kind(random: &mut Random) -> Kind {
 #[derive(Clone, Copy)]
 struct Planned {
     handle: u32,
+    maker: u8,
     length: u16,
 }
 
@@ -53,11 +56,36 @@ struct Lasting {
 /// The last round of what is pinned.
 const FOR_EVER: usize = usize::MAX;
 
+/// All open; or reserves for all but task 0, which leave it a block of each store, and limits.
+fn shares(limits: Limits, tasks: u8, random: &mut Random) -> Vec<Share> {
+    let mut shares = vec![Share::OPEN; usize::from(tasks)];
+    if random.one_in(2) {
+        return shares;
+    }
+    let [mut small, mut large] = STORES.map(|store| limits.blocks(store) - 1);
+    for share in &mut shares[1..] {
+        share.small = quota(&mut small, random);
+        share.large = quota(&mut large, random);
+    }
+    shares
+}
+
+/// A reserve of what is left.
+fn quota(left: &mut usize, random: &mut Random) -> Quota {
+    let few = random.below(1 + (*left).min(4));
+    let reserve = if random.one_in(8) { *left } else { few };
+    *left -= reserve;
+    let limit = random.pick(&[reserve, reserve + 1, reserve + 3, 255, 255]);
+    Quota { reserve: reserve as u8, limit: limit as u8 }
+}
+
 pub struct Plan {
     limits: Limits,
     random: Random,
     pub list: List,
     tasks: u8,
+    /// What each of them has joined with.
+    shares: Vec<Share>,
     round: usize,
     given: u32,
     objects: Vec<Planned>,
@@ -68,8 +96,10 @@ impl Plan {
     pub fn new(limits: Limits, seed: u64) -> Plan {
         let mut random = Random::new(seed);
         let tasks = 1 + random.below(16) as u8;
-        let list = (0..tasks).map(|task| Call::Join { task }).collect();
-        Plan { limits, random, list, tasks, round: 0, given: 0, objects: Vec::new(), expirations: Vec::new() }
+        let shares = shares(limits, tasks, &mut random);
+        let list = (0..).zip(&shares).map(|(task, &share)| Call::Join { task, share }).collect();
+        let (objects, expirations) = (Vec::new(), Vec::new());
+        Plan { limits, random, list, tasks, shares, round: 0, given: 0, objects, expirations }
     }
 
     pub fn rounds(&mut self, count: usize) {
@@ -154,6 +184,30 @@ impl Plan {
         objects.filter(|&(place, object)| self.stands(place) && Store::holding(object.length) == Ok(store)).count()
     }
 
+    /// How many of the standing objects of a store a task has made.
+    fn made(&self, task: u8, store: Store) -> usize {
+        let is_its = |object: &Planned| object.maker == task && Store::holding(object.length) == Ok(store);
+        (0..self.objects.len()).filter(|&place| self.stands(place) && is_its(&self.objects[place])).count()
+    }
+
+    /// The blocks of a store that are left for a task: the free ones that no other task's reserve needs.
+    fn left(&self, task: u8, store: Store) -> usize {
+        let unmet = |other: u8| {
+            let reserve = usize::from(self.shares[usize::from(other)].of(store).reserve);
+            reserve.saturating_sub(self.made(other, store))
+        };
+        let held_back: usize = (0..self.tasks).filter(|&other| other != task).map(unmet).sum();
+        self.limits.blocks(store) - self.standing(store) - held_back
+    }
+
+    fn is_below_limit(&self, task: u8, store: Store) -> bool {
+        self.made(task, store) < usize::from(self.shares[usize::from(task)].of(store).limit)
+    }
+
+    fn may_make(&self, task: u8, store: Store) -> bool {
+        self.is_below_limit(task, store) && self.left(task, store) > 0
+    }
+
     fn has_room(&self, more: usize) -> bool {
         self.expirations.len() + more <= self.limits.expirations
     }
@@ -185,7 +239,7 @@ impl Plan {
         let task = self.task();
         let length = 1 + self.random.below(256) as u16;
         let store = if length <= 32 { Store::Small } else { Store::Large };
-        if self.standing(store) < self.limits.blocks(store) && self.has_room(1) {
+        if self.may_make(task, store) && self.has_room(1) {
             self.make_now(task, kind, extension, length);
         }
     }
@@ -194,7 +248,7 @@ impl Plan {
         self.list.push(Call::Make { task, kind, extension, length });
         self.given += 1;
         self.set(self.objects.len(), task, kind, extension);
-        self.objects.push(Planned { handle: self.given, length });
+        self.objects.push(Planned { handle: self.given, maker: task, length });
     }
 
     fn refresh(&mut self) {
@@ -255,7 +309,7 @@ impl Plan {
     fn write(&mut self) {
         let task = self.task();
         if let Some(place) = self.any_standing() {
-            let Planned { handle, length } = self.objects[place];
+            let Planned { handle, length, .. } = self.objects[place];
             let offset = self.random.below(usize::from(length)) as u8;
             let count = self.random.below(usize::from(length) - usize::from(offset) + 2);
             let bytes = some_bytes(&mut self.random, count.min(256));
@@ -276,9 +330,13 @@ impl Plan {
         // Gone or not, other objects of a batch do not count beside a handle that was never given.
         let any = 1 + self.random.below(self.given.max(1) as usize) as u32;
         let (first, later) = (kept(&[handle, any]), kept(&[any, any, handle]));
+        // Of a task that is not there, or of none: 24 or 1.
+        let above = Share { large: Quota { reserve: 3, limit: 2 }, ..Share::OPEN };
         let call = self.random.pick(&[
             Call::Tick { task: 16 },
-            Call::Join { task },
+            Call::Join { task, share: Share::OPEN },
+            Call::Join { task, share: above },
+            Call::Join { task: self.tasks, share: above },
             Call::Resume { task },
             Call::Make { task, kind, extension: extension + 1, length: 1 },
             Call::Make { task, kind, extension, length: 257 },
@@ -300,12 +358,15 @@ impl Plan {
 
     /// One use out of time or bounds; the index it has in the list.
     pub fn go_out(&mut self) -> usize {
-        match self.random.below(5) {
+        let store = self.random.pick(&STORES);
+        match self.random.below(8) {
             0 => self.use_gone(),
             1 if self.can_fill(Store::Small) => self.one_block_more(Store::Small, [1, 32]),
             2 if self.can_fill(Store::Large) => self.one_block_more(Store::Large, [33, 256]),
             1..=3 => self.one_expiration_more(),
-            _ => self.batch_without_room(),
+            4 => self.batch_without_room(),
+            5 if self.tasks < 16 => self.reserve_too_much(store),
+            _ => self.one_more_than_limit(store),
         }
         self.list.len() - 1
     }
@@ -315,6 +376,7 @@ impl Plan {
         let (task, kind) = (self.task(), random_kind(&mut self.random));
         let extension = self.extension();
         self.make_room();
+        let task = if self.may_make(task, Store::Small) { task } else { 0 };
         let place = self.objects.len();
         if self.random.one_in(3) {
             self.make_now(task, Kind::Pinned, 0, 4);
@@ -347,11 +409,33 @@ impl Plan {
 
     fn one_block_more(&mut self, store: Store, ends: [u16; 2]) {
         self.make_room();
-        while self.standing(store) < self.limits.blocks(store) {
+        while self.may_make(0, store) {
             let length = self.random.pick(&ends);
             self.make_now(0, Kind::Global, self.longest().min(3), length);
         }
         self.list.push(Call::Make { task: 0, kind: Kind::Local, extension: 0, length: ends[0] });
+    }
+
+    /// A task that is not there would have a block more than is left for it.
+    fn reserve_too_much(&mut self, store: Store) {
+        let quota = Quota { reserve: self.left(self.tasks, store) as u8 + 1, limit: 255 };
+        let share = match store {
+            Store::Small => Share { small: quota, ..Share::OPEN },
+            Store::Large => Share { large: quota, ..Share::OPEN },
+        };
+        self.list.push(Call::Join { task: self.tasks, share });
+    }
+
+    /// The task with the lowest limit makes what it may, and one object more.
+    fn one_more_than_limit(&mut self, store: Store) {
+        self.make_room();
+        let limit = |task: &u8| self.shares[usize::from(*task)].of(store).limit;
+        let task = (0..self.tasks).min_by_key(limit).unwrap_or(0);
+        let length = if store == Store::Small { 32 } else { 33 };
+        while self.may_make(task, store) && self.has_room(1) {
+            self.make_now(task, Kind::Global, 0, length);
+        }
+        self.list.push(Call::Make { task, kind: Kind::Pinned, extension: 0, length });
     }
 
     fn one_expiration_more(&mut self) {

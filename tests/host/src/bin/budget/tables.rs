@@ -22,7 +22,7 @@ const STACK: usize = 8 * 1024;
 const TYPICAL_STANDING: usize = 128;
 
 /// Each row: its call, and the case that is typical of it. The rows of a frame are by what it asks.
-const ROWS: [(&str, &str); 23] = [
+const ROWS: [(&str, &str); 24] = [
     ("fresh", "fresh"),
     ("fresh_sized", "fresh_sized"),
     ("join", "join"),
@@ -38,6 +38,7 @@ const ROWS: [(&str, &str); 23] = [
     ("write", "write 32"),
     ("report", "report"),
     ("remaining", "remaining"),
+    ("share", "share"),
     ("frame: tick", "frame: tick"),
     ("frame: make", "frame: make 32"),
     ("frame: batch", "frame: batch of 16"),

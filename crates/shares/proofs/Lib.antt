@@ -1,0 +1,7 @@
+pub mod Between
+pub mod Counting
+pub mod Either
+pub mod Held
+pub mod Placing
+pub mod Shared
+pub mod Within

@@ -1,0 +1,70 @@
+// What of their quotas tasks have. No loop has a way out before its end, so that all tasks are asked at once.
+ghost use Prim.Native.Nat.{_-_};
+ghost use mathlib.Core.Bool.{_&&_};
+ghost use mathlib.Core.Path.{_≡_};
+ghost use lib.Dec.{leb};
+ghost use Rattle.lists.specs.Tables.{allFrom};
+ghost use Rattle.record.specs.Shares.{isOrdered};
+ghost use Rattle.shares.specs.Quotas.{Unmets, isWithinBy, isClear};
+use super::quota_in;
+use ledger::Quota;
+use ledger::Share;
+use ledger::TASK_COUNT;
+use record::TaskEntry;
+use record::running::is_absent;
+
+fn unmet(reserve: u8, made: u8) -> u8
+    ensures { λ r. ⌜ r ≡ reserve - made ⌝ }
+{
+    if made < reserve { reserve - made } else { 0 }
+}
+
+// Q5
+pub fn unmets(shares: [Share; TASK_COUNT], made: [u8; TASK_COUNT], small: bool) -> [u8; TASK_COUNT]
+    ensures { λ r. ⌜ Unmets small shares made r ⌝ }
+{
+    let mut out = [0; TASK_COUNT];
+    for i in 0..TASK_COUNT {
+        let quota = quota_in(small, shares[i]);
+        out[i] = unmet(quota.reserve, made[i]);
+    }
+    out
+}
+
+// What a task made and what is unmet are together the larger of that and its reserve: so one test tells W21 and W24.
+fn is_within(made: u8, unmet: u8, quota: Quota) -> bool
+    requires { ⌜ unmet ≡ quota .reserve - made ⌝ }
+    ensures { λ r. ⌜ r ≡ (isOrdered quota && leb made (quota .limit)) ⌝ }
+{
+    made + unmet <= quota.limit
+}
+
+pub fn all_within(
+    shares: [Share; TASK_COUNT],
+    made: [u8; TASK_COUNT],
+    unmets: [u8; TASK_COUNT],
+    small: bool,
+) -> bool
+    requires { ⌜ Unmets small shares made unmets ⌝ }
+    ensures { λ r. ⌜ r ≡ allFrom 0 (isWithinBy small made) shares ⌝ }
+{
+    let mut fit = true;
+    for i in 0..TASK_COUNT {
+        let quota = quota_in(small, shares[i]);
+        fit = fit & is_within(made[i], unmets[i], quota);
+    }
+    fit
+}
+
+// W20: by W21 an absent task reserves nothing where its limits are 0.
+pub fn all_clear(tasks: [TaskEntry; TASK_COUNT], shares: [Share; TASK_COUNT]) -> bool
+    ensures { λ r. ⌜ r ≡ allFrom 0 (isClear tasks) shares ⌝ }
+{
+    let mut fit = true;
+    for i in 0..TASK_COUNT {
+        let e = tasks[i];
+        let share = shares[i];
+        fit = fit & (!is_absent(e.state) | ((share.small.limit == 0) & (share.large.limit == 0)));
+    }
+    fit
+}
