@@ -55,7 +55,3 @@ isSmall length = leb length smallSize
 -- O5, O6: the bytes of the block that a length gets
 abbrev pub blockSize : ℕ → ℕ
 blockSize length = cond (isSmall length) smallSize largeSize
-
--- the blocks of the store to which a length goes
-abbrev pub blocksFor : Limits → ℕ → ℕ
-blocksFor limits length = cond (isSmall length) (limits .small) (limits .large)

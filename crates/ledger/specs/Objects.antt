@@ -132,10 +132,6 @@ smallOnes os = count (λ (o : Object). isSmall (o .size)) os
 abbrev pub largeOnes : List Object → ℕ
 largeOnes os = count (λ (o : Object). not (isSmall (o .size))) os
 
--- the objects in the store to which a size goes
-abbrev pub inStoreOf : ℕ → List Object → ℕ
-inStoreOf size os = cond (isSmall size) (smallOnes os) (largeOnes os)
-
 -- O26, O27: what each of the eleven calls answers when it is carried out
 unfoldable pub replyTo : Call → Memory → Reply
 replyTo (Join task share) m = plain Done

@@ -47,6 +47,9 @@ module _ {t : Tables} {small large : List ℕ} {L : Ledger} (reads : Reads t sma
   unmet-reads : (task : ℕ) → 1 ≤ unmetIn store (t .shares) (t .blocks) task → 1 ≤ unmet store (L .memory .shares) (L .memory .objects) task
   unmet-reads task l = rw (unmet-alike reads store task) at l
 
+  unmet-read : (task : ℕ) → 1 ≤ unmet store (L .memory .shares) (L .memory .objects) task → 1 ≤ unmetIn store (t .shares) (t .blocks) task
+  unmet-read task l = rw (unmet-alike reads store task) l
+
 pub pool-reserves : PoolReserves
 pool-reserves =
     record {
@@ -66,4 +69,5 @@ pool-reserves =
             told (Refused NoFreeBlock) (λ w e. nine (ap (λ (y : Reply). y .answer) (sym (answered w)) ∙ e)) not-nine,
             told (Refused AtLimit) (λ w e. limit (ap (λ (y : Reply). y .answer) (sym (answered w)) ∙ e)) not-limit,
           );
+      applies = λ p small large r. unmet-read (fresh-follows r .1) true 0 (reserves .applies);
     }

@@ -1,15 +1,16 @@
 -- Q10 and Q11 of the pool, over lists of calls: free blocks for all unmet reserves, nobody above a limit, and no make of a task below its reserve is answered 9 or 26.
 use Prim.Native.Nat.{ℕ, _≤_, _<_}
 use mathlib.Core.Bool.{Bool, true}
-use mathlib.Core.List.{List}
+use mathlib.Core.List.{List, [], _∷_}
 use mathlib.Core.Logic.{_≢_}
 use mathlib.Core.Path.{_≡_}
 use lib.ListN.{getD}
-use Rattle.ledger.specs.Limits.{taskCount, isSmall}
+use Rattle.ledger.specs.Limits.{standard, taskCount, isSmall}
 use Rattle.ledger.specs.Objects.{Reply, noShare}
 use Rattle.ledger.specs.Tasks.{isAbsent}
 use Rattle.ledger.specs.Shares.{blocksIn}
 use Rattle.ledger.specs.Ledger.{Sent}
+use Rattle.ledger.specs.Rows.{joinWith, shareOf}
 use Rattle.ledger.specs.declared.Answer.the-variants.{Refused}
 use Rattle.ledger.specs.declared.Call.the-variants.{Make}
 use Rattle.ledger.specs.declared.Kind.{Kind}
@@ -44,3 +45,6 @@ pub record PoolReserves : Type 0 where
       → let t = tablesOf p in 1 ≤ unmetIn (isSmall size) (t .shares) (t .blocks) task
       → (y : Reply) (p′ : Pool) (small′ large′ : List ℕ) → Obeys (Use (Make task kind extension size)) new p small large y p′ small′ large′
       → (y .answer ≢ Refused NoFreeBlock) × (y .answer ≢ Refused AtLimit)
+  -- A task may be below its reserve: after a join with a reserve of one small block it is. (There is such a run: `EveryListFromFresh`.)
+  pub applies : (p : Pool) (small large : List ℕ) → FreshRun standard (joinWith 0 (shareOf 1 1 0 0) ∷ []) p small large
+      → let t = tablesOf p in 1 ≤ unmetIn true (t .shares) (t .blocks) 0

@@ -19,9 +19,9 @@ use Rattle.lists.proofs.First.{first-full, count-before}
 use Rattle.lists.proofs.Permutations.{length-perm, count-perm}
 use Rattle.lists.proofs.Blocks.{drop-take}
 use Rattle.lists.proofs.Tables.{allFrom-at, all-places, readFrom-split, length-readFrom, length-readBy}
-use Rattle.ledger.specs.Limits.{capacity, isSmall, blocksFor}
+use Rattle.ledger.specs.Limits.{capacity, isSmall}
 use Rattle.ledger.proofs.Figures.{allowed}
-use Rattle.ledger.specs.Objects.{Object, smallOnes, largeOnes, inStoreOf, usage}
+use Rattle.ledger.specs.Objects.{Object, smallOnes, largeOnes, usage}
 use Rattle.ledger.specs.Compared.{shown, shownObject, viewOf}
 use Rattle.ledger.specs.Ledger.{Ledger}
 use Rattle.ledger.specs.declared.Limits.{Limits}
@@ -34,8 +34,8 @@ use Rattle.record.specs.declared.GlobalTime.{GlobalTime}
 use Rattle.record.specs.declared.Due.{Due}
 use Rattle.record.specs.declared.Due.the-variants.{Free, Local, Global, Pinned, Unknown}
 use Rattle.record.proofs.Facts.{Fit}
-use Rattle.ledger.specs.Shares.{blocksIn}
-use Rattle.record.specs.Shares.{takenIn, takenBut}
+use Rattle.ledger.specs.Shares.{blocksIn, usedIn}
+use Rattle.record.specs.Shares.{takenBut}
 use Rattle.record.proofs.Exists.{sized-small, fit-tables-read}
 use Rattle.steps.specs.Objects.{isFreeBlock, endFor, freePlace, isFilled, isFreeEntry, standingIn}
 use Rattle.steps.specs.Usage.{usageOf}
@@ -164,7 +164,7 @@ module _ {p : Tables} {small large : List ℕ} {L : Ledger} (fit : Fit p) (reads
       rw (same, drop-take (capacity .small) n (p .blocks)) (rw whole at (first-full isFreeBlock (capacity .small) part))
 
   pub block-room : Typed p → (size : ℕ)
-      → leb (blocksFor (L .memory .limits) size) (inStoreOf size (L .memory .objects)) ≡ leb (endFor (p .limits) size) (freePlace (p .limits) size (p .blocks))
+      → leb (blocksIn (L .memory .limits) (isSmall size)) (usedIn (isSmall size) (L .memory .objects)) ≡ leb (endFor (p .limits) size) (freePlace (p .limits) size (p .blocks))
   unfolding freePlace recordView viewOf
   block-room typed size =
       rw (← reads .alike .limits)
@@ -191,6 +191,5 @@ room-left p fit types task size e =
     let (L, reads) = fit-tables-read p types fit [] [] in
     let os = L .memory .objects in
     let few = leb-false (blocksIn (p .limits) (isSmall size)) (takenBut (isSmall size) (p .shares) (p .blocks) task) e in
-    let used : inStoreOf size os ≡ takenIn (isSmall size) (p .blocks) = rw (taken-alike reads (isSmall size)) (by-test (isSmall size) (λ s. rw s) (λ s. rw s)) in
-    let blocks : blocksFor (L .memory .limits) size ≡ blocksIn (p .limits) (isSmall size) = ap (λ (limits : Limits). cond (isSmall size) (limits .small) (limits .large)) (sym (reads .alike .limits)) in
-    sym (block-room fit reads types size) ∙ lt-leb (blocksFor (L .memory .limits) size) (inStoreOf size os) (omega (arith, few, used, blocks))
+    let blocks : blocksIn (L .memory .limits) (isSmall size) ≡ blocksIn (p .limits) (isSmall size) = ap (λ (limits : Limits). blocksIn limits (isSmall size)) (sym (reads .alike .limits)) in
+    sym (block-room fit reads types size) ∙ lt-leb (blocksIn (L .memory .limits) (isSmall size)) (usedIn (isSmall size) os) (omega (arith, few, taken-alike reads (isSmall size), blocks))
