@@ -1,12 +1,12 @@
 -- Order 9 over every list of calls: what `Kept` says of shares, and that it spares a task below its reserve 9 and 26.
 use Prim.Native.Nat.{ℕ, _+_, _-_, _≤_, _<_}
 use native.Mathlib.Omega.{arith}
-use mathlib.Core.Bool.{Bool, true, false, true≢false, cond, not, and-true}
+use mathlib.Core.Bool.{Bool, true, false, true≢false, cond, not, and-true, _&&_, _||_}
 use mathlib.Core.List.{List, [], _∷_}
 use mathlib.Core.Logic.{_≢_}
 use mathlib.Core.Path.{_≡_, refl, sym, ap, subst, _∙_}
-use borrow.Author.Tests.{lt-leb, leb-true, leb-false}
-use lib.Dec.{leb}
+use borrow.Author.Tests.{le-leb, lt-leb, leb-true, leb-false, eqb-true, eqb-false, lt-ltb, le-ltb, ltb-true, ltb-false}
+use lib.Dec.{eqb, leb, ltb}
 use lib.ListN.{length, List·getD-eq-default}
 use Rattle.lists.specs.Sums.{sumBelow}
 use Rattle.lists.proofs.Cases.{by-test}
@@ -80,6 +80,26 @@ never L k task kind extension size new h = (
   not-given 26 L (Make task kind extension size) new (Refused AtLimit) refl (rw (not-at-limit L k task (isSmall size) h)),
 )
 
+-- 9 and 25 by the free blocks: so many blocks, so many in use, all that is unmet, and what of it is the task's own
+nine-so : (b u a own : ℕ) → u + a ≤ b → own ≤ a
+    → leb b (u + (a - own)) ≡ (eqb (b - u) 0 || (eqb own 0 && leb (b - u) (a - own)))
+nine-so b u a own room part =
+    by-test (eqb (b - u) 0)
+    (λ e. rw e (le-leb b (u + (a - own)) (omega (arith, room, part, eqb-true (b - u) 0 e))))
+    (λ e. rw e
+    (by-test (eqb own 0)
+    (λ d. rw d
+    (by-test (leb (b - u) (a - own))
+    (λ f. rw f (le-leb b (u + (a - own)) (omega (arith, room, part, leb-true (b - u) (a - own) f))))
+    (λ f. rw f (lt-leb b (u + (a - own)) (omega (arith, room, part, leb-false (b - u) (a - own) f))))))
+    (λ d. rw d (lt-leb b (u + (a - own)) (omega (arith, room, part, eqb-false own 0 d))))))
+
+short-so : (b u a own r : ℕ) → u + a ≤ b → own ≤ a → ltb b (u + (a - own) + r) ≡ ltb (b - u - (a - own)) r
+short-so b u a own r room part =
+    by-test (ltb (b - u - (a - own)) r)
+    (λ e. rw e (lt-ltb b (u + (a - own) + r) (omega (arith, room, part, ltb-true (b - u - (a - own)) r e))))
+    (λ e. rw e (le-ltb b (u + (a - own) + r) (omega (arith, room, part, ltb-false (b - u - (a - own)) r e))))
+
 figures : (limits : Limits) → fresh limits .memory .limits ≡ limits
 unfolding fresh freshMemory
 figures limits = refl
@@ -88,19 +108,35 @@ one-unmet : 1 ≤ unmet true (afterAll (fresh standard) (joinWith 0 (shareOf 1 1
 unfolding fresh freshMemory next afterAll testsOf verdict memoryAfter expirationsAfter freshClocks entered sumBelow made unmet isShort standard
 one-unmet = omega arith
 
+room : (limits : Limits) (ss : List Sent) (store : Bool)
+    → let m = afterAll (fresh limits) ss .memory in
+    usedIn store (m .objects) + allUnmet store (m .shares) (m .objects) ≤ blocksIn limits store
+room limits ss store =
+    let m = afterAll (fresh limits) ss .memory in
+    subst (λ (l : Limits). usedIn store (m .objects) + allUnmet store (m .shares) (m .objects) ≤ blocksIn l store)
+    (fixed (fresh limits) ss ∙ figures limits) (kept-all limits ss .shares .room store)
+
 pub reserves : Reserves
-unfolding shareEdges
+unfolding shareEdges isFull isShort
 reserves =
     record {
-      room = λ limits ss store.
-          let here = kept-all limits ss .shares .room store in
-          subst (λ (l : Limits). usedIn store (afterAll (fresh limits) ss .memory .objects) + allUnmet store (afterAll (fresh limits) ss .memory .shares) (afterAll (fresh limits) ss .memory .objects) ≤ blocksIn l store) (fixed (fresh limits) ss ∙ figures limits) here;
+      room = room;
       below = λ limits ss store task l. kept-all limits ss .shares .below store task l;
       ordered = λ limits ss store task. kept-all limits ss .shares .ordered store task;
       absent = λ limits ss task a. kept-all limits ss .shares .absent task a;
       never = λ limits ss. never (afterAll (fresh limits) ss) (kept-all limits ss);
       spoken = λ limits ss store. sym (by-larger store (afterAll (fresh limits) ss .memory .shares) (afterAll (fresh limits) ss .memory .objects) (kept-all limits ss .shares .known));
+      nine = λ limits ss store task l.
+          let m = afterAll (fresh limits) ss .memory in
+          let own = unmet store (m .shares) (m .objects) in
+          nine-so (blocksIn limits store) (usedIn store (m .objects)) (allUnmet store (m .shares) (m .objects)) (own task)
+          (room limits ss store) (sum-at taskCount task own l);
+      short = λ limits ss store task reserve l.
+          let m = afterAll (fresh limits) ss .memory in
+          let own = unmet store (m .shares) (m .objects) in
+          short-so (blocksIn limits store) (usedIn store (m .objects)) (allUnmet store (m .shares) (m .objects)) (own task) reserve
+          (room limits ss store) (sum-at taskCount task own l);
       applies = one-unmet;
-      six = refl;
+      seven = refl;
       rows = share-edges-hold;
     }

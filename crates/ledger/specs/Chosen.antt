@@ -7,7 +7,7 @@ use Rattle.ledger.specs.Limits.{chosen, standard, isAllowed}
 use Rattle.ledger.specs.Objects.{Memory}
 use Rattle.ledger.specs.Ledger.{Ledger, Sent, fresh, afterAll}
 use Rattle.ledger.specs.Heap.{Used, heapAfterAll}
-use Rattle.ledger.specs.Rows.{join, tick, make, refresh, batch, release, report, refused, done, advanced, handle, figures, _⇒_, _⨾_, Row, _runs_clockReads_, RowHolds}
+use Rattle.ledger.specs.Rows.{join, joinWith, shareOf, tick, make, refresh, batch, release, report, refused, done, advanced, handle, figures, _⇒_, _⨾_, Row, _runs_clockReads_, RowHolds}
 use Rattle.ledger.specs.declared.Kind.the-variants.{Local, Global, Pinned}
 use Rattle.ledger.specs.declared.Limits.{Limits}
 
@@ -40,6 +40,17 @@ chosenEdges =
     tick 0 ⇒ advanced ⨾
     make 0 Global 0 33 ⇒ handle 2
     clockReads 1 ∷
+    -- 3. 25 and what is held back go by the blocks: both small ones are task 0's. Below its reserve it may still be answered 10.
+    fresh (chosen 2 1 1 0) runs
+    joinWith 0 (shareOf 3 3 0 0) ⇒ refused 25 ⨾
+    joinWith 0 (shareOf 0 0 2 2) ⇒ refused 25 ⨾
+    joinWith 0 (shareOf 2 2 1 1) ⇒ done ⨾
+    join 1 ⇒ done ⨾
+    make 1 Local 0 4 ⇒ refused 9 ⨾
+    make 0 Local 0 4 ⇒ handle 1 ⨾
+    make 1 Local 0 4 ⇒ refused 9 ⨾
+    make 0 Local 0 4 ⇒ refused 10
+    clockReads 0 ∷
     []
 
 pub record Allowing (may : Bool) (limits : Limits) : Type 0 where

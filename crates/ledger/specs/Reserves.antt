@@ -1,10 +1,11 @@
--- The claim of Q (order 9 of document 02), over every list of calls: free blocks for all unmet reserves, nobody above a limit, and no make of a task below its reserve is
--- answered 9 or 26; and six rows.
-use Prim.Native.Nat.{ℕ, max, _+_, _≤_, _<_}
-use mathlib.Core.Bool.{Bool, true}
+-- The claim of Q (order 9 of document 02), over every list of calls: free blocks for all unmet reserves, nobody above a limit, and no make
+-- of a task below its reserve is answered 9 or 26; and seven rows.
+use Prim.Native.Nat.{ℕ, max, _+_, _-_, _≤_, _<_}
+use mathlib.Core.Bool.{Bool, true, _&&_, _||_}
 use mathlib.Core.List.{List, [], _∷_}
 use mathlib.Core.Logic.{_≢_}
 use mathlib.Core.Path.{_≡_}
+use lib.Dec.{eqb, leb, ltb}
 use lib.ListN.{length, getD}
 use Rattle.lists.specs.Sums.{sumBelow}
 use Rattle.lists.specs.Tests.{All}
@@ -12,9 +13,9 @@ use Rattle.ledger.specs.Limits.{standard, taskCount, isSmall}
 use Rattle.ledger.specs.Expirations.{departed}
 use Rattle.ledger.specs.Objects.{noShare}
 use Rattle.ledger.specs.Tasks.{isAbsent, taskAt}
-use Rattle.ledger.specs.Shares.{quotaOf, blocksIn, usedIn, made, unmet, allUnmet}
+use Rattle.ledger.specs.Shares.{quotaOf, blocksIn, usedIn, made, unmet, allUnmet, isFull, isShort}
 use Rattle.ledger.specs.Ledger.{Sent, fresh, reply, afterAll}
-use Rattle.ledger.specs.Rows.{join, joinWith, shareOf, leave, block, tick, make, refresh, release, report, refused, done, standsStill, advanced, handle, figures, _⇒_, _⨾_, Row, _runs_clockReads_, RowHolds}
+use Rattle.ledger.specs.Rows.{join, joinWith, shareOf, leave, block, tick, make, refresh, release, report, refused, done, standsStill, advanced, handle, figures, _⇒_, _⨾_, Row, lateStart, _runs_clockReads_, RowHolds}
 use Rattle.ledger.specs.declared.Answer.the-variants.{Refused}
 use Rattle.ledger.specs.declared.Call.the-variants.{Make}
 use Rattle.ledger.specs.declared.Kind.{Kind}
@@ -24,8 +25,8 @@ use Rattle.ledger.specs.declared.Refusal.the-variants.{NoFreeBlock, AtLi
 
 unfoldable pub shareEdges : List Row
 shareEdges =
-    -- 1. 31 of 32 large blocks are held back for task 0: task 1 gets the other one, then 9; the small store is another. Task 0 is given one still, and one that it met its
-    -- reserve by is free for it alone.
+    -- 1. 31 of 32 large blocks are held back for task 0: task 1 gets the other one, then 9; the small store is another. Task 0 is given one
+    -- still, and one that it met its reserve by is free for it alone.
     fresh standard runs
     joinWith 0 (shareOf 0 255 31 255) ⇒ done ⨾
     join 1 ⇒ done ⨾
@@ -37,19 +38,21 @@ shareEdges =
     make 1 Local 30 33 ⇒ refused 9 ⨾
     make 0 Local 30 33 ⇒ handle 4
     clockReads 1 ∷
-    -- 2. 24 of either store comes before 25 of either, 2 before both; 25 at the very bound. Who is refused stays absent.
+    -- 2. 24 of either store comes before 25 of either, 1 and 2 before both; 25 at the very bound. Who is refused stays absent.
     fresh standard runs
     joinWith 0 (shareOf 65 64 0 0) ⇒ refused 24 ⨾
     joinWith 0 (shareOf 65 255 33 32) ⇒ refused 24 ⨾
     joinWith 0 (shareOf 65 65 0 0) ⇒ refused 25 ⨾
     joinWith 0 (shareOf 0 0 33 33) ⇒ refused 25 ⨾
+    joinWith 16 (shareOf 65 64 33 32) ⇒ refused 1 ⨾
     tick 0 ⇒ refused 3 ⨾
     joinWith 0 (shareOf 64 64 32 32) ⇒ done ⨾
     joinWith 0 (shareOf 65 64 33 32) ⇒ refused 2 ⨾
     joinWith 1 (shareOf 0 0 1 1) ⇒ refused 25 ⨾
     joinWith 1 (shareOf 0 0 0 0) ⇒ done
     clockReads 0 ∷
-    -- 3. A limit of 0 gives 26, before 9, which holds too; 6 and 7 come first. A limit is of one store, and counts pinned objects; another's release of one makes room.
+    -- 3. A limit of 0 gives 26, before 9, which holds too; 6 and 7 come first (and 8: row 7). A limit is of one store, and counts pinned
+    -- objects; another's release of one makes room.
     fresh standard runs
     joinWith 0 (shareOf 0 1 32 32) ⇒ done ⨾
     joinWith 1 (shareOf 0 255 0 0) ⇒ done ⨾
@@ -93,6 +96,12 @@ shareEdges =
     refresh 1 1 Local 30 ⇒ done ⨾
     make 0 Local 30 33 ⇒ refused 9
     clockReads 0 ∷
+    -- 7. 8 comes before 26, which holds of task 1, and before 9, which holds of task 0.
+    lateStart 0 4294967295 runs
+    joinWith 1 (shareOf 64 64 0 0) ⇒ done ⨾
+    make 1 Local 30 33 ⇒ refused 8 ⨾
+    make 0 Local 30 4 ⇒ refused 8
+    clockReads 0 ∷
     []
 
 pub record Reserves : Type 0 where
@@ -118,7 +127,20 @@ pub record Reserves : Type 0 where
       → let m = afterAll (fresh limits) ss .memory in
       usedIn store (m .objects) + allUnmet store (m .shares) (m .objects)
       ≡ made store (m .objects) departed + sumBelow taskCount (λ (i : ℕ). max (quotaOf store (m .shares) (m .objects) i .reserve) (made store (m .objects) i))
+  -- Q8: 9 in document 02's words: no block is free, or the reserve is met and no more are free than the others' unmet reserves.
+  pub nine : (limits : Limits) (ss : List Sent) (store : Bool) (task : ℕ) → task < taskCount
+      → let m = afterAll (fresh limits) ss .memory in
+      let free = blocksIn limits store - usedIn store (m .objects) in
+      let others = allUnmet store (m .shares) (m .objects) - unmet store (m .shares) (m .objects) task in
+      let own = unmet store (m .shares) (m .objects) task in
+      isFull store (m .shares) (m .objects) limits task ≡ (eqb free 0 || (eqb own 0 && leb free others))
+  -- Q9: and 25: fewer are free, less the others' unmet reserves, than are to be reserved.
+  pub short : (limits : Limits) (ss : List Sent) (store : Bool) (task reserve : ℕ) → task < taskCount
+      → let m = afterAll (fresh limits) ss .memory in
+      let free = blocksIn limits store - usedIn store (m .objects) in
+      let others = allUnmet store (m .shares) (m .objects) - unmet store (m .shares) (m .objects) task in
+      isShort store (m .shares) (m .objects) limits task reserve ≡ ltb (free - others) reserve
   -- A task may be below its reserve.
   pub applies : let m = afterAll (fresh standard) (joinWith 0 (shareOf 1 1 0 0) ∷ []) .memory in 1 ≤ unmet true (m .shares) (m .objects) 0
-  pub six : length shareEdges ≡ 6
+  pub seven : length shareEdges ≡ 7
   pub rows : All RowHolds shareEdges

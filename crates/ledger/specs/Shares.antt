@@ -47,19 +47,19 @@ module _ (store : Bool) (shares : List Share) (os : List Object) where
   abbrev pub takenFrom : ℕ → ℕ
   takenFrom task = usedIn store os + (allUnmet - unmet task)
 
-  -- R9: no block is left for the task
+  -- Q8, R9: no block is left for the task
   unfoldable pub isFull : Limits → ℕ → Bool
   isFull limits task = leb (blocksIn limits store) (takenFrom task)
 
-  -- R25: too few are left for it to have this reserve
+  -- Q9, R25: too few are left for it to have this reserve
   unfoldable pub isShort : Limits → ℕ → ℕ → Bool
   isShort limits task reserve = ltb (blocksIn limits store) (takenFrom task + reserve)
 
-  -- R26: it has as many objects as it may
+  -- Q8, R26: it has as many objects as it may
   unfoldable pub isAtLimit : ℕ → Bool
   isAtLimit task = leb (quotaOf task .limit) (made store os task)
 
--- R25: of either store
+-- Q9, R25: of either store
 abbrev pub isShortOf : Limits → List Share → List Object → ℕ → Share → Bool
 isShortOf limits shares os task share =
     isShort true shares os limits task (share .small .reserve) || isShort false shares os limits task (share .large .reserve)

@@ -1,4 +1,6 @@
-//! The linked library: its C interface, and safe entries over it. A slice goes as its first value and its length.
+//! The linked library: its C interface, and safe entries over it. A slice goes as its first value and its length. It is
+//! declared here apart on purpose from host/src/sys.rs: tests and measures go to the library itself, with nothing of the Rust
+//! crate between.
 
 use plain::limits::Limits;
 use plain::record::{Pool, Share};

@@ -1,5 +1,11 @@
-//! Reserves and limits (order 9): rows at their edges, each by its entry and as a frame; what a task has, by library and
-//! plain pool as by both ledgers, over lists of calls; and over the same lists what a reserve and a limit promise.
+//! Reserves and limits (order 9): the rows of the reference, and at each site's edges, each by its entry and as a frame; what
+//! a task has, by library and plain pool as by both ledgers, over lists of calls; and over the same lists what a reserve and a
+//! limit promise.
+
+#[path = "../../reference/tests/rows/mod.rs"]
+mod rows;
+#[path = "../../reference/tests/rows/shares.rs"]
+mod share_rows;
 
 use host_tests::entries::{Entries, Plain};
 use host_tests::host::Host;
@@ -10,7 +16,7 @@ use host_tests::sites::{self, CABLE};
 use plain::limits::{Limits, TASKS};
 use plain::record::Pool;
 use plain::work::{Holding, Holdings};
-use reference::call::{packed, Call, Handles, Kind, Model};
+use reference::call::{Call, Kind, Model};
 use reference::frame::decode;
 use reference::generate::{self, sized_script_of, Profile};
 use reference::indexed;
@@ -19,6 +25,8 @@ use reference::limits::{Store, STORES};
 use reference::random::Random;
 use reference::script::lines;
 use reference::share::{Maker, Quota, Share};
+use rows::check_answers;
+use share_rows::check_all;
 use std::mem::offset_of;
 
 const OPEN: Share = Share::OPEN;
@@ -62,15 +70,27 @@ fn make(task: u8, store: Store) -> Call<'static> {
     Call::Make { task, kind: Kind::Local, extension: 0, length: store.block_size() as u16 }
 }
 
-fn pin(task: u8, store: Store) -> Call<'static> {
-    Call::Make { task, kind: Kind::Pinned, extension: 0, length: store.block_size() as u16 }
-}
-
 /// Each call is answered with the number beside it.
-fn rows(host: &mut Host<Library>, rows: &[(Call, u8)]) {
+fn check(host: &mut Host<Library>, rows: &[(Call, u8)]) {
     for (row, (call, number)) in rows.iter().enumerate() {
         assert_eq!(host.told(call), *number, "row {row}: {call:?}");
     }
+}
+
+/// The rows of the reference.
+#[test]
+fn rows() {
+    check_all(|limits, name, rows| {
+        let mut host = host(sites::of(limits));
+        check_answers(name, rows, |line| {
+            let mut room = vec![0; line.len()];
+            let call = decode(line.as_bytes(), &mut room).expect("a call");
+            let mut framed = Host::<Library>::new(host.memory.clone());
+            let (number, answer) = framed.line(line.as_bytes(), Some(&call));
+            assert_eq!(host.told(&call), number, "{name}, {line}");
+            String::from_utf8(answer.to_vec()).expect("digits")
+        });
+    });
 }
 
 // Joins.
@@ -84,7 +104,7 @@ fn reserves_that_fill_a_store_exactly() {
         let limits = Limits { expirations: 256, ..limits };
         let (all, some) = (blocks(limits, store), blocks(limits, store) / 2);
         let mut host = host(limits);
-        rows(
+        check(
             &mut host,
             &[
                 (join(0, only(store, all + 1, NO_LIMIT)), 25),
@@ -103,27 +123,6 @@ fn reserves_that_fill_a_store_exactly() {
     }
 }
 
-/// What a task has made of its reserve is not held back beside it: another's reserve is accepted that fits only so.
-#[test]
-fn what_is_made_is_not_held_back_again() {
-    for store in STORES {
-        rows(
-            &mut host(FOUR),
-            &[
-                (join(0, only(store, 2, NO_LIMIT)), 0),
-                (make(0, store), 0),
-                (join(1, only(store, 3, NO_LIMIT)), 25),
-                (join(1, only(store, 2, NO_LIMIT)), 0),
-                (make(0, store), 0),
-                (make(0, store), 9),
-                (make(1, store), 0),
-                (make(1, store), 0),
-                (make(1, store), 9),
-            ],
-        );
-    }
-}
-
 /// 1, 2, 24 for both stores, and then 25 for either.
 #[test]
 fn the_tests_of_a_join_in_order() {
@@ -133,7 +132,7 @@ fn the_tests_of_a_join_in_order() {
         Share::from_bytes([small_reserve, small_limit, large_reserve, large_limit])
     };
     let mut host = host(FOUR);
-    rows(&mut host, &[(join(0, OPEN), 0), (join(1, OPEN), 0), (Call::Block { task: 1 }, 0)]);
+    check(&mut host, &[(join(0, OPEN), 0), (join(1, OPEN), 0), (Call::Block { task: 1 }, 0)]);
     for (numbers, refusal) in
         above.map(|numbers| (numbers, 24)).into_iter().chain(too_much.map(|numbers| (numbers, 25)))
     {
@@ -160,27 +159,6 @@ fn the_four_numbers_of_a_join() {
 
 // Makes.
 
-/// A task whose reserve is met takes the last block that is held back for nobody, and no more.
-#[test]
-fn the_last_block_that_is_held_back_for_nobody() {
-    for store in STORES {
-        rows(
-            &mut host(FOUR),
-            &[
-                (join(0, only(store, 1, NO_LIMIT)), 0),
-                (join(1, only(store, 2, NO_LIMIT)), 0),
-                (make(0, store), 0),
-                (make(0, store), 0),
-                (make(0, store), 9),
-                (make(1, store), 0),
-                (make(0, store), 9),
-                (make(1, store), 0),
-                (make(1, store), 9),
-            ],
-        );
-    }
-}
-
 /// As many as the limit and no more, also where blocks are free; once one has gone it may make another.
 #[test]
 fn a_limit_is_reached_exactly() {
@@ -203,7 +181,7 @@ fn the_tests_of_a_make_in_order() {
     for store in STORES {
         let other = if store == Store::Small { Store::Large } else { Store::Small };
         let mut host = host(Limits::SMALLEST);
-        rows(
+        check(
             &mut host,
             &[
                 (join(0, both(0, 1)), 0),
@@ -221,113 +199,6 @@ fn the_tests_of_a_make_in_order() {
         );
         host.memory.pool.given = u32::MAX;
         assert_eq!(host.told(&make(2, store)), 8);
-    }
-}
-
-/// A reserve of one store is none of the other, nor does what is made there count.
-#[test]
-fn each_store_has_reserves_of_its_own() {
-    for (store, other) in [(Store::Small, Store::Large), (Store::Large, Store::Small)] {
-        rows(
-            &mut host(FOUR),
-            &[
-                (join(0, only(store, 4, 4)), 0),
-                (join(1, OPEN), 0),
-                (make(1, store), 9),
-                (make(0, other), 26),
-                (make(1, other), 0),
-                (make(1, other), 0),
-                (make(1, other), 0),
-                (make(1, other), 0),
-                (make(1, other), 9),
-                (make(0, store), 0),
-            ],
-        );
-    }
-}
-
-// Tasks that wait and leave, and whose objects they are.
-
-#[test]
-fn who_waits_keeps_its_reserve() {
-    for store in STORES {
-        rows(
-            &mut host(FOUR),
-            &[
-                (join(0, only(store, 3, NO_LIMIT)), 0),
-                (Call::Block { task: 0 }, 0),
-                (join(1, only(store, 2, NO_LIMIT)), 25),
-                (join(1, only(store, 0, NO_LIMIT)), 0),
-                (make(1, store), 0),
-                (make(1, store), 9),
-                (Call::Resume { task: 0 }, 0),
-                (make(0, store), 0),
-                (make(0, store), 0),
-                (make(0, store), 0),
-                (make(0, store), 9),
-            ],
-        );
-    }
-}
-
-/// Its reserve is free for others, and what it made is nobody's: not for the limit, not for the reserve of who joins by its
-/// number.
-#[test]
-fn who_leaves_counts_no_more() {
-    for store in STORES {
-        let mut host = host(FOUR);
-        rows(
-            &mut host,
-            &[
-                (join(0, only(store, 3, 3)), 0),
-                (pin(0, store), 0),
-                (pin(0, store), 0),
-                (make(0, store), 0),
-                (make(0, store), 26),
-                (join(1, OPEN), 0),
-                (Call::Leave { task: 0 }, 0),
-                (join(0, only(store, 3, 3)), 25),
-                (join(0, only(store, 2, 2)), 0),
-                (make(1, store), 9),
-                (make(0, store), 0),
-                (make(0, store), 0),
-                (make(0, store), 26),
-                (Call::Release { task: 0, handle: 1 }, 0),
-                (make(0, store), 26),
-                (make(1, store), 0),
-            ],
-        );
-        let made = |task: u8, host: &mut Host<Library>| {
-            let Holdings { small, large } = told(host, task).expect("a task");
-            small.made + large.made
-        };
-        assert_eq!([0, 1, 2].map(|task| made(task, &mut host)), [2, 1, 0]);
-    }
-}
-
-/// By whom an object is refreshed, alone or in a batch, written, read or released has no part in whose it is.
-#[test]
-fn the_maker_stays_whatever_others_do() {
-    for store in STORES {
-        let handles = packed(&[1, 1]);
-        let mut host = host(FOUR);
-        rows(
-            &mut host,
-            &[
-                (join(0, only(store, 0, 1)), 0),
-                (join(1, Share::NONE), 0),
-                (pin(0, store), 0),
-                (Call::Refresh { task: 1, kind: Kind::Local, extension: 3, handle: 1 }, 0),
-                (Call::Batch { task: 1, kind: Kind::Global, extension: 3, handles: Handles(&handles) }, 0),
-                (Call::Write { task: 1, handle: 1, offset: 0, bytes: &[1, 2, 3] }, 0),
-                (Call::Read { task: 1, handle: 1 }, 0),
-                (Call::Release { task: 1, handle: 1 }, 0),
-                (make(0, store), 26),
-                (make(1, store), 26),
-            ],
-        );
-        let holds = [0, 1].map(|task| told(&mut host, task).map(|Holdings { small, large }| small.made + large.made));
-        assert_eq!(holds, [Ok(1), Ok(0)]);
     }
 }
 

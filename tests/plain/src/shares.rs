@@ -1,4 +1,5 @@
-//! Order 9: who has made the objects of a store, counted in one table, and how many of its blocks are spoken for.
+//! Order 9: who has made the objects of a store, counted in one table, and how many of its blocks are spoken for. Apart on
+//! purpose from the reference, which counts otherwise.
 
 use crate::limits::{SMALL_BLOCKS, TASKS};
 use crate::record::{maker_in, Pool, Quota, NOBODY};

@@ -2,6 +2,8 @@
 //! records are fit by their shares and makers.
 
 mod memory;
+#[path = "../../reference/tests/rows/mod.rs"]
+mod rows;
 #[path = "../../reference/tests/rows/shares.rs"]
 mod share_rows;
 
@@ -22,29 +24,21 @@ use reference::limits::{self, Store};
 use reference::random::Random;
 use reference::script::lines;
 use reference::share::{self, Maker};
-use share_rows::ROWS;
+use rows::check_answers;
+use share_rows::check_all;
 
 // Rows.
 
-type Row = (usize, &'static str, &'static str);
-
-/// Stands for every accepted answer.
-const ACCEPTED: &str = "accepted";
-
 #[test]
 fn rows() {
-    for (limits, name, rows) in ROWS {
-        let mut memory = Memory::beside(*limits);
-        for (place, (times, line, expected)) in rows.iter().enumerate() {
-            for _ in 0..*times {
-                let answer = String::from_utf8(memory.frame(line.as_bytes()).1).expect("digits");
-                let right =
-                    if *expected == ACCEPTED { answer.starts_with("00") } else { answer.trim_end() == *expected };
-                assert!(right, "{name}, row {place}, {line}: {answer} and not {expected}");
-                assert!(is_well_formed(&memory.pool), "{name}, row {place}");
-            }
-        }
-    }
+    check_all(|limits, name, rows| {
+        let mut memory = Memory::beside(limits);
+        check_answers(name, rows, |line| {
+            let answer = memory.frame(line.as_bytes()).1;
+            assert!(is_well_formed(&memory.pool), "{name}, {line}");
+            String::from_utf8(answer).expect("digits")
+        });
+    });
 }
 
 // Scripts.

@@ -148,8 +148,8 @@ impl Model for Ledger {
         Ok(Accepted::Remaining(most))
     }
 
-    /// Order 2: 1, 3, 4, 20, 21, 6; 11 if any object would give it, else 12 if any would, else 10 if there is no room for
-    /// all. Then one expiration more for each, so that an object named twice gets two.
+    /// Order 2: 1, 3, 4, 20, 21, 6, then 11 by any of the objects, 12 by any, and 10 by all together. Then one expiration
+    /// more for each, so that an object named twice gets two.
     fn batch(&mut self, task: u8, kind: Kind, extension: u8, handles: Handles) -> Answer<'static> {
         self.tasks.check_running(task)?;
         check_batch(handles.count())?;

@@ -1,5 +1,6 @@
 //! Order 9: what a task may take of each store, and what is left of a store for a task. The rules here are the ledger's
-//! and the expiration book's.
+//! and the expiration book's. They are written from the order alone, and apart on purpose from the host's types and from the
+//! plain pool: what is wrong in one of the three is not in the others.
 
 use crate::call::Refusal;
 use crate::limits::{Store, STORES, TASKS};

@@ -40,6 +40,12 @@ fn last_words(script: &str) -> String {
     explained(&script_of(script)).pop().unwrap().words
 }
 
+/// In a pool of these figures: the number of the last line's answer, and its words behind those of the call.
+fn last_told(figures: &str, script: &str) -> (u8, String) {
+    let line = explain(figures.parse().unwrap(), &script_of(script)).pop().unwrap();
+    (line.number(), line.words.split_once(": ").unwrap().1.to_string())
+}
+
 fn script_of(frames: &str) -> Vec<u8> {
     frames.replace(' ', "\n").into_bytes()
 }
@@ -293,7 +299,7 @@ fn words_of_each_refusal() {
         ),
     ] {
         let line = explained(&script_of(script)).pop().unwrap();
-        assert_eq!((line.words.as_str(), line.refusal.map(|refusal| refusal as u8)), (words, Some(number)), "{script}");
+        assert_eq!((line.words.as_str(), line.number()), (words, number), "{script}");
     }
 }
 
@@ -354,9 +360,7 @@ fn words_of_reserves_and_limits() {
              global time is 0 from the start on and waits for task 0",
         ),
     ] {
-        let line = explain("4,2,256,30".parse().unwrap(), &script_of(script)).pop().unwrap();
-        assert_eq!(line.number(), number, "{script}");
-        assert!(line.words.ends_with(&format!(": {words}")), "{script}: {}", line.words);
+        assert_eq!(last_told("4,2,256,30", script), (number, words.to_string()), "{script}");
     }
 }
 
@@ -406,10 +410,7 @@ fn words_go_by_the_figures() {
             "0 of 1 small object, 1 of 2 large, 1 of 4 expirations, 1 handle given",
         ),
     ] {
-        let line = explain(figures.parse().unwrap(), &script_of(script)).pop().unwrap();
-        let (refused, (_, told)) =
-            (line.refusal.map_or(0, |refusal| refusal as u8), line.words.split_once(": ").unwrap());
-        assert_eq!((told, refused), (words, number), "{figures}: {script}");
+        assert_eq!(last_told(figures, script), (number, words.to_string()), "{figures}: {script}");
     }
 }
 
@@ -423,8 +424,7 @@ fn generated_scripts_are_explained_as_they_run() {
         let (explained, answers) = (explain(limits, script), run_from(Ledger::of(limits), script));
         assert_eq!(explained.len(), lines(&answers).count());
         for (line, answer) in explained.iter().zip(lines(&answers)) {
-            let number = line.refusal.map_or(0, |refusal| refusal as u8);
-            assert_eq!(format!("{number:02X}").as_bytes(), &answer[..2], "seed {seed}: {}", line.words);
+            assert_eq!(format!("{:02X}", line.number()).as_bytes(), &answer[..2], "seed {seed}: {}", line.words);
         }
     }
 }

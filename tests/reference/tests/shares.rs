@@ -12,14 +12,12 @@ use reference::limits::{Limits, Store, STORES, TASKS};
 use reference::script::calls;
 use reference::share::{Maker, Share};
 use reference::tasks::State;
-use rows::{check_in, Row, ACCEPTED};
-use share_rows::ROWS;
+use rows::check_in;
+use share_rows::check_all;
 
 #[test]
 fn rows() {
-    for (limits, name, rows) in ROWS {
-        check_in(*limits, name, rows);
-    }
+    check_all(check_in);
 }
 
 // What is claimed.

@@ -34,6 +34,7 @@ impl Asked {
 }
 
 type Situation = (&'static str, fn(&Asked) -> bool);
+pub type Met = super::Met<{ SITUATIONS.len() }>;
 
 pub const SITUATIONS: [Situation; 21] = [
     ("no object", |asked| asked.count == 0),
@@ -66,7 +67,7 @@ pub const SITUATIONS: [Situation; 21] = [
 ];
 
 /// Counts the call if it is the batch of a running task. The ledger is as before the call.
-pub fn note(met: &mut [usize; SITUATIONS.len()], call: &Call, ledger: &Ledger) {
+pub fn note(met: &mut Met, call: &Call, ledger: &Ledger) {
     let &Call::Batch { task, extension, handles, .. } = call else { return };
     if !ledger.tasks().is_running(task) {
         return;
@@ -85,7 +86,5 @@ pub fn note(met: &mut [usize; SITUATIONS.len()], call: &Call, ledger: &Ledger) {
         stores: [has(Store::Small), has(Store::Large)],
         room: limits.expirations - usize::from(figures.expirations),
     };
-    for (met, (_, holds)) in met.iter_mut().zip(SITUATIONS) {
-        *met += usize::from(holds(&asked));
-    }
+    met.note(&SITUATIONS, &asked);
 }

@@ -37,12 +37,34 @@ pub const OPERATIONS: [(&str, &[usize]); 13] = [
 /// The refusals are 1 to 26.
 const NUMBERS: usize = 27;
 
-/// More than an array's default goes to.
-pub struct Shares(pub [usize; shares::SITUATIONS.len()]);
+/// By its name, and whether what is seen is one.
+type Situation<S> = (&'static str, fn(&S) -> bool);
 
-impl Default for Shares {
-    fn default() -> Shares {
-        Shares([0; shares::SITUATIONS.len()])
+/// How often each situation of a list was met.
+#[derive(Debug)]
+pub struct Met<const N: usize>([usize; N]);
+
+impl<const N: usize> Default for Met<N> {
+    fn default() -> Met<N> {
+        Met([0; N])
+    }
+}
+
+impl<const N: usize> Met<N> {
+    fn note<S>(&mut self, situations: &[Situation<S>; N], seen: &S) {
+        for (met, (_, holds)) in self.0.iter_mut().zip(situations) {
+            *met += usize::from(holds(seen));
+        }
+    }
+
+    pub fn least(&self) -> usize {
+        self.0.into_iter().min().expect("some situation")
+    }
+
+    fn print<S>(&self, list: &str, situations: &[(&str, S); N]) {
+        for ((name, _), met) in situations.iter().zip(self.0) {
+            println!("{list}, {name}: {met}");
+        }
     }
 }
 
@@ -61,12 +83,12 @@ pub struct Census {
     pub empty_writes: usize,
     pub whole_writes: usize,
     pub longest_output: usize,
-    pub remaining: [usize; remaining::SITUATIONS.len()],
-    pub batch: [usize; batch::SITUATIONS.len()],
-    pub waiting: [usize; waiting::SITUATIONS.len()],
-    pub pinned: [usize; pinned::SITUATIONS.len()],
-    pub shares: Shares,
-    pub sized: [usize; sized::SITUATIONS.len()],
+    pub remaining: remaining::Met,
+    pub batch: batch::Met,
+    pub waiting: waiting::Met,
+    pub pinned: pinned::Met,
+    pub shares: shares::Met,
+    pub sized: sized::Met,
 }
 
 impl Census {
@@ -101,7 +123,7 @@ impl Census {
                         setters.note(&mut self.waiting, &call, before.0, &ledger);
                     }
                     pins.note(&mut self.pinned, &call, number, before.1, &ledger);
-                    makers.note(&mut self.shares.0, &call, number, shared, &ledger);
+                    makers.note(&mut self.shares, &call, number, shared, &ledger);
                     sized::note(&mut self.sized, &sized::Seen { call: &call, number, limits, figures });
                     self.note_state(&ledger);
                     remaining::note(&mut self.remaining, &call, &ledger);
@@ -157,23 +179,11 @@ impl Census {
         println!("most small, large, expirations: {}, {}, {}", self.most_small, self.most_large, self.most_expirations);
         println!("writes of no byte, of 256: {}, {}", self.empty_writes, self.whole_writes);
         println!("longest output: {}", self.longest_output);
-        for ((name, _), count) in remaining::SITUATIONS.iter().zip(self.remaining) {
-            println!("remaining, {name}: {count}");
-        }
-        for ((name, _), count) in batch::SITUATIONS.iter().zip(self.batch) {
-            println!("batch, {name}: {count}");
-        }
-        for ((name, _), count) in waiting::SITUATIONS.iter().zip(self.waiting) {
-            println!("waiting, {name}: {count}");
-        }
-        for ((name, _), count) in pinned::SITUATIONS.iter().zip(self.pinned) {
-            println!("pinned, {name}: {count}");
-        }
-        for ((name, _), count) in shares::SITUATIONS.iter().zip(self.shares.0) {
-            println!("shares, {name}: {count}");
-        }
-        for ((name, _), count) in sized::SITUATIONS.iter().zip(self.sized) {
-            println!("sized, {name}: {count}");
-        }
+        self.remaining.print("remaining", &remaining::SITUATIONS);
+        self.batch.print("batch", &batch::SITUATIONS);
+        self.waiting.print("waiting", &waiting::SITUATIONS);
+        self.pinned.print("pinned", &pinned::SITUATIONS);
+        self.shares.print("shares", &shares::SITUATIONS);
+        self.sized.print("sized", &sized::SITUATIONS);
     }
 }

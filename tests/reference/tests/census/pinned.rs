@@ -104,6 +104,7 @@ impl Seen<'_> {
 }
 
 type Situation = (&'static str, fn(&Seen) -> bool);
+pub type Met = super::Met<{ SITUATIONS.len() }>;
 
 pub const SITUATIONS: [Situation; 32] = [
     ("made", |seen| seen.makes(0)),
@@ -192,14 +193,7 @@ impl Pins {
     }
 
     /// Counts the call. The ledger is as after it.
-    pub fn note(
-        &mut self,
-        met: &mut [usize; SITUATIONS.len()],
-        call: &Call,
-        number: usize,
-        before: Before,
-        ledger: &Ledger,
-    ) {
+    pub fn note(&mut self, met: &mut Met, call: &Call, number: usize, before: Before, ledger: &Ledger) {
         let advanced = ledger.tasks().global() != before.global;
         let moves = matches!(call, Call::Leave { .. } | Call::Block { .. } | Call::Tick { .. }) && number == 0;
         let outlived = |(&handle, pin): (&u32, &Pin)| Outlived {
@@ -212,9 +206,7 @@ impl Pins {
         let is_there = |task: u8| ledger.tasks().is_running(task) || ledger.tasks().is_waiting(task);
         let all_left = moves && !(0..16).any(is_there);
         let seen = Seen { call, number, before, outlived, all_left };
-        for (met, (_, holds)) in met.iter_mut().zip(SITUATIONS) {
-            *met += usize::from(holds(&seen));
-        }
+        met.note(&SITUATIONS, &seen);
         if number == 0 {
             self.follow(call, advanced, ledger);
         }

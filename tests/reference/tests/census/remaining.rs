@@ -13,6 +13,7 @@ pub struct Asked {
 }
 
 type Situation = (&'static str, fn(&Asked) -> bool);
+pub type Met = super::Met<{ SITUATIONS.len() }>;
 
 pub const SITUATIONS: [Situation; 10] = [
     ("several of each", |asked| asked.own.len().min(asked.others.len()).min(asked.global.len()) > 1),
@@ -32,7 +33,7 @@ pub const SITUATIONS: [Situation; 10] = [
 ];
 
 /// Counts the call if it asks, by a running task, for a standing object.
-pub fn note(met: &mut [usize; SITUATIONS.len()], call: &Call, ledger: &Ledger) {
+pub fn note(met: &mut Met, call: &Call, ledger: &Ledger) {
     let &Call::Remaining { task, handle } = call else { return };
     let standing = ledger.standing();
     let Some(object) = standing.iter().find(|object| object.handle == handle) else { return };
@@ -48,7 +49,5 @@ pub fn note(met: &mut [usize; SITUATIONS.len()], call: &Call, ledger: &Ledger) {
             Remaining::Pinned => {}
         }
     }
-    for (met, (_, holds)) in met.iter_mut().zip(SITUATIONS) {
-        *met += usize::from(holds(&asked));
-    }
+    met.note(&SITUATIONS, &asked);
 }

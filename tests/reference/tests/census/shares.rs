@@ -130,6 +130,7 @@ impl Seen<'_> {
 }
 
 type Situation = (&'static str, fn(&Seen) -> bool);
+pub type Met = super::Met<{ SITUATIONS.len() }>;
 
 const SMALL: Store = Store::Small;
 const LARGE: Store = Store::Large;
@@ -314,20 +315,11 @@ impl Makers {
     }
 
     /// Counts the call. The ledger is as after it.
-    pub fn note(
-        &mut self,
-        met: &mut [usize; SITUATIONS.len()],
-        call: &Call,
-        number: usize,
-        before: Before,
-        ledger: &Ledger,
-    ) {
+    pub fn note(&mut self, met: &mut Met, call: &Call, number: usize, before: Before, ledger: &Ledger) {
         let rooms = STORES.map(|store| ledger.room(store));
         let departed = rooms.iter().flat_map(|room| &room.makers).filter(|&&maker| maker == Maker::Departed).count();
         let seen = Seen { call, number, before, departed };
-        for (met, (_, holds)) in met.iter_mut().zip(SITUATIONS) {
-            *met += usize::from(holds(&seen));
-        }
+        met.note(&SITUATIONS, &seen);
         if number == 0 {
             self.follow(call, ledger);
         }

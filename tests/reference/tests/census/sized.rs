@@ -88,6 +88,7 @@ impl Seen<'_> {
 }
 
 type Situation = (&'static str, fn(&Seen) -> bool);
+pub type Met = super::Met<{ SITUATIONS.len() }>;
 
 pub const SITUATIONS: [Situation; 27] = [
     ("make, 6 below 30", |seen| seen.makes(6) && seen.extends_too_far()),
@@ -129,8 +130,6 @@ pub const SITUATIONS: [Situation; 27] = [
 ];
 
 /// Counts the call.
-pub fn note(met: &mut [usize; SITUATIONS.len()], seen: &Seen) {
-    for (met, (_, holds)) in met.iter_mut().zip(SITUATIONS) {
-        *met += usize::from(holds(seen));
-    }
+pub fn note(met: &mut Met, seen: &Seen) {
+    met.note(&SITUATIONS, seen);
 }

@@ -49,6 +49,7 @@ impl Seen {
 }
 
 type Situation = (&'static str, fn(&Seen) -> bool);
+pub type Met = super::Met<{ SITUATIONS.len() }>;
 
 pub const SITUATIONS: [Situation; 15] = [
     ("one is put off", |seen| seen.put_off().next().is_some()),
@@ -123,7 +124,7 @@ fn waiting(ledger: &Ledger) -> [bool; TASKS] {
 
 impl Setters {
     /// Counts an accepted call. The ledger is as after it.
-    pub fn note(&mut self, met: &mut [usize; SITUATIONS.len()], call: &Call, before: Before, ledger: &Ledger) {
+    pub fn note(&mut self, met: &mut Met, call: &Call, before: Before, ledger: &Ledger) {
         let (task, is_leave, is_block) = match *call {
             Call::Leave { task } => (task, true, false),
             Call::Block { task } => (task, false, true),
@@ -139,9 +140,7 @@ impl Setters {
         let Before { locals, globals, .. } = before;
         let (waited, departed) = (self.waited, self.departed);
         let seen = Seen { task, is_leave, is_block, has_waited, advanced, locals, globals, waiting, waited, departed };
-        for (met, (_, holds)) in met.iter_mut().zip(SITUATIONS) {
-            *met += usize::from(holds(&seen));
-        }
+        met.note(&SITUATIONS, &seen);
         self.depart(&seen);
     }
 

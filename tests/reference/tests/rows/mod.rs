@@ -1,4 +1,4 @@
-//! Rows of calls: how often a line comes, the line, and its answer each time, by both ledgers.
+//! Rows of calls: how often a line comes, the line, and its answer each time, by both ledgers or by a pool.
 
 use reference::call::Model;
 use reference::indexed;
@@ -6,7 +6,7 @@ use reference::ledger::Ledger;
 use reference::limits::Limits;
 use reference::script::run_from;
 
-pub type Row = (usize, &'static str, &'static str);
+pub type Row<'a> = (usize, &'a str, &'a str);
 
 /// A handle thirty-two times, as a batch names it.
 #[allow(unused_macros)] // Not every test that has rows has batches.
@@ -32,17 +32,23 @@ pub fn check(name: &str, rows: &[Row]) {
     check_in(Limits::STANDARD, name, rows);
 }
 
+#[allow(dead_code)]
 pub fn check_in(limits: Limits, name: &str, rows: &[Row]) {
     let script: String = rows.iter().map(|(times, line, _)| format!("{line}\n").repeat(*times)).collect();
     let output = String::from_utf8(run_from(Ledger::of(limits), script.as_bytes())).unwrap();
     assert_eq!(output.as_bytes(), run_from(indexed::Ledger::of(limits), script.as_bytes()), "{name}");
     let mut answers = output.lines();
+    check_answers(name, rows, |_| answers.next().expect("one answer a line").to_string());
+    assert_eq!(answers.next(), None, "{name}");
+}
+
+/// By whatever answers a line; its answer may end in LF.
+pub fn check_answers(name: &str, rows: &[Row], mut answer: impl FnMut(&str) -> String) {
     for (place, (times, line, expected)) in rows.iter().enumerate() {
         for _ in 0..*times {
-            let answer = answers.next().expect("one answer a line");
-            let right = if *expected == ACCEPTED { answer.starts_with("00") } else { answer == *expected };
+            let answer = answer(line);
+            let right = if *expected == ACCEPTED { answer.starts_with("00") } else { answer.trim_end() == *expected };
             assert!(right, "{name}, row {place}, {line}: {answer} and not {expected}");
         }
     }
-    assert_eq!(answers.next(), None, "{name}");
 }

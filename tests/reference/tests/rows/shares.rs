@@ -1,8 +1,11 @@
-//! Order 9 in rows, for the ledgers and for the plain pool: the ends, the order of the tests, and each reading that would be
-//! wrong.
+//! Order 9 in rows, for the ledgers, the plain pool and the library: the ends, the order of the tests, and each reading that
+//! would be wrong.
 
-use super::{Row, ACCEPTED};
+use std::ops::Range;
+
 use reference::limits::Limits;
+
+use super::rows::{Row, ACCEPTED};
 
 const fn chosen(small_blocks: usize, large_blocks: usize) -> Limits {
     Limits { small_blocks, large_blocks, ..Limits::STANDARD }
@@ -11,7 +14,43 @@ const fn chosen(small_blocks: usize, large_blocks: usize) -> Limits {
 /// Two small blocks and a large one.
 const FEW: Limits = chosen(2, 1);
 
-pub const ROWS: &[(Limits, &str, &[Row])] = &[
+/// Each list of rows; and, where there may be so many large blocks, once more with small and large exchanged.
+pub fn check_all(check: impl Fn(Limits, &str, &[Row])) {
+    for &(limits, name, rows) in ROWS {
+        check(limits, name, rows);
+        if limits.small_blocks <= Limits::STANDARD.large_blocks {
+            let Limits { small_blocks, large_blocks, .. } = limits;
+            let limits = Limits { small_blocks: large_blocks, large_blocks: small_blocks, ..limits };
+            let rows: Vec<_> = rows.iter().map(exchanged).collect();
+            let rows: Vec<_> =
+                rows.iter().map(|(times, line, answer)| (*times, line.as_str(), answer.as_str())).collect();
+            check(limits, &format!("{name}, exchanged"), &rows);
+        }
+    }
+}
+
+/// Of a join the two quotas are exchanged, of a make the length goes to the other store, of a report its two counts are.
+fn exchanged(&(times, line, answer): &Row) -> (usize, String, String) {
+    let exchange = |digits: &str, first: Range<usize>, second: Range<usize>| {
+        let parts = [&digits[..first.start], &digits[second.clone()], &digits[first], &digits[second.end..]];
+        parts.concat()
+    };
+    match &line[..2] {
+        "01" => (times, exchange(line, 4..8, 8..12), answer.to_string()),
+        "06" => {
+            let length = match &line[8..] {
+                "0004" | "0020" => "0021",
+                "0021" => "0004",
+                none => none,
+            };
+            (times, [&line[..8], length].concat(), answer.to_string())
+        }
+        "0A" => (times, line.to_string(), exchange(answer, 2..4, 4..6)),
+        _ => (times, line.to_string(), answer.to_string()),
+    }
+}
+
+const ROWS: &[(Limits, &str, &[Row])] = &[
     // The ends.
     (
         Limits::STANDARD,
@@ -194,6 +233,20 @@ pub const ROWS: &[(Limits, &str, &[Row])] = &[
             (1, "010101FF00FF", "00"),
             (1, "060002000004", "09"),
             (1, "060102000004", "0000000003"),
+        ],
+    ),
+    (
+        chosen(4, 1),
+        "what is made of a reserve is not held back beside it",
+        &[
+            (1, "010002FF00FF", "00"),
+            (1, "060002000004", "0000000001"),
+            (1, "010103FF00FF", "19"),
+            (1, "010102FF00FF", "00"),
+            (1, "060002000004", "0000000002"),
+            (1, "060002000004", "09"),
+            (2, "060102000004", ACCEPTED),
+            (1, "060102000004", "09"),
         ],
     ),
     (
