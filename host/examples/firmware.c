@@ -48,7 +48,7 @@ static bool is_rain_ready(unsigned turn) { return turn == 3 || turn == 6 || turn
 
 static uint8_t make(uint8_t task, uint8_t kind, unsigned value) {
     const uint8_t reading[LENGTH] = {(uint8_t)(value >> 8), (uint8_t)value};
-    uint8_t refusal = ramsummer_make(POOL, task, kind, 0, LENGTH, &newest[task]);
+    uint8_t refusal = ramsummer_make(POOL, task, kind, 0, LENGTH, 0, &newest[task]);
     if (refusal) return refusal;
     return ramsummer_write(POOL, task, newest[task], 0, reading, LENGTH);
 }

@@ -46,7 +46,7 @@ static void sense(uint8_t task, uint8_t cycle, uint8_t reading[LENGTH]) {
 
 /* A new object, and the peaks are kept. */
 static uint8_t make(uint8_t task, uint8_t kind, uint16_t length, uint32_t *handle) {
-    return ramsummer_peaks_after(&peaks, &pool, ramsummer_make(POOL, task, kind, 0, length, handle));
+    return ramsummer_peaks_after(&peaks, &pool, ramsummer_make(POOL, task, kind, 0, length, 0, handle));
 }
 
 /* The task makes a block and writes its reading to it. */

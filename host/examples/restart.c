@@ -35,7 +35,7 @@ static uint8_t print_figures(const char *before) {
 }
 
 static uint8_t reading(uint8_t task, uint8_t kind, uint8_t extension, const char *text, uint32_t *handle) {
-    uint8_t refusal = ramsummer_make(POOL, task, kind, extension, LENGTH, handle);
+    uint8_t refusal = ramsummer_make(POOL, task, kind, extension, LENGTH, 0, handle);
     return refusal ? refusal : ramsummer_write(POOL, task, *handle, 0, (const uint8_t *)text, LENGTH);
 }
 

@@ -19,7 +19,7 @@ static uint8_t begin(unsigned small_blocks) {
 }
 
 static uint8_t make(unsigned extension, uint32_t *handle) {
-    return ramsummer_make(POOL, TASK, RAMSUMMER_LOCAL, extension, LENGTH, handle);
+    return ramsummer_make(POOL, TASK, RAMSUMMER_LOCAL, extension, LENGTH, 0, handle);
 }
 
 static void print_refusal(const char *what, uint8_t refusal) {

@@ -24,8 +24,8 @@ int main(void) {
 
     ramsummer_fresh(&pool);
     check(ramsummer_join(&pool, 0, RAMSUMMER_OPEN));
-    /* 8 bytes, until the next tick of task 0 */
-    check(ramsummer_make(&pool, small, sizeof small, large, sizeof large, 0, RAMSUMMER_LOCAL, 0, 8, &handle));
+    /* 8 bytes, until the next tick of task 0, and none of them for a viewer */
+    check(ramsummer_make(&pool, small, sizeof small, large, sizeof large, 0, RAMSUMMER_LOCAL, 0, 8, 0, &handle));
     check(ramsummer_write(&pool, small, sizeof small, large, sizeof large, 0, handle, 0, reading, 8));
     check(ramsummer_read(&pool, small, sizeof small, large, sizeof large, 0, handle, found, sizeof found, &count));
     printf("%s\n", (const char *)found);

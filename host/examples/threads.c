@@ -70,7 +70,7 @@ static void end_round(void) {
 
 static void make_reading(uint8_t task, uint32_t *handle) {
     const uint8_t reading[LENGTH] = {task, (uint8_t)pool.global};
-    check(ramsummer_make(POOL, task, RAMSUMMER_GLOBAL, 0, LENGTH, handle));
+    check(ramsummer_make(POOL, task, RAMSUMMER_GLOBAL, 0, LENGTH, 0, handle));
     check(ramsummer_write(POOL, task, *handle, 0, reading, LENGTH));
     scans[pool.global % 2][task] = *handle;
 }

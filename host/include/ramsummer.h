@@ -6,11 +6,11 @@
  *   - what two pointers of one call lead to does not overlap;
  *   - a pool and its stores are used by one thread or interrupt handler at a time.
  * All the rest is tested: any record, any bytes and any number may be passed, and what is wrong is refused. A task, a
- * kind, an extension, a length, an offset and the four numbers of a join may be any unsigned or int: the types below are
- * the library's own, and a number that they cannot hold is refused, and not cut (ramsummer_wide.h, which is included at
- * the end). The library has lengths and counts in 64 bits on every processor; an author has them in a size_t, by the same
- * header. But a task, a kind, an extension, a handle or a number of a join of 64 bits is cut to 32 before the call, and
- * -Wconversion says so; the limits of ramsummer_fresh_sized are not.
+ * kind, an extension, a length, a prefix, an offset and the four numbers of a join may be any unsigned or int: the types
+ * below are the library's own, and a number that they cannot hold is refused, and not cut (ramsummer_wide.h, which is
+ * included at the end). The library has lengths and counts in 64 bits on every processor; an author has them in a size_t,
+ * by the same header. But a task, a kind, an extension, a handle or a number of a join of 64 bits is cut to 32 before the
+ * call, and -Wconversion says so; the limits of ramsummer_fresh_sized are not.
  *
  * No call takes a const record. Read, report, remaining, awaited and share are proved to leave it as it was; but every
  * entry of the library is lent the record for itself alone (`&mut` in the proved source), so that it must not lie in
@@ -76,10 +76,10 @@ enum ramsummer_kind {
 enum ramsummer_answer {
     RAMSUMMER_DONE = 0,
     RAMSUMMER_NO_SUCH_TASK = 1,         /* task above 15 */
-    RAMSUMMER_TASK_PRESENT = 2,         /* join: the task is not absent */
+    RAMSUMMER_TASK_PRESENT = 2,         /* join, view: the task is not absent */
     RAMSUMMER_TASK_ABSENT = 3,          /* the task has not joined */
     RAMSUMMER_TASK_WAITING = 4,         /* the task waits: it has not resumed */
-    RAMSUMMER_TASK_RUNNING = 5,         /* resume: the task is running */
+    RAMSUMMER_TASK_RUNNING = 5,         /* resume: the task does not wait: it is running, or a viewer */
     RAMSUMMER_EXTENSION_TOO_LONG = 6,   /* extension above the pool's limit, or above 0 where the kind is pinned */
     RAMSUMMER_LENGTH_OUT_OF_RANGE = 7,  /* length 0 or above 256 */
     RAMSUMMER_HANDLES_SPENT = 8,        /* all 4,294,967,295 handles are given */
@@ -101,6 +101,8 @@ enum ramsummer_answer {
     RAMSUMMER_RESERVE_ABOVE_LIMIT = 24, /* join: a reserve is above its limit */
     RAMSUMMER_RESERVE_NOT_FREE = 25,    /* join: too few blocks are left for a reserve */
     RAMSUMMER_AT_LIMIT = 26,            /* make: the task has as many objects of the store as its limit */
+    RAMSUMMER_ONLY_VIEWS = 27,          /* the task is a viewer: it reads, asks what remains and leaves, and no more */
+    RAMSUMMER_PREFIX_TOO_LONG = 28,     /* make: the prefix is longer than the object */
     RAMSUMMER_LIMITS_OUT_OF_RANGE = 29, /* fresh_sized: a limit is out of its range */
     RAMSUMMER_BUFFER_TOO_SHORT = 255    /* read, frame: no room for the answer */
 };
@@ -117,21 +119,23 @@ enum ramsummer_clock {
  * where another joins by the task's number. */
 #define RAMSUMMER_MAKER_DEPARTED 16
 
-/* The parts of extents[i], the word of a store block in use: the length of its object, the object's maker, and the sum of
- * all bytes of the block, 32 or 256 of them. */
+/* The parts of extents[i], the word of a store block in use: the length of its object, the object's maker, its prefix,
+ * which is how many of its bytes a viewer sees, and the sum of all bytes of the block, 32 or 256 of them. */
 #define RAMSUMMER_LENGTH_IN(extent) ((uint16_t)((extent)&0xFFFF))
 #define RAMSUMMER_MAKER_IN(extent) ((uint8_t)((extent) >> 16 & 0xFF))
+#define RAMSUMMER_PREFIX_IN(extent) ((uint16_t)((extent) >> 32 & 0xFFFF))
 #define RAMSUMMER_SUM_IN(extent) ((uint16_t)((extent) >> 48 & 0xFFFF))
 
-/* A task. State 0 is absent, 1 running, 2 waiting; ticked is 1 where it has ticked in this period of global time. */
+/* A task. State 0 is absent, 1 running, 2 waiting, 3 viewing; ticked is 1 where it has ticked in this period of global
+ * time. */
 typedef struct ramsummer_task_entry {
     uint16_t state;
     uint16_t ticked;
     uint32_t clock;
 } ramsummer_task_entry;
 
-/* What a task asked for when it joined; all 0 of an absent one. A reserve are the blocks that are held back for it as long
- * as it has fewer objects of the store, a limit is how many it may have. */
+/* What a task asked for when it joined; all 0 of an absent one and of a viewer. A reserve are the blocks that are held back
+ * for it as long as it has fewer objects of the store, a limit is how many it may have. */
 typedef struct ramsummer_task_share {
     uint8_t small_reserve;
     uint8_t small_limit;
@@ -152,10 +156,10 @@ typedef struct ramsummer_limits {
  *
  * Store block i has the object handles[i]; handle 0 is a free one. In every pool the small store's blocks are numbered
  * from 0 on, the large one's from RAMSUMMER_SMALL_BLOCKS on. Of extents[i] bits 0 to 15 are the object's length, 16 to 23
- * its maker and 48 to 63 the sum of its block (RAMSUMMER_LENGTH_IN and its like); the rest is kept for later, and may hold
- * anything. Expiration i, below limits.expirations, belongs to the object in store block named[i], and is due when the
- * clock clocks[i] (enum ramsummer_clock) reads dues[i]. The other fields of a free one of either have no meaning and may
- * hold anything.
+ * its maker, 32 to 47 its prefix and 48 to 63 the sum of its block (RAMSUMMER_LENGTH_IN and its like); the rest is kept
+ * for later, and may hold anything. Expiration i, below limits.expirations, belongs to the object in store block named[i],
+ * and is due when the clock clocks[i] (enum ramsummer_clock) reads dues[i]. The other fields of a free one of either have
+ * no meaning and may hold anything.
  */
 typedef struct ramsummer_pool {
     ramsummer_task_entry tasks[RAMSUMMER_TASKS];
@@ -228,51 +232,58 @@ RAMSUMMER_CHECKED uint8_t ramsummer_fresh_sized(ramsummer_pool *pool, uint32_t s
 RAMSUMMER_CHECKED uint8_t ramsummer_join(ramsummer_pool *pool, uint8_t task, uint8_t small_reserve, uint8_t small_limit,
                                          uint8_t large_reserve, uint8_t large_limit);
 
+/* Absent to viewing, with clock 0, no reserve and no limit: a task that reads of each object its prefix alone, and changes
+ * none. It does not run: global time never waits for it. It reads, asks what remains of an object, and leaves; what else a
+ * running task may do is refused with 27, and a resume with 5. Tests 15, 1, 2. */
+RAMSUMMER_CHECKED uint8_t ramsummer_view(ramsummer_pool *pool, uint8_t task);
+
 /* To absent; the local expirations that this task set go, and the global ones count on, whoever joins by its number
  * later. What it made and what stands on counts for nobody from then on; its share is given up. Advanced is 1 if global
  * time advanced, else 0. Tests 15, 1, 3. */
 RAMSUMMER_CHECKED uint8_t ramsummer_leave(ramsummer_pool *pool, uint8_t task, uint8_t *advanced);
 
 /* Running to waiting: global time goes on without this task, and each advance, that of this call too, puts the global
- * expirations that it set off by one. Advanced as for leave. Tests 15, 1, 3, 4. */
+ * expirations that it set off by one. Advanced as for leave. Tests 15, 1, 3, 4, 27. */
 RAMSUMMER_CHECKED uint8_t ramsummer_block(ramsummer_pool *pool, uint8_t task, uint8_t *advanced);
 
 /* Waiting to running. Tests 15, 1, 3, 5. */
 RAMSUMMER_CHECKED uint8_t ramsummer_resume(ramsummer_pool *pool, uint8_t task);
 
 /* One unit of the task's local time; once all running tasks have ticked, one of global time. Advanced as for leave.
- * Tests 15, 1, 3, 4. */
+ * Tests 15, 1, 3, 4, 27. */
 RAMSUMMER_CHECKED uint8_t ramsummer_tick(ramsummer_pool *pool, uint8_t task, uint8_t *advanced);
 
-/* A new object of zero bytes with one expiration, which pins it where the kind says so. Handle is set to its number.
- * Tests 19, 15, 14, 1, 3, 4, 6, 7, 8, 26, 9, 10. */
+/* A new object of zero bytes with one expiration, which pins it where the kind says so. A viewer sees its first prefix
+ * bytes: none where that is 0, all where it is the length. Handle is set to its number.
+ * Tests 19, 15, 14, 1, 3, 4, 27, 6, 7, 28, 8, 26, 9, 10. */
 RAMSUMMER_CHECKED uint8_t ramsummer_make(ramsummer_pool *pool, uint8_t *small_store, uint64_t small_length,
                                          uint8_t *large_store, uint64_t large_length, uint8_t task, uint8_t kind,
-                                         uint8_t extension, uint16_t length, uint32_t *handle);
+                                         uint8_t extension, uint16_t length, uint16_t prefix, uint32_t *handle);
 
-/* One more expiration for the object; those that it has stay. Tests 19, 15, 1, 3, 4, 21, 6, 11, 12, 10. */
+/* One more expiration for the object; those that it has stay. Tests 19, 15, 1, 3, 4, 27, 21, 6, 11, 12, 10. */
 RAMSUMMER_CHECKED uint8_t ramsummer_refresh(ramsummer_pool *pool, uint8_t task, uint8_t kind, uint8_t extension,
                                             uint32_t handle);
 
 /* A batch: one more expiration for each of count objects, 1 to RAMSUMMER_LARGEST_BATCH, or for none of them where one
- * is refused. An object that is named twice gets two. Tests 19, 15, 1, 3, 4, 20, 21, 6, then 11 for any of the objects,
- * 12 for any, 10 for all. */
+ * is refused. An object that is named twice gets two. Tests 19, 15, 1, 3, 4, 27, 20, 21, 6, then 11 for any of the
+ * objects, 12 for any, 10 for all. */
 RAMSUMMER_CHECKED uint8_t ramsummer_refresh_all(ramsummer_pool *pool, uint8_t task, uint8_t kind, uint8_t extension,
                                                 const uint32_t *handles, uint64_t count);
 
 /* Ends what pins the object, whoever pinned it. It stands on where another expiration does, else its store block is free
  * at once. A handle that is lost can be found in the record: where clocks[i] is RAMSUMMER_CLOCK_PINNED, it is
- * handles[named[i]]. Tests 15, 1, 3, 4, 11, 12, 22. */
+ * handles[named[i]]. Tests 15, 1, 3, 4, 27, 11, 12, 22. */
 RAMSUMMER_CHECKED uint8_t ramsummer_release(ramsummer_pool *pool, uint8_t task, uint32_t handle);
 
-/* The object's bytes go to the start of out, and count says how many; the rest of out stays.
+/* The object's bytes, to a viewer those of its prefix alone, go to the start of out, and count says how many; the rest of
+ * out stays. The sum that is tested is that of the whole block, for a viewer too.
  * Tests 15, 14, 1, 3, 4, 11, 12, 23, 255. */
 RAMSUMMER_CHECKED uint8_t ramsummer_read(ramsummer_pool *pool, const uint8_t *small_store, uint64_t small_length,
                                          const uint8_t *large_store, uint64_t large_length, uint8_t task,
                                          uint32_t handle, uint8_t *out, uint64_t out_length, uint64_t *count);
 
 /* Replaces count bytes of the object from offset on; the record gets the block's new sum. An offset above 255 lies outside
- * every object, also where count is 0. Tests 15, 14, 1, 3, 4, 11, 12, 23, 13. */
+ * every object, also where count is 0. Tests 15, 14, 1, 3, 4, 27, 11, 12, 23, 13. */
 RAMSUMMER_CHECKED uint8_t ramsummer_write(ramsummer_pool *pool, uint8_t *small_store, uint64_t small_length,
                                           uint8_t *large_store, uint64_t large_length, uint8_t task, uint32_t handle,
                                           uint8_t offset, const uint8_t *bytes, uint64_t count);
@@ -292,7 +303,8 @@ RAMSUMMER_CHECKED uint8_t ramsummer_remaining(ramsummer_pool *pool, uint8_t task
 RAMSUMMER_CHECKED uint8_t ramsummer_awaited(ramsummer_pool *pool, uint16_t *tasks);
 
 /* What a task has of each store: how many of the objects that stand it has made, its reserve and its limit, all 0 where it
- * is absent. Reserve less made, or 0 where that is more, is how many blocks are held back for it. Tests 15, 1. */
+ * is absent or a viewer. Reserve less made, or 0 where that is more, is how many blocks are held back for it.
+ * Tests 15, 1. */
 RAMSUMMER_CHECKED uint8_t ramsummer_share(ramsummer_pool *pool, uint8_t task, uint8_t *small_made,
                                           uint8_t *small_reserve, uint8_t *small_limit, uint8_t *large_made,
                                           uint8_t *large_reserve, uint8_t *large_limit);

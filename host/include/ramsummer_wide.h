@@ -1,15 +1,15 @@
 /*
- * Ramsummer: any int or unsigned for a task, a kind, an extension, a length, an offset or a number of a join, any integer
- * for a limit of a pool, and a size_t for a count. Included by ramsummer.h.
+ * Ramsummer: any int or unsigned for a task, a kind, an extension, a length, a prefix, an offset or a number of a join, any
+ * integer for a limit of a pool, and a size_t for a count. Included by ramsummer.h.
  *
  * The library takes them in eight or sixteen bits, a pool's limit in 32, and C would cut an int to fit: task 256 would be
  * task 0. So the name of each call that takes one is here that of a function which takes the number as it comes. What the
  * library's type cannot hold it passes on as the largest number that it can, and that is refused with the same number, in
- * the same order of tests: 255 is no task, no kind and no extension, 65,535 no length and 4,294,967,295 no pool's limit. A
- * task's limit may be 255; a join with a number above it asks for what is refused with 24. A negative int comes as a large
- * unsigned. A pool's limit is taken in 64 bits and never cut. A task, a kind, an extension or a number of a join of 64 bits
- * is cut to 32 before the call, and -Wconversion says so. Once compiled it costs a comparison for an int, and nothing for a
- * constant or a uint8_t.
+ * the same order of tests: 255 is no task, no kind and no extension, 65,535 no length and no prefix of one, and
+ * 4,294,967,295 no pool's limit. A task's limit may be 255; a join with a number above it asks for what is refused with 24.
+ * A negative int comes as a large unsigned. A pool's limit is taken in 64 bits and never cut. A task, a kind, an extension
+ * or a number of a join of 64 bits is cut to 32 before the call, and -Wconversion says so. Once compiled it costs a
+ * comparison for an int, and nothing for a constant or a uint8_t.
  *
  * The library writes a count of 64 bits, and a size_t has 32 on a small processor: a count goes to a variable here, and
  * from there to the author's. None is above RAMSUMMER_LINE. Where nothing is written it stays as it was.
@@ -48,6 +48,10 @@ RAMSUMMER_CHECKED static inline uint8_t ramsummer_join_wide(ramsummer_pool *pool
                           (uint8_t)large_reserve, (uint8_t)large_limit);
 }
 
+RAMSUMMER_CHECKED static inline uint8_t ramsummer_view_wide(ramsummer_pool *pool, unsigned task) {
+    return ramsummer_view(pool, ramsummer_to_byte(task));
+}
+
 RAMSUMMER_CHECKED static inline uint8_t ramsummer_leave_wide(ramsummer_pool *pool, unsigned task, uint8_t *advanced) {
     return ramsummer_leave(pool, ramsummer_to_byte(task), advanced);
 }
@@ -67,9 +71,11 @@ RAMSUMMER_CHECKED static inline uint8_t ramsummer_tick_wide(ramsummer_pool *pool
 RAMSUMMER_CHECKED static inline uint8_t ramsummer_make_wide(ramsummer_pool *pool, uint8_t *small_store,
                                                             size_t small_length, uint8_t *large_store,
                                                             size_t large_length, unsigned task, unsigned kind,
-                                                            unsigned extension, size_t length, uint32_t *handle) {
+                                                            unsigned extension, size_t length, size_t prefix,
+                                                            uint32_t *handle) {
     return ramsummer_make(pool, small_store, small_length, large_store, large_length, ramsummer_to_byte(task),
-                          ramsummer_to_byte(kind), ramsummer_to_byte(extension), ramsummer_to_length(length), handle);
+                          ramsummer_to_byte(kind), ramsummer_to_byte(extension), ramsummer_to_length(length),
+                          ramsummer_to_length(prefix), handle);
 }
 
 RAMSUMMER_CHECKED static inline uint8_t ramsummer_refresh_wide(ramsummer_pool *pool, unsigned task, unsigned kind,
@@ -139,6 +145,7 @@ RAMSUMMER_CHECKED static inline uint8_t ramsummer_frame_wide(ramsummer_pool *poo
 
 #define ramsummer_fresh_sized ramsummer_fresh_sized_wide
 #define ramsummer_join ramsummer_join_wide
+#define ramsummer_view ramsummer_view_wide
 #define ramsummer_leave ramsummer_leave_wide
 #define ramsummer_block ramsummer_block_wide
 #define ramsummer_resume ramsummer_resume_wide

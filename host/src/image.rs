@@ -52,8 +52,8 @@ pub const MAGIC: [u8; 4] = *b"RSMR";
 
 /// The version of the layout. It changes with the order or the count of the record's fields, and with what their numbers
 /// mean. Up to 1 an image did not tell who had set a global expiration, up to 2 it had no sums of blocks, up to 3 no limits,
-/// and up to 4 neither the tasks' shares nor the makers of objects.
-pub const VERSION: u32 = 5;
+/// up to 4 neither the tasks' shares nor the makers of objects, and up to 5 neither viewers nor the prefixes of objects.
+pub const VERSION: u32 = 6;
 
 /// The size of an image of the record alone, in bytes.
 pub const RECORD_ALONE: usize = HEAD + RECORD + SUM;

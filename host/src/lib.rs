@@ -137,6 +137,34 @@
 //! # Ok::<(), Refusal>(())
 //! ```
 //!
+//! # Viewers
+//!
+//! A display shows readings and takes no part in the logging. Its task joins by [`Pool::view`]: it reads of each object the
+//! *prefix* that the maker gave it ([`Pool::make_with_prefix`]), sees no byte behind it, changes nothing, and holds up nobody.
+//! What [`Pool::make`] makes has none.
+//!
+//! ```
+//! use ramsummer::{Kind, Pool, Record, Refusal, Share, LARGE, LONGEST, SMALL};
+//!
+//! let mut pool = Pool::over(Record::fresh(), [0; SMALL], [0; LARGE]);
+//! let (logger, display) = (0, 1);
+//! pool.join(logger, Share::OPEN)?;
+//! pool.view(display)?;
+//!
+//! // The reading, and then the raw data of the coil, which are not for the display.
+//! let handle = pool.make_with_prefix(logger, Kind::Global, 1, 40, 7)?;
+//! pool.write(logger, handle, 0, b"12.50 m")?;
+//! pool.write(logger, handle, 7, &[0xC0; 33])?;
+//! assert_eq!(pool.read(display, handle, &mut [0; LONGEST])?, b"12.50 m");
+//!
+//! assert_eq!(pool.refresh(display, Kind::Global, 1, handle), Err(Refusal::OnlyViews));
+//! assert_eq!(pool.tick(logger), Ok(true)); // global time goes on without the display
+//! # Ok::<(), Refusal>(())
+//! ```
+//!
+//! Whatever was written behind the prefixes, all that a viewer is told is the same (proved), as long as no byte is changed from
+//! outside.
+//!
 //! # Bytes changed from outside
 //!
 //! The stores are the host's memory, and a fault elsewhere may write there. So the record has the sum of all bytes of each

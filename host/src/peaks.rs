@@ -116,7 +116,19 @@ where
 
     /// As [`Pool::make`].
     pub fn make(&mut self, task: u8, kind: Kind, extension: u8, length: u16) -> Result<Handle, Refusal> {
-        let handle = self.pool.make(task, kind, extension, length)?;
+        self.make_with_prefix(task, kind, extension, length, 0)
+    }
+
+    /// As [`Pool::make_with_prefix`].
+    pub fn make_with_prefix(
+        &mut self,
+        task: u8,
+        kind: Kind,
+        extension: u8,
+        length: u16,
+        prefix: u16,
+    ) -> Result<Handle, Refusal> {
+        let handle = self.pool.make_with_prefix(task, kind, extension, length, prefix)?;
         self.note();
         Ok(handle)
     }

@@ -192,6 +192,31 @@ where
         sys::join(self.record.borrow_mut(), task, share)
     }
 
+    /// Absent to viewing, with clock 0 and [`Share::NONE`]: a task that reads of each object its
+    /// [prefix](Pool::make_with_prefix) alone, and changes none.
+    ///
+    /// It does not run, so that global time never waits for it. It reads, asks what [remains](Pool::remaining) of an object,
+    /// and leaves; what else a running task may do is refused with [`OnlyViews`](Refusal::OnlyViews), and a resume with
+    /// [`TaskRunning`](Refusal::TaskRunning).
+    ///
+    /// ```
+    /// # use ramsummer::*;
+    /// # let mut pool = Pool::over(Record::fresh(), [0; SMALL], [0; LARGE]);
+    /// pool.join(0, Share::OPEN)?;
+    /// pool.view(1)?;
+    /// let handle = pool.make_with_prefix(0, Kind::Global, 0, 11, 7)?;
+    /// pool.write(0, handle, 0, b"12.50 m 8F3")?;
+    ///
+    /// let mut room = [0; LONGEST];
+    /// assert_eq!(pool.read(1, handle, &mut room)?, b"12.50 m");
+    /// assert_eq!(pool.write(1, handle, 0, b"99"), Err(Refusal::OnlyViews));
+    /// assert_eq!(pool.tick(0), Ok(true)); // it waits for task 0 alone
+    /// # Ok::<(), Refusal>(())
+    /// ```
+    pub fn view(&mut self, task: u8) -> Result<(), Refusal> {
+        sys::view(self.record.borrow_mut(), task)
+    }
+
     /// To absent; the local expirations that this task set go. Those by global time stay and count on, whoever joins by
     /// its number later. What the task made and what stands on counts for nobody from then on, and its share is given up.
     /// Answers whether global time advanced.
@@ -238,7 +263,8 @@ where
     }
 
     /// A new object of `length` zero bytes, 1 to [`LONGEST`], with one expiration. The extension is 0 to the pool's
-    /// [limit](Limits), and 0 where the object is pinned, which is until its [`release`](Pool::release).
+    /// [limit](Limits), and 0 where the object is pinned, which is until its [`release`](Pool::release). A
+    /// [viewer](Pool::view) sees none of its bytes.
     ///
     /// ```
     /// # use ramsummer::*;
@@ -252,8 +278,36 @@ where
     /// # Ok::<(), Refusal>(())
     /// ```
     pub fn make(&mut self, task: u8, kind: Kind, extension: u8, length: u16) -> Result<Handle, Refusal> {
+        self.make_with_prefix(task, kind, extension, length, 0)
+    }
+
+    /// The same, and a [viewer](Pool::view) sees the object's first `prefix` bytes, up to all of them. A longer one is refused
+    /// with [`PrefixTooLong`](Refusal::PrefixTooLong).
+    ///
+    /// ```
+    /// # use ramsummer::*;
+    /// # let mut pool = Pool::over(Record::fresh(), [0; SMALL], [0; LARGE]);
+    /// pool.join(0, Share::OPEN)?;
+    /// pool.view(1)?;
+    /// let mut room = [0; LONGEST];
+    /// for prefix in 0..=4 {
+    ///     let handle = pool.make_with_prefix(0, Kind::Local, 0, 4, prefix)?;
+    ///     assert_eq!(pool.read(0, handle, &mut room)?.len(), 4);
+    ///     assert_eq!(pool.read(1, handle, &mut room)?.len(), prefix.into());
+    /// }
+    /// assert_eq!(pool.make_with_prefix(0, Kind::Local, 0, 4, 5), Err(Refusal::PrefixTooLong));
+    /// # Ok::<(), Refusal>(())
+    /// ```
+    pub fn make_with_prefix(
+        &mut self,
+        task: u8,
+        kind: Kind,
+        extension: u8,
+        length: u16,
+        prefix: u16,
+    ) -> Result<Handle, Refusal> {
         let (record, small, large) = self.parts();
-        sys::make(record, small, large, task, kind, extension, length)
+        sys::make(record, small, large, task, kind, extension, length, prefix)
     }
 
     /// One more expiration for the object; those that it has stay. The extension is 0 to the pool's [limit](Limits). Kind
@@ -327,8 +381,9 @@ where
         sys::release(self.record.borrow_mut(), task, handle)
     }
 
-    /// The object's bytes, copied to the start of `out`; the rest of `out` stays. Where they were changed from outside it is
-    /// refused with [`SumDiffers`](Refusal::SumDiffers), [as far as a sum can tell](crate#bytes-changed-from-outside).
+    /// The object's bytes, to a [viewer](Pool::view) those of its prefix alone, copied to the start of `out`; the rest of `out`
+    /// stays. Where any byte of the block was changed from outside it is refused with [`SumDiffers`](Refusal::SumDiffers),
+    /// [as far as a sum can tell](crate#bytes-changed-from-outside).
     ///
     /// ```
     /// # use ramsummer::*;
@@ -345,7 +400,7 @@ where
         Ok(&out[..length])
     }
 
-    /// The object's bytes, in a vector.
+    /// The bytes that a [`read`](Pool::read) tells, in a vector.
     #[cfg(feature = "alloc")]
     pub fn read_to_vec(&mut self, task: u8, handle: Handle) -> Result<Vec<u8>, Refusal> {
         self.read(task, handle, &mut [0; LONGEST]).map(<[u8]>::to_vec)
@@ -412,7 +467,7 @@ where
     }
 
     /// What a task has of each store: how many of the objects that stand it has made, its reserve and its limit; all 0
-    /// where it is absent. As for a report, the library is lent a copy of the record.
+    /// where it is absent or views. As for a report, the library is lent a copy of the record.
     ///
     /// ```
     /// # use ramsummer::*;

@@ -30,12 +30,12 @@ pub const MAKER_DEPARTED: u8 = 16;
 /// The size of a record in bytes.
 pub const RECORD: usize = 2904;
 
-/// A task. State 0 is absent, 1 running, 2 waiting.
+/// A task. State 0 is absent, 1 running, 2 waiting, 3 viewing.
 #[repr(C)]
 #[derive(Clone, Copy, Debug, Default, PartialEq, Eq)]
 #[non_exhaustive]
 pub struct TaskEntry {
-    /// 0 absent, 1 running, 2 waiting.
+    /// 0 absent, 1 running, 2 waiting, 3 viewing.
     pub state: u16,
     /// 1 where the task has ticked in this period of global time, else 0.
     pub ticked: u16,
@@ -50,10 +50,10 @@ pub struct TaskEntry {
 /// [`NotWellFormed`](crate::Refusal::NotWellFormed) where it is not.
 ///
 /// Store block `i` and the object in it are `handles[i]` and `extents[i]`, of which [`length`](Record::length),
-/// [`sum`](Record::sum) and [`maker`](Record::maker) tell the parts; in every pool the small store's are numbered from 0 on,
-/// the large one's from 64 on. Expiration `i` is `clocks[i]`, `named[i]` and `dues[i]`; they stand in no order.
-/// What lies beyond the [`limits`](Record::limits) is free. The other fields of a free store block or expiration have no
-/// meaning, and may hold anything.
+/// [`maker`](Record::maker), [`prefix`](Record::prefix) and [`sum`](Record::sum) tell the parts; in every pool the small
+/// store's are numbered from 0 on, the large one's from 64 on. Expiration `i` is `clocks[i]`, `named[i]` and `dues[i]`; they
+/// stand in no order. What lies beyond the [`limits`](Record::limits) is free. The other fields of a free store block or
+/// expiration have no meaning, and may hold anything.
 #[repr(C)]
 #[derive(Clone, Debug, PartialEq, Eq)]
 #[non_exhaustive]
@@ -66,13 +66,13 @@ pub struct Record {
     pub given: u32,
     /// How much the pool holds, and for how long. No call changes it.
     pub limits: Limits,
-    /// What each task asked for when it joined; [`Share::NONE`] where it is absent.
+    /// What each task asked for when it joined; [`Share::NONE`] where it is absent or views.
     pub shares: [Share; TASKS],
     /// The handle of the object in each store block; 0 where it is free.
     pub handles: [u32; STORE_BLOCKS],
-    /// Of each store block the [length](Record::length) of its object in bits 0 to 15, the [maker](Record::maker) of its
-    /// object in 16 to 23, and the [sum](Record::sum) of its bytes in 48 to 63. The rest is kept for later, and may hold
-    /// anything.
+    /// Of each store block the [length](Record::length) of its object in bits 0 to 15, the object's [maker](Record::maker)
+    /// in 16 to 23, its [prefix](Record::prefix) in 32 to 47, and the [sum](Record::sum) of the block's bytes in 48 to 63. The
+    /// rest is kept for later, and may hold anything.
     pub extents: [u64; STORE_BLOCKS],
     /// The clock that each expiration goes by, and who set it: [`CLOCK_LOCAL`] and the number of a task for the task's
     /// local time, [`CLOCK_GLOBAL`] and the number of the task that set it for global time, [`CLOCK_DEPARTED`] for global
@@ -155,17 +155,22 @@ impl Record {
     /// # use ramsummer::{Kind, Pool, Record, Share, LARGE, MAKER_DEPARTED, SMALL};
     /// # let mut pool = Pool::over(Record::fresh(), [0; SMALL], [0; LARGE]);
     /// pool.join(3, Share::OPEN)?;
-    /// let handle = pool.make(3, Kind::Pinned, 0, 4)?;
+    /// let handle = pool.make_with_prefix(3, Kind::Pinned, 0, 4, 1)?;
     /// pool.write(3, handle, 0, &[250, 7])?;
     /// let block = pool.record().handles.iter().position(|number| *number == handle.into()).unwrap();
-    /// let told = |record: &Record| (record.length(block), record.sum(block), record.maker(block));
-    /// assert_eq!(told(pool.record()), (4, 257, 3));
+    /// let told = |record: &Record| (record.length(block), record.maker(block), record.prefix(block), record.sum(block));
+    /// assert_eq!(told(pool.record()), (4, 3, 1, 257));
     /// pool.leave(3)?;
-    /// assert_eq!(told(pool.record()), (4, 257, MAKER_DEPARTED));
+    /// assert_eq!(told(pool.record()), (4, MAKER_DEPARTED, 1, 257));
     /// # Ok::<(), ramsummer::Refusal>(())
     /// ```
     pub const fn length(&self, block: usize) -> u16 {
         self.extents[block] as u16
+    }
+
+    /// How many bytes of the object in a store block a viewer sees, from the first on.
+    pub const fn prefix(&self, block: usize) -> u16 {
+        (self.extents[block] >> 32) as u16
     }
 
     /// The sum of all bytes of a store block, 32 or 256 of them. A read and a write compare it with the bytes.

@@ -19,13 +19,13 @@ use core::fmt;
 pub enum Refusal {
     /// Task above 15.
     NoSuchTask = 1,
-    /// Join: the task is not absent.
+    /// Join, view: the task is not absent.
     TaskPresent = 2,
     /// The task has not joined.
     TaskAbsent = 3,
     /// The task waits: it has not resumed.
     TaskWaiting = 4,
-    /// Resume: the task is running.
+    /// Resume: the task does not wait: it is running, or a [viewer](crate::Pool::view).
     TaskRunning = 5,
     /// Extension above the pool's [limit](crate::Limits), or above 0 where the kind is [`Pinned`](crate::Kind::Pinned).
     ExtensionTooLong = 6,
@@ -71,6 +71,10 @@ pub enum Refusal {
     ReserveNotFree = 25,
     /// Make: the task has as many objects of the store as its [limit](crate::Quota::limit).
     AtLimit = 26,
+    /// The task is a [viewer](crate::Pool::view): it reads, asks what remains and leaves, and no more.
+    OnlyViews = 27,
+    /// Make: the [prefix](crate::Pool::make_with_prefix) is longer than the object.
+    PrefixTooLong = 28,
     /// A pool that is made with a [limit](crate::Limits) out of its range.
     LimitsOutOfRange = 29,
     /// Read, frame: no room for the answer in the caller's buffer. It is no refusal of the documents.
@@ -106,6 +110,8 @@ impl Refusal {
         Refusal::ReserveAboveLimit,
         Refusal::ReserveNotFree,
         Refusal::AtLimit,
+        Refusal::OnlyViews,
+        Refusal::PrefixTooLong,
         Refusal::LimitsOutOfRange,
         Refusal::BufferTooShort,
     ];
@@ -126,7 +132,7 @@ impl Refusal {
             Refusal::TaskPresent => "the task has joined already",
             Refusal::TaskAbsent => "the task has not joined",
             Refusal::TaskWaiting => "the task is waiting",
-            Refusal::TaskRunning => "the task is running",
+            Refusal::TaskRunning => "the task does not wait",
             Refusal::ExtensionTooLong => "the extension is above the pool's limit, or above 0 for what is pinned",
             Refusal::LengthOutOfRange => "the length is 0 or above 256",
             Refusal::HandlesSpent => "all handles are given",
@@ -150,6 +156,8 @@ impl Refusal {
             Refusal::ReserveAboveLimit => "a reserve is above its limit",
             Refusal::ReserveNotFree => "too few blocks are left for a reserve",
             Refusal::AtLimit => "the task has as many objects of the store as its limit",
+            Refusal::OnlyViews => "the task is a viewer: it only reads",
+            Refusal::PrefixTooLong => "the prefix is longer than the object",
             Refusal::LimitsOutOfRange => {
                 "a limit is out of its range: 1 to 64 small blocks, 1 to 32 large, 1 to 256 expirations, extension 0 to 30"
             }

@@ -15,7 +15,7 @@ impl Quota {
     /// No reserve, and no limit but the store's own.
     pub const OPEN: Quota = Quota { reserve: 0, limit: u8::MAX };
 
-    /// No reserve, and no object at all: what an absent task has.
+    /// No reserve, and no object at all: what an absent task and a viewer have.
     pub const NONE: Quota = Quota { reserve: 0, limit: 0 };
 }
 
@@ -41,11 +41,11 @@ impl Share {
     /// Of a task that asks for nothing, and is bounded by nothing but the pool.
     pub const OPEN: Share = Share { small: Quota::OPEN, large: Quota::OPEN };
 
-    /// Of a task that makes no object; and what an absent one has.
+    /// Of a task that makes no object; and what an absent one and a viewer have.
     pub const NONE: Share = Share { small: Quota::NONE, large: Quota::NONE };
 }
 
-/// What a task has of one store. All is 0 of an absent task.
+/// What a task has of one store. All is 0 of an absent task and of a viewer.
 #[derive(Clone, Copy, Debug, Default, PartialEq, Eq)]
 #[non_exhaustive]
 pub struct Holding {

@@ -27,6 +27,7 @@ extern "C" {
         large_reserve: u8,
         large_limit: u8,
     ) -> u8;
+    fn ramsummer_view(pool: &mut Record, task: u8) -> u8;
     fn ramsummer_leave(pool: &mut Record, task: u8, advanced: &mut u8) -> u8;
     fn ramsummer_block(pool: &mut Record, task: u8, advanced: &mut u8) -> u8;
     fn ramsummer_resume(pool: &mut Record, task: u8) -> u8;
@@ -41,6 +42,7 @@ extern "C" {
         kind: u8,
         extension: u8,
         length: u16,
+        prefix: u16,
         handle: &mut u32,
     ) -> u8;
     fn ramsummer_refresh(pool: &mut Record, task: u8, kind: u8, extension: u8, handle: u32) -> u8;
@@ -146,6 +148,11 @@ pub(crate) fn join(pool: &mut Record, task: u8, share: Share) -> Result<(), Refu
     outcome(unsafe { ramsummer_join(pool, task, small.reserve, small.limit, large.reserve, large.limit) })
 }
 
+pub(crate) fn view(pool: &mut Record, task: u8) -> Result<(), Refusal> {
+    // SAFETY: one pointer, from a reference.
+    outcome(unsafe { ramsummer_view(pool, task) })
+}
+
 pub(crate) fn leave(pool: &mut Record, task: u8) -> Result<bool, Refusal> {
     let mut advanced = 0;
     // SAFETY: both pointers are from references, and `advanced` is a variable of this function.
@@ -172,6 +179,7 @@ pub(crate) fn tick(pool: &mut Record, task: u8) -> Result<bool, Refusal> {
     Ok(advanced != 0)
 }
 
+#[allow(clippy::too_many_arguments)] // The entry has them.
 pub(crate) fn make(
     pool: &mut Record,
     small: &mut [u8],
@@ -180,6 +188,7 @@ pub(crate) fn make(
     kind: Kind,
     extension: u8,
     length: u16,
+    prefix: u16,
 ) -> Result<Handle, Refusal> {
     let mut handle = 0;
     // SAFETY: the record and both stores are three `&mut`, so they do not overlap, and each store comes with its own
@@ -195,6 +204,7 @@ pub(crate) fn make(
             kind.number(),
             extension,
             length,
+            prefix,
             &mut handle,
         )
     })?;
@@ -225,7 +235,7 @@ pub(crate) fn release(pool: &mut Record, task: u8, handle: Handle) -> Result<(),
     outcome(unsafe { ramsummer_release(pool, task, handle.into()) })
 }
 
-/// How many bytes of `out` the object has filled.
+/// How many bytes of `out` the object, or its prefix, has filled.
 pub(crate) fn read(
     pool: &mut Record,
     small: &[u8],

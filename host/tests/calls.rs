@@ -267,6 +267,149 @@ fn a_limit_is_told_before_a_store_that_is_full() {
     refused(&mut pool, Refusal::NoFreeExpiration, |pool| make(pool, 0, 40));
 }
 
+/// A pool in which task 3 views besides.
+fn viewed() -> Pool {
+    let mut pool = pool();
+    pool.view(3).unwrap();
+    pool
+}
+
+/// What else a running task may do is refused straight after the task's state, before what is wrong with the rest of a call.
+#[test]
+fn a_viewer_only_reads() {
+    let mut pool = viewed();
+    let handle = pool.make(0, Kind::Pinned, 0, 4).unwrap();
+    for named in [handle, Handle::from(0), Handle::from(9)] {
+        for (kind, extension) in [(Kind::Local, 0), (Kind::Global, 31), (Kind::Pinned, 0)] {
+            refused(&mut pool, Refusal::OnlyViews, |pool| pool.refresh(3, kind, extension, named));
+            refused(&mut pool, Refusal::OnlyViews, |pool| pool.refresh_all(3, kind, extension, &[named]));
+            refused(&mut pool, Refusal::OnlyViews, |pool| pool.refresh_all(3, kind, extension, &[named; 33]));
+        }
+        refused(&mut pool, Refusal::OnlyViews, |pool| pool.write(3, named, 0, &[]));
+        refused(&mut pool, Refusal::OnlyViews, |pool| pool.write(3, named, 4, &[1]));
+        refused(&mut pool, Refusal::OnlyViews, |pool| pool.release(3, named));
+    }
+    for (extension, length, prefix) in [(0, 4, 0), (31, 4, 0), (0, 0, 0), (0, 257, 257), (0, 4, 5)] {
+        refused(&mut pool, Refusal::OnlyViews, |pool| pool.make_with_prefix(3, Kind::Local, extension, length, prefix));
+    }
+    refused(&mut pool, Refusal::OnlyViews, |pool| pool.block(3));
+    refused(&mut pool, Refusal::OnlyViews, |pool| pool.tick(3));
+    refused(&mut pool, Refusal::TaskRunning, |pool| pool.resume(3));
+    refused(&mut pool, Refusal::TaskPresent, |pool| pool.join(3, Share::OPEN));
+    refused(&mut pool, Refusal::TaskPresent, |pool| pool.view(3));
+    refused(&mut pool, Refusal::HandleNotGiven, |pool| pool.read_to_vec(3, Handle::from(9)));
+    refused(&mut pool, Refusal::HandleNotGiven, |pool| pool.remaining(3, Handle::from(9)));
+    assert_eq!(pool.remaining(3, handle), Ok(left(0, 0)));
+    assert_eq!(pool.leave(3), Ok(false));
+    refused(&mut pool, Refusal::TaskAbsent, |pool| pool.read_to_vec(3, handle));
+}
+
+#[test]
+fn who_views_was_absent() {
+    let mut pool = viewed();
+    for task in [0, 1, 3] {
+        refused(&mut pool, Refusal::TaskPresent, |pool| pool.view(task));
+    }
+    pool.leave(3).unwrap();
+    pool.join(3, Share::OPEN).unwrap();
+    pool.leave(0).unwrap();
+    pool.view(0).unwrap();
+    assert_eq!(pool.record().tasks.map(|task| task.state)[..5], [3, 2, 0, 1, 0]);
+    assert_eq!(pool.record().shares[..4], [Share::NONE, Share::OPEN, Share::NONE, Share::OPEN]);
+    assert_eq!(told(&pool, 0), [(0, 0, 0); 2]);
+}
+
+/// None of an object's bytes, some or all; whoever runs reads them all.
+#[test]
+fn a_viewer_reads_the_prefix() {
+    let bytes: [u8; LONGEST] = std::array::from_fn(|place| place as u8 ^ 0x55);
+    let mut pool = viewed();
+    for length in [1, 2, 31, 32, 33, 255, 256] {
+        for prefix in [0, 1, length / 2, length - 1, length] {
+            let handle = pool.make_with_prefix(0, Kind::Local, 0, length, prefix).unwrap();
+            let (length, prefix) = (usize::from(length), usize::from(prefix));
+            pool.write(0, handle, 0, &bytes[..length]).unwrap();
+            let mut room = [9; LONGEST + 1];
+            assert_eq!(pool.read(3, handle, &mut room), Ok(&bytes[..prefix]));
+            assert!(room[prefix..].iter().all(|byte| *byte == 9));
+            assert_eq!(pool.read(0, handle, &mut room), Ok(&bytes[..length]));
+            // The room has to be for what it reads, and not for the object.
+            assert_eq!(pool.read(3, handle, &mut room[..prefix]), Ok(&bytes[..prefix]));
+            if prefix > 0 {
+                let short = &mut room[..prefix - 1];
+                refused(&mut pool, Refusal::BufferTooShort, |pool| pool.read(3, handle, short).map(<[u8]>::len));
+            }
+        }
+        pool.tick(0).unwrap();
+    }
+    let handle = pool.make(0, Kind::Local, 0, 4).unwrap();
+    assert_eq!(pool.read(3, handle, &mut []), Ok(&[][..]));
+}
+
+/// 28 comes after the length, and before all that runs out: 8, 26, 9 and 10.
+#[test]
+fn a_prefix_is_at_most_the_length() {
+    let limits = Limits { small_blocks: 1, large_blocks: 1, expirations: 1, extension: 0 };
+    let mut pool = Pool::sized(limits).unwrap();
+    pool.join(0, share(0, 1, 0, 0)).unwrap();
+    pool.join(1, Share::OPEN).unwrap();
+    let make = |task, extension, length, prefix| {
+        move |pool: &mut Pool| pool.make_with_prefix(task, Kind::Local, extension, length, prefix)
+    };
+    make(0, 0, 4, 4)(&mut pool).unwrap();
+    for (task, length, refusal) in [
+        (0, 4, Refusal::AtLimit),
+        (0, 40, Refusal::AtLimit),
+        (1, 32, Refusal::NoFreeBlock),
+        (1, 256, Refusal::NoFreeExpiration),
+    ] {
+        for prefix in [length + 1, 257, u16::MAX] {
+            refused(&mut pool, Refusal::PrefixTooLong, make(task, 0, length, prefix));
+            refused(&mut pool, Refusal::ExtensionTooLong, make(task, 1, length, prefix));
+            refused(&mut pool, Refusal::LengthOutOfRange, make(task, 0, 0, prefix));
+            refused(&mut pool, Refusal::LengthOutOfRange, make(task, 0, 257, prefix));
+        }
+        for prefix in [0, 1, length] {
+            refused(&mut pool, refusal, make(task, 0, length, prefix));
+        }
+    }
+    let (mut record, small, large) = pool.into_parts();
+    record.given = u32::MAX;
+    let mut pool = Pool::over(record, small, large);
+    refused(&mut pool, Refusal::PrefixTooLong, make(1, 0, 4, 5));
+    refused(&mut pool, Refusal::HandlesSpent, make(1, 0, 4, 4));
+}
+
+/// Its tick is not awaited, and neither with it nor with its leave does the time advance.
+#[test]
+fn global_time_goes_on_without_a_viewer() {
+    let mut pool = viewed();
+    assert!(pool.awaited().unwrap().iter().eq([0]));
+    assert_eq!((pool.tick(0), pool.tick(0)), (Ok(true), Ok(true)));
+    pool.resume(1).unwrap();
+    assert_eq!(pool.tick(0), Ok(false));
+    pool.view(2).unwrap();
+    assert!(pool.awaited().unwrap().iter().eq([1]));
+    assert_eq!((pool.leave(2), pool.leave(3), pool.tick(1)), (Ok(false), Ok(false), Ok(true)));
+    pool.view(3).unwrap();
+    assert_eq!((pool.leave(0), pool.leave(1)), (Ok(false), Ok(false)));
+    assert_eq!((pool.leave(3), pool.record().global), (Ok(false), 3));
+}
+
+/// Global expirations of a task that views by now count on: who set them has left.
+#[test]
+fn who_views_has_set_nothing() {
+    let mut pool = pool();
+    pool.resume(1).unwrap();
+    let [local, global] = [Kind::Local, Kind::Global].map(|kind| pool.make_with_prefix(1, kind, 1, 4, 1).unwrap());
+    pool.leave(1).unwrap();
+    pool.view(1).unwrap();
+    refused(&mut pool, Refusal::ObjectGone, |pool| pool.read_to_vec(1, local));
+    assert_eq!(pool.remaining(1, global), Ok(left(0, 3)));
+    assert_eq!(pool.tick(0), Ok(true));
+    assert_eq!((pool.remaining(1, global), pool.read_to_vec(1, global)), (Ok(left(0, 2)), Ok(vec![0])));
+}
+
 /// The four numbers, each in its place of the record.
 #[test]
 fn the_record_has_the_shares() {
@@ -326,8 +469,8 @@ fn a_read_fills_the_start_of_its_room() {
 #[test]
 fn a_byte_that_is_changed_from_outside_is_noticed() {
     for length in [7, 40] {
-        let mut pool = pool();
-        let handle = pool.make(0, Kind::Local, 3, length).unwrap();
+        let mut pool = viewed();
+        let handle = pool.make_with_prefix(0, Kind::Local, 3, length, 1).unwrap();
         pool.write(0, handle, 0, b"12.50 m").unwrap();
         let whole = pool.clone();
         // Bytes of the object and one behind its end, in whichever block it is.
@@ -335,6 +478,7 @@ fn a_byte_that_is_changed_from_outside_is_noticed() {
             pool = changed(pool, length, |block| block[place] ^= 0x80);
             refused(&mut pool, Refusal::SumDiffers, |pool| pool.read_to_vec(0, handle));
             refused(&mut pool, Refusal::SumDiffers, |pool| pool.read(0, handle, &mut []).map(<[u8]>::len));
+            refused(&mut pool, Refusal::SumDiffers, |pool| pool.read_to_vec(3, handle));
             refused(&mut pool, Refusal::SumDiffers, |pool| pool.write(0, handle, 0, b"12.50 m"));
             refused(&mut pool, Refusal::SumDiffers, |pool| pool.write(0, handle, 0, &[]));
             refused(&mut pool, Refusal::SumDiffers, |pool| pool.write(0, handle, 0, &[1; LONGEST]));
@@ -404,6 +548,7 @@ fn tasks_are_tested() {
     }
     for task in [16, 255] {
         refused(&mut pool, Refusal::NoSuchTask, |pool| pool.join(task, Share::OPEN));
+        refused(&mut pool, Refusal::NoSuchTask, |pool| pool.view(task));
         refused(&mut pool, Refusal::NoSuchTask, |pool| pool.share(task));
     }
     for (task, refusal) in [(16, Refusal::NoSuchTask), (2, Refusal::TaskAbsent), (1, Refusal::TaskWaiting)] {
@@ -496,6 +641,7 @@ fn a_damaged_record_is_refused_until_it_is_fresh() {
     let mut pool = Pool::over(damaged.into(), vec![0; SMALL].into(), vec![0; LARGE].into());
     let handle = Handle::from(1);
     refused(&mut pool, Refusal::NotWellFormed, |pool| pool.join(16, Share::OPEN));
+    refused(&mut pool, Refusal::NotWellFormed, |pool| pool.view(16));
     refused(&mut pool, Refusal::NotWellFormed, |pool| pool.leave(16));
     refused(&mut pool, Refusal::NotWellFormed, |pool| pool.block(16));
     refused(&mut pool, Refusal::NotWellFormed, |pool| pool.resume(16));
@@ -533,23 +679,23 @@ fn the_record_shows_objects_and_expirations() {
     pool.tick(0).unwrap();
     pool.resume(1).unwrap();
     pool.tick(1).unwrap();
-    let handle = pool.make(1, Kind::Local, 3, 40).unwrap();
+    let handle = pool.make_with_prefix(1, Kind::Local, 3, 40, 39).unwrap();
     pool.refresh(0, Kind::Global, 4, handle).unwrap();
     let record = pool.record().clone();
     let block = record.handles.iter().position(|number| *number == u32::from(handle)).unwrap();
     assert!((64..96).contains(&block));
-    let told = |record: &Record| (record.length(block), record.sum(block), record.maker(block));
-    assert_eq!((told(&record), record.extents[block]), ((40, 0, 1), 1 << 16 | 40));
+    let told = |record: &Record| (record.length(block), record.maker(block), record.prefix(block), record.sum(block));
+    assert_eq!((told(&record), record.extents[block]), ((40, 1, 39, 0), 39 << 32 | 1 << 16 | 40));
     let entry = |clock| record.clocks.iter().position(|other| *other == clock).unwrap();
     let (local, global) = (entry(16 + 1), entry(32));
     assert_eq!([record.named[local], record.named[global]], [block as u8; 2]);
     assert_eq!(record.dues[local], record.tasks[1].clock + 3 + 1);
     assert_eq!(record.dues[global], record.global + 4 + 2);
     pool.write(0, handle, 38, &[250, 7]).unwrap();
-    assert_eq!(told(pool.record()), (40, 257, 1));
+    assert_eq!(told(pool.record()), (40, 1, 39, 257));
     pool.leave(1).unwrap();
     assert_eq!((pool.record().clocks[local], pool.record().clocks[global]), (0, 32));
-    assert_eq!(told(pool.record()), (40, 257, MAKER_DEPARTED));
+    assert_eq!(told(pool.record()), (40, MAKER_DEPARTED, 39, 257));
     pool.leave(0).unwrap();
     pool.join(0, Share::OPEN).unwrap();
     assert_eq!(pool.record().clocks[global], 48);

@@ -67,6 +67,7 @@ fn claims() -> Vec<(String, usize)> {
         ("RAMSUMMER_MAKER_DEPARTED", ramsummer::MAKER_DEPARTED.into()),
         ("RAMSUMMER_LENGTH_IN(0x1122334455667788)", record.length(0).into()),
         ("RAMSUMMER_MAKER_IN(0x1122334455667788)", record.maker(0).into()),
+        ("RAMSUMMER_PREFIX_IN(0x1122334455667788)", record.prefix(0).into()),
         ("RAMSUMMER_SUM_IN(0x1122334455667788)", record.sum(0).into()),
         ("sizeof(ramsummer_task_share)", size_of::<Share>()),
         ("sizeof(ramsummer_task_entry)", size_of::<TaskEntry>()),
@@ -185,6 +186,6 @@ fn the_refusals_are_those_of_the_documents() {
 fn numbers_and_refusals_go_both_ways() {
     for number in 0..=255 {
         let back = Refusal::from_number(number).map(Refusal::number);
-        assert_eq!(back, matches!(number, 1..=26 | 29 | 255).then_some(number));
+        assert_eq!(back, matches!(number, 1..=29 | 255).then_some(number));
     }
 }

@@ -1,7 +1,7 @@
 //! Saved images: what is saved comes back, and no damage of one bit or cut goes unnoticed.
 
 use lives::{limits, pools, pools_of, Random};
-use old::{version_3, version_4};
+use old::{version_3, version_4, version_5};
 use ramsummer::image::{crc32, restore, restore_with_stores, save, save_with_stores, with_stores, Fault};
 use ramsummer::image::{MAGIC, RECORD_ALONE, VERSION, WITH_STORES};
 use ramsummer::{Kind, Limits, Pool, Record, Refusal, Share, LARGE, LARGE_SIZE, LINE, RECORD, SMALL, SMALL_SIZE};
@@ -101,7 +101,7 @@ fn a_record_alone_comes_back_with_its_limits() {
     assert_eq!(pool.make(0, Kind::Local, 0, 4), Err(Refusal::WrongStoreLength));
     assert_eq!(pool.read(0, 1.into(), &mut [0; 4]), Err(Refusal::WrongStoreLength));
     assert_eq!(pool.write(0, 1.into(), 0, &[]), Err(Refusal::WrongStoreLength));
-    assert_eq!(pool.frame(b"060000000004", &mut [0; LINE]).outcome, Err(Refusal::WrongStoreLength));
+    assert_eq!(pool.frame(b"0600000000040000", &mut [0; LINE]).outcome, Err(Refusal::WrongStoreLength));
     assert_eq!(pool.tick(0), Ok(true));
 }
 
@@ -144,7 +144,7 @@ fn the_layout_is_that_of_its_version() {
     let counted: Vec<u8> = (0..RECORD).map(|place| (place % 251) as u8).collect();
     let mut image = vec![0; RECORD_ALONE];
     image[..4].copy_from_slice(b"RSMR");
-    image[4] = 5;
+    image[4] = 6;
     image[8..12].copy_from_slice(&2920_u32.to_le_bytes());
     image[12..12 + RECORD].copy_from_slice(&counted);
     let sum = crc32(&image[..RECORD_ALONE - 4]);
@@ -161,10 +161,10 @@ fn the_layout_is_that_of_its_version() {
     assert_eq!(image_of(&record), image);
     // The sums of fresh images, by Python's zlib.
     let cable = Limits { small_blocks: 16, large_blocks: 4, expirations: 64, extension: 10 };
-    assert_eq!(image_of(&Record::fresh())[RECORD_ALONE - 4..], 0x8B2B_960E_u32.to_le_bytes());
-    assert_eq!(whole_image_of(&Pool::new())[WITH_STORES - 4..], 0x95EE_A51C_u32.to_le_bytes());
-    assert_eq!(whole_image_of(&Pool::sized(cable).unwrap())[4456 - 4..], 0xA71F_B0CF_u32.to_le_bytes());
-    assert_eq!((MAGIC, VERSION, RECORD_ALONE, WITH_STORES), (*b"RSMR", 5, 2920, 13_160));
+    assert_eq!(image_of(&Record::fresh())[RECORD_ALONE - 4..], 0xB508_D6D2_u32.to_le_bytes());
+    assert_eq!(whole_image_of(&Pool::new())[WITH_STORES - 4..], 0x23B7_D7E4_u32.to_le_bytes());
+    assert_eq!(whole_image_of(&Pool::sized(cable).unwrap())[4456 - 4..], 0x3476_5C79_u32.to_le_bytes());
+    assert_eq!((MAGIC, VERSION, RECORD_ALONE, WITH_STORES), (*b"RSMR", 6, 2920, 13_160));
     assert_eq!(with_stores(cable), 4456);
 }
 
@@ -227,7 +227,7 @@ fn bytes_after_an_image_may_be_anything() {
 fn other_versions_and_the_other_kind_are_told() {
     let pool = late_pool();
     let mut image = image_of(pool.record());
-    for version in [0, 1, 2, 3, 4, 6, 256, u32::MAX] {
+    for version in [0, 1, 2, 3, 4, 5, 7, 256, u32::MAX] {
         image[4..8].copy_from_slice(&version.to_le_bytes());
         assert_eq!(restore(&image), Err(Fault::Version));
     }
@@ -258,6 +258,16 @@ fn an_image_of_an_earlier_version_is_too_short_at_its_own_length() {
             assert_eq!(restored(&sector).err(), Some(Fault::Version));
         }
     }
+}
+
+/// Though its record has today's length, and is whole.
+#[test]
+fn so_is_one_of_version_5() {
+    let old = version_5();
+    assert_eq!(old.len(), RECORD_ALONE);
+    assert_eq!(restore(&old), Err(Fault::Version));
+    assert_eq!(restored(&old).err(), Some(Fault::Version));
+    assert_eq!(restore(&old[1..]), Err(Fault::TooShort));
 }
 
 #[test]

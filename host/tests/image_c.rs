@@ -2,7 +2,7 @@
 
 use in_c::{built, host, scratch};
 use lives::{limits, Random};
-use old::{version_3, version_4};
+use old::{version_3, version_4, version_5};
 use ramsummer::image::{restore, restore_with_stores, save, save_with_stores, with_stores};
 use ramsummer::image::{Fault, RECORD_ALONE, VERSION, WITH_STORES};
 use ramsummer::{Limits, Record, LARGE, LARGE_SIZE, RECORD, SMALL, SMALL_SIZE};
@@ -123,7 +123,8 @@ fn both_tell_the_same_faults_of_an_image_with_stores() {
 /// At its own length, and with bytes after it: as a record alone, and with stores.
 #[test]
 fn both_tell_the_same_faults_of_an_image_of_an_earlier_version() {
-    for (name, mut image) in [("image_3", version_3()), ("image_4", version_4())] {
+    for (name, mut image) in [("image_3", version_3()), ("image_4", version_4()), ("image_5", version_5())] {
+        let is_short = image.len() < RECORD_ALONE;
         let Some(told) = told(name, &image, &["old"]) else { return };
         let mut faults = Vec::new();
         for length in [image.len(), WITH_STORES] {
@@ -132,8 +133,9 @@ fn both_tell_the_same_faults_of_an_image_of_an_earlier_version() {
             faults.push(number(restore_with_stores(&image, &mut [0; SMALL], &mut [0; LARGE])));
         }
         assert_eq!(told, faults);
-        let (short, old) = (Fault::TooShort.number(), Fault::Version.number());
-        assert_eq!(faults, [short, short, old, old]);
+        let old = Fault::Version.number();
+        let at_its_length = if is_short { Fault::TooShort.number() } else { old };
+        assert_eq!(faults, [at_its_length, at_its_length, old, old]);
     }
 }
 

@@ -30,6 +30,8 @@ fn each_call_that_raises_a_figure_is_noted() {
     assert_eq!(pool.peaks(), peaks(1, 1, 6));
     assert_eq!(pool.frame(b"0700000000000001", &mut [0; LINE]).outcome, Ok(()));
     assert_eq!(pool.peaks(), peaks(1, 1, 7));
+    pool.make_with_prefix(0, Kind::Local, 0, 32, 8).unwrap();
+    assert_eq!(pool.peaks(), peaks(2, 1, 8));
 }
 
 /// Nor does a refused call move them.
@@ -88,9 +90,9 @@ fn frame(pool: &Pool, random: &mut Random) -> String {
         3 => format!("03{task:02X}"),
         4..=5 => format!("04{task:02X}"),
         6..=8 => format!("05{task:02X}"),
-        9..=12 => format!("06{timed}{:04X}", 1 + random.below(64)),
+        9..=12 => format!("06{timed}{:04X}0000", 1 + random.below(64)),
         13..=14 => format!("07{timed}{handle:08X}"),
-        15 => format!("06{task:02X}02000004"),
+        15 => format!("06{task:02X}020000040001"),
         16..=18 => format!("0D{task:02X}{handle:08X}"),
         _ => format!("0C{timed}{handle:08X}{given:08X}"),
     }

@@ -9,6 +9,7 @@ mod lives;
 const ABSENT: u16 = 0;
 const RUNNING: u16 = 1;
 const WAITING: u16 = 2;
+const VIEWING: u16 = 3;
 
 fn restored(record: &Record) -> Record {
     let mut kept = [0; image::RECORD_ALONE];
@@ -75,6 +76,24 @@ fn or_it_goes_on_and_everything_of_it_is_as_it_was() {
         }
         assert!(pool == whole);
     }
+}
+
+/// Who viewed goes on; a task of its number that would run finds it by 27, leaves and joins.
+#[test]
+fn a_viewer_goes_on() {
+    let mut viewers = 0;
+    for mut pool in restarted() {
+        let states = pool.record().tasks.map(|task| task.state);
+        for task in (0..TASKS as u8).filter(|&task| states[usize::from(task)] == VIEWING) {
+            assert_eq!(pool.view(task), Err(Refusal::TaskPresent));
+            assert_eq!(pool.join(task, Share::OPEN), Err(Refusal::TaskPresent));
+            assert_eq!(pool.resume(task), Err(Refusal::TaskRunning));
+            assert_eq!(pool.tick(task), Err(Refusal::OnlyViews));
+            assert_eq!((pool.clone().leave(task), local(pool.record(), task)), (Ok(false), 0));
+            viewers += 1;
+        }
+    }
+    assert!(viewers > 1000);
 }
 
 /// Without the stores, where zeros stand in their place: what has other bytes than zeros is refused.

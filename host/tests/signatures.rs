@@ -74,7 +74,7 @@ fn source() -> Option<String> {
 
 #[test]
 fn the_header_and_the_crate_agree() {
-    assert_eq!(header().len(), 18);
+    assert_eq!(header().len(), 19);
     assert_eq!(signatures(include_str!("../src/sys.rs"), "fn", rust_form), header());
 }
 

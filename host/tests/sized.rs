@@ -55,7 +55,7 @@ fn assert_not_well_formed(pool: &mut Pool) {
     refused(pool, Refusal::NotWellFormed, |pool| pool.remaining(0, handle));
     refused(pool, Refusal::NotWellFormed, |pool| pool.awaited());
     refused(pool, Refusal::NotWellFormed, |pool| pool.share(0));
-    for line in [&b"010000FF00FF"[..], b"060000000001", b"0A"] {
+    for line in [&b"010000FF00FF"[..], b"0600000000010000", b"0A"] {
         refused(pool, Refusal::NotWellFormed, |pool| pool.frame(line, &mut [0; LINE]).outcome);
     }
     assert_eq!(pool.frame(b"0A", &mut [0; LINE]).line, b"0F\n");

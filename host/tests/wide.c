@@ -14,7 +14,7 @@
 #pragma GCC diagnostic ignored "-Wsign-conversion"
 #endif
 
-enum { RUNS = 0, WAITS = 1, ABSENT = 2, NEVER = 99 };
+enum { RUNS = 0, WAITS = 1, ABSENT = 2, VIEWS = 3, NEVER = 99 };
 
 /* All that a call could change. */
 typedef struct world {
@@ -44,17 +44,18 @@ static void expect(int line, int argument, uint8_t answer, uint8_t number) {
 #define REFUSED(number, call) expect(__LINE__, n, call, number)
 #define DONE(call) do if (call != RAMSUMMER_DONE) printf("line %d\n", __LINE__), faults++; while (0)
 
-/* Three tasks and four objects: one that is gone, a short one, one of 256 bytes and one that is pinned. */
+/* Four tasks and four objects: one that is gone, a short one, one of 256 bytes and one that is pinned. */
 static void begin(void) {
     ramsummer_fresh(&w.pool);
     DONE(ramsummer_join(&w.pool, RUNS, RAMSUMMER_OPEN));
     DONE(ramsummer_join(&w.pool, WAITS, RAMSUMMER_OPEN));
     DONE(ramsummer_block(&w.pool, WAITS, &w.advanced));
-    DONE(ramsummer_make(POOL, RUNS, RAMSUMMER_LOCAL, 0, 4, &gone));
+    DONE(ramsummer_view(&w.pool, VIEWS));
+    DONE(ramsummer_make(POOL, RUNS, RAMSUMMER_LOCAL, 0, 4, 0, &gone));
     DONE(ramsummer_tick(&w.pool, RUNS, &w.advanced));
-    DONE(ramsummer_make(POOL, RUNS, RAMSUMMER_LOCAL, 30, 4, &stands));
-    DONE(ramsummer_make(POOL, RUNS, RAMSUMMER_LOCAL, 30, RAMSUMMER_LONGEST, &longest));
-    DONE(ramsummer_make(POOL, RUNS, RAMSUMMER_PINNED, 0, 4, &pinned));
+    DONE(ramsummer_make(POOL, RUNS, RAMSUMMER_LOCAL, 30, 4, 0, &stands));
+    DONE(ramsummer_make(POOL, RUNS, RAMSUMMER_LOCAL, 30, RAMSUMMER_LONGEST, 0, &longest));
+    DONE(ramsummer_make(POOL, RUNS, RAMSUMMER_PINNED, 0, 4, 0, &pinned));
     memset(w.share, 7, sizeof w.share);
     before = w;
 }
@@ -63,13 +64,14 @@ static void begin(void) {
 static void no_task(int n) {
     REFUSED(1, ramsummer_join(&w.pool, n, RAMSUMMER_OPEN));
     REFUSED(1, ramsummer_join(&w.pool, n, 256, 0, 0, 0));
+    REFUSED(1, ramsummer_view(&w.pool, n));
     REFUSED(1, ramsummer_share(&w.pool, n, SHARE));
     REFUSED(1, ramsummer_leave(&w.pool, n, &w.advanced));
     REFUSED(1, ramsummer_block(&w.pool, n, &w.advanced));
     REFUSED(1, ramsummer_resume(&w.pool, n));
     REFUSED(1, ramsummer_tick(&w.pool, n, &w.advanced));
-    REFUSED(1, ramsummer_make(POOL, n, RAMSUMMER_LOCAL, 0, 4, &w.handle));
-    REFUSED(1, ramsummer_make(POOL, n, RAMSUMMER_LOCAL, 256, 65540, &w.handle));
+    REFUSED(1, ramsummer_make(POOL, n, RAMSUMMER_LOCAL, 0, 4, 0, &w.handle));
+    REFUSED(1, ramsummer_make(POOL, n, RAMSUMMER_LOCAL, 256, 65540, 65540, &w.handle));
     REFUSED(1, ramsummer_refresh(&w.pool, n, RAMSUMMER_LOCAL, 0, stands));
     REFUSED(1, ramsummer_refresh(&w.pool, n, RAMSUMMER_LOCAL, 256, NEVER));
     REFUSED(1, ramsummer_refresh_all(&w.pool, n, RAMSUMMER_LOCAL, 0, &stands, 1));
@@ -84,15 +86,15 @@ static void no_task(int n) {
 
 /* 14 comes before 1. */
 static void with_a_short_store(int n) {
-    REFUSED(14, ramsummer_make(NO_POOL, n, RAMSUMMER_LOCAL, n, n, &w.handle));
+    REFUSED(14, ramsummer_make(NO_POOL, n, RAMSUMMER_LOCAL, n, n, n, &w.handle));
     REFUSED(14, ramsummer_read(NO_POOL, n, stands, w.out, sizeof w.out, &w.count));
     REFUSED(14, ramsummer_write(NO_POOL, n, stands, n, bytes, 1));
 }
 
 /* 19 comes before all else. */
 static void no_kind(int n) {
-    REFUSED(19, ramsummer_make(POOL, RUNS, n, 0, 4, &w.handle));
-    REFUSED(19, ramsummer_make(NO_POOL, 256, n, 256, 65540, &w.handle));
+    REFUSED(19, ramsummer_make(POOL, RUNS, n, 0, 4, 0, &w.handle));
+    REFUSED(19, ramsummer_make(NO_POOL, 256, n, 256, 65540, 65540, &w.handle));
     REFUSED(19, ramsummer_refresh(&w.pool, RUNS, n, 0, stands));
     REFUSED(19, ramsummer_refresh(&w.pool, 256, n, 256, NEVER));
     REFUSED(19, ramsummer_refresh_all(&w.pool, RUNS, n, 0, &stands, 1));
@@ -109,31 +111,46 @@ static void no_share(int n) {
     REFUSED(24, ramsummer_join(&w.pool, ABSENT, n, n, n, n));
     REFUSED(2, ramsummer_join(&w.pool, RUNS, 0, n, 0, n));
     REFUSED(2, ramsummer_join(&w.pool, WAITS, n, 255, n, 255));
+    REFUSED(2, ramsummer_join(&w.pool, VIEWS, n, 255, n, 255));
 }
 
 /* 6: after the task, the size of a batch and 21, before the length and the object. */
 static void no_extension(int n) {
-    REFUSED(6, ramsummer_make(POOL, RUNS, RAMSUMMER_PINNED, n, 4, &w.handle));
+    REFUSED(6, ramsummer_make(POOL, RUNS, RAMSUMMER_PINNED, n, 4, 0, &w.handle));
     REFUSED(21, ramsummer_refresh(&w.pool, RUNS, RAMSUMMER_PINNED, n, stands));
     REFUSED(21, ramsummer_refresh_all(&w.pool, RUNS, RAMSUMMER_PINNED, n, &stands, 1));
-    REFUSED(6, ramsummer_make(POOL, RUNS, RAMSUMMER_GLOBAL, n, 4, &w.handle));
-    REFUSED(6, ramsummer_make(POOL, RUNS, RAMSUMMER_LOCAL, n, 65540, &w.handle));
+    REFUSED(6, ramsummer_make(POOL, RUNS, RAMSUMMER_GLOBAL, n, 4, 0, &w.handle));
+    REFUSED(6, ramsummer_make(POOL, RUNS, RAMSUMMER_LOCAL, n, 65540, 65540, &w.handle));
     REFUSED(6, ramsummer_refresh(&w.pool, RUNS, RAMSUMMER_GLOBAL, n, stands));
     REFUSED(6, ramsummer_refresh(&w.pool, RUNS, RAMSUMMER_LOCAL, n, NEVER));
     REFUSED(6, ramsummer_refresh_all(&w.pool, RUNS, RAMSUMMER_LOCAL, n, &gone, 1));
     REFUSED(20, ramsummer_refresh_all(&w.pool, RUNS, RAMSUMMER_LOCAL, n, &stands, 0));
-    REFUSED(3, ramsummer_make(POOL, ABSENT, RAMSUMMER_LOCAL, n, 4, &w.handle));
+    REFUSED(3, ramsummer_make(POOL, ABSENT, RAMSUMMER_LOCAL, n, 4, 0, &w.handle));
     REFUSED(3, ramsummer_refresh(&w.pool, ABSENT, RAMSUMMER_LOCAL, n, stands));
-    REFUSED(4, ramsummer_make(POOL, WAITS, RAMSUMMER_LOCAL, n, 4, &w.handle));
+    REFUSED(4, ramsummer_make(POOL, WAITS, RAMSUMMER_LOCAL, n, 4, 0, &w.handle));
     REFUSED(4, ramsummer_refresh_all(&w.pool, WAITS, RAMSUMMER_LOCAL, n, &stands, 1));
+    REFUSED(27, ramsummer_make(POOL, VIEWS, RAMSUMMER_LOCAL, n, 4, 0, &w.handle));
+    REFUSED(27, ramsummer_refresh(&w.pool, VIEWS, RAMSUMMER_PINNED, n, NEVER));
+    REFUSED(27, ramsummer_refresh_all(&w.pool, VIEWS, RAMSUMMER_LOCAL, n, &stands, 0));
 }
 
-/* 7: after the task and the extension. */
+/* 7: after the task and the extension, before the prefix. */
 static void no_length(int n) {
-    REFUSED(7, ramsummer_make(POOL, RUNS, RAMSUMMER_LOCAL, 30, n, &w.handle));
-    REFUSED(6, ramsummer_make(POOL, RUNS, RAMSUMMER_LOCAL, 31, n, &w.handle));
-    REFUSED(3, ramsummer_make(POOL, ABSENT, RAMSUMMER_LOCAL, 30, n, &w.handle));
-    REFUSED(4, ramsummer_make(POOL, WAITS, RAMSUMMER_LOCAL, 30, n, &w.handle));
+    REFUSED(7, ramsummer_make(POOL, RUNS, RAMSUMMER_LOCAL, 30, n, 0, &w.handle));
+    REFUSED(7, ramsummer_make(POOL, RUNS, RAMSUMMER_LOCAL, 30, n, n, &w.handle));
+    REFUSED(6, ramsummer_make(POOL, RUNS, RAMSUMMER_LOCAL, 31, n, 0, &w.handle));
+    REFUSED(3, ramsummer_make(POOL, ABSENT, RAMSUMMER_LOCAL, 30, n, 0, &w.handle));
+    REFUSED(4, ramsummer_make(POOL, WAITS, RAMSUMMER_LOCAL, 30, n, 0, &w.handle));
+}
+
+/* 28: after the length. The longest object has room for a prefix of 256 alone. */
+static void no_prefix(int n) {
+    REFUSED(28, ramsummer_make(POOL, RUNS, RAMSUMMER_LOCAL, 30, 4, n, &w.handle));
+    if (n != RAMSUMMER_LONGEST)
+        REFUSED(28, ramsummer_make(POOL, RUNS, RAMSUMMER_LOCAL, 30, RAMSUMMER_LONGEST, n, &w.handle));
+    REFUSED(7, ramsummer_make(POOL, RUNS, RAMSUMMER_LOCAL, 30, 0, n, &w.handle));
+    REFUSED(6, ramsummer_make(POOL, RUNS, RAMSUMMER_LOCAL, 31, 4, n, &w.handle));
+    REFUSED(27, ramsummer_make(POOL, VIEWS, RAMSUMMER_LOCAL, 30, 4, n, &w.handle));
 }
 
 /* 13: after all else, however many bytes are to be written, and to the longest object too. */
@@ -146,6 +163,7 @@ static void no_offset(int n) {
     REFUSED(11, ramsummer_write(POOL, RUNS, NEVER, n, bytes, 1));
     REFUSED(3, ramsummer_write(POOL, ABSENT, stands, n, bytes, 1));
     REFUSED(4, ramsummer_write(POOL, WAITS, stands, n, bytes, 1));
+    REFUSED(27, ramsummer_write(POOL, VIEWS, NEVER, n, bytes, 1));
 }
 
 /* 23 comes before 13. */
@@ -154,6 +172,7 @@ static void with_changed_bytes(int n) {
     for (i = 0; i < sizeof w.large; i += RAMSUMMER_LONGEST) w.large[i] ^= 1;
     before = w;
     REFUSED(23, ramsummer_read(POOL, RUNS, longest, w.out, sizeof w.out, &w.count));
+    REFUSED(23, ramsummer_read(POOL, VIEWS, longest, w.out, sizeof w.out, &w.count));
     REFUSED(23, ramsummer_write(POOL, RUNS, longest, n, bytes, 0));
     REFUSED(23, ramsummer_write(POOL, RUNS, longest, n, bytes, sizeof bytes));
     REFUSED(12, ramsummer_write(POOL, RUNS, gone, n, bytes, 1));
@@ -166,12 +185,13 @@ static void on_a_damaged_record(int n) {
     w.pool.tasks[ABSENT].clock = 1;
     before = w;
     REFUSED(15, ramsummer_join(&w.pool, n, n, n, n, n));
+    REFUSED(15, ramsummer_view(&w.pool, n));
     REFUSED(15, ramsummer_share(&w.pool, n, SHARE));
     REFUSED(15, ramsummer_leave(&w.pool, n, &w.advanced));
     REFUSED(15, ramsummer_block(&w.pool, n, &w.advanced));
     REFUSED(15, ramsummer_resume(&w.pool, n));
     REFUSED(15, ramsummer_tick(&w.pool, n, &w.advanced));
-    REFUSED(15, ramsummer_make(NO_POOL, n, RAMSUMMER_LOCAL, n, n, &w.handle));
+    REFUSED(15, ramsummer_make(NO_POOL, n, RAMSUMMER_LOCAL, n, n, n, &w.handle));
     REFUSED(15, ramsummer_refresh(&w.pool, n, RAMSUMMER_LOCAL, n, stands));
     REFUSED(15, ramsummer_refresh_all(&w.pool, n, RAMSUMMER_LOCAL, n, &stands, 0));
     REFUSED(15, ramsummer_release(&w.pool, n, pinned));
@@ -190,6 +210,7 @@ static void refused(int n) {
     no_share(n);
     no_extension(n);
     if (n != RAMSUMMER_LONGEST) no_length(n);
+    no_prefix(n);
     no_offset(n);
     with_changed_bytes(n);
     on_a_damaged_record(n);
@@ -207,15 +228,28 @@ static void share_fits(int small_reserve, int small_limit, int large_reserve, in
     for (i = 0; i < sizeof w.share; i++) DONE((w.share[i] != 0));
 }
 
+/* A prefix of each length comes to the record as it is, and a viewer reads as many bytes. */
+static void prefix_fits(int length, int prefix) {
+    DONE(ramsummer_make(POOL, RUNS, RAMSUMMER_PINNED, 0, length, prefix, &w.handle));
+    DONE(ramsummer_read(POOL, VIEWS, w.handle, w.out, sizeof w.out, &w.count));
+    DONE((w.count != (size_t)prefix));
+    DONE(ramsummer_read(POOL, RUNS, w.handle, w.out, sizeof w.out, &w.count));
+    DONE((w.count != (size_t)length));
+    DONE(ramsummer_release(&w.pool, RUNS, w.handle));
+}
+
 /* What fits goes on as it is. */
 static void fits(void) {
     int n;
     for (n = 0; n <= 255; n++) share_fits(0, n, 0, 255 - n);
     for (n = 0; n <= 31; n++) share_fits(n, 255, 31 - n, 31);
+    for (n = 0; n <= RAMSUMMER_LONGEST; n++) prefix_fits(RAMSUMMER_LONGEST, n);
+    for (n = 1; n <= RAMSUMMER_LONGEST; n++) prefix_fits(n, n);
     for (n = 0; n <= 30; n++) DONE(ramsummer_refresh(&w.pool, RUNS, n % 2, n, stands));
     for (n = 0; n < RAMSUMMER_LONGEST; n++) DONE(ramsummer_write(POOL, RUNS, longest, n, bytes + 1, 1));
     DONE(ramsummer_read(POOL, RUNS, longest, w.out, sizeof w.out, &w.count));
     for (n = 0; n < RAMSUMMER_LONGEST; n++) DONE((w.out[n] != bytes[1]));
+    DONE(ramsummer_leave(&w.pool, VIEWS, &w.advanced));
     for (n = ABSENT; n < RAMSUMMER_TASKS; n++) DONE(ramsummer_join(&w.pool, n, RAMSUMMER_OPEN));
     DONE(ramsummer_release(&w.pool, n - 1, pinned));
     before = w;
@@ -252,9 +286,10 @@ static void expect_no_pool(int n) {
     size_t count = 0;
     before = w;
     REFUSED(15, ramsummer_join(&w.pool, RUNS, RAMSUMMER_OPEN));
+    REFUSED(15, ramsummer_view(&w.pool, RUNS));
     REFUSED(15, ramsummer_share(&w.pool, RUNS, SHARE));
-    REFUSED(15, ramsummer_make(POOL, RUNS, RAMSUMMER_LOCAL, 0, 4, &w.handle));
-    REFUSED(19, ramsummer_make(POOL, RUNS, RAMSUMMER_PINNED + 1, 0, 4, &w.handle));
+    REFUSED(15, ramsummer_make(POOL, RUNS, RAMSUMMER_LOCAL, 0, 4, 0, &w.handle));
+    REFUSED(19, ramsummer_make(POOL, RUNS, RAMSUMMER_PINNED + 1, 0, 4, 0, &w.handle));
     REFUSED(15, ramsummer_report(&w.pool, &w.local, &w.global, &expirations, &given));
     DONE((expirations != 7 || given != 7));
     REFUSED(17, ramsummer_frame(POOL, none, 2, out, sizeof out, &count));

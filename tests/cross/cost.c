@@ -31,7 +31,7 @@ static void done(uint8_t answer) {
 static void set(unsigned i) {
     unsigned task = i % RUN, kind = i % 2, extension = 5 + i % 26;
     if (i >= MADE) done(ramsummer_refresh(&pool, task, kind, extension, 1 + i % MADE));
-    else done(ramsummer_make(POOL, task, kind, extension, i < SMALL ? 32 : 256, &number));
+    else done(ramsummer_make(POOL, task, kind, extension, i < SMALL ? 32 : 256, 0, &number));
 }
 
 /* Handles that are the same in their low bytes are the dearest for the test of the record; in no order of the blocks. */
@@ -50,7 +50,7 @@ static void prepare(unsigned expirations, int is_alike) {
     ramsummer_fresh(&pool);
     for (i = 0; i <= WAITS; i++) done(ramsummer_join(&pool, i, RAMSUMMER_OPEN));
     for (i = 0; i < expirations - 1; i++) set(i);
-    done(ramsummer_make(POOL, 0, RAMSUMMER_PINNED, 0, 256, &number));
+    done(ramsummer_make(POOL, 0, RAMSUMMER_PINNED, 0, 256, 0, &number));
     done(ramsummer_block(&pool, WAITS, &first));
     if (is_alike) make_alike();
     for (i = 0; i < BATCH; i++) handles[i] = pool.handles[i];
@@ -63,11 +63,12 @@ static uint8_t nothing(void) { return RAMSUMMER_DONE; }
 static uint8_t fresh(void) { return ramsummer_fresh(&pool); }
 static uint8_t fresh_sized(void) { return ramsummer_fresh_sized(&pool, 16, 4, 64, 10); }
 static uint8_t join(void) { return ramsummer_join(&pool, ABSENT, RAMSUMMER_OPEN); }
+static uint8_t view(void) { return ramsummer_view(&pool, ABSENT); }
 static uint8_t leave(void) { return ramsummer_leave(&pool, 0, &first); }
 static uint8_t block(void) { return ramsummer_block(&pool, 1, &first); }
 static uint8_t resume(void) { return ramsummer_resume(&pool, WAITS); }
 static uint8_t tick(void) { return ramsummer_tick(&pool, 1, &first); }
-static uint8_t make(void) { return ramsummer_make(POOL, 0, RAMSUMMER_LOCAL, 9, 32, &number); }
+static uint8_t make(void) { return ramsummer_make(POOL, 0, RAMSUMMER_LOCAL, 9, 32, 0, &number); }
 static uint8_t refresh(void) { return ramsummer_refresh(&pool, 0, RAMSUMMER_LOCAL, 9, handles[BATCH - 1]); }
 static uint8_t batch(void) { return ramsummer_refresh_all(&pool, 0, RAMSUMMER_LOCAL, 9, handles, BATCH); }
 static uint8_t release(void) { return ramsummer_release(&pool, 0, pinned); }
@@ -83,6 +84,7 @@ static const struct { const char *name; uint8_t (*call)(void); } rows[] = {
     {"fresh", fresh},
     {"fresh_sized", fresh_sized},
     {"join", join},
+    {"view", view},
     {"leave", leave},
     {"block", block},
     {"resume", resume},

@@ -11,7 +11,7 @@ linked() {
 
 code_rows() {
     local basic="join tick make read write" most
-    most="$basic fresh_sized leave block resume refresh refresh_all release report remaining awaited share"
+    most="$basic fresh_sized view leave block resume refresh refresh_all release report remaining awaited share"
     echo "fresh, join, tick, make, read, write | $(linked $basic)"
     echo "all but frame | $(linked $most)"
     echo "all | $(linked $most frame)"

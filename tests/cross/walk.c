@@ -16,7 +16,8 @@ static uint8_t small[RAMSUMMER_SMALL], large[RAMSUMMER_LARGE], bytes[RAMSUMMER_L
 
 /* The arguments of a call, as an author has them, and all that one may tell. */
 static struct {
-    uint32_t task, kind, extension, handle, length, offset, count, small_reserve, small_limit, large_reserve, large_limit;
+    uint32_t task, kind, extension, handle, length, prefix, offset, count;
+    uint32_t small_reserve, small_limit, large_reserve, large_limit;
     size_t small, large, room;
 } with;
 static struct {
@@ -80,6 +81,7 @@ static void draw_arguments(void) {
     with.extension = with.kind == RAMSUMMER_PINNED ? 0 : mostly(4, 50, 300);
     with.handle = draw_handle();
     with.length = mostly(draw(2) ? 33 : 258, 40, 70000);
+    with.prefix = draw(3) ? mostly(with.length + 1, 20, 70000) : 0;
     with.offset = mostly(16, 30, 300);
     with.count = mostly(8, 20, 40);
     with.room = draw(9) ? sizeof told.out : draw(64);
@@ -93,13 +95,16 @@ static uint8_t join(void) {
     return ramsummer_join(&pool, with.task, with.small_reserve, with.small_limit, with.large_reserve, with.large_limit);
 }
 
+/* Seldom: a task that views does nothing else until it leaves. */
+static uint8_t view(void) { return ramsummer_view(&pool, draw(4) ? 16 : with.task); }
 static uint8_t leave(void) { return ramsummer_leave(&pool, draw(8) ? 16 : with.task, &told.first); }
 static uint8_t block(void) { return ramsummer_block(&pool, with.task, &told.first); }
 static uint8_t resume(void) { return ramsummer_resume(&pool, with.task); }
 static uint8_t tick(void) { return ramsummer_tick(&pool, with.task, &told.first); }
 
 static uint8_t make(void) {
-    uint8_t answer = ramsummer_make(&pool, STORES, with.task, with.kind, with.extension, with.length, &told.number);
+    uint8_t answer = ramsummer_make(&pool, STORES, with.task, with.kind, with.extension, with.length, with.prefix,
+                                    &told.number);
     if (answer == RAMSUMMER_DONE) known[draw(KNOWN)] = told.number;
     return answer;
 }
@@ -137,17 +142,18 @@ static uint8_t share(void) {
 
 #define BYTE(number) ((unsigned)((number)&0xFF))
 
-/* A line of an operation from 0 to 15 with the fields that it asks for, or now and then one digit or two less. */
+/* A line of an operation from 0 to 16 with the fields that it asks for, or now and then one digit or two less. */
 static size_t draw_line(char *line) {
-    uint8_t operation = (uint8_t)draw(16), task = (uint8_t)with.task, kind = (uint8_t)with.kind;
+    uint8_t operation = (uint8_t)draw(17), task = (uint8_t)with.task, kind = (uint8_t)with.kind;
     uint8_t extension = (uint8_t)with.extension;
     int length = sprintf(line, "%02X", operation);
-    if (operation != 10 && operation < 14) length += sprintf(line + length, "%02X", task);
+    if (operation != 10 && operation < 15) length += sprintf(line + length, "%02X", task);
     if (operation == 1) length += sprintf(line + length, "%02X%02X%02X%02X", BYTE(with.small_reserve),
                                           BYTE(with.small_limit), BYTE(with.large_reserve), BYTE(with.large_limit));
     if (operation == 6 || operation == 7 || operation == 12)
         length += sprintf(line + length, "%02X%02X", kind, extension);
-    if (operation == 6) length += sprintf(line + length, "%04X", (unsigned)(with.length & 0xFFFF));
+    if (operation == 6) length += sprintf(line + length, "%04X%04X", (unsigned)(with.length & 0xFFFF),
+                                          (unsigned)(with.prefix & 0xFFFF));
     if (operation >= 7 && operation <= 13 && operation != 10)
         length += sprintf(line + length, "%08lX", (unsigned long)with.handle);
     if (operation == 9) length += sprintf(line + length, "%02X%02X", BYTE(with.offset), bytes[0]);
@@ -189,7 +195,7 @@ static uint8_t damage(void) {
 
 /* The more often one stands here, the more often it is called. */
 static uint8_t (*const calls[])(void) = {
-    join, join, join, leave, block, resume, resume, resume, resume, tick, tick, tick, tick, make, make, make, make, make,
+    join, join, join, view, leave, block, resume, resume, resume, resume, tick, tick, tick, tick, make, make, make, make, make,
     refresh, refresh, refresh_all, release, read_object, read_object, write_object, write_object, report, remaining,
     awaited, share, frame, frame, begin, damage};
 

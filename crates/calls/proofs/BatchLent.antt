@@ -3,9 +3,9 @@ use Prim.Native.Nat.{ℕ, _+_, _≤_, _<_}
 use native.Mathlib.Omega.{arith}
 use mathlib.Core.Bool.{Bool, true}
 use mathlib.Core.List.{List, map}
-use mathlib.Core.Path.{_≡_, refl, sym, ap, fun-ext, _∙_}
+use mathlib.Core.Path.{_≡_, sym, ap, fun-ext, _∙_}
 use lib.Dec.{leb}
-use lib.ListN.{length, take}
+use lib.ListN.{take}
 use Rattle.ledger.specs.Limits.{isAllowed, taskCount, largestBatch}
 use Rattle.ledger.specs.Objects.{handlesOf}
 use Rattle.ledger.proofs.Figures.{allowed}
@@ -18,7 +18,7 @@ use Rattle.ledger.specs.declared.Request.the-variants.{Use}
 use Rattle.ledger.specs.declared.Verdict.the-variants.{Accepted, Refused}
 use Rattle.record.specs.Pools.{isWellFormed}
 use Rattle.record.specs.Reading.{HeadTyped, Typed}
-use Rattle.record.specs.Tables.{Tables, Sized, blocksOf, entriesOf, tablesBy, tablesOf, pooled, blockEntries, expirationEntries}
+use Rattle.record.specs.Tables.{Sized, blocksOf, entriesOf, tablesBy, tablesOf, pooled, blockEntries, expirationEntries}
 use Rattle.record.specs.declared.Head.{Head}
 use Rattle.steps.specs.Objects.{placeOf, placeIn, isMissing, isMissingIn, standingIn, batchVerdictBy, batchVerdict, batchedPool}
 use Rattle.steps.proofs.Batches.{Renewable, batch-takes}
@@ -76,7 +76,7 @@ module _ {h : Head} {hs ls cs ns ds : List ℕ} (types : HeadTyped h) (sized : S
     batch-may-set may = (
       rw (so .count) (renewable .few),
       omega (arith, so .count, renewable .room, standing-of (sized .entries), allowed (h .limits) may .most-expirations),
-      task-known task (h .tasks) (renewable .task-ok),
+      task-known true task (h .tasks) (renewable .task-ok),
     )
 
     pub batch-set : isWellFormed (pooled h hs ls cs ns ds) ≡ true → {cs′ ns′ ds′ : List ℕ}

@@ -1,7 +1,7 @@
 -- A join on lent tables, refused or carried out.
 use Prim.Native.Nat.{ℕ, _+_, _-_, _<_}
 use native.Mathlib.Omega.{arith}
-use mathlib.Core.Bool.{Bool, true, false, false≢true, not, _||_}
+use mathlib.Core.Bool.{Bool, true, false, false≢true, _||_}
 use mathlib.Core.List.{List, []}
 use mathlib.Core.Path.{_≡_, refl, sym, ap, _∙_}
 use borrow.Author.Tests.{leb-false}
@@ -25,7 +25,7 @@ use Rattle.ledger.specs.declared.Verdict.the-variants.{Accepted, Refused}
 use Rattle.record.specs.Codes.{stateOf, absentEntry}
 use Rattle.record.specs.Pools.{isWellFormed}
 use Rattle.record.specs.Reading.{HeadTyped, Typed}
-use Rattle.record.specs.Shares.{madeIn, takenIn, unmetIn, allUnmetIn, takenBut}
+use Rattle.record.specs.Shares.{madeIn, takenIn, allUnmetIn, takenBut}
 use Rattle.record.specs.Tables.{BlockEntry, Sized, blocksOf, tablesBy, tablesOf, pooled}
 use Rattle.record.specs.declared.Head.{Head}
 use Rattle.record.proofs.Facts.{fit-parts, shared-part}
@@ -36,7 +36,8 @@ use Rattle.steps.specs.Joins.{isScant, joinVerdictBy, joinVerdict, joinedPool}
 use Rattle.steps.specs.Objects.{refuseIf}
 use Rattle.steps.proofs.Chosen.{both-accept, not-refused}
 use Rattle.steps.proofs.Joins.{joining, join-stays, join-reads, join-fits}
-use Rattle.steps.proofs.Shares.{absent-nothing}
+use Rattle.ledger.proofs.KeptTasks.{absent-inactive}
+use Rattle.steps.proofs.Shares.{inactive-nothing}
 use Rattle.steps.proofs.Verdicts.{join-verdict}
 use Rattle.calls.specs.Engine.{joinedHead, FollowsAlone}
 use Rattle.calls.proofs.Lent.{lent-typed}
@@ -70,7 +71,8 @@ module _ {h : Head} (types : HeadTyped h) (holdings : Holdings) (task : ℕ) (sh
 
     nothing : isAbsent (stateOf (getD (h .tasks) task absentEntry .state)) ≡ true → getD (h .shares) task noShare ≡ noShare
     unfolding tablesOf tablesBy
-    nothing = absent-nothing (tablesOf (pooled h hs ls cs ns ds)) (shared-part _ w) task
+    nothing absent =
+        inactive-nothing (tablesOf (pooled h hs ls cs ns ds)) (shared-part _ w) task (absent-inactive (stateOf (getD (h .tasks) task absentEntry .state)) absent)
 
     its-verdict : joinVerdict task share (tablesOf (pooled h hs ls cs ns ds)) ≡ verdict
     unfolding tablesOf tablesBy joinVerdict

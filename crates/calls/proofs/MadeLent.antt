@@ -1,7 +1,6 @@
 -- The record that make and refresh leave on lent tables.
 use Prim.Native.Nat.{ℕ, _+_, _<_}
 use mathlib.Core.List.{List}
-use native.Mathlib.Omega.{arith}
 use mathlib.Core.Path.{_≡_}
 use lib.ListN.{set}
 use Rattle.ledger.specs.declared.Kind.{Kind}
@@ -15,11 +14,11 @@ use Rattle.calls.specs.Engine.{withGiven}
 
 module _ (h : Head) (hs ls cs ns ds : List ℕ) {cs′ ns′ ds′ : List ℕ} (kind : Kind) (task extension place : ℕ)
     (sets : Sets (newEntry (h .tasks) (h .global) kind task extension place) cs ns ds cs′ ns′ ds′) where
-  pub made-left : (size : ℕ) → size < lengthRange → task < makerRange → place ≡ freePlace (h .limits) size (blocksOf hs ls)
-      → tablesOf (pooled (withGiven h (h .given + 1)) (set hs place (h .given + 1)) (set ls place (extentOf size 0 task)) cs′ ns′ ds′)
-      ≡ madePool task kind extension size (tablesOf (pooled h hs ls cs ns ds))
+  pub made-left : (size prefix : ℕ) → size < lengthRange → task < makerRange → prefix < lengthRange → place ≡ freePlace (h .limits) size (blocksOf hs ls)
+      → tablesOf (pooled (withGiven h (h .given + 1)) (set hs place (h .given + 1)) (set ls place (extentOf size 0 task prefix)) cs′ ns′ ds′)
+      ≡ madePool task kind extension size prefix (tablesOf (pooled h hs ls cs ns ds))
   unfolding tablesOf tablesBy madePool entryFor
-  made-left size small few at = rw (blocks-set hs ls place (h .given + 1) (extentOf size 0 task), entry-of (h .given + 1) size 0 task small few, sets .entries, at)
+  made-left size prefix small few short at = rw (blocks-set hs ls place (h .given + 1) (extentOf size 0 task prefix), entry-of (h .given + 1) size 0 task prefix small few short, sets .entries, at)
 
   pub refreshed-left : (handle : ℕ) → place ≡ placeOf handle (blocksOf hs ls)
       → tablesOf (pooled h hs ls cs′ ns′ ds′) ≡ refreshedPool task kind extension handle (tablesOf (pooled h hs ls cs ns ds))

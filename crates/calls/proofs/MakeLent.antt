@@ -13,7 +13,7 @@ use Rattle.ledger.specs.declared.Answer.the-variants.{Refused as RefusedAnswer}
 use Rattle.ledger.specs.declared.Call.the-variants.{Make}
 use Rattle.ledger.specs.declared.Kind.{Kind}
 use Rattle.ledger.specs.declared.Refusal.{Refusal}
-use Rattle.ledger.specs.declared.Refusal.the-variants.{LengthOutOfRange, HandlesSpent, NoFreeBlock, AtLimit}
+use Rattle.ledger.specs.declared.Refusal.the-variants.{LengthOutOfRange, HandlesSpent, PrefixTooLong, NoFreeBlock, AtLimit}
 use Rattle.ledger.specs.declared.Request.the-variants.{Use}
 use Rattle.ledger.specs.declared.Verdict.the-variants.{Accepted, Refused}
 use Rattle.stores.specs.Places.{InBlock, smallAfter, largeAfter}
@@ -41,9 +41,9 @@ use Rattle.calls.proofs.Meets.{block-in, place-known, make-kept, make-c
 use Rattle.calls.proofs.RefreshLent.{room-left}
 
 module _ {h : Head} (hs ls cs : List ℕ) {ns ds : List ℕ} (types : HeadTyped h) (sized : Sized hs ls cs ns ds) {small large : List ℕ}
-    {task : ℕ} {kind : Kind} {extension size : ℕ} (ready : Ready (Use (Make task kind extension size)) (pooled h hs ls cs ns ds) small large)
+    {task : ℕ} {kind : Kind} {extension size prefix : ℕ} (ready : Ready (Use (Make task kind extension size prefix)) (pooled h hs ls cs ns ds) small large)
     {holding : Holding} (holding-so : Holds (isSmall size) (h .shares) (blocksOf hs ls) holding)
-    {plan : Plan} (so : plan ≡ makePlan task kind extension size h (freePlaceIn (h .limits) size hs) holding (standingOf cs)) where
+    {plan : Plan} (so : plan ≡ makePlan task kind extension size prefix h (freePlaceIn (h .limits) size hs) holding (standingOf cs)) where
   of-entries : Typed (tablesOf (pooled h hs ls cs ns ds))
   of-entries = lent-typed h hs ls cs ns ds types (sized .blocks) (sized .entries)
 
@@ -51,18 +51,18 @@ module _ {h : Head} (hs ls cs : List ℕ) {ns ds : List ℕ} (types : HeadTyped 
   unfolding makePlan tablesOf tablesBy
   planned-place = rw so (free-place-of hs ls (sized .blocks .of-handles) (sized .blocks .of-extents) (h .limits) size)
 
-  verdict-of : makeVerdict task kind extension size (tablesOf (pooled h hs ls cs ns ds)) ≡ plan .verdict
+  verdict-of : makeVerdict task kind extension size prefix (tablesOf (pooled h hs ls cs ns ds)) ≡ plan .verdict
   verdict-of =
       rw (so, standing-of (sized .entries), tables-of h hs ls cs ns ds)
-      (sym (make-planned hs ls (sized .blocks .of-handles) (sized .blocks .of-extents) h (entriesOf cs ns ds) task kind extension size holding holding-so))
+      (sym (make-planned hs ls (sized .blocks .of-handles) (sized .blocks .of-extents) h (entriesOf cs ns ds) task kind extension size prefix holding holding-so))
 
   pub make-refused-lent : {why : Refusal} → plan .verdict ≡ Refused why
-      → Makes task kind extension size (pooled h hs ls cs ns ds) small large (RefusedAnswer why) (pooled h hs ls cs ns ds) small large
+      → Makes task kind extension size prefix (pooled h hs ls cs ns ds) small large (RefusedAnswer why) (pooled h hs ls cs ns ds) small large
   make-refused-lent {why} v = make-kept of-entries ready why (verdict-of ∙ v)
 
   module _ (v : plan .verdict ≡ Accepted) where
-    taken : Taken task extension size (tablesOf (pooled h hs ls cs ns ds))
-    taken = make-takes task kind extension size (tablesOf (pooled h hs ls cs ns ds)) (fit-parts _ (ready .fit)) of-entries (verdict-of ∙ v)
+    taken : Taken task extension size prefix (tablesOf (pooled h hs ls cs ns ds))
+    taken = make-takes task kind extension size prefix (tablesOf (pooled h hs ls cs ns ds)) (fit-parts _ (ready .fit)) of-entries (verdict-of ∙ v)
 
     at-free : plan .place ≡ freePlace (h .limits) size (blocksOf hs ls)
     unfolding tablesOf tablesBy
@@ -71,12 +71,13 @@ module _ {h : Head} (hs ls cs : List ℕ) {ns ds : List ℕ} (types : HeadTyped 
     room : roomVerdict (h .limits) (standingOf cs) ≡ Accepted
     unfolding makePlan
     room =
-        let (task-ok, v₁) = both-accept (taskVerdict task (h .tasks)) _ (rw so at v) in
+        let (task-ok, v₁) = both-accept (taskVerdict true task (h .tasks)) _ (rw so at v) in
         let (extension-ok, v₂) = both-accept (extensionVerdict (h .limits) kind extension) _ v₁ in
         let (size-ok, v₃) = both-accept (refuseIf (eqb size 0 || ltb largeSize size) LengthOutOfRange) _ v₂ in
-        let (given-ok, v₄) = both-accept (refuseIf (leb lastHandle (h .given)) HandlesSpent) _ v₃ in
-        let (limit-ok, v₅) = both-accept (refuseIf (isLimitedBy (isSmall size) (h .shares) holding task) AtLimit) _ v₄ in
-        both-accept (refuseIf (isFilledBy (isSmall size) (h .limits) (h .shares) holding task) NoFreeBlock) _ v₅ .1
+        let (prefix-ok, v₄) = both-accept (refuseIf (ltb size prefix) PrefixTooLong) _ v₃ in
+        let (given-ok, v₅) = both-accept (refuseIf (leb lastHandle (h .given)) HandlesSpent) _ v₄ in
+        let (limit-ok, v₆) = both-accept (refuseIf (isLimitedBy (isSmall size) (h .shares) holding task) AtLimit) _ v₅ in
+        both-accept (refuseIf (isFilledBy (isSmall size) (h .limits) (h .shares) holding task) NoFreeBlock) _ v₆ .1
 
     may : isAllowed (h .limits) ≡ true
     may = lent-allowed h hs ls cs ns ds (ready .fit)
@@ -112,9 +113,9 @@ module _ {h : Head} (hs ls cs : List ℕ) {ns ds : List ℕ} (types : HeadTyped 
         → {small′ large′ : List ℕ} → small′ ≡ smallAfter (plan .place) 0 (replicate (sizeOf (plan .place)) 0) small
         → large′ ≡ largeAfter (plan .place) 0 (replicate (sizeOf (plan .place)) 0) large
         → (let hs′ = set hs (plan .place) (h .given + 1) in
-        let ls′ = set ls (plan .place) (extentOf size 0 task) in
+        let ls′ = set ls (plan .place) (extentOf size 0 task prefix) in
         Sized hs′ ls′ cs′ ns′ ds′
-        × Makes task kind extension size (pooled h hs ls cs ns ds) small large
+        × Makes task kind extension size prefix (pooled h hs ls cs ns ds) small large
         (Handle (h .given + 1)) (pooled (withGiven h (h .given + 1)) hs′ ls′ cs′ ns′ ds′) small′ large′)
     make-set-lent sets s l = (
       record {
@@ -122,5 +123,5 @@ module _ {h : Head} (hs ls cs : List ℕ) {ns ds : List ℕ} (types : HeadTyped 
         entries = sets .sized;
       },
       make-cleared of-entries ready (plan .place) planned-place free holds
-          (made-left h hs ls cs ns ds kind task extension (plan .place) sets size (omega (arith, taken .block .most)) (omega (arith, taken .may .known)) at-free) (verdict-of ∙ v) s l,
+          (made-left h hs ls cs ns ds kind task extension (plan .place) sets size prefix (omega (arith, taken .block .most)) (omega (arith, taken .may .known)) (omega (arith, taken .prefixed, taken .block .most)) at-free) (verdict-of ∙ v) s l,
     )

@@ -1,7 +1,7 @@
 -- Make, refresh, read and write after 15 and 14: what the record's functions give meets the contracts.
-use Prim.Native.Nat.{ℕ, _+_, _<_}
+use Prim.Native.Nat.{ℕ, _+_}
 use native.Mathlib.Omega.{arith}
-use mathlib.Core.Bool.{true, false, true≢false, and-eq-true-iff}
+use mathlib.Core.Bool.{true, false, and-eq-true-iff}
 use mathlib.Core.List.{List, []}
 use mathlib.Core.Path.{_≡_, refl, sym, ap, _∙_}
 use lib.ListN.{length, getD, replicate}
@@ -24,16 +24,16 @@ use Rattle.record.specs.Tables.{tablesBy, tablesOf}
 use Rattle.record.specs.WellFormed.{isBlock}
 use Rattle.record.proofs.Facts.{fit-parts}
 use Rattle.record.specs.declared.Pool.{Pool}
-use Rattle.steps.specs.Objects.{placeIn, placeOf, freePlace, makeVerdict, readVerdict, writeVerdict, madePool, writtenPool}
-use Rattle.objects.specs.Outcomes.{bytesBy, bytesIn}
+use Rattle.steps.specs.Objects.{placeIn, placeOf, freePlace, makeVerdict, stateIn, shownLength, readVerdict, writeVerdict, madePool, writtenPool}
+use Rattle.objects.specs.Outcomes.{bytesBy, bytesIn, shownOf, shownIn}
 use Rattle.objects.specs.declared.FoundBytes.{FoundBytes}
 use Rattle.objects.specs.declared.FoundBytes.the-variants.{At}
 use Rattle.objects.specs.declared.FoundBytes.the-variants.{Refused as RefusedBytes}
 use Rattle.objects.proofs.Outcomes.{bytes-refused, bytes-accepted}
-use Rattle.steps.proofs.ObjectsFollow.{read-place, write-place}
+use Rattle.steps.proofs.ObjectsFollow.{shown-place, write-place}
 use Rattle.record.proofs.Exists.{every-fit-record-reads}
 use Rattle.record.specs.Codes.{freeBlock}
-use Rattle.steps.proofs.Chosen.{make-takes, write-begins, read-sum}
+use Rattle.steps.proofs.Chosen.{make-takes, write-begins, intact-sum}
 use Rattle.calls.specs.Contract.{areWhole, Ready, Obeys, Makes, Locates, ReadsBack, summed, Writes}
 use Rattle.calls.proofs.Outcomes.{make-refused, make-done, read-refused, read-done, write-refused, write-done}
 
@@ -70,11 +70,11 @@ module _ {task handle : ℕ} {p : Pool} {small large : List ℕ} {f : FoundBytes
   read-part e = rw e at (l .reads)
 
 -- make, refused or carried out
-module _ {task : ℕ} {kind : Kind} {extension size : ℕ} {p : Pool} {small large : List ℕ} (types : Typed (tablesOf p))
-    (ready : Ready (Use (Make task kind extension size)) p small large) where
-  pub place-known : makeVerdict task kind extension size (tablesOf p) ≡ Accepted
+module _ {task : ℕ} {kind : Kind} {extension size prefix : ℕ} {p : Pool} {small large : List ℕ} (types : Typed (tablesOf p))
+    (ready : Ready (Use (Make task kind extension size prefix)) p small large) where
+  pub place-known : makeVerdict task kind extension size prefix (tablesOf p) ≡ Accepted
       → isBlock (p .limits) (freePlace (p .limits) size (tablesOf p .blocks)) ≡ true
-  place-known v = rw (limits-of p) at (make-takes task kind extension size (tablesOf p) (fit-parts (tablesOf p) (ready .fit)) types v .block .its)
+  place-known v = rw (limits-of p) at (make-takes task kind extension size prefix (tablesOf p) (fit-parts (tablesOf p) (ready .fit)) types v .block .its)
 
   pub block-in : (block : ℕ) → isBlock (p .limits) block ≡ true → InBlock small large block (sizeOf block)
   block-in block known =
@@ -82,42 +82,42 @@ module _ {task : ℕ} {kind : Kind} {extension size : ℕ} {p : Pool} {small lar
       in-block (p .limits) (rw (limits-of p) at (fit-parts (tablesOf p) (ready .fit) .allowed)) small-whole large-whole known (omega arith)
 
   -- refused: no block is taken
-  pub make-kept : (why : Refusal) → makeVerdict task kind extension size (tablesOf p) ≡ Refused why
-      → Makes task kind extension size p small large (RefusedAnswer why) p small large
-  make-kept why v = make-refused p types (ready .fit) small large (ready .whole refl) task kind extension size why v
+  pub make-kept : (why : Refusal) → makeVerdict task kind extension size prefix (tablesOf p) ≡ Refused why
+      → Makes task kind extension size prefix p small large (RefusedAnswer why) p small large
+  make-kept why v = make-refused p types (ready .fit) small large (ready .whole refl) task kind extension size prefix why v
 
   -- accepted: the block is cleared
   pub make-cleared : {p′ : Pool} (place : ℕ) → place ≡ freePlace (p .limits) size (tablesOf p .blocks) → getD (p .handles) place 0 ≡ 0 → getD (p′ .handles) place 0 ≡ p .given + 1
-      → tablesOf p′ ≡ madePool task kind extension size (tablesOf p)
-      → makeVerdict task kind extension size (tablesOf p) ≡ Accepted → {small′ large′ : List ℕ}
+      → tablesOf p′ ≡ madePool task kind extension size prefix (tablesOf p)
+      → makeVerdict task kind extension size prefix (tablesOf p) ≡ Accepted → {small′ large′ : List ℕ}
       → small′ ≡ smallAfter place 0 (replicate (sizeOf place) 0) small → large′ ≡ largeAfter place 0 (replicate (sizeOf place) 0) large
-      → Makes task kind extension size p small large (Handle (p .given + 1)) p′ small′ large′
+      → Makes task kind extension size prefix p small large (Handle (p .given + 1)) p′ small′ large′
   make-cleared {p′} place at free holds left v s l =
       rw (s, l, at)
       (rw (limits-of p) at
-      (make-done p types (ready .fit) small large (ready .whole refl) task kind extension size left v (rw (limits-of p) (place-known v)) (rw (limits-of p, ← at) free) (rw (limits-of p, ← at) holds)))
+      (make-done p types (ready .fit) small large (ready .whole refl) task kind extension size prefix left v (rw (limits-of p) (place-known v)) (rw (limits-of p, ← at) free) (rw (limits-of p, ← at) holds)))
 
 -- an object that is found, or why not
 module _ {task handle : ℕ} {p : Pool} {small large : List ℕ} (types : Typed (tablesOf p)) (ready : Ready (Use (Read task handle)) p small large) where
-  locates-by : (v : Verdict) → readVerdict task handle small large (tablesOf p) ≡ v → Locates task handle p small large (bytesBy v handle (tablesOf p))
+  locates-by : (v : Verdict) → readVerdict task handle small large (tablesOf p) ≡ v → Locates task handle p small large (shownOf task (tablesOf p) (bytesBy v handle (tablesOf p)))
   locates-by Accepted e =
       record {
         reads = read-done p types (ready .fit) small large (ready .whole refl) task handle e;
         inside = λ block count sum f.
             let b : placeOf handle (tablesOf p .blocks) ≡ block = cc in
-            let n : getD (tablesOf p .blocks) (placeOf handle (tablesOf p .blocks)) freeBlock .length ≡ count = cc in
+            let n : shownLength (stateIn (tablesOf p .tasks) task) (getD (tablesOf p .blocks) (placeOf handle (tablesOf p .blocks)) freeBlock) ≡ count = cc in
             let (small-whole, large-whole) = table-halves p small large (ready .whole refl) in
             let (L, reads) = every-fit-record-reads p types (ready .fit) small large in
-            rw (← n, ← b) (read-place (ready .fit) types reads small-whole large-whole task handle e);
+            rw (← n, ← b) (shown-place (ready .fit) types reads small-whole large-whole false task handle e (stateIn (tablesOf p .tasks) task));
         summed = λ block count sum f.
             let b : placeOf handle (tablesOf p .blocks) ≡ block = cc in
             let n : getD (tablesOf p .blocks) (placeOf handle (tablesOf p .blocks)) freeBlock .sum ≡ sum = cc in
-            rw (← n, ← b) (sym (read-sum task handle small large (tablesOf p) e));
+            rw (← n, ← b) (sym (intact-sum false task handle small large (tablesOf p) e));
       }
   locates-by (Refused r) e =
       refused-locates task handle p small large r (read-refused p types (ready .fit) small large (ready .whole refl) task handle r e)
 
-  pub locates : (f : FoundBytes) → f ≡ bytesIn (readVerdict task handle small large) handle (tablesOf p) → Locates task handle p small large f
+  pub locates : (f : FoundBytes) → f ≡ shownIn (readVerdict task handle small large) task handle (tablesOf p) → Locates task handle p small large f
   locates f e = rw e (locates-by (readVerdict task handle small large (tablesOf p)) refl)
 
 module _ {task handle offset : ℕ} {p : Pool} {small large : List ℕ} (types : Typed (tablesOf p)) (ready : Ready (Use (Write task handle offset)) p small large)
@@ -143,7 +143,7 @@ module _ {task handle offset : ℕ} {p : Pool} {small large : List ℕ} (types :
       pub write-sum : sum ≡ sumAt small large block
       write-sum =
           let begins = write-begins task handle offset (length new) small large (tablesOf p) (accepted .0) in
-          rw (← accepted .1, ← accepted .3) (sym (read-sum task handle small large (tablesOf p) begins))
+          rw (← accepted .1, ← accepted .3) (sym (intact-sum true task handle small large (tablesOf p) begins))
 
       -- the sum that is left is that of the bytes which are there then
       sum-left : sumAt (smallAfter block offset new small) (largeAfter block offset new large) block ≡ sumAfter small large block offset new

@@ -1,6 +1,5 @@
 -- Each call of objects on a well-formed record with what it tests by, refused or carried out, meets its contract.
-use Prim.Native.Nat.{ℕ, _+_, _<_}
-use native.Mathlib.Omega.{arith}
+use Prim.Native.Nat.{ℕ, _+_}
 use mathlib.Core.Bool.{true, false≢true, and-eq-true-iff}
 use mathlib.Core.List.{List, []}
 use mathlib.Core.Path.{_≡_, refl, ap, _∙_}
@@ -23,7 +22,7 @@ use Rattle.record.specs.WellFormed.{isBlock}
 use Rattle.record.specs.declared.Pool.{Pool}
 use Rattle.record.proofs.Facts.{fit-parts}
 use Rattle.record.proofs.Exists.{every-fit-record-reads}
-use Rattle.steps.specs.Objects.{placeOf, freePlace, makeVerdict, refreshVerdict, readVerdict, writeVerdict, batchVerdict, releaseVerdict, madePool, refreshedPool, batchedPool, writtenPool, releasedPool}
+use Rattle.steps.specs.Objects.{placeOf, freePlace, makeVerdict, refreshVerdict, stateIn, shownLength, readVerdict, writeVerdict, batchVerdict, releaseVerdict, madePool, refreshedPool, batchedPool, writtenPool, releasedPool}
 use Rattle.steps.proofs.Chosen.{make-takes}
 use Rattle.steps.proofs.Finding.{blockOf, every-object-stands}
 use Rattle.steps.proofs.StoreBytes.{made-bytes}
@@ -103,29 +102,29 @@ module _ (p : Pool) (types : Typed (tablesOf p)) (w : isWellFormed p ≡ true) (
     unfolding tablesOf tablesBy
     large-whole = and-eq-true-iff (isWholeSmall (p .limits) small) (isWholeLarge (p .limits) large) .0 whole .1
 
-    module _ (task : ℕ) (kind : Kind) (extension size : ℕ) where
-      pub make-refused : (r : Refusal) → makeVerdict task kind extension size (tablesOf p) ≡ Refused r
-          → Obeys (Use (Make task kind extension size)) [] p small large (plain (RefusedAnswer r)) p small large
+    module _ (task : ℕ) (kind : Kind) (extension size prefix : ℕ) where
+      pub make-refused : (r : Refusal) → makeVerdict task kind extension size prefix (tablesOf p) ≡ Refused r
+          → Obeys (Use (Make task kind extension size prefix)) [] p small large (plain (RefusedAnswer r)) p small large
       make-refused r v =
           refused-obeys _ [] p small large w (λ s. whole) r
-          (λ L reads. make-verdict types (fit-parts (tablesOf p) w) reads task kind extension size [] ∙ ap asRefusal v)
+          (λ L reads. make-verdict types (fit-parts (tablesOf p) w) reads task kind extension size prefix [] ∙ ap asRefusal v)
 
-      pub make-done : {p′ : Pool} → tablesOf p′ ≡ madePool task kind extension size (tablesOf p)
-          → makeVerdict task kind extension size (tablesOf p) ≡ Accepted
+      pub make-done : {p′ : Pool} → tablesOf p′ ≡ madePool task kind extension size prefix (tablesOf p)
+          → makeVerdict task kind extension size prefix (tablesOf p) ≡ Accepted
           → (let place = freePlace (tablesOf p .limits) size (tablesOf p .blocks) in
           isBlock (tablesOf p .limits) place ≡ true → getD (p .handles) place 0 ≡ 0 → getD (p′ .handles) place 0 ≡ p .given + 1
           → (let zeros : List ℕ = replicate (sizeOf place) 0 in
-          Obeys (Use (Make task kind extension size)) [] p small large (plain (Handle (p .given + 1))) p′ (smallAfter place 0 zeros small) (largeAfter place 0 zeros large)))
+          Obeys (Use (Make task kind extension size prefix)) [] p small large (plain (Handle (p .given + 1))) p′ (smallAfter place 0 zeros small) (largeAfter place 0 zeros large)))
       unfolding replyTo tablesOf tablesBy
       make-done {p′} left v known free holds =
           let fit = fit-parts (tablesOf p) w in
-          let taken = make-takes task kind extension size (tablesOf p) fit types v in
+          let taken = make-takes task kind extension size prefix (tablesOf p) fit types v in
           let bytes = made-bytes (tablesOf p .limits) (fit .allowed) small large small-whole large-whole _ (taken .block .its) in
           carried-obeys _ [] p small large w (λ s. whole) (plain (Handle (p .given + 1))) p′ _ _ refl
-          (λ L reads. make-verdict types (fit-parts (tablesOf p) w) reads task kind extension size [] ∙ ap asRefusal v)
+          (λ L reads. make-verdict types (fit-parts (tablesOf p) w) reads task kind extension size prefix [] ∙ ap asRefusal v)
           (λ L reads. rw (same-given w types reads))
-          (λ L reads. rw left (make-reads w types reads small-whole large-whole task kind extension size v))
-          (rw left (make-fits w types (some .1) task kind extension size v)) (rw left (make-stays task kind extension size (tablesOf p) (taken .block .listed)))
+          (λ L reads. rw left (make-reads w types reads small-whole large-whole task kind extension size prefix v))
+          (rw left (make-fits w types (some .1) task kind extension size prefix v)) (rw left (make-stays task kind extension size prefix (tablesOf p) (taken .block .listed)))
           (bytes .small-size, bytes .large-size)
           (_, record { known = known; free = free; holds = holds; smallCleared = refl; largeCleared = refl })
 
@@ -138,7 +137,7 @@ module _ (p : Pool) (types : Typed (tablesOf p)) (w : isWellFormed p ≡ true) (
 
       pub read-done : readVerdict task handle small large (tablesOf p) ≡ Accepted
           → Obeys (Use (Read task handle)) [] p small large
-          (record { answer = Bytes; bytes = blockBytes small large (placeOf handle (tablesOf p .blocks)) (blockOf handle (tablesOf p .blocks) .length) }) p small large
+          (record { answer = Bytes; bytes = blockBytes small large (placeOf handle (tablesOf p .blocks)) (shownLength (stateIn (tablesOf p .tasks) task) (blockOf handle (tablesOf p .blocks))) }) p small large
       unfolding replyTo memoryAfter expirationsAfter
       read-done v =
           carried-obeys _ [] p small large w (λ s. whole) _ p small large refl

@@ -1,7 +1,7 @@
 -- What an event ends by the time that it leaves is what it ends in the record: an expiration of a well-formed record is ahead while its clock stands still.
 use Prim.Native.Nat.{ℕ, _≤_, _<_}
 use native.Mathlib.Omega.{arith}
-use mathlib.Core.Bool.{Bool, true, false, cond, not, _&&_, _||_, true≢false}
+use mathlib.Core.Bool.{Bool, true, false, cond, not, _&&_, _||_}
 use mathlib.Core.List.{List, map, map-id, map-map}
 use mathlib.Core.Logic.{_≢_}
 use mathlib.Core.Path.{_≡_, refl, sym, ap, subst, _∙_}
@@ -10,14 +10,13 @@ use lib.Dec.{eqb, ltb}
 use lib.ListN.{length, getD, List·getD-map}
 use lib.Seq.{getD-set-same, getD-set-other}
 use Rattle.lists.specs.Tests.{all}
-use Rattle.lists.proofs.All.{all-every, all-imp, all-true, map-same, All→none}
+use Rattle.lists.proofs.All.{all-every, all-imp, all-true, map-same}
 use Rattle.lists.proofs.Cases.{by-test}
 use Rattle.ledger.specs.Limits.{taskCount}
-use Rattle.ledger.specs.Tasks.{isTested, allTicked}
 use Rattle.ledger.specs.declared.Event.{Event}
-use Rattle.ledger.specs.declared.Event.the-variants.{Leave, Block, Resume, Tick}
+use Rattle.ledger.specs.declared.Event.the-variants.{Leave, Block, Resume, Tick, View}
 use Rattle.ledger.specs.declared.Limits.{Limits}
-use Rattle.record.specs.Codes.{taskOf, dueOf, setterOf, leftAt, absentEntry, freedEntry}
+use Rattle.record.specs.Codes.{dueOf, setterOf, leftAt, absentEntry, freedEntry}
 use Rattle.record.specs.Tables.{BlockEntry, ExpirationEntry}
 use Rattle.record.specs.WellFormed.{isFitDue, isFitEntry}
 use Rattle.record.specs.declared.TaskEntry.{TaskEntry}
@@ -41,6 +40,7 @@ pub leaver-as : (event : Event) (task : ℕ) → cond (isLeave event) task taskC
 leaver-as Leave task = refl
 leaver-as Block task = refl
 leaver-as Resume task = refl
+leaver-as View task = refl
 leaver-as Tick task = refl
 
 -- the leaver's own go, and nobody else's
@@ -48,12 +48,14 @@ own-leaver : (event : Event) (task : ℕ) → task < taskCount → eqb task (lea
 own-leaver Leave task known = eq-eqb task task refl
 own-leaver Block task known = ne-eqb task taskCount (λ e. omega arith)
 own-leaver Resume task known = ne-eqb task taskCount (λ e. omega arith)
+own-leaver View task known = ne-eqb task taskCount (λ e. omega arith)
 own-leaver Tick task known = ne-eqb task taskCount (λ e. omega arith)
 
 other-leaver : (event : Event) (task s : ℕ) → s < taskCount → s ≢ task → eqb s (leaverOf event task) ≡ false
 other-leaver Leave task s known other = ne-eqb s task other
 other-leaver Block task s known other = ne-eqb s taskCount (λ e. omega arith)
 other-leaver Resume task s known other = ne-eqb s taskCount (λ e. omega arith)
+other-leaver View task s known other = ne-eqb s taskCount (λ e. omega arith)
 other-leaver Tick task s known other = ne-eqb s taskCount (λ e. omega arith)
 
 -- units left or none

@@ -33,7 +33,7 @@ kept p small large r why e = record { refused = ap plain e; samePool = refl; sam
 pub nothing : (request : Request) (new : List ℕ) (p : Pool) (small large : List ℕ) (why : Refusal) → Leaves request new p small large (Refused why) p small large
 nothing (Use (Join task share)) new p small large why = (refl, refl)
 nothing (Use (Schedule event task)) new p small large why = (refl, refl)
-nothing (Use (Make task kind extension size)) new p small large why = (refl, (refl, refl))
+nothing (Use (Make task kind extension size prefix)) new p small large why = (refl, (refl, refl))
 nothing (Use (Refresh task kind extension handle)) new p small large why = (refl, refl)
 nothing (Use (Read task handle)) new p small large why = (refl, (refl, refl))
 nothing (Use (Write task handle offset)) new p small large why = (refl, (refl, refl))

@@ -70,11 +70,11 @@ module _ {h : Head} {hs ls cs ns ds : List ℕ} (types : HeadTyped h) (sized : S
     refresh-may-set may =
         let p = lent h hs ls cs ns ds in
         let (v, place) = accepted in
-        let (task-ok, v₁) = both-accept (taskVerdict task (h .tasks)) _ v in
+        let (task-ok, v₁) = both-accept (taskVerdict true task (h .tasks)) _ v in
         let (kind-ok, v₂) = both-accept (kindVerdict kind) _ v₁ in
         let (extension-ok, v₃) = both-accept (extensionVerdict (h .limits) kind extension) _ v₂ in
         let (found, room) = both-accept (handleVerdict handle p) _ v₃ in (
           rw (standing-of (sized .entries)) (room-left (h .limits) may _ room),
-          task-known task (h .tasks) task-ok,
+          task-known true task (h .tasks) task-ok,
           rw (← place) (place-listed handle (h .given) (placeOf handle (blocksOf hs ls)) found),
         )

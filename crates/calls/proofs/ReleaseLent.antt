@@ -1,7 +1,7 @@
 -- Release on lent tables, by what was found: refused or carried out.
 use Prim.Native.Nat.{ℕ, _<_}
 use mathlib.Core.Bool.{true, false}
-use mathlib.Core.List.{List, map}
+use mathlib.Core.List.{List}
 use mathlib.Core.Path.{_≡_, sym, _∙_}
 use Rattle.ledger.specs.declared.Answer.the-variants.{Done}
 use Rattle.ledger.specs.declared.Answer.the-variants.{Refused as RefusedAnswer}
@@ -14,7 +14,7 @@ use Rattle.record.specs.Pools.{isWellFormed}
 use Rattle.record.specs.Reading.{HeadTyped, Typed}
 use Rattle.record.specs.Tables.{Sized, blocksOf, tablesBy, tablesOf, lent, pooled, blockEntries}
 use Rattle.record.specs.declared.Head.{Head}
-use Rattle.steps.specs.Objects.{placeOf, taskVerdict, handleVerdict, standingVerdict, releaseVerdict, releasedPool}
+use Rattle.steps.specs.Objects.{placeOf, taskVerdict, standingVerdict, releaseVerdict, releasedPool}
 use Rattle.steps.proofs.Chosen.{both-accept, place-listed}
 use Rattle.objects.specs.Outcomes.{foundIn}
 use Rattle.objects.specs.declared.Found.{Found}
@@ -49,8 +49,8 @@ module _ {h : Head} {hs ls cs ns ds : List ℕ} (types : HeadTyped h) (sized : S
     release-known =
         let p = lent h hs ls cs ns ds in
         let (v, place) = accepted in
-        let (read, pinned) = both-accept (standingVerdict task handle p) _ v in
-        let (task-ok, found) = both-accept (taskVerdict task (h .tasks)) _ read in
+        let (read, pinned) = both-accept (standingVerdict true task handle p) _ v in
+        let (task-ok, found) = both-accept (taskVerdict true task (h .tasks)) _ read in
         rw (← place) (place-listed handle (h .given) (placeOf handle (blocksOf hs ls)) found)
 
     -- the tables that are left are those of the released record

@@ -1,7 +1,7 @@
 -- Report and remaining life of a well-formed record meet their contract.
 use Prim.Native.Nat.{ℕ}
-use mathlib.Core.Bool.{true}
-use mathlib.Core.List.{List, []}
+use mathlib.Core.Bool.{true, false}
+use mathlib.Core.List.{List}
 use mathlib.Core.Path.{_≡_, refl}
 use Rattle.ledger.specs.declared.Answer.the-variants.{Counted}
 use Rattle.ledger.specs.declared.Request.the-variants.{Report, Remaining}
@@ -31,7 +31,7 @@ report-obeys p w =
 
 -- the life that was found is the ledger's, and so is the refusal
 module _ (task handle : ℕ) {p : Pool} (types : Typed (tablesOf p)) (w : isWellFormed p ≡ true) where
-  life-by : (v : Verdict) → standingVerdict task handle (tablesOf p) ≡ v → Follows (Remaining task handle) p (lifeFound (foundBy true v task handle (tablesOf p))) p
+  life-by : (v : Verdict) → standingVerdict false task handle (tablesOf p) ≡ v → Follows (Remaining task handle) p (lifeFound (foundBy true v task handle (tablesOf p))) p
   life-by Accepted e =
       tells-obeys (Remaining task handle) p w refl (λ L. refl) _
       (λ small large L reads. rw (standing-verdict types (fit-parts (tablesOf p) w) reads task handle, e, read-life w types reads task handle e)) (λ small large. (refl, (refl, refl)))
@@ -40,8 +40,8 @@ module _ (task handle : ℕ) {p : Pool} (types : Typed (tablesOf p)) (w : isWell
       (λ small large L reads. rw (standing-verdict types (fit-parts (tablesOf p) w) reads task handle, e)) (λ small large. (refl, (refl, refl)))
 
 pub life-obeys : {h : Head} {hs ls cs ns ds : List ℕ} → HeadTyped h → Sized hs ls cs ns ds → isWellFormed (pooled h hs ls cs ns ds) ≡ true → (task handle : ℕ) {f : Found}
-    → f ≡ foundIn true (standingVerdict task handle) task handle (lent h hs ls cs ns ds)
+    → f ≡ foundIn true (standingVerdict false task handle) task handle (lent h hs ls cs ns ds)
     → Follows (Remaining task handle) (pooled h hs ls cs ns ds) (lifeFound f) (pooled h hs ls cs ns ds)
 life-obeys {h} {hs} {ls} {cs} {ns} {ds} types sized w task handle so =
     rw (so, ← tables-of h hs ls cs ns ds)
-    (life-by task handle (lent-typed h hs ls cs ns ds types (sized .blocks) (sized .entries)) w (standingVerdict task handle (tablesOf (pooled h hs ls cs ns ds))) refl)
+    (life-by task handle (lent-typed h hs ls cs ns ds types (sized .blocks) (sized .entries)) w (standingVerdict false task handle (tablesOf (pooled h hs ls cs ns ds))) refl)

@@ -7,7 +7,7 @@ use mathlib.Core.Option.{Option, none, some}
 use mathlib.Core.Path.{_≡_, refl, sym, ap, _∙_}
 use borrow.Author.Tests.{leb-false}
 use lib.Dec.{leb}
-use lib.ListN.{length, getD}
+use lib.ListN.{getD}
 use Rattle.lists.specs.Tests.{any}
 use Rattle.lists.proofs.All.{all-imp, none→All, map-same}
 use Rattle.lists.proofs.Cases.{by-test}
@@ -19,14 +19,14 @@ use Rattle.ledger.specs.Ledger.{verdictOn, replyBy, reply}
 use Rattle.ledger.specs.declared.Answer.{Answer}
 use Rattle.ledger.specs.declared.Answer.the-variants.{Refused as RefusedAnswer}
 use Rattle.ledger.specs.declared.Event.{Event}
-use Rattle.ledger.specs.declared.Event.the-variants.{Leave, Block, Resume, Tick}
+use Rattle.ledger.specs.declared.Event.the-variants.{Leave, Block, Resume, Tick, View}
 use Rattle.ledger.specs.declared.Call.the-variants.{Schedule}
 use Rattle.ledger.specs.declared.Refusal.{Refusal}
 use Rattle.ledger.specs.declared.Refusal.the-variants.{NoSuchTask}
 use Rattle.ledger.specs.declared.Request.the-variants.{Use}
 use Rattle.ledger.specs.declared.Verdict.{Verdict}
 use Rattle.ledger.specs.declared.Verdict.the-variants.{Accepted, Refused}
-use Rattle.record.specs.Codes.{stateOf, taskOf, dueOf, absentEntry}
+use Rattle.record.specs.Codes.{taskOf, dueOf, absentEntry}
 use Rattle.record.specs.Reading.{Typed}
 use Rattle.record.specs.Tables.{BlockEntry, ExpirationEntry, Tables, tablesOf}
 use Rattle.record.specs.WellFormed.{isFitBlock}
@@ -36,7 +36,7 @@ use Rattle.record.specs.declared.GlobalTime.{GlobalTime}
 use Rattle.record.specs.declared.Pool.{Pool}
 use Rattle.record.specs.declared.TaskEntry.{TaskEntry}
 use Rattle.record.proofs.Facts.{fit-parts}
-use Rattle.steps.specs.Events.{verdictOf, verdictAt, movedEntry, movedTasks, leaverOf, keptBlock, swept, withTimes, orphanedPool, movedPool, poolAfter, answerAfter, outcomeBy, scheduled}
+use Rattle.steps.specs.Events.{verdictAt, movedEntry, movedTasks, leaverOf, keptBlock, swept, withTimes, orphanedPool, movedPool, poolAfter, answerAfter, outcomeBy, scheduled}
 use Rattle.steps.proofs.EventsFollow.{schedule-follows, schedule-fits}
 use Rattle.steps.proofs.Standing.{none-freed, swept-none}
 use Rattle.steps.proofs.Orphans.{orphaned-none}
@@ -46,7 +46,7 @@ use Rattle.tasks.specs.declared.Planned.{Planned}
 use Rattle.endings.specs.Ending.{isEnding, endedEntry}
 use Rattle.endings.specs.declared.Passing.{Passing}
 use Rattle.calls.specs.Contract.{Obeys}
-use Rattle.calls.proofs.Passing.{passingOf, kept-as, block-keeps}
+use Rattle.calls.proofs.Passing.{block-keeps}
 use Rattle.ledger.specs.Numbers.{isRefusal}
 
 -- the ledger's reply to an event has no bytes
@@ -138,6 +138,7 @@ tested-still Block task p types w known t s =
     (swept-none (leaverOf Block task) false _ _ p w
     (block-keeps task (p .tasks) (p .global) (types .tasks) known (p .limits) (p .blocks) (p .expirations) (fit-parts p w .entries)))
 tested-still Resume task p types w known t s = absurd (false≢true t)
+tested-still View task p types w known t s = absurd (false≢true t)
 tested-still Tick task p types w known t s = absurd (true≢false s)
 
 -- one that may end nothing is no leave
@@ -146,6 +147,7 @@ unfolding plannedAfter
 nobody-leaves Leave task tasks global s = absurd (true≢false s)
 nobody-leaves Block task tasks global s = refl
 nobody-leaves Resume task tasks global s = refl
+nobody-leaves View task tasks global s = refl
 nobody-leaves Tick task tasks global s = refl
 
 leaving-by : (v : Verdict) (event : Event) (task : ℕ) (tasks : List TaskEntry) (global : GlobalTime) → plannedBy v event task tasks global .ends ≡ false

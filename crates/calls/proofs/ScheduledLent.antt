@@ -6,16 +6,15 @@ use mathlib.Core.Path.{_≡_, refl, sym, ap, subst, _∙_}
 use lib.ListN.{length}
 use Rattle.lists.specs.Tables.{mapFrom}
 use Rattle.ledger.specs.Limits.{taskCount}
-use Rattle.ledger.specs.declared.Answer.the-variants.{Refused as RefusedAnswer}
 use Rattle.ledger.specs.declared.Call.the-variants.{Schedule}
 use Rattle.ledger.specs.Objects.{sharesAfter}
 use Rattle.ledger.specs.declared.Share.{Share}
+use Rattle.ledger.specs.Tasks.{isTested}
 use Rattle.ledger.specs.declared.Event.{Event}
-use Rattle.ledger.specs.declared.Event.the-variants.{Leave, Block, Resume, Tick}
-use Rattle.ledger.specs.declared.Refusal.{Refusal}
+use Rattle.ledger.specs.declared.Event.the-variants.{Leave, Block, Resume, Tick, View}
 use Rattle.ledger.specs.declared.Request.the-variants.{Use}
 use Rattle.record.specs.Reading.{HeadTyped}
-use Rattle.record.specs.Tables.{ExpirationEntry, Tables, Sized, blocksOf, entriesOf, tablesBy, tablesOf, pooled, blockEntries}
+use Rattle.record.specs.Tables.{ExpirationEntry, Tables, Sized, blocksOf, entriesOf, tablesBy, tablesOf, pooled}
 use Rattle.record.specs.Pools.{isWellFormed}
 use Rattle.ledger.specs.declared.Verdict.{Verdict}
 use Rattle.ledger.specs.declared.Verdict.the-variants.{Accepted, Refused}
@@ -26,7 +25,8 @@ use Rattle.record.specs.declared.Pool.{Pool}
 use Rattle.record.proofs.Facts.{Fit, fit-parts}
 use Rattle.steps.specs.Events.{leaverOf, lateEntry, passedEntry, keptBlock, swept, orphanedBlock, orphanedPool, verdictAt, scheduled}
 use Rattle.steps.proofs.Orphans.{kept-orphaned}
-use Rattle.endings.specs.Makers.{Orphans}
+use Rattle.endings.specs.Makers.{orphanedExtents}
+use Rattle.endings.proofs.Orphaned.{orphaned-blocks, orphaned-size}
 use Rattle.steps.proofs.Late.{late-blocks}
 use Rattle.tasks.specs.Steps.{isLeave, plannedAfter, plannedBy, planned}
 use Rattle.tasks.specs.declared.Planned.{Planned}
@@ -46,6 +46,7 @@ unfolding sharesAfter
 shares-as Leave task shares = refl
 shares-as Block task shares = refl
 shares-as Resume task shares = refl
+shares-as View task shares = refl
 shares-as Tick task shares = refl
 
 module _ {h : Head} {hs ls cs ns ds : List ℕ} (types : HeadTyped h) (z : Sized hs ls cs ns ds) (event : Event) (task : ℕ)
@@ -67,7 +68,7 @@ module _ {h : Head} {hs ls cs ns ds : List ℕ} (types : HeadTyped h) (z : Sized
             rw (so, u .sameTasks, u .sameTime, u .nobody) refl);
       }
 
-  module _ {hs′ ls′ cs′ ds′ : List ℕ} (s : q .ends ≡ true) (ends : Ends (passingOf task q) (q .tasks) ns ds hs cs hs′ cs′ ds′) (orphans : Orphans (passingOf task q) ls ls′)
+  module _ {hs′ ls′ cs′ ds′ : List ℕ} (s : q .ends ≡ true) (ends : Ends (passingOf task q) (q .tasks) ns ds hs cs hs′ cs′ ds′) (made : ls′ ≡ orphanedExtents (passingOf task q) ls)
       (w : isWellFormed (pooled h hs ls cs ns ds) ≡ true) where
     abbrev before : Tables
     before = tablesBy h (blocksOf hs ls) (entriesOf cs ns ds)
@@ -104,7 +105,7 @@ module _ {h : Head} {hs ls cs ns ds : List ℕ} (types : HeadTyped h) (z : Sized
     left-makers : mapFrom 0 (keptBlock (entriesOf cs′ ns ds′)) (map (orphanedBlock (leaverOf event task)) (blocksOf hs ls)) ≡ blocksOf hs′ ls′
     left-makers =
         kept-orphaned (leaverOf event task) (entriesOf cs′ ns ds′) 0 (blocksOf hs ls) ∙ ap (map (orphanedBlock (leaverOf event task))) freed
-        ∙ ap (λ (leaver : ℕ). map (orphanedBlock leaver) (blocksOf hs′ ls)) its-leaver ∙ sym (orphans .so hs′)
+        ∙ ap (λ (leaver : ℕ). map (orphanedBlock leaver) (blocksOf hs′ ls)) its-leaver ∙ sym (ap (blocksOf hs′) made ∙ orphaned-blocks (passingOf task q) hs′ ls)
       where
         its-leaver : leaverOf event task ≡ cond (q .leaves) task taskCount
         its-leaver = rw (plan .plan) (sym (leaver-as event task))
@@ -114,14 +115,14 @@ module _ {h : Head} {hs ls cs ns ds : List ℕ} (types : HeadTyped h) (z : Sized
     ended-left = sym (plan .left ∙ rw (kept, left-makers, ← shares-as event task (h .shares), plan .plan))
 
   -- what is over has ended
-  pub schedule-ended : {hs′ ls′ cs′ ds′ : List ℕ} → q .ends ≡ true → Ends (passingOf task q) (q .tasks) ns ds hs cs hs′ cs′ ds′ → Orphans (passingOf task q) ls ls′
+  pub schedule-ended : {hs′ ls′ cs′ ds′ : List ℕ} → q .ends ≡ true → Ends (passingOf task q) (q .tasks) ns ds hs cs hs′ cs′ ds′ → ls′ ≡ orphanedExtents (passingOf task q) ls
       → FollowsBeside (Use (Schedule event task)) h hs ls cs ns ds (q .answer) (headAfter task q h) hs′ ls′ cs′ ns ds′
   unfolding tablesOf tablesBy
-  schedule-ended {hs′} {ls′} {cs′} {ds′} s ends orphans =
+  schedule-ended {hs′} {ls′} {cs′} {ds′} s ends made =
       record {
         sized =
             record {
-              blocks = record { of-handles = ends .handlesSize; of-extents = orphans .size };
+              blocks = record { of-handles = ends .handlesSize; of-extents = ap length made ∙ orphaned-size (passingOf task q) ls ∙ z .blocks .of-extents };
               entries = record { of-clocks = ends .clocksSize; of-named = z .entries .of-named; of-dues = ends .duesSize };
             };
         follows = λ w small large.
@@ -129,30 +130,30 @@ module _ {h : Head} {hs ls cs ns ds : List ℕ} (types : HeadTyped h) (z : Sized
             let t = lent-typed h hs ls cs ns ds types (z .blocks) (z .entries) in
             schedule-obeys event task {p = p} {p′ = pooled (headAfter task q h) hs′ ls′ cs′ ns ds′} t w small large
             (rw so (planned-answer event task (tablesOf p)))
-            (ended-left s ends orphans w)
+            (ended-left s ends made w)
             (λ why r.
             let u = refused-unmoved event task (h .tasks) (h .global) why (rw so at r) in
             absurd (true≢false (sym s ∙ rw so (u .still))));
       }
 
--- a resume ends nothing, whatever columns stand beside it
-unended : (v : Verdict) (task : ℕ) (tasks : List TaskEntry) (global : GlobalTime)
-    → (plannedBy v Resume task tasks global .ends ≡ false) × (plannedBy v Resume task tasks global .leaves ≡ false)
+-- an event that no advance test follows ends nothing, whatever columns stand beside it
+unended : (v : Verdict) (event : Event) (task : ℕ) (tasks : List TaskEntry) (global : GlobalTime) → isTested event ≡ false
+    → (plannedBy v event task tasks global .ends ≡ false) × (plannedBy v event task tasks global .leaves ≡ false)
 unfolding plannedAfter
-unended Accepted task tasks global = (refl, refl)
-unended (Refused r) task tasks global = (refl, refl)
+unended Accepted event task tasks global e = rw e (refl, refl)
+unended (Refused r) event task tasks global e = (refl, refl)
 
-pub resume-alone : {h : Head} → HeadTyped h → (task : ℕ) {q : Planned} → q ≡ planned Resume task (h .tasks) (h .global)
-    → FollowsAlone (λ blocks. Unit) (Use (Schedule Resume task)) h (q .answer)
+pub start-alone : {h : Head} → HeadTyped h → (event : Event) (task : ℕ) {q : Planned} → isTested event ≡ false → q ≡ planned event task (h .tasks) (h .global)
+    → FollowsAlone (λ blocks. Unit) (Use (Schedule event task)) h (q .answer)
     (record { limits = h .limits; tasks = q .tasks; global = q .global; given = h .given; shares = h .shares })
 unfolding planned
-resume-alone {h} types task {q} so =
-    let (ends, leaves) = unended (verdictAt Resume task (h .tasks)) task (h .tasks) (h .global) in
+start-alone {h} types event task {q} untested so =
+    let (ends, leaves) = unended (verdictAt event task (h .tasks)) event task (h .tasks) (h .global) untested in
     record {
       follows = λ hs ls cs ns ds z known w.
-          let still = schedule-still types z Resume task so (rw so ends) .follows w in
+          let still = schedule-still types z event task so (rw so ends) .follows w in
           let nobody : q .leaves ≡ false = rw so leaves in
-          subst (λ (b : Bool). Follows (Use (Schedule Resume task)) (pooled h hs ls cs ns ds) (q .answer)
+          subst (λ (b : Bool). Follows (Use (Schedule event task)) (pooled h hs ls cs ns ds) (q .answer)
           (pooled (record { limits = h .limits; tasks = q .tasks; global = q .global; given = h .given; shares = sharesLeft b task (h .shares) }) hs ls cs ns ds))
           nobody still;
     }

@@ -1,26 +1,24 @@
 -- The dispatch: what each call promises serves its request.
 use Prim.Native.Nat.{ℕ}
 use native.Mathlib.Omega.{arith}
-use mathlib.Core.Bool.{Bool, true, false, true≢false, cond}
 use mathlib.Core.List.{List, []}
-use mathlib.Core.Path.{_≡_, refl, ap, _∙_}
-use borrow.Author.Tests.{lt-ltb}
+use mathlib.Core.Path.{_≡_, refl, _∙_}
 use Rattle.ledger.specs.Objects.{Reply, plain, memoryAfter, expirationsAfter}
 use Rattle.ledger.specs.Refusals.{testsOf}
 use Rattle.ledger.specs.Ledger.{Ledger, reply, next, replyToRequest, afterRequest}
 use Rattle.ledger.specs.declared.Answer.{Answer}
 use Rattle.ledger.specs.declared.Answer.the-variants.{Refused as RefusedAnswer}
-use Rattle.ledger.specs.declared.Call.the-variants.{Join, Schedule, Make, Refresh, Read, Write, Batch, Release}
+use Rattle.ledger.specs.declared.Call.the-variants.{Join, Schedule, Make, Refresh, Write, Batch, Release}
 use Rattle.ledger.specs.declared.Event.{Event}
 use Rattle.ledger.specs.declared.Share.{Share}
-use Rattle.ledger.specs.declared.Event.the-variants.{Leave, Block, Resume, Tick}
+use Rattle.ledger.specs.declared.Event.the-variants.{Leave, Block, Resume, Tick, View}
 use Rattle.ledger.specs.declared.Kind.{Kind}
 use Rattle.ledger.specs.declared.Refusal.{Refusal}
 use Rattle.ledger.specs.declared.Request.{Request}
 use Rattle.ledger.specs.declared.Request.the-variants.{Use, Report, Remaining}
-use Rattle.record.specs.Reading.{isWholeSmall, blockBytes}
+use Rattle.record.specs.Reading.{blockBytes}
 use Rattle.record.specs.declared.Pool.{Pool}
-use Rattle.calls.specs.Contract.{Leaves, Obeys, FollowsWith, Follows, Makes, Locates, Writes}
+use Rattle.calls.specs.Contract.{Leaves, Obeys, FollowsWith, Follows, Makes, Writes}
 use Rattle.calls.specs.Served.{withoutBytes, Serves}
 
 pub no-bytes : (small large : List ℕ) → blockBytes small large 0 0 ≡ []
@@ -52,6 +50,7 @@ unfolding reply next testsOf memoryAfter expirationsAfter
 no-bytes-scheduled Leave task new L = (refl, refl)
 no-bytes-scheduled Block task new L = (refl, refl)
 no-bytes-scheduled Resume task new L = (refl, refl)
+no-bytes-scheduled View task new L = (refl, refl)
 no-bytes-scheduled Tick task new L = (refl, refl)
 
 -- a call that hands back no bytes
@@ -100,11 +99,11 @@ module _ (new : List ℕ) (p : Pool) (small large : List ℕ) where
       → Serves (Remaining task handle) new p small large (withoutBytes answer p) small large
   life-serves task handle answer f = serves-plain (whatever-bytes new (λ L. refl) (λ L. refl) (λ b. b) (f small large))
 
-  pub make-serves : (task : ℕ) (kind : Kind) (extension size : ℕ) (answer : Answer) (p′ : Pool) (small′ large′ : List ℕ)
-      → Makes task kind extension size p small large answer p′ small′ large′
-      → Serves (Use (Make task kind extension size)) new p small large (withoutBytes answer p′) small′ large′
+  pub make-serves : (task : ℕ) (kind : Kind) (extension size prefix : ℕ) (answer : Answer) (p′ : Pool) (small′ large′ : List ℕ)
+      → Makes task kind extension size prefix p small large answer p′ small′ large′
+      → Serves (Use (Make task kind extension size prefix)) new p small large (withoutBytes answer p′) small′ large′
   unfolding reply next testsOf memoryAfter expirationsAfter
-  make-serves task kind extension size answer p′ small′ large′ m = serves-plain (whatever-bytes new (λ L. refl) (λ L. refl) (λ b. b) m)
+  make-serves task kind extension size prefix answer p′ small′ large′ m = serves-plain (whatever-bytes new (λ L. refl) (λ L. refl) (λ b. b) m)
 
   pub write-serves : (task handle offset : ℕ) (answer : Answer) (p′ : Pool) (small′ large′ : List ℕ)
       → Writes task handle offset new p small large answer p′ small′ large′

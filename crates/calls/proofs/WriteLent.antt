@@ -1,6 +1,5 @@
 -- Read and write on lent tables, by what was found.
 use Prim.Native.Nat.{ℕ, _+_, _<_}
-use native.Mathlib.Omega.{arith}
 use mathlib.Core.List.{List}
 use mathlib.Core.Path.{_≡_, sym, ap, _∙_}
 use lib.ListN.{length, getD, set, length-set}
@@ -15,7 +14,7 @@ use Rattle.record.specs.Tables.{BlockEntry, Sized, lengthIn, withSum, blocksOf,
 use Rattle.record.proofs.Columns.{block-at, extents-set, entry-summed}
 use Rattle.record.specs.declared.Head.{Head}
 use Rattle.steps.specs.Objects.{placeIn, placeOf, readVerdict, writeVerdict, writtenPool}
-use Rattle.objects.specs.Outcomes.{bytesIn}
+use Rattle.objects.specs.Outcomes.{bytesIn, shownIn}
 use Rattle.objects.specs.declared.FoundBytes.{FoundBytes}
 use Rattle.objects.specs.declared.FoundBytes.the-variants.{At}
 use Rattle.objects.specs.declared.FoundBytes.the-variants.{Refused as RefusedBytes}
@@ -35,7 +34,7 @@ module _ {h : Head} {hs ls cs ns ds : List ℕ} (types : HeadTyped h) (sized : S
 
   -- where a read finds its object
   pub read-locates : (task handle : ℕ) {small large : List ℕ} → Ready (Use (Read task handle)) (pooled h hs ls cs ns ds) small large
-      → (f : FoundBytes) → f ≡ bytesIn (readVerdict task handle small large) handle (lent h hs ls cs ns ds)
+      → (f : FoundBytes) → f ≡ shownIn (readVerdict task handle small large) task handle (lent h hs ls cs ns ds)
       → Locates task handle (pooled h hs ls cs ns ds) small large f
   read-locates task handle ready f so = locates of-entries ready f (rw (tables-of h hs ls cs ns ds) so)
 

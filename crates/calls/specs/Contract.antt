@@ -18,7 +18,7 @@ use Rattle.ledger.specs.declared.Request.the-variants.{Use, Report, Remaining}
 use Rattle.ledger.specs.declared.Limits.{Limits}
 use Rattle.stores.specs.Places.{InBlock, smallAfter, largeAfter, sumAt}
 use Rattle.record.specs.Reading.{isWholeSmall, isWholeLarge, blockBytes, Typed, sizeOf}
-use Rattle.record.specs.Tables.{lengthIn, withSum, tablesOf}
+use Rattle.record.specs.Tables.{withSum, tablesOf}
 use Rattle.record.specs.Pools.{isWellFormed, Reads}
 use Rattle.record.specs.WellFormed.{isBlock}
 use Rattle.record.specs.declared.Pool.{Pool}
@@ -32,7 +32,7 @@ use Rattle.objects.specs.declared.FoundBytes.the-variants.{Refused as RefusedBy
 abbrev pub isStored : Request → Bool
 isStored (Use (Join task share)) = false
 isStored (Use (Schedule event task)) = false
-isStored (Use (Make task kind extension size)) = true
+isStored (Use (Make task kind extension size prefix)) = true
 isStored (Use (Refresh task kind extension handle)) = false
 isStored (Use (Read task handle)) = true
 isStored (Use (Write task handle offset)) = true
@@ -111,7 +111,7 @@ LeavesWritten false handle offset new p small large p′ small′ large′ = Wri
 abbrev pub Leaves : Request → List ℕ → Pool → List ℕ → List ℕ → Answer → Pool → List ℕ → List ℕ → Type 0
 Leaves (Use (Join task share)) new p small large answer p′ small′ large′ = SameStores small large small′ large′
 Leaves (Use (Schedule event task)) new p small large answer p′ small′ large′ = SameStores small large small′ large′
-Leaves (Use (Make task kind extension size)) new p small large answer p′ small′ large′ = LeavesMade (isRefusal answer) p small large p′ small′ large′
+Leaves (Use (Make task kind extension size prefix)) new p small large answer p′ small′ large′ = LeavesMade (isRefusal answer) p small large p′ small′ large′
 Leaves (Use (Refresh task kind extension handle)) new p small large answer p′ small′ large′ = SameStores small large small′ large′
 Leaves (Use (Read task handle)) new p small large answer p′ small′ large′ = Same p small large p′ small′ large′
 Leaves (Use (Write task handle offset)) new p small large answer p′ small′ large′ =
@@ -157,8 +157,9 @@ abbrev pub Follows : Request → Pool → Answer → Pool → Type 0
 Follows request p answer p′ = FollowsWith request [] p answer p′
 
 -- make and write
-abbrev pub Makes : ℕ → Kind → ℕ → ℕ → Pool → List ℕ → List ℕ → Answer → Pool → List ℕ → List ℕ → Type 0
-Makes task kind extension size p small large answer p′ small′ large′ = Obeys (Use (Make task kind extension size)) [] p small large (plain answer) p′ small′ large′
+abbrev pub Makes : ℕ → Kind → ℕ → ℕ → ℕ → Pool → List ℕ → List ℕ → Answer → Pool → List ℕ → List ℕ → Type 0
+Makes task kind extension size prefix p small large answer p′ small′ large′ =
+    Obeys (Use (Make task kind extension size prefix)) [] p small large (plain answer) p′ small′ large′
 
 abbrev pub Writes : ℕ → ℕ → ℕ → List ℕ → Pool → List ℕ → List ℕ → Answer → Pool → List ℕ → List ℕ → Type 0
 Writes task handle offset new p small large answer p′ small′ large′ = Obeys (Use (Write task handle offset)) new p small large (plain answer) p′ small′ large′

@@ -1,9 +1,9 @@
 // Each call that changes something, and remaining life, of a well-formed record with stores as long as its blocks need: what follows the tests of 15 and 14. The head goes by value, tables and stores
 // are lent. A call decides first, by what it only reads, and then changes: a refusal has touched nothing.
 ghost use Prim.Native.Nat.{_<_};
-ghost use mathlib.Core.Bool.{true};
+ghost use mathlib.Core.Bool.{true, false};
 ghost use Rattle.ledger.specs.Limits.{taskCount, isSmall};
-ghost use Rattle.ledger.specs.declared.Event.the-variants.{Resume};
+ghost use Rattle.ledger.specs.Tasks.{isTested};
 ghost use mathlib.Core.Path.{_≡_};
 ghost use lib.ListN.{length};
 ghost use Rattle.ledger.specs.declared.Call.the-variants.{Join, Schedule, Make, Refresh, Write, Batch, Release};
@@ -49,6 +49,7 @@ use stores::write_place;
 use tasks::JOINED_TASK;
 use tasks::judge_join;
 use tasks::plan;
+use tasks::plan_start;
 
 // What a call that touches tables gives back: its answer, and the head that it leaves.
 pub struct Step {
@@ -94,7 +95,7 @@ fn shares_left(leaves: bool, task: u8, mut shares: [Share; TASK_COUNT]) -> [Shar
     shares
 }
 
-// Leave, block, resume and tick.
+// Leave, block, resume, tick and view.
 pub fn schedule(
     h: Head,
     handles: &mut [u32; BLOCK_COUNT],
@@ -145,27 +146,22 @@ pub fn schedule(
     }
 }
 
-// A resume alone: it touches no table.
-pub fn resume(h: Head, task: u8) -> Step
-    ensures { λ r. ⌜ FollowsAlone (λ blocks. Unit) (Use (Schedule Resume task)) h (r .answer) (r .head) ⌝ }
+// A resume or a view alone: no advance test follows it, and it touches no table.
+pub fn start(mut h: Head, event: Event, task: u8) -> Step
+    requires { ⌜ isTested event ≡ false ⌝ }
+    ensures { λ r. ⌜ FollowsAlone (λ blocks. Unit) (Use (Schedule event task)) h (r .answer) (r .head) ⌝ }
 {
-    let limits = h.limits;
     let before = h.tasks;
     let time = h.global;
-    let shares = h.shares;
-    let planned = plan(before, time, Event::Resume, task);
+    let planned = plan_start(before, time, event, task);
     let answer = planned.answer;
     let tasks = planned.tasks;
     let global = planned.global;
+    h.tasks = tasks;
+    h.global = global;
     Step {
         answer: answer,
-        head: Head {
-            limits: limits,
-            tasks: tasks,
-            global: global,
-            given: h.given,
-            shares: shares,
-        },
+        head: h,
     }
 }
 
@@ -211,9 +207,13 @@ pub fn make(
     kind: Kind,
     extension: u8,
     size: u16,
+    prefix: u16,
 ) -> Step
-    requires { ⌜ Sized (now handles) (now extents) (now clocks) (now named) (now dues) × Ready (Use (Make task kind extension size)) (pooled h (now handles) (now extents) (now clocks) (now named) (now dues)) (now small) (now large) × Holds (isSmall size) (h .shares) (blocksOf (now handles) (now extents)) holding ⌝ }
-    ensures { λ r. ⌜ Sized (now (handles .exit)) (now (extents .exit)) (now (clocks .exit)) (now (named .exit)) (now (dues .exit)) × Makes task kind extension size (pooled h (now (handles .entry)) (now (extents .entry)) (now (clocks .entry)) (now (named .entry)) (now (dues .entry))) (now (small .entry)) (now (large .entry)) (r .answer) (pooled (r .head) (now (handles .exit)) (now (extents .exit)) (now (clocks .exit)) (now (named .exit)) (now (dues .exit))) (now (small .exit)) (now (large .exit)) ⌝ }
+    requires { ⌜ Sized (now handles) (now extents) (now clocks) (now named) (now dues)
+        × Ready (Use (Make task kind extension size prefix)) (pooled h (now handles) (now extents) (now clocks) (now named) (now dues)) (now small) (now large)
+        × Holds (isSmall size) (h .shares) (blocksOf (now handles) (now extents)) holding ⌝ }
+    ensures { λ r. ⌜ Sized (now (handles .exit)) (now (extents .exit)) (now (clocks .exit)) (now (named .exit)) (now (dues .exit))
+        × Makes task kind extension size prefix (pooled h (now (handles .entry)) (now (extents .entry)) (now (clocks .entry)) (now (named .entry)) (now (dues .entry))) (now (small .entry)) (now (large .entry)) (r .answer) (pooled (r .head) (now (handles .exit)) (now (extents .exit)) (now (clocks .exit)) (now (named .exit)) (now (dues .exit))) (now (small .exit)) (now (large .exit)) ⌝ }
 {
     let plan = plan_make(
         h,
@@ -224,6 +224,7 @@ pub fn make(
         kind,
         extension,
         size,
+        prefix,
     );
     let verdict = plan.verdict;
     let place = plan.place;
@@ -234,7 +235,7 @@ pub fn make(
     clear_place(small, large, place);
     let handle = h.given + 1;
     handles[place] = handle;
-    extents[place] = extent_of(size, 0, task);
+    extents[place] = extent_of(size, 0, task, prefix);
     Step {
         answer: Answer::Handle(handle),
         head: with_given(h, handle),
@@ -412,7 +413,18 @@ pub fn remaining<'a>(
     requires { ⌜ Sized (now handles) (now extents) (now clocks) (now named) (now dues) × (isWellFormed (pooled h (now handles) (now extents) (now clocks) (now named) (now dues)) ≡ true) ⌝ }
     ensures { λ r. ⌜ Follows (Remaining task handle) (pooled h (now (handles .entry)) (now (extents .entry)) (now (clocks .entry)) (now (named .entry)) (now (dues .entry))) r (pooled h (now (handles .entry)) (now (extents .entry)) (now (clocks .entry)) (now (named .entry)) (now (dues .entry))) ⌝ }
 {
-    match find_standing(h, handles, extents, clocks, named, dues, task, handle, true) {
+    match find_standing(
+        h,
+        handles,
+        extents,
+        clocks,
+        named,
+        dues,
+        task,
+        handle,
+        false,
+        true,
+    ) {
         Found::Refused(why) => Answer::Refused(why),
         Found::At { block: _, life } => Answer::Lasts(life),
     }

@@ -1,18 +1,16 @@
 -- The tests of 15 and 14 before a call, on the columns of a record by value or lent.
 use Prim.Native.Nat.{ℕ}
 use mathlib.Core.Bool.{Bool, true, false, not}
-use mathlib.Core.List.{List, []}
+use mathlib.Core.List.{List}
 use mathlib.Core.Path.{_≡_, refl, sym, _∙_}
 use borrow.Author.Tests.{not-true, not-false}
 use lib.ListN.{length}
 use Rattle.ledger.specs.Objects.{plain}
 use Rattle.ledger.specs.declared.Answer.{Answer}
 use Rattle.ledger.specs.declared.Answer.the-variants.{Refused}
-use Rattle.ledger.specs.declared.Call.the-variants.{Make, Write}
 use Rattle.ledger.specs.declared.Kind.{Kind}
 use Rattle.ledger.specs.declared.Refusal.the-variants.{NotWellFormed, WrongStoreLength}
 use Rattle.ledger.specs.declared.Request.{Request}
-use Rattle.ledger.specs.declared.Request.the-variants.{Use}
 use Rattle.record.specs.Tables.{BlockEntry, Sized, SizedEntries, blocksOf, lent, headOf, pooled, blockEntries}
 use Rattle.record.specs.WellFormed as WellFormed
 use Rattle.record.specs.Pools.{isWellFormed}
@@ -56,9 +54,9 @@ module _ {h : Head} {hs ls cs ns ds : List ℕ} (sized : Sized hs ls cs ns ds) {
       → SizedEntries cs ns ds × FollowsWith request new (pooled h hs ls cs ns ds) (Refused NotWellFormed) (pooled h hs ls cs ns ds)
   unfit-entries refused = (sized .entries, unfit-by-value (pooled h hs ls cs ns ds) refl f refused)
 
-  pub unfit-made : {task : ℕ} {kind : Kind} {extension size : ℕ} {small large : List ℕ} → not fit ≡ true
+  pub unfit-made : {task : ℕ} {kind : Kind} {extension size prefix : ℕ} {small large : List ℕ} → not fit ≡ true
       → Sized hs ls cs ns ds
-      × Makes task kind extension size (pooled h hs ls cs ns ds) small large (Refused NotWellFormed) (pooled h hs ls cs ns ds) small large
+      × Makes task kind extension size prefix (pooled h hs ls cs ns ds) small large (Refused NotWellFormed) (pooled h hs ls cs ns ds) small large
   unfit-made refused = (sized, unfit-by-value (pooled h hs ls cs ns ds) refl f refused _ _)
 
   pub unfit-written : {task handle offset : ℕ} {new small large : List ℕ} → not fit ≡ true
@@ -86,9 +84,9 @@ module _ {h : Head} {hs ls cs ns ds : List ℕ} (sized : Sized hs ls cs ns ds) {
           → Obeys request new (pooled h hs ls cs ns ds) small large (plain (Refused WrongStoreLength)) (pooled h hs ls cs ns ds) small large
       wrong-lent stored refused = wrong-obeys (fits-by-value (pooled h hs ls cs ns ds) refl f) passed stored tells refused
 
-      pub wrong-made : {task : ℕ} {kind : Kind} {extension size : ℕ} → not whole ≡ true
+      pub wrong-made : {task : ℕ} {kind : Kind} {extension size prefix : ℕ} → not whole ≡ true
           → Sized hs ls cs ns ds
-          × Makes task kind extension size (pooled h hs ls cs ns ds) small large (Refused WrongStoreLength) (pooled h hs ls cs ns ds) small large
+          × Makes task kind extension size prefix (pooled h hs ls cs ns ds) small large (Refused WrongStoreLength) (pooled h hs ls cs ns ds) small large
       wrong-made refused = (sized, wrong-lent refl refused)
 
       pub wrong-written : {task handle offset : ℕ} {new : List ℕ} → not whole ≡ true

@@ -1,8 +1,9 @@
 // The calls that change the record, on lent columns: 15 first, then 14 where a store is touched, and then the call itself. Who lends them never looks at the record again.
+ghost use mathlib.Core.Bool.{false};
 ghost use mathlib.Core.Path.{_≡_};
 ghost use lib.ListN.{length};
 ghost use Rattle.ledger.specs.declared.Call.the-variants.{Join, Schedule, Refresh, Batch, Release};
-ghost use Rattle.ledger.specs.declared.Event.the-variants.{Resume};
+ghost use Rattle.ledger.specs.Tasks.{isTested};
 ghost use Rattle.ledger.specs.declared.Request.the-variants.{Use};
 ghost use Rattle.record.specs.Tables.{pooled, Sized, SizedEntries, blockEntries};
 ghost use Rattle.calls.specs.Contract.{FollowsWith, Follows, Makes, Writes};
@@ -46,18 +47,20 @@ pub fn join<'a>(
     calls::join(h, sharing.holdings, task, share)
 }
 
-// A resume.
-pub fn resume<'a>(
+// A resume or a view.
+pub fn start<'a>(
     h: Head,
     handles: &'a [u32; BLOCK_COUNT],
     extents: &'a [u64; BLOCK_COUNT],
     clocks: &'a [u8; EXPIRATION_COUNT],
     named: &'a [u8; EXPIRATION_COUNT],
     dues: &'a [u32; EXPIRATION_COUNT],
+    event: Event,
     task: u8,
 ) -> Step
-    requires { ⌜ Sized (now handles) (now extents) (now clocks) (now named) (now dues) ⌝ }
-    ensures { λ r. ⌜ Follows (Use (Schedule Resume task)) (pooled h (now (handles .entry)) (now (extents .entry)) (now (clocks .entry)) (now (named .entry)) (now (dues .entry))) (r .answer) (pooled (r .head) (now (handles .entry)) (now (extents .entry)) (now (clocks .entry)) (now (named .entry)) (now (dues .entry))) ⌝ }
+    requires { ⌜ Sized (now handles) (now extents) (now clocks) (now named) (now dues)
+        × (isTested event ≡ false) ⌝ }
+    ensures { λ r. ⌜ Follows (Use (Schedule event task)) (pooled h (now (handles .entry)) (now (extents .entry)) (now (clocks .entry)) (now (named .entry)) (now (dues .entry))) (r .answer) (pooled (r .head) (now (handles .entry)) (now (extents .entry)) (now (clocks .entry)) (now (named .entry)) (now (dues .entry))) ⌝ }
 {
     if !is_well_formed(h, handles, extents, clocks, named, dues) {
         return Step {
@@ -65,10 +68,10 @@ pub fn resume<'a>(
             head: h,
         };
     }
-    calls::resume(h, task)
+    calls::start(h, event, task)
 }
 
-// Leave, block, resume and tick.
+// Leave, block, resume, tick and view.
 pub fn schedule(
     h: Head,
     handles: &mut [u32; BLOCK_COUNT],
@@ -104,9 +107,11 @@ pub fn make(
     kind: Kind,
     extension: u8,
     size: u16,
+    prefix: u16,
 ) -> Step
     requires { ⌜ Sized (now handles) (now extents) (now clocks) (now named) (now dues) ⌝ }
-    ensures { λ r. ⌜ Sized (now (handles .exit)) (now (extents .exit)) (now (clocks .exit)) (now (named .exit)) (now (dues .exit)) × Makes task kind extension size (pooled h (now (handles .entry)) (now (extents .entry)) (now (clocks .entry)) (now (named .entry)) (now (dues .entry))) (now (small .entry)) (now (large .entry)) (r .answer) (pooled (r .head) (now (handles .exit)) (now (extents .exit)) (now (clocks .exit)) (now (named .exit)) (now (dues .exit))) (now (small .exit)) (now (large .exit)) ⌝ }
+    ensures { λ r. ⌜ Sized (now (handles .exit)) (now (extents .exit)) (now (clocks .exit)) (now (named .exit)) (now (dues .exit))
+        × Makes task kind extension size prefix (pooled h (now (handles .entry)) (now (extents .entry)) (now (clocks .entry)) (now (named .entry)) (now (dues .entry))) (now (small .entry)) (now (large .entry)) (r .answer) (pooled (r .head) (now (handles .exit)) (now (extents .exit)) (now (clocks .exit)) (now (named .exit)) (now (dues .exit))) (now (small .exit)) (now (large .exit)) ⌝ }
 {
     let sharing = fitness_of(h, handles, extents, clocks, named, dues);
     if !sharing.fit {
@@ -136,6 +141,7 @@ pub fn make(
         kind,
         extension,
         size,
+        prefix,
     )
 }
 

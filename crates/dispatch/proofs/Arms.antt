@@ -21,7 +21,7 @@ use Rattle.record.specs.declared.Head.{Head}
 use Rattle.record.specs.declared.Pool.{Pool}
 use Rattle.expirations.specs.Standing.{standingOf}
 use Rattle.steps.specs.Objects.{readVerdict}
-use Rattle.objects.specs.Outcomes.{bytesIn}
+use Rattle.objects.specs.Outcomes.{shownIn}
 use Rattle.objects.specs.Usage.{usageIn}
 use Rattle.objects.specs.declared.FoundBytes.{FoundBytes}
 use Rattle.objects.specs.declared.FoundBytes.the-variants.{At, Refused}
@@ -62,8 +62,8 @@ pub ready-for : {request other : Request} {p : Pool} {small large : List ℕ} �
 ready-for ready is = rw is at ready
 
 -- and a make has the holding of its store
-pub holds-made : (shares : List Share) (blocks : List BlockEntry) (holdings : Holdings) {call : Call} {task : ℕ} {kind : Kind} {extension size : ℕ}
-    → call ≡ Make task kind extension size → HoldsFor (Use call) shares blocks holdings → {holding : Holding} → holding ≡ holdingFor holdings size
+pub holds-made : (shares : List Share) (blocks : List BlockEntry) (holdings : Holdings) {call : Call} {task : ℕ} {kind : Kind} {extension size prefix : ℕ}
+    → call ≡ Make task kind extension size prefix → HoldsFor (Use call) shares blocks holdings → {holding : Holding} → holding ≡ holdingFor holdings size
     → Holds (isSmall size) shares blocks holding
 holds-made shares blocks holdings is holds so = rw so (rw is at holds)
 
@@ -110,15 +110,15 @@ module _ (new : List ℕ) {h : Head} {hs ls cs ns ds : List ℕ} (sized : Sized 
   batch-arm {task} {kind} {extension} is {s} (entries, f) so =
       rw (is, so) (record { blocks = sized .blocks; entries = entries }, batch-serves new _ small large task kind extension (s .answer) _ f)
 
-  pub make-arm : {task : ℕ} {kind : Kind} {extension size : ℕ} → call ≡ Make task kind extension size → {s : Step} {hs′ ls′ cs′ ns′ ds′ small′ large′ : List ℕ}
+  pub make-arm : {task : ℕ} {kind : Kind} {extension size prefix : ℕ} → call ≡ Make task kind extension size prefix → {s : Step} {hs′ ls′ cs′ ns′ ds′ small′ large′ : List ℕ}
       → Sized hs′ ls′ cs′ ns′ ds′
-      × Makes task kind extension size (pooled h hs ls cs ns ds) small large (s .answer) (pooled (s .head) hs′ ls′ cs′ ns′ ds′) small′ large′
+      × Makes task kind extension size prefix (pooled h hs ls cs ns ds) small large (s .answer) (pooled (s .head) hs′ ls′ cs′ ns′ ds′) small′ large′
       → r ≡ withoutBytes (s .answer) (s .head) → Served (Use call) new h hs ls cs ns ds small large r hs′ ls′ cs′ ns′ ds′ small′ large′
-  make-arm {task} {kind} {extension} {size} is (sized′, m) so =
-      rw (is, so) (sized′, make-serves new _ small large task kind extension size _ _ _ _ m)
+  make-arm {task} {kind} {extension} {size} {prefix} is (sized′, m) so =
+      rw (is, so) (sized′, make-serves new _ small large task kind extension size prefix _ _ _ _ m)
 
   pub read-arm : HeadTyped h → {task handle : ℕ} → call ≡ Read task handle → {f : FoundBytes}
-      → f ≡ bytesIn (readVerdict task handle small large) handle (lent h hs ls cs ns ds) → r ≡ whereFound f h
+      → f ≡ shownIn (readVerdict task handle small large) task handle (lent h hs ls cs ns ds) → r ≡ whereFound f h
       → Served (Use call) new h hs ls cs ns ds small large r hs ls cs ns ds small large
   read-arm types {task} {handle} is {f} found so =
       rw (is, so) (sized, read-serves new h hs ls cs ns ds small large task handle f (read-locates types sized task handle (rw is at ready) f found))

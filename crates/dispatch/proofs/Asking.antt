@@ -18,7 +18,7 @@ module _ {shares : List Share} {blocks : List BlockEntry} {holdings : Holdings} 
       → (isAsked request false ≡ true → Holds false shares blocks (holdings .large)) → HoldsFor request shares blocks holdings
   holds-asked (Use (Join task share)) small large = record { small = small refl; large = large refl }
   holds-asked (Use (Schedule event task)) small large = tt
-  holds-asked (Use (Make task kind extension size)) small large = by-test (isSmall size) (λ e. rw e (small (rw e))) (λ e. rw e (large (rw e)))
+  holds-asked (Use (Make task kind extension size prefix)) small large = by-test (isSmall size) (λ e. rw e (small (rw e))) (λ e. rw e (large (rw e)))
   holds-asked (Use (Refresh task kind extension handle)) small large = tt
   holds-asked (Use (Read task handle)) small large = tt
   holds-asked (Use (Write task handle offset)) small large = tt

@@ -19,7 +19,7 @@ holdingFor holdings size = cond (isSmall size) (holdings .small) (holdings .larg
 abbrev pub HoldsFor : Request → List Share → List BlockEntry → Holdings → Type 0
 HoldsFor (Use (Join task share)) shares blocks holdings = HoldsBoth shares blocks holdings
 HoldsFor (Use (Schedule event task)) shares blocks holdings = Unit
-HoldsFor (Use (Make task kind extension size)) shares blocks holdings = Holds (isSmall size) shares blocks (holdingFor holdings size)
+HoldsFor (Use (Make task kind extension size prefix)) shares blocks holdings = Holds (isSmall size) shares blocks (holdingFor holdings size)
 HoldsFor (Use (Refresh task kind extension handle)) shares blocks holdings = Unit
 HoldsFor (Use (Read task handle)) shares blocks holdings = Unit
 HoldsFor (Use (Write task handle offset)) shares blocks holdings = Unit
@@ -32,7 +32,7 @@ HoldsFor (Remaining task handle) shares blocks holdings = Unit
 abbrev pub isAsked : Request → Bool → Bool
 isAsked (Use (Join task share)) store = true
 isAsked (Use (Schedule event task)) store = false
-isAsked (Use (Make task kind extension size)) store = Bool·beq store (isSmall size)
+isAsked (Use (Make task kind extension size prefix)) store = Bool·beq store (isSmall size)
 isAsked (Use (Refresh task kind extension handle)) store = false
 isAsked (Use (Read task handle)) store = false
 isAsked (Use (Write task handle offset)) store = false

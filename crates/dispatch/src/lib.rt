@@ -1,4 +1,4 @@
-// The one dispatch: a call of the thirteen by its request, on a head by value and lent tables and stores.
+// The one dispatch: a call of the fourteen by its request, on a head by value and lent tables and stores.
 ghost use mathlib.Core.Path.{_≡_};
 ghost use Rattle.ledger.specs.declared.Request.the-variants.{Use};
 ghost use Rattle.record.specs.Tables.{pooled, blocksOf, Sized};
@@ -104,6 +104,7 @@ fn serve(
             kind,
             extension,
             length,
+            prefix,
         } => {
             let holding = holding_for(holdings, length);
             let step = make(
@@ -120,6 +121,7 @@ fn serve(
                 kind,
                 extension,
                 length,
+                prefix,
             );
             let answer = step.answer;
             let head = step.head;
@@ -219,7 +221,7 @@ fn serve(
     }
 }
 
-// One call of the thirteen, by its request. The bytes are those of a write or a batch; other calls leave them aside.
+// One call of the fourteen, by its request. The bytes are those of a write or a batch; other calls leave them aside.
 pub fn call(
     h: Head,
     handles: &mut [u32; BLOCK_COUNT],

@@ -34,6 +34,7 @@ fn is_asked(request: Request, small: bool) -> bool
                 kind: _,
                 extension: _,
                 length,
+                prefix: _,
             } => small == (length as u32 <= SMALL_SIZE),
             Call::Refresh {
                 task: _,

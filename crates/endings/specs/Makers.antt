@@ -2,19 +2,23 @@
 use Prim.Native.Nat.{ℕ}
 use mathlib.Core.Bool.{cond}
 use mathlib.Core.List.{List, map}
-use mathlib.Core.Path.{_≡_}
 use lib.Dec.{eqb}
-use lib.ListN.{length}
+use lib.ListN.{getD}
 use Rattle.ledger.specs.Expirations.{departed}
-use Rattle.record.specs.Tables.{makerIn, withMaker, blocksOf, blockEntries}
-use Rattle.steps.specs.Events.{orphanedBlock}
-use Rattle.endings.specs.Late.{leaverIn}
+use Rattle.record.specs.Tables.{makerIn, withMaker}
 use Rattle.endings.specs.declared.Passing.{Passing}
 
-abbrev pub orphanedExtent : ℕ → ℕ → ℕ
-orphanedExtent leaver extent = cond (eqb (makerIn extent) leaver) (withMaker extent departed) extent
+-- an extent by its maker: the leaver's are nobody's
+abbrev pub orphanedOf : ℕ → ℕ → ℕ → ℕ
+orphanedOf leaver maker extent = cond (eqb maker leaver) (withMaker extent departed) extent
 
--- whatever handles stand beside them
-pub record Orphans (t : Passing) (extents extents′ : List ℕ) : Type 0 where
-  pub size : length extents′ ≡ blockEntries
-  pub so : (handles : List ℕ) → blocksOf handles extents′ ≡ map (orphanedBlock (leaverIn t)) (blocksOf handles extents)
+abbrev pub orphanedExtent : ℕ → ℕ → ℕ
+orphanedExtent leaver extent = orphanedOf leaver (makerIn extent) extent
+
+-- the maker asked of the extents as they were before, at the same place
+abbrev pub orphanedBy : ℕ → List ℕ → ℕ → ℕ → ℕ
+orphanedBy leaver before k extent = orphanedOf leaver (makerIn (getD before k 0)) extent
+
+-- all of them: where no task leaves, they stay
+abbrev pub orphanedExtents : Passing → List ℕ → List ℕ
+orphanedExtents t extents = cond (t .leaves) (map (orphanedExtent (t .task)) extents) extents

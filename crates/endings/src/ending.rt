@@ -90,7 +90,7 @@ fn end_local_in(
     some
 }
 
-// The same of all.
+// The same of all, two groups in a turn.
 fn end_local(
     own: u8,
     local: LocalTime,
@@ -101,8 +101,9 @@ fn end_local(
     ensures { λ r. ⌜ EndedBy (isOwnOverAt own local (now (dues .entry))) 0 expirationEntries (now (clocks .entry)) (now (clocks .exit)) r ⌝ }
 {
     let mut some = false;
-    for g in 0..GROUP_COUNT {
-        some = some | end_local_in(own, local, clocks, dues, g * GROUP);
+    for g in 0..GROUP_COUNT / 2 {
+        some = some | end_local_in(own, local, clocks, dues, g * 2 * GROUP);
+        some = some | end_local_in(own, local, clocks, dues, g * 2 * GROUP + GROUP);
     }
     some
 }

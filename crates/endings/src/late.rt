@@ -97,7 +97,7 @@ fn put_off_in<'a>(
     }
 }
 
-// All of them, at an advance, by the tasks as it leaves them.
+// All of them, at an advance, by the tasks as it leaves them, two groups in a turn.
 pub fn put_off(
     t: Passing,
     tasks: [TaskEntry; TASK_COUNT],
@@ -114,7 +114,8 @@ pub fn put_off(
         return;
     }
     let flags = put_off_flags(tasks);
-    for g in 0..GROUP_COUNT {
-        put_off_in(&flags, clocks, dues, g * GROUP);
+    for g in 0..GROUP_COUNT / 2 {
+        put_off_in(&flags, clocks, dues, g * 2 * GROUP);
+        put_off_in(&flags, clocks, dues, g * 2 * GROUP + GROUP);
     }
 }

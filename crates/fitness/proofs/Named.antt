@@ -15,7 +15,7 @@ use Rattle.lists.proofs.Cases.{by-test, refuted, same-test}
 use Rattle.lists.proofs.Tables.{allFrom-each, allFrom-within}
 use Rattle.lists.proofs.Tests.{passes-imp, passes-found}
 use Rattle.record.specs.Codes.{dueOf, isDated, setterOf, absentEntry, freeBlock}
-use Rattle.record.specs.WellFormed.{isUsed, isFitDue, isFitEntry, isNaming, isSizedFor, isFitBlock}
+use Rattle.record.specs.WellFormed.{isUsed, isFitDue, isFitEntry, isNaming, isSizedFor, isPrefixed, isFitBlock}
 use Rattle.fitness.specs.Checks.{Names, isFitBlockIn}
 use Rattle.record.specs.declared.TaskEntry.{TaskEntry}
 use Rattle.record.specs.Tables.{BlockEntry, ExpirationEntry}
@@ -54,18 +54,18 @@ fit-says limits setter global true (Pinned due) e d = refl
 fit-says limits setter global false (Pinned due) e d = e
 fit-says limits setter global used Unknown e d = absurd (false≢true d)
 
--- one block: z is whether it is free, n whether it is named, s whether its length and its handle are fit
-block-by-flag : (z n s g : Bool) → (not (not z) || (n && s && g)) ≡ true → (n ≡ true → not z ≡ true)
-    → (Bool·beq (not z) n && (not (not z) || (s && g))) ≡ true
-block-by-flag true true s g e h = h refl
-block-by-flag true false s g e h = refl
-block-by-flag false true s g e h = e
-block-by-flag false false s g e h = absurd (false≢true e)
+-- one block: z is whether it is free, n whether it is named, s, p and g whether its length, prefix and handle are fit
+block-by-flag : (z n s p g : Bool) → (not (not z) || (n && s && p && g)) ≡ true → (n ≡ true → not z ≡ true)
+    → (Bool·beq (not z) n && (not (not z) || (s && p && g))) ≡ true
+block-by-flag true true s p g e h = h refl
+block-by-flag true false s p g e h = refl
+block-by-flag false true s p g e h = e
+block-by-flag false false s p g e h = absurd (false≢true e)
 
-flag-fits : (z n s g : Bool) → (Bool·beq (not z) n && (not (not z) || (s && g))) ≡ true → (not (not z) || (n && s && g)) ≡ true
-flag-fits true n s g e = refl
-flag-fits false true s g e = e
-flag-fits false false s g e = absurd (false≢true e)
+flag-fits : (z n s p g : Bool) → (Bool·beq (not z) n && (not (not z) || (s && p && g))) ≡ true → (not (not z) || (n && s && p && g)) ≡ true
+flag-fits true n s p g e = refl
+flag-fits false true s p g e = e
+flag-fits false false s p g e = absurd (false≢true e)
 
 flag-used : (z n r : Bool) → (Bool·beq (not z) n && r) ≡ true → n ≡ true → not z ≡ true
 flag-used true true r e h = e
@@ -80,6 +80,9 @@ module _ (limits : Limits) (tasks : List TaskEntry) (global : GlobalTime) (given
 
     abbrev isSized : ℕ → Bool
     isSized k = isSizedFor k (getD blocks k freeBlock .length)
+
+    abbrev hasPrefix : ℕ → Bool
+    hasPrefix k = isPrefixed (getD blocks k freeBlock)
 
     abbrev isGiven : ℕ → Bool
     isGiven k = leb (getD blocks k freeBlock .handle) given
@@ -122,7 +125,8 @@ module _ (limits : Limits) (tasks : List TaskEntry) (global : GlobalTime) (given
           allFrom-each (isFitBlockIn given named) freeBlock 0 blocks
           (λ k l.
           let fits = rw (zero-add k) at (allFrom-within (isFitBlock given xs) freeBlock 0 blocks b k l) in
-          rw (zero-add k, names .so k (omega arith)) (block-by-flag (isFree k) (any (isNaming k) xs) (isSized k) (isGiven k) fits (naming-used f k)))
+          rw (zero-add k, names .so k (omega arith))
+          (block-by-flag (isFree k) (any (isNaming k) xs) (isSized k) (hasPrefix k) (isGiven k) fits (naming-used f k)))
 
       -- where the flags are right, a block that is named is in use
       flag-means : allFrom 0 (isFitBlockIn given named) blocks ≡ true → (k : ℕ) → k < 96 → any (isNaming k) xs ≡ true
@@ -143,7 +147,9 @@ module _ (limits : Limits) (tasks : List TaskEntry) (global : GlobalTime) (given
                 alone,
             allFrom-each (isFitBlock given xs) freeBlock 0 blocks (λ k l.
                 let fits = allFrom-within (isFitBlockIn given named) freeBlock 0 blocks b k l in
-                rw (zero-add k) (flag-fits (isFree k) (any (isNaming k) xs) (isSized k) (isGiven k) (rw (zero-add k, names .so k (omega arith)) at fits))),
+                rw (zero-add k)
+                (flag-fits (isFree k) (any (isNaming k) xs) (isSized k) (hasPrefix k) (isGiven k)
+                (rw (zero-add k, names .so k (omega arith)) at fits))),
           )
 
       pub named-right : all (isFitAlone limits tasks global) xs ≡ true

@@ -1,11 +1,12 @@
 -- The parts of the test in their order, each of which alone can refuse a record.
 use Prim.Native.Nat.{ℕ}
-use mathlib.Core.Bool.{Bool, true, false, _&&_, and-true, and-false}
+use mathlib.Core.Bool.{Bool, true, false, false≢true, _&&_}
 use mathlib.Core.List.{List, map}
 use mathlib.Core.Path.{_≡_, sym, ap, _∙_}
 use lib.ListN.{length}
 use Rattle.lists.specs.Tests.{all}
 use Rattle.lists.specs.Tables.{allFrom}
+use Rattle.lists.proofs.Cases.{by-test}
 use Rattle.ledger.specs.Tasks.{allTicked}
 use Rattle.record.specs.Codes.{taskOf}
 use Rattle.record.specs.Tables.{BlockEntry, ExpirationEntry, blocksOf, entriesOf, tablesBy, lent, Sized}
@@ -32,6 +33,9 @@ module _ (h : Head) {handles extents clocks named dues : List ℕ} (sized : Size
   pub unfit-tasks : all isFitTask (h .tasks) ≡ false → false ≡ isFit
   unfolding isConsistent tablesBy
   unfit-tasks e = rw e
+
+  pub fit-tasks : isFit ≡ true → all isFitTask (h .tasks) ≡ true
+  fit-tasks e = by-test (all isFitTask (h .tasks)) (λ t. t) (λ t. absurd (false≢true (unfit-tasks t ∙ e)))
 
   module _ (tasks : all isFitTask (h .tasks) ≡ true) where
     pub all-have-ticked : allTicked (map taskOf (h .tasks)) ≡ true → false ≡ isFit

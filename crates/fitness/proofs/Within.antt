@@ -13,7 +13,6 @@ use Rattle.lists.specs.Tests.{all}
 use Rattle.lists.proofs.All.{all-getD}
 use Rattle.lists.proofs.Cases.{by-test, same-test}
 use Rattle.lists.proofs.Filling.{Laid}
-use Rattle.lists.proofs.Tests.{passes-at}
 use Rattle.ledger.specs.Limits.{counterRange, isAllowed}
 use Rattle.ledger.proofs.Figures.{allowed}
 use Rattle.ledger.specs.Tasks.{isAbsent}
@@ -21,7 +20,7 @@ use Rattle.ledger.specs.declared.Limits.{Limits}
 use Rattle.record.specs.Codes.{stateOf, isGlobalClock, dueBy, leftAt, absentEntry, freeEntry}
 use Rattle.record.specs.Reading.{HeadTyped}
 use Rattle.record.specs.Tables.{ExpirationEntry, entriesOf}
-use Rattle.record.specs.WellFormed.{isAhead, isFitTask, isFitDue}
+use Rattle.record.specs.WellFormed.{isAhead, isFitDue}
 use Rattle.record.specs.declared.GlobalTime.{GlobalTime}
 use Rattle.record.specs.declared.Head.{Head}
 use Rattle.record.specs.declared.TaskEntry.{TaskEntry}
@@ -51,26 +50,19 @@ firsts-end last e m h =
     }
 
 -- the units of a state by a product: a task that there is has one share of them
-pub share : (most state : ℕ) → state < 3 → most * (state - state / 2) ≡ unitsOf most state
+pub share : (most state : ℕ) → state < 4 → most * ((state + 3) / 4) ≡ unitsOf most state
 share most zero l = omega arith
 share most (suc zero) l = omega arith
 share most (suc (suc zero)) l = omega arith
-share most (suc (suc (suc state))) l = absurd (omega arith)
+share most (suc (suc (suc zero))) l = omega arith
+share most (suc (suc (suc (suc state)))) l = absurd (omega arith)
 
-pub share-below : (most state : ℕ) → state < 3 → most ≤ 32 → most * (state - state / 2) < 65536
+pub share-below : (most state : ℕ) → state < 4 → most ≤ 32 → most * ((state + 3) / 4) < 65536
 share-below most zero l m = omega arith
 share-below most (suc zero) l m = omega arith
 share-below most (suc (suc zero)) l m = omega arith
-share-below most (suc (suc (suc state))) l m = absurd (omega arith)
-
--- a fit task's state
-pub fit-state : (tasks : List TaskEntry) (t : ℕ) → all isFitTask tasks ≡ true → getD tasks t absentEntry .state < 3
-unfolding isFitTask
-fit-state tasks t fits =
-    let (low, clock) = and-eq-true-iff _ _ .0 (passes-at isFitTask tasks t absentEntry fits refl) in
-    let (low, ticked) = and-eq-true-iff _ _ .0 low in
-    let (low, marks) = and-eq-true-iff _ _ .0 low in
-    ltb-true _ _ low
+share-below most (suc (suc (suc zero))) l m = omega arith
+share-below most (suc (suc (suc (suc state)))) l m = absurd (omega arith)
 
 -- the table before the tasks: a free entry's units, those of a departed setter and those of a pinned one
 abbrev unitsStart : ℕ → List ℕ

@@ -11,8 +11,8 @@ use Rattle.ledger.specs.Limits.{counterRange, taskCount}
 use Rattle.ledger.specs.Tasks.{isAbsent}
 use Rattle.ledger.specs.declared.Limits.{Limits}
 use Rattle.record.specs.Codes.{stateOf, dueOf, setterOf, leftAt, absentEntry, localCode, globalCode, departedCode, pinnedCode}
-use Rattle.record.specs.WellFormed.{isFitDue, isNaming, isSizedFor, isBounded}
-use Rattle.record.specs.Tables.{BlockEntry, ExpirationEntry, blocksOf, entriesOf, blockEntries, expirationEntries, byteValues, lengthIn}
+use Rattle.record.specs.WellFormed.{isUsed, isFitDue, isNaming, isSizedFor, isPrefixed, isBounded}
+use Rattle.record.specs.Tables.{BlockEntry, ExpirationEntry, blocksOf, entriesOf, blockEntries, expirationEntries, byteValues}
 use Rattle.record.specs.declared.GlobalTime.{GlobalTime}
 use Rattle.record.specs.declared.Head.{Head}
 use Rattle.record.specs.declared.LocalTime.{LocalTime}
@@ -148,25 +148,26 @@ isTimely limits tasks global e = isFitDue limits (getD tasks (setterOf (dueOf e)
 pub record AllTimely (h : Head) (clocks dues : List ℕ) (r : Bool) : Type 0 where
   pub so : (named : List ℕ) → length named ≡ expirationEntries → r ≡ all (isTimely (h .limits) (h .tasks) (h .global)) (entriesOf clocks named dues)
 
--- of the first i blocks, whether they have a length of their store's range
-abbrev pub SizedTo : List ℕ → ℕ → List Bool → Type 0
-SizedTo extents i r = Filled false (λ k x. x ≡ isSizedFor k (lengthIn (getD extents k 0))) blockEntries i r
+-- W3, W25: a length of the store's range, and a prefix that is not longer
+abbrev pub isShapedFor : ℕ → ℕ → ℕ → Bool
+isShapedFor block size prefix = isSizedFor block size && leb prefix size
+
+-- of the first i blocks, whether their lengths and prefixes are such
+abbrev pub ShapedTo : List ℕ → List ℕ → ℕ → List Bool → Type 0
+ShapedTo lengths prefixes i r = Filled false (λ k x. x ≡ isShapedFor k (getD lengths k 0) (getD prefixes k 0)) blockEntries i r
 
 abbrev pub isGivenAt : ℕ → ℕ → ℕ → Bool
 isGivenAt given block handle = leb handle given
 
--- a block, by whether it is in use: if so it is named and its length fits, and if not it is not named
+-- a block, by whether it is in use: if so it is named, and its length and prefix fit, and if not it is not named
 abbrev pub isNamedIn : List Bool → List Bool → ℕ → Bool → Bool
-isNamedIn named sized block used = Bool·beq used (getD named block false) && (not used || getD sized block false)
+isNamedIn named shaped block used = Bool·beq used (getD named block false) && (not used || getD shaped block false)
 
 -- a block, by whether it is named: if so it is in use, and if not it is free
-abbrev pub isFitBlockBy : ℕ → ℕ → Bool → ℕ → ℕ → Bool
-isFitBlockBy given block named handle size =
-    Bool·beq (not (eqb handle 0)) named && (not (not (eqb handle 0)) || (isSizedFor block size && leb handle given))
-
--- the same, by the flags of all blocks
 abbrev pub isFitBlockIn : ℕ → List Bool → ℕ → BlockEntry → Bool
-isFitBlockIn given named block b = isFitBlockBy given block (getD named block false) (b .handle) (b .length)
+isFitBlockIn given named block b =
+    Bool·beq (isUsed b) (getD named block false)
+    && (not (isUsed b) || (isSizedFor block (b .length) && isPrefixed b && leb (b .handle) given))
 
 -- a handle of no object, and the clock of no expiration
 abbrev pub isNone : ℕ → Bool

@@ -94,12 +94,14 @@ fn firsts(tasks: [TaskEntry; TASK_COUNT], global: GlobalTime) -> [Time; CODES]
     out
 }
 
-// Of an absent task there are none, and of one that runs or waits so many: by a product, since of a choice between numbers that are no constants the compiler makes no vector code.
+// Of an absent task there are none, and of any other so many: by a product, since of a choice between numbers that are no constants the
+// compiler makes no vector code.
 fn units_of(state: u16, most: u16) -> u64
-    requires { ⌜ (state < 3) × (most ≤ capacity .extension + 2) ⌝ }
+    requires { ⌜ (state < 4)
+        × (most ≤ capacity .extension + 2) ⌝ }
     ensures { λ r. ⌜ r ≡ unitsOf most state ⌝ }
 {
-    (most * (state - state / 2)) as u64
+    (most * ((state + 3) / 4)) as u64
 }
 
 // By each code the units in which its expirations may be due: none of an absent task, nor by a code that there is not.

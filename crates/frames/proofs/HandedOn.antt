@@ -35,7 +35,7 @@ module _ (L : Ledger) where
   enough : (request : Request) (bytes : List ℕ) → Alike request (lastBytes (handedOn (tailOf (operationOf request)) (length bytes)) bytes) bytes
   enough (Use (Join task share)) bytes = whole (Use (Join task share)) bytes
   enough (Use (Schedule event task)) bytes = whole (Use (Schedule event task)) bytes
-  enough (Use (Make task kind extension length)) bytes = whole (Use (Make task kind extension length)) bytes
+  enough (Use (Make task kind extension length prefix)) bytes = whole (Use (Make task kind extension length prefix)) bytes
   enough (Use (Refresh task kind extension handle)) bytes = whole (Use (Refresh task kind extension handle)) bytes
   enough (Use (Read task handle)) bytes = whole (Use (Read task handle)) bytes
   enough (Use (Write task handle offset)) bytes = whole (Use (Write task handle offset)) bytes

@@ -10,7 +10,7 @@ use lib.Seq.{drop-at}
 use Rattle.lists.specs.Tests.{All}
 use Rattle.lists.proofs.All.{all-append}
 use Rattle.ledger.specs.declared.Call.the-variants.{Join, Schedule, Make, Refresh, Read, Write, Batch, Release}
-use Rattle.ledger.specs.declared.Event.the-variants.{Leave, Block, Resume, Tick}
+use Rattle.ledger.specs.declared.Event.the-variants.{Leave, Block, Resume, Tick, View}
 use Rattle.ledger.specs.declared.Kind.the-variants.{Local, Global, Pinned}
 use Rattle.ledger.specs.declared.Request.{Request}
 use Rattle.ledger.specs.declared.Request.the-variants.{Use, Report, Remaining}
@@ -38,14 +38,15 @@ found report = (refl, omega arith)
 found remaining = (refl, omega arith)
 found batch = (refl, omega arith)
 found release = (refl, omega arith)
+found (schedule View) = (refl, omega arith)
 
 -- its fields' values make the request
 same-request : (request : Request) → requestOf (operationOf request) (valuesOf request) ≡ some request
 same-request (Use (Join task share)) = refl
 same-request (Use (Schedule event task)) = refl
-same-request (Use (Make task Local extension length)) = refl
-same-request (Use (Make task Global extension length)) = refl
-same-request (Use (Make task Pinned extension length)) = refl
+same-request (Use (Make task Local extension length prefix)) = refl
+same-request (Use (Make task Global extension length prefix)) = refl
+same-request (Use (Make task Pinned extension length prefix)) = refl
 same-request (Use (Refresh task Local extension handle)) = refl
 same-request (Use (Refresh task Global extension handle)) = refl
 same-request (Use (Refresh task Pinned extension handle)) = refl

@@ -16,7 +16,7 @@ use Rattle.frames.specs.declared.requests.KindByte.the-variants.{Known, 
 use Rattle.ledger.specs.declared.Call.the-variants.{Join, Schedule, Make, Refresh, Read, Write, Batch, Release}
 use Rattle.ledger.specs.declared.Event.{Event}
 use Rattle.ledger.specs.declared.Share.{Share}
-use Rattle.ledger.specs.declared.Event.the-variants.{Leave, Block, Resume, Tick}
+use Rattle.ledger.specs.declared.Event.the-variants.{Leave, Block, Resume, Tick, View}
 use Rattle.ledger.specs.declared.Kind.{Kind}
 use Rattle.ledger.specs.declared.Kind.the-variants.{Local, Global, Pinned}
 use Rattle.ledger.specs.declared.Refusal.the-variants.{NotHexadecimal, UnknownOperation, WrongFrameLength, UnknownKind}
@@ -24,7 +24,7 @@ use Rattle.ledger.specs.declared.Request.{Request}
 use Rattle.ledger.specs.declared.Request.the-variants.{Use, Report, Remaining}
 use Rattle.ledger.specs.Limits.{largeSize, largestBatch}
 
--- the thirteen operations; four of them are the events of a task
+-- the fourteen operations; five of them are the events of a task
 pub data Operation : Type 0 where
   schedule : Event → Operation
   join make refresh read write report remaining batch release : Operation
@@ -43,10 +43,12 @@ operationNumber report = 10
 operationNumber remaining = 11
 operationNumber batch = 12
 operationNumber release = 13
+operationNumber (schedule View) = 14
 
 abbrev pub operations : List Operation
 operations =
-    join ∷ schedule Leave ∷ schedule Block ∷ schedule Resume ∷ schedule Tick ∷ make ∷ refresh ∷ read ∷ write ∷ report ∷ remaining ∷ batch ∷ release ∷ []
+    join ∷ schedule Leave ∷ schedule Block ∷ schedule Resume ∷ schedule Tick ∷ make ∷ refresh ∷ read ∷ write ∷ report ∷ remaining ∷ batch
+    ∷ release ∷ schedule View ∷ []
 
 -- the one of these with a number, or none
 abbrev pub operationIn : List Operation → ℕ → Option Operation
@@ -57,10 +59,10 @@ operationIn (o ∷ os) number = cond (eqb number (operationNumber o)) (some o) (
 abbrev pub widthsOf : Operation → List ℕ
 -- F1: task, and reserve and limit of either store
 widthsOf join = 1 ∷ 1 ∷ 1 ∷ 1 ∷ 1 ∷ []
--- F2 to F5: task
+-- F2 to F5, F14: task
 widthsOf (schedule event) = 1 ∷ []
--- F6: task, kind, extension, length
-widthsOf make = 1 ∷ 1 ∷ 1 ∷ 2 ∷ []
+-- F6: task, kind, extension, length, prefix
+widthsOf make = 1 ∷ 1 ∷ 1 ∷ 2 ∷ 2 ∷ []
 -- F7: task, kind, extension, handle
 widthsOf refresh = 1 ∷ 1 ∷ 1 ∷ 4 ∷ []
 -- F8: task, handle
@@ -142,7 +144,7 @@ abbrev pub requestOf : Operation → List ℕ → Option Request
 requestOf join values = some (Use (Join (getD values 0 0) (shareOf (getD values 1 0) (getD values 2 0) (getD values 3 0) (getD values 4 0))))
 requestOf (schedule event) values = some (Use (Schedule event (getD values 0 0)))
 requestOf make values =
-    withKind (kindOf (getD values 1 0)) (λ (kind : Kind). Use (Make (getD values 0 0) kind (getD values 2 0) (getD values 3 0)))
+    withKind (kindOf (getD values 1 0)) (λ (kind : Kind). Use (Make (getD values 0 0) kind (getD values 2 0) (getD values 3 0) (getD values 4 0)))
 requestOf refresh values =
     withKind (kindOf (getD values 1 0)) (λ (kind : Kind). Use (Refresh (getD values 0 0) kind (getD values 2 0) (getD values 3 0)))
 requestOf read values = some (Use (Read (getD values 0 0) (getD values 1 0)))
@@ -197,7 +199,7 @@ pub record Decodes (line old : List ℕ) (r : Frame) (new : List ℕ) : Type 0 w
 abbrev pub operationOf : Request → Operation
 operationOf (Use (Join task share)) = join
 operationOf (Use (Schedule event task)) = schedule event
-operationOf (Use (Make task kind extension length)) = make
+operationOf (Use (Make task kind extension length prefix)) = make
 operationOf (Use (Refresh task kind extension handle)) = refresh
 operationOf (Use (Read task handle)) = read
 operationOf (Use (Write task handle offset)) = write
@@ -214,7 +216,7 @@ kindNumber Pinned = 2
 abbrev pub valuesOf : Request → List ℕ
 valuesOf (Use (Join task share)) = task ∷ share .small .reserve ∷ share .small .limit ∷ share .large .reserve ∷ share .large .limit ∷ []
 valuesOf (Use (Schedule event task)) = task ∷ []
-valuesOf (Use (Make task kind extension length)) = task ∷ kindNumber kind ∷ extension ∷ length ∷ []
+valuesOf (Use (Make task kind extension length prefix)) = task ∷ kindNumber kind ∷ extension ∷ length ∷ prefix ∷ []
 valuesOf (Use (Refresh task kind extension handle)) = task ∷ kindNumber kind ∷ extension ∷ handle ∷ []
 valuesOf (Use (Read task handle)) = task ∷ handle ∷ []
 valuesOf (Use (Write task handle offset)) = task ∷ handle ∷ offset ∷ []

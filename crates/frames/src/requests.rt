@@ -69,7 +69,7 @@ fn join(line: &[u8]) -> Frame
     Frame::Request(Request::Use(Call::Join { task, share }), 0)
 }
 
-// F2 to F5: task.
+// F2 to F5, F14: task.
 fn schedule(line: &[u8], event: Event) -> Frame
     requires { ⌜ isHex (now line) ≡ true ⌝ }
     ensures { λ r. ⌜ r ≡ frameAs (schedule event) (bytesOf (now (line .entry))) ⌝ }
@@ -81,12 +81,12 @@ fn schedule(line: &[u8], event: Event) -> Frame
     Frame::Request(Request::Use(Call::Schedule { event, task }), 0)
 }
 
-// F6: task, kind, extension, length.
+// F6: task, kind, extension, length, prefix.
 fn make(line: &[u8]) -> Frame
     requires { ⌜ isHex (now line) ≡ true ⌝ }
     ensures { λ r. ⌜ r ≡ frameAs make (bytesOf (now (line .entry))) ⌝ }
 {
-    if line.len() / 2 != 6 {
+    if line.len() / 2 != 8 {
         return Frame::Refused(Refusal::WrongFrameLength);
     }
     let KindByte::Known(kind) = kind_of(byte_at(line, 2)) else {
@@ -95,12 +95,14 @@ fn make(line: &[u8]) -> Frame
     let task = byte_at(line, 1);
     let extension = byte_at(line, 3);
     let length = short_at(line, 4);
+    let prefix = short_at(line, 6);
     Frame::Request(
         Request::Use(Call::Make {
             task,
             kind,
             extension,
             length,
+            prefix,
         }),
         0,
     )
@@ -262,6 +264,7 @@ fn frame_in(line: &[u8]) -> Frame
         11 => remaining(line),
         12 => batch(line),
         13 => release(line),
+        14 => schedule(line, Event::View),
         _ => Frame::Refused(Refusal::UnknownOperation),
     }
 }

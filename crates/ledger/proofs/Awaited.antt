@@ -4,15 +4,14 @@ use native.Mathlib.Omega.{arith}
 use mathlib.Core.Bool.{cond, not, _||_, _&&_}
 use mathlib.Core.List.{List, [], _∷_}
 use mathlib.Core.Option.{Option, none, some}
-use mathlib.Core.Path.{_≡_, refl, sym, ap, _∙_}
-use lib.Dec.{eqb}
+use mathlib.Core.Path.{_≡_, refl, sym, _∙_}
 use Rattle.lists.specs.Tests.{all}
 use Rattle.lists.proofs.Bits.{no-bits}
 use Rattle.lists.proofs.Cases.{by-test, not-and-not}
-use Rattle.ledger.specs.Tasks.{Task, Clocks, isRunning, isTested, allTicked, tasksAfter, advances, clocksAfter, entered}
+use Rattle.ledger.specs.Tasks.{Task, Clocks, isRunning, allTicked, tasksAfter, advances, clocksAfter, entered}
 use Rattle.ledger.specs.Objects.{Memory, memoryAfter, expirationsAfter}
 use Rattle.ledger.specs.Ledger.{Ledger, Sent, settled, afterBy, verdictOn, next, afterRequest, afterAll}
-use Rattle.ledger.specs.Awaited.{isAwaited, awaitedOf, isNobodyAwaited, isAccepted, isLastAwaited, bringsAdvance, advancesIn, globalOf, Awaited}
+use Rattle.ledger.specs.Awaited.{isAwaited, isNobodyAwaited, isAccepted, isLastAwaited, bringsAdvance, advancesIn, globalOf, Awaited}
 use Rattle.ledger.specs.declared.Call.{Call}
 use Rattle.ledger.specs.declared.Call.the-variants.{Join, Schedule, Make, Refresh, Read, Write, Batch, Release}
 use Rattle.ledger.specs.declared.Event.{Event}
@@ -40,7 +39,7 @@ unfolding memoryAfter clocksAfter entered isLastAwaited
 carried (Join task share) new m = omega arith
 carried (Schedule event task) new m =
     rw (← tested event task (m .clocks)) (by-test (advances event task (m .clocks)) (λ e. rw e) (λ e. rw e (omega arith)))
-carried (Make task kind extension size) new m = omega arith
+carried (Make task kind extension size prefix) new m = omega arith
 carried (Refresh task kind extension handle) new m = omega arith
 carried (Read task handle) new m = omega arith
 carried (Write task handle offset) new m = omega arith

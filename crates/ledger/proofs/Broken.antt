@@ -13,14 +13,14 @@ use Rattle.lists.proofs.Cases.{by-test}
 use Rattle.lists.proofs.Counts.{not-any-not}
 use Rattle.ledger.specs.Expirations.{Expiration}
 use Rattle.ledger.specs.Objects.{Object, Memory, Reply, plain, objectAt, isIntact, written, orphaned, makersAfter, stands, memoryAfter, expirationsAfter, handlesOf}
-use Rattle.ledger.specs.Refusals.{Test, shared, own, sumDiffers, standingTests, testsOf, verdict}
-use Rattle.ledger.specs.Ledger.{Ledger, settled, replyBy, afterBy, verdictOn, standingVerdictOn, reply, next, replyToRequest, afterRequest}
-use Rattle.ledger.specs.Noticed.{userOf}
+use Rattle.ledger.specs.Refusals.{Test, shared, own, sumDiffers, standingTests, writingTests, testsOf, verdict}
+use Rattle.ledger.specs.Ledger.{Ledger, settled, replyBy, afterBy, verdictOn, reply, next, replyToRequest, afterRequest}
+use Rattle.ledger.specs.Noticed.{earlierTests}
 use Rattle.ledger.specs.declared.Answer.the-variants.{Refused}
 use Rattle.ledger.specs.declared.Call.{Call}
 use Rattle.ledger.specs.declared.Call.the-variants.{Join, Schedule, Make, Refresh, Read, Write, Batch, Release}
 use Rattle.ledger.specs.declared.Event.{Event}
-use Rattle.ledger.specs.declared.Event.the-variants.{Leave, Block, Resume, Tick}
+use Rattle.ledger.specs.declared.Event.the-variants.{Leave, Block, Resume, Tick, View}
 use Rattle.ledger.specs.declared.Refusal.{Refusal}
 use Rattle.ledger.specs.declared.Refusal.the-variants.{SumDiffers}
 use Rattle.ledger.specs.declared.Request.{Request}
@@ -51,14 +51,23 @@ pub record Broken (handle : ℕ) (M : Ledger) : Type 0 where
 
 -- then each read and write of it is refused
 module _ (handle : ℕ) (M : Ledger) (b : Broken handle M) where
-  verdict-broken : (task : ℕ) (us : List Test)
-      → verdict (M .memory) (M .expirations) (standingTests task handle ++ (sumDiffers handle ∷ us)) ≡ firstOf (standingVerdictOn M task handle) (some SumDiffers)
+  abbrev verdictBy : List Test → Option Refusal
+  verdictBy tests = verdict (M .memory) (M .expirations) tests
+
+  -- by the last of the tests before 23 it stands
+  verdict-broken : (tests us : List Test) → (verdictBy tests ≡ none → not (stands (M .expirations) handle) ≡ false)
+      → verdictBy (tests ++ (sumDiffers handle ∷ us)) ≡ firstOf (verdictBy tests) (some SumDiffers)
   unfolding verdict
-  verdict-broken task us =
-      verdict-append (M .memory) (M .expirations) (standingTests task handle) (sumDiffers handle ∷ us) (some SumDiffers)
-      (λ e.
-      let (exists, (present, (active, (given, (gone, end))))) = passed (M .memory) (M .expirations) (standingTests task handle) e in
-      rw (b .differs (not-false _ gone)))
+  verdict-broken tests us gone =
+      verdict-append (M .memory) (M .expirations) tests (sumDiffers handle ∷ us) (some SumDiffers) (λ e. rw (b .differs (not-false _ (gone e))))
+
+  read-stands : (task : ℕ) → verdictBy (standingTests task handle) ≡ none → not (stands (M .expirations) handle) ≡ false
+  read-stands task e =
+      let (exists, (present, (active, (given, (gone, end))))) = passed (M .memory) (M .expirations) (standingTests task handle) e in gone
+
+  write-stands : (task : ℕ) → verdictBy (writingTests task handle) ≡ none → not (stands (M .expirations) handle) ≡ false
+  write-stands task e =
+      let (exists, (present, (active, (acts, (given, (gone, end)))))) = passed (M .memory) (M .expirations) (writingTests task handle) e in gone
 
   refused-reply : (v : Option Refusal) (y : Reply) → replyBy (firstOf v (some SumDiffers)) y ≡ replyBy v (plain (Refused SumDiffers))
   refused-reply none y = refl
@@ -68,22 +77,22 @@ module _ (handle : ℕ) (M : Ledger) (b : Broken handle M) where
   refused-after none N = refl
   refused-after (some r) N = refl
 
-  pub use-answered : (request : Request) (new : List ℕ) (task : ℕ) → userOf handle request ≡ some task
-      → replyToRequest M request new ≡ replyBy (standingVerdictOn M task handle) (plain (Refused SumDiffers))
+  pub use-answered : (request : Request) (new : List ℕ) (tests : List Test) → earlierTests handle request ≡ some tests
+      → replyToRequest M request new ≡ replyBy (verdictBy tests) (plain (Refused SumDiffers))
   unfolding reply testsOf
-  use-answered request new task u =
-      by-use handle task (λ (r : Request). replyToRequest M r new ≡ replyBy (standingVerdictOn M task handle) (plain (Refused SumDiffers)))
-      (rw (verdict-broken task []) (refused-reply (standingVerdictOn M task handle) _))
-      (λ offset. rw (verdict-broken task _) (refused-reply (standingVerdictOn M task handle) _))
-      request u
+  use-answered request new tests u =
+      by-use handle (λ (ts : List Test) (r : Request). replyToRequest M r new ≡ replyBy (verdictBy ts) (plain (Refused SumDiffers)))
+      (λ task. rw (verdict-broken (standingTests task handle) [] (read-stands task)) (refused-reply (verdictBy (standingTests task handle)) _))
+      (λ task offset. rw (verdict-broken (writingTests task handle) _ (write-stands task)) (refused-reply (verdictBy (writingTests task handle)) _))
+      tests request u
 
-  pub use-left : (request : Request) (new : List ℕ) (task : ℕ) → userOf handle request ≡ some task → afterRequest M request new ≡ M
+  pub use-left : (request : Request) (new : List ℕ) (tests : List Test) → earlierTests handle request ≡ some tests → afterRequest M request new ≡ M
   unfolding next testsOf
-  use-left request new task u =
-      by-use handle task (λ (r : Request). afterRequest M r new ≡ M)
-      (rw (verdict-broken task []) (refused-after (standingVerdictOn M task handle) _))
-      (λ offset. rw (verdict-broken task _) (refused-after (standingVerdictOn M task handle) _))
-      request u
+  use-left request new tests u =
+      by-use handle (λ (ts : List Test) (r : Request). afterRequest M r new ≡ M)
+      (λ task. rw (verdict-broken (standingTests task handle) [] (read-stands task)) (refused-after (verdictBy (standingTests task handle)) _))
+      (λ task offset. rw (verdict-broken (writingTests task handle) _ (write-stands task)) (refused-after (verdictBy (writingTests task handle)) _))
+      tests request u
 
 -- and every other call leaves it so
 at-made : (handle : ℕ) (os : List Object) (o : Object) → eqb (o .handle) handle ≡ false → objectAt handle (os ++ (o ∷ [])) ≡ objectAt handle os
@@ -110,6 +119,7 @@ unfolding makersAfter
 intact-after handle Leave task os = intact-orphaned handle task os
 intact-after handle Block task os = refl
 intact-after handle Resume task os = refl
+intact-after handle View task os = refl
 intact-after handle Tick task os = refl
 
 module _ (handle : ℕ) (m : Memory) (xs : List Expiration) (b : Broken handle (record { memory = m; expirations = xs })) where
@@ -124,26 +134,26 @@ module _ (handle : ℕ) (m : Memory) (xs : List Expiration) (b : Broken handle (
             (b .differs (stood m xs call new on handle (b .given) s));
       }
 
-  carried-broken : (call : Call) (new : List ℕ) → Passed m xs call new → userOf handle (Use call) ≡ none
+  carried-broken : (call : Call) (new : List ℕ) → Passed m xs call new → earlierTests handle (Use call) ≡ none
       → Broken handle (settled (memoryAfter call new m) (expirationsAfter call new m xs))
   unfolding testsOf memoryAfter
   carried-broken (Join task share) new c d = stays-broken (Join task share) new refl (le-refl _) refl
   carried-broken (Schedule event task) new c d = stays-broken (Schedule event task) new refl (le-refl _) (intact-after handle event task (m .objects))
-  carried-broken (Make task kind extension size) new c d =
-      stays-broken (Make task kind extension size) new refl (omega arith)
+  carried-broken (Make task kind extension size prefix) new c d =
+      stays-broken (Make task kind extension size prefix) new refl (omega arith)
       (ap isIntact (at-made handle (m .objects) _ (ne-eqb (m .given + 1) handle (λ q. omega (arith, q, b .given)))))
   carried-broken (Refresh task kind extension used) new c d =
-      let (exists, (present, (active, (lasts, (short, (given, (gone, (room, end)))))))) = c in
+      let (exists, (present, (active, (acts, (lasts, (short, (given, (gone, (room, end))))))))) = c in
       stays-broken (Refresh task kind extension used) new (rw (not-false (stands xs used) gone)) (le-refl _) refl
   carried-broken (Read task used) new c d = stays-broken (Read task used) new refl (le-refl _) refl
   carried-broken (Write task used offset) new c d =
-      stays-broken (Write task used offset) new refl (le-refl _) (ap isIntact (at-written handle used offset new (not-used (eqb used handle) task d) (m .objects)))
+      stays-broken (Write task used offset) new refl (le-refl _) (ap isIntact (at-written handle used offset new (not-used (eqb used handle) _ d) (m .objects)))
   carried-broken (Batch task kind extension) new c d =
-      let (exists, (present, (active, (range, (lasts, (short, (given, (gone, (room, end))))))))) = c in
+      let (exists, (present, (active, (acts, (range, (lasts, (short, (given, (gone, (room, end)))))))))) = c in
       stays-broken (Batch task kind extension) new (sym (not-any-not (stands xs) (handlesOf new)) ∙ ap not gone) (le-refl _) refl
   carried-broken (Release task used) new c d = stays-broken (Release task used) new refl (le-refl _) refl
 
-pub broken-after : (handle : ℕ) (M : Ledger) → Broken handle M → (request : Request) (new : List ℕ) → userOf handle request ≡ none
+pub broken-after : (handle : ℕ) (M : Ledger) → Broken handle M → (request : Request) (new : List ℕ) → earlierTests handle request ≡ none
     → Broken handle (afterRequest M request new)
 unfolding next
 broken-after handle M b Report new d = b

@@ -28,7 +28,7 @@ carried : (call : Call) (new : List ℕ) (m : Memory) → memoryAfter call new m
 unfolding memoryAfter
 carried (Join task share) new m = refl
 carried (Schedule event task) new m = refl
-carried (Make task kind extension size) new m = refl
+carried (Make task kind extension size prefix) new m = refl
 carried (Refresh task kind extension handle) new m = refl
 carried (Read task handle) new m = refl
 carried (Write task handle offset) new m = refl

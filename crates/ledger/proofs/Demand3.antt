@@ -27,7 +27,7 @@ use Rattle.ledger.specs.declared.Refusal.{Refusal}
 use Rattle.ledger.specs.declared.Call.{Call}
 use Rattle.ledger.specs.declared.Call.the-variants.{Join, Schedule, Make, Refresh, Read, Write, Batch, Release}
 use Rattle.ledger.specs.declared.Event.{Event}
-use Rattle.ledger.specs.declared.Event.the-variants.{Leave, Block, Resume, Tick}
+use Rattle.ledger.specs.declared.Event.the-variants.{Leave, Block, Resume, Tick, View}
 use Rattle.ledger.proofs.KeptObjects.{intact-written}
 use Rattle.ledger.proofs.Passed.{refusalIn, refusal-told}
 use Rattle.ledger.proofs.Standing.{at-standing, setsOn, stood}
@@ -58,8 +58,9 @@ ordered m k (Join task share) new = refl
 ordered m k (Schedule Leave task) new = refl
 ordered m k (Schedule Block task) new = refl
 ordered m k (Schedule Resume task) new = refl
+ordered m k (Schedule View task) new = refl
 ordered m k (Schedule Tick task) new = refl
-ordered m k (Make task kind extension size) new = refl
+ordered m k (Make task kind extension size prefix) new = refl
 ordered m k (Refresh task kind extension handle) new = refl
 ordered m k (Read task handle) new = rw (never m handle k)
 ordered m k (Write task handle offset) new = rw (never m handle k)
@@ -73,15 +74,16 @@ agreed m xs (Join task share) new = (refl, (refl, (refl, λ e. tt)))
 agreed m xs (Schedule Leave task) new = search
 agreed m xs (Schedule Block task) new = search
 agreed m xs (Schedule Resume task) new = search
+agreed m xs (Schedule View task) new = search
 agreed m xs (Schedule Tick task) new = search
-agreed m xs (Make task kind extension size) new = (refl, (refl, (refl, (refl, (refl, (refl, λ l b e. tt))))))
-agreed m xs (Refresh task kind extension handle) new = (refl, (refl, (refl, (refl, (refl, (refl, λ g e. tt))))))
+agreed m xs (Make task kind extension size prefix) new = (refl, (refl, (refl, (refl, (refl, (refl, (refl, (refl, λ l b e. tt))))))))
+agreed m xs (Refresh task kind extension handle) new = (refl, (refl, (refl, (refl, (refl, (refl, (refl, λ g e. tt)))))))
 agreed m xs (Read task handle) new =
     (refl, (refl, (refl, (refl, λ g. (rw (at-standing xs handle (m .objects) (not-false _ g)), tt)))))
 agreed m xs (Write task handle offset) new =
-    (refl, (refl, (refl, (refl, λ g. (rw (at-standing xs handle (m .objects) (not-false _ g)), (rw (at-standing xs handle (m .objects) (not-false _ g)), tt))))))
-agreed m xs (Batch task kind extension) new = (refl, (refl, (refl, (refl, (refl, (refl, (refl, λ g e. tt)))))))
-agreed m xs (Release task handle) new = (refl, (refl, (refl, (refl, λ g. (refl, tt)))))
+    (refl, (refl, (refl, (refl, (refl, λ g. (rw (at-standing xs handle (m .objects) (not-false _ g)), (rw (at-standing xs handle (m .objects) (not-false _ g)), tt)))))))
+agreed m xs (Batch task kind extension) new = (refl, (refl, (refl, (refl, (refl, (refl, (refl, (refl, λ g e. tt))))))))
+agreed m xs (Release task handle) new = (refl, (refl, (refl, (refl, (refl, λ g. (refl, tt))))))
 
 -- no test of the pool's own holds exactly when the book finds the use in time and in bounds
 clear : (m : Memory) (xs : List Expiration) (call : Call) (new : List ℕ)
@@ -91,8 +93,9 @@ clear m xs (Join task share) new = simp and-true
 clear m xs (Schedule Leave task) new = refl
 clear m xs (Schedule Block task) new = refl
 clear m xs (Schedule Resume task) new = refl
+clear m xs (Schedule View task) new = refl
 clear m xs (Schedule Tick task) new = refl
-clear m xs (Make task kind extension size) new = simp (not-leb, and-true)
+clear m xs (Make task kind extension size prefix) new = simp (not-leb, and-true)
 clear m xs (Refresh task kind extension handle) new = simp (Bool·not-not, not-leb, and-true)
 clear m xs (Read task handle) new = simp (Bool·not-not, and-true)
 clear m xs (Write task handle offset) new = simp (Bool·not-not, and-true)
@@ -105,7 +108,7 @@ same-reply : (m : Memory) (xs : List Expiration) (call : Call) (new : List ℕ) 
 unfolding replyTo isInTimeAndBounds
 same-reply m xs (Join task share) new e = refl
 same-reply m xs (Schedule event task) new e = refl
-same-reply m xs (Make task kind extension size) new e = refl
+same-reply m xs (Make task kind extension size prefix) new e = refl
 same-reply m xs (Refresh task kind extension handle) new e = refl
 same-reply m xs (Read task handle) new e = rw (at-standing xs handle (m .objects) e)
 same-reply m xs (Write task handle offset) new e = refl
@@ -126,6 +129,7 @@ unfolding makersAfter
 swept-makers Leave task xs ys os h = filter-map-filter _ _ (orphaned task) os h
 swept-makers Block task xs ys os h = swept-twice xs ys os h
 swept-makers Resume task xs ys os h = swept-twice xs ys os h
+swept-makers View task xs ys os h = swept-twice xs ys os h
 swept-makers Tick task xs ys os h = swept-twice xs ys os h
 
 -- an object of the heap that a call leaves standing stood before it
@@ -141,8 +145,8 @@ same-sweep : (m : Memory) (xs : List Expiration) (call : Call) (new : List ℕ) 
 unfolding memoryAfter expirationsAfter isInTimeAndBounds HeapKept written
 same-sweep m xs (Join task share) new k e = rw (swept-twice xs xs (m .objects) (all-stood m xs (Join task share) new refl k))
 same-sweep m xs (Schedule event task) new k e = rw (swept-makers event task xs _ (m .objects) (all-stood m xs (Schedule event task) new refl k))
-same-sweep m xs (Make task kind extension size) new k e =
-    rw (filter-filter-append _ _ (m .objects) _ (all-stood m xs (Make task kind extension size) new refl k))
+same-sweep m xs (Make task kind extension size prefix) new k e =
+    rw (filter-filter-append _ _ (m .objects) _ (all-stood m xs (Make task kind extension size prefix) new refl k))
 same-sweep m xs (Refresh task kind extension handle) new k e =
     let stand : stands xs handle ≡ true = and-eq-true-iff _ _ .0 e .0 in
     rw
@@ -163,8 +167,9 @@ kept-after m (Join task share) new k = k
 kept-after m (Schedule Leave task) new k = all-map _ (orphaned task) (m .objects) k
 kept-after m (Schedule Block task) new k = k
 kept-after m (Schedule Resume task) new k = k
+kept-after m (Schedule View task) new k = k
 kept-after m (Schedule Tick task) new k = k
-kept-after m (Make task kind extension size) new k =
+kept-after m (Make task kind extension size prefix) new k =
     all-append _ (m .objects) _ (all-imp (λ o h. (omega (arith, h .0), h .1)) (m .objects) k) ((omega arith, eq-eqb _ _ (total-zeros (blockSize size))), tt)
 kept-after m (Refresh task kind extension handle) new k = k
 kept-after m (Read task handle) new k = k

@@ -16,7 +16,7 @@ use Rattle.ledger.specs.Outlives.{Move, neither, joins, happens, release
 use Rattle.ledger.specs.declared.Call.{Call}
 use Rattle.ledger.specs.declared.Call.the-variants.{Join, Schedule, Make, Refresh, Read, Write, Batch, Release}
 use Rattle.ledger.specs.declared.Event.{Event}
-use Rattle.ledger.specs.declared.Event.the-variants.{Leave, Block, Resume, Tick}
+use Rattle.ledger.specs.declared.Event.the-variants.{Leave, Block, Resume, Tick, View}
 use Rattle.ledger.specs.declared.Refusal.{Refusal}
 use Rattle.ledger.specs.declared.Request.{Request}
 use Rattle.ledger.specs.declared.Request.the-variants.{Use, Report, Remaining}
@@ -33,6 +33,7 @@ lasting-append : (event : Event) (task : ℕ) (advanced : Bool) (clocks : Clocks
 unfolding lasting
 lasting-append Block task advanced clocks xs ys = live-append advanced clocks xs ys
 lasting-append Resume task advanced clocks xs ys = refl
+lasting-append View task advanced clocks xs ys = refl
 lasting-append Leave task advanced clocks xs ys = simp (filter-append, map-append)
 lasting-append Tick task advanced clocks xs ys = live-append advanced clocks xs ys
 
@@ -40,6 +41,7 @@ pub lasting-none : (event : Event) (task : ℕ) (advanced : Bool) (clocks : Cloc
 unfolding lasting
 lasting-none Block task advanced clocks = refl
 lasting-none Resume task advanced clocks = refl
+lasting-none View task advanced clocks = refl
 lasting-none Leave task advanced clocks = refl
 lasting-none Tick task advanced clocks = refl
 
@@ -70,7 +72,7 @@ carried : (call : Call) (new : List ℕ) (m : Memory) (xs : List Expiration)
 unfolding expirationsAfter moveOf released
 carried (Join task share) new m xs = refl
 carried (Schedule event task) new m xs = ap (λ (zs : List Expiration). zs ++ lasting event task (advances event task (m .clocks)) (clocksAfter event task (m .clocks)) xs) (sym (lasting-none event task _ _))
-carried (Make task kind extension size) new m xs = refl
+carried (Make task kind extension size prefix) new m xs = refl
 carried (Refresh task kind extension handle) new m xs = refl
 carried (Read task handle) new m xs = refl
 carried (Write task handle offset) new m xs = refl
@@ -123,7 +125,7 @@ clocks-carried : (call : Call) (new : List ℕ) (m : Memory) → memoryAfter cal
 unfolding memoryAfter moveOf
 clocks-carried (Join task share) new m = refl
 clocks-carried (Schedule event task) new m = refl
-clocks-carried (Make task kind extension size) new m = refl
+clocks-carried (Make task kind extension size prefix) new m = refl
 clocks-carried (Refresh task kind extension handle) new m = refl
 clocks-carried (Read task handle) new m = refl
 clocks-carried (Write task handle offset) new m = refl
@@ -147,7 +149,7 @@ call-passed : (L : Ledger) (call : Call) (new : List ℕ) → Passed (L .memory)
 unfolding moveOf
 call-passed L (Join task share) new c = c
 call-passed L (Schedule event task) new c = c
-call-passed L (Make task kind extension size) new c = tt
+call-passed L (Make task kind extension size prefix) new c = tt
 call-passed L (Refresh task kind extension handle) new c = tt
 call-passed L (Read task handle) new c = tt
 call-passed L (Write task handle offset) new c = tt

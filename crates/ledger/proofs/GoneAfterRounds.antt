@@ -17,7 +17,7 @@ use Rattle.ledger.specs.Awaited.{globalOf}
 use Rattle.ledger.specs.Kept.{Kept}
 use Rattle.ledger.specs.Outlives.{Move, neither, joins, happens, releases, moveIn, leftBy, leftIn, followed, setterWaits, neverWaits, isRound, Stretch, callsOf, areRounds, whenSet, GoneAfterRounds}
 use Rattle.ledger.specs.declared.Event.{Event}
-use Rattle.ledger.specs.declared.Event.the-variants.{Leave, Block, Resume, Tick}
+use Rattle.ledger.specs.declared.Event.the-variants.{Leave, Block, Resume, Tick, View}
 use Rattle.ledger.proofs.Kept.{kept-after}
 use Rattle.ledger.proofs.Following.{clocksBy, clocks-moved, left-none}
 use Rattle.ledger.proofs.Setting.{kept-set, set-now}
@@ -82,6 +82,7 @@ lasting-ends : (clocks : Clocks) (task most : ℕ) (event : Event) (xs : List Ex
     (lasting event task (advances event task clocks) (clocksAfter event task clocks) xs)
 unfolding lasting clocksAfter advances
 lasting-ends clocks task most Resume xs h = all-imp (λ x k. same-ends (clocks .global) most (x .due) k) xs h
+lasting-ends clocks task most View xs h = all-imp (λ x k. same-ends (clocks .global) most (x .due) k) xs h
 lasting-ends clocks task most Block xs h = still-ends _ _ most xs (all-imp (λ x k. ends-latest (clocks .global) most (x .due) k) xs h)
 lasting-ends clocks task most Tick xs h = still-ends _ _ most xs (all-imp (λ x k. ends-latest (clocks .global) most (x .due) k) xs h)
 lasting-ends clocks task most Leave xs h =

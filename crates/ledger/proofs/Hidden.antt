@@ -14,13 +14,13 @@ use Rattle.lists.proofs.Filters.{filter-map, filter-all}
 use Rattle.ledger.specs.Limits.{isSmall}
 use Rattle.ledger.specs.Expirations.{Expiration}
 use Rattle.ledger.specs.Objects.{Object, Memory, objectAt, written, orphaned, makersAfter, replyTo, memoryAfter, expirationsAfter, usage}
-use Rattle.ledger.specs.Refusals.{testsOf, verdict}
+use Rattle.ledger.specs.Refusals.{Test, standingTests, writingTests, testsOf, verdict}
 use Rattle.ledger.specs.Ledger.{Ledger, settled, afterBy, verdictOn, reply, next, replyToRequest, afterRequest}
-use Rattle.ledger.specs.Noticed.{disturbed, userOf}
+use Rattle.ledger.specs.Noticed.{disturbed, earlierTests}
 use Rattle.ledger.specs.declared.Call.{Call}
 use Rattle.ledger.specs.declared.Call.the-variants.{Join, Schedule, Make, Refresh, Read, Write, Batch, Release}
 use Rattle.ledger.specs.declared.Event.{Event}
-use Rattle.ledger.specs.declared.Event.the-variants.{Leave, Block, Resume, Tick}
+use Rattle.ledger.specs.declared.Event.the-variants.{Leave, Block, Resume, Tick, View}
 use Rattle.ledger.specs.declared.Refusal.{Refusal}
 use Rattle.ledger.specs.declared.Request.{Request}
 use Rattle.ledger.specs.declared.Request.the-variants.{Use, Report, Remaining}
@@ -36,6 +36,7 @@ hidden handle o =
       bytes = cond (eqb (o .handle) handle) [] (o .bytes);
       sum = cond (eqb (o .handle) handle) 0 (o .sum);
       maker = o .maker;
+      prefix = o .prefix;
     }
 
 abbrev pub hiddenMemory : ℕ → Memory → Memory
@@ -69,29 +70,32 @@ at-map used f named same (o ∷ os) =
     (λ e. let d : eqb (f o .handle) used ≡ false = rw (named o) e in rw (d, e) (at-map used f named same os))
 
 -- a read or a write uses the object where its handle is this one
-used-by : (b : Bool) (who task : ℕ) → cond b (some who) none ≡ some task → (b ≡ true) × (who ≡ task)
-used-by true who task u = (refl, Option·some-injective who task u)
-used-by false who task u = absurd (Option·none-ne-some _ u)
+used-by : (b : Bool) (own tests : List Test) → cond b (some own) none ≡ some tests → (b ≡ true) × (own ≡ tests)
+used-by true own tests u = (refl, Option·some-injective own tests u)
+used-by false own tests u = absurd (Option·none-ne-some _ u)
 
-pub not-used : (b : Bool) (who : ℕ) → cond b (some who) none ≡ none → b ≡ false
-not-used true who u = absurd (Option·some-ne-none who u)
-not-used false who u = refl
+pub not-used : (b : Bool) (own : List Test) → cond b (some own) none ≡ none → b ≡ false
+not-used true own u = absurd (Option·some-ne-none own u)
+not-used false own u = refl
 
 -- what holds of each read and each write of the object with this handle holds of each use of it
-pub by-use : (handle task : ℕ) (P : Request → Type 0) → P (Use (Read task handle)) → ((offset : ℕ) → P (Use (Write task handle offset)))
-    → (request : Request) → userOf handle request ≡ some task → P request
-by-use handle task P f g (Use (Join who share)) u = absurd (Option·none-ne-some _ u)
-by-use handle task P f g (Use (Schedule event who)) u = absurd (Option·none-ne-some _ u)
-by-use handle task P f g (Use (Make who kind extension size)) u = absurd (Option·none-ne-some _ u)
-by-use handle task P f g (Use (Refresh who kind extension used)) u = absurd (Option·none-ne-some _ u)
-by-use handle task P f g (Use (Read who used)) u =
-    let (own, same) = used-by (eqb used handle) who task u in rw (eqb-true used handle own, same) f
-by-use handle task P f g (Use (Write who used offset)) u =
-    let (own, same) = used-by (eqb used handle) who task u in rw (eqb-true used handle own, same) (g offset)
-by-use handle task P f g (Use (Batch who kind extension)) u = absurd (Option·none-ne-some _ u)
-by-use handle task P f g (Use (Release who used)) u = absurd (Option·none-ne-some _ u)
-by-use handle task P f g Report u = absurd (Option·none-ne-some _ u)
-by-use handle task P f g (Remaining who used) u = absurd (Option·none-ne-some _ u)
+pub by-use : (handle : ℕ) (P : List Test → Request → Type 0) → ((task : ℕ) → P (standingTests task handle) (Use (Read task handle)))
+    → ((task offset : ℕ) → P (writingTests task handle) (Use (Write task handle offset)))
+    → (tests : List Test) (request : Request) → earlierTests handle request ≡ some tests → P tests request
+by-use handle P f g tests (Use (Join who share)) u = absurd (Option·none-ne-some _ u)
+by-use handle P f g tests (Use (Schedule event who)) u = absurd (Option·none-ne-some _ u)
+by-use handle P f g tests (Use (Make who kind extension size prefix)) u = absurd (Option·none-ne-some _ u)
+by-use handle P f g tests (Use (Refresh who kind extension used)) u = absurd (Option·none-ne-some _ u)
+by-use handle P f g tests (Use (Read who used)) u =
+    let (own, same) = used-by (eqb used handle) (standingTests who handle) tests u in
+    rw (eqb-true used handle own, ← same) (f who)
+by-use handle P f g tests (Use (Write who used offset)) u =
+    let (own, same) = used-by (eqb used handle) (writingTests who handle) tests u in
+    rw (eqb-true used handle own, ← same) (g who offset)
+by-use handle P f g tests (Use (Batch who kind extension)) u = absurd (Option·none-ne-some _ u)
+by-use handle P f g tests (Use (Release who used)) u = absurd (Option·none-ne-some _ u)
+by-use handle P f g tests Report u = absurd (Option·none-ne-some _ u)
+by-use handle P f g tests (Remaining who used) u = absurd (Option·none-ne-some _ u)
 
 -- a call that would leave something as it is when carried out leaves it so in any case: a refused one changes nothing
 unchanged : (f : Ledger → Ledger) (v : Option Refusal) {after now : Ledger} → f after ≡ f now → f (afterBy v after now) ≡ f now
@@ -119,11 +123,12 @@ module _ (handle : ℕ) where
   makers-hidden Leave task os = map-map (orphaned task) (hidden handle) os ∙ sym (map-map (hidden handle) (orphaned task) os)
   makers-hidden Block task os = refl
   makers-hidden Resume task os = refl
+  makers-hidden View task os = refl
   makers-hidden Tick task os = refl
 
   module _ (m : Memory) where
     -- tests and answers look at nothing that is hidden, but for 13, 23 and a read: these look at another object
-    verdict-hidden : (xs : List Expiration) (call : Call) (new : List ℕ) → userOf handle (Use call) ≡ none
+    verdict-hidden : (xs : List Expiration) (call : Call) (new : List ℕ) → earlierTests handle (Use call) ≡ none
         → verdict (hiddenMemory handle m) xs (testsOf call new) ≡ verdict m xs (testsOf call new)
     unfolding testsOf verdict hidden
     verdict-hidden xs (Join task share) new d =
@@ -134,41 +139,42 @@ module _ (handle : ℕ) where
     verdict-hidden xs (Schedule Leave task) new d = refl
     verdict-hidden xs (Schedule Block task) new d = refl
     verdict-hidden xs (Schedule Resume task) new d = refl
+    verdict-hidden xs (Schedule View task) new d = refl
     verdict-hidden xs (Schedule Tick task) new d = refl
-    verdict-hidden xs (Make task kind extension size) new d =
+    verdict-hidden xs (Make task kind extension size prefix) new d =
         rw (
           full-map (hidden handle) (λ o. refl) (λ o. refl) (isSmall size) (m .shares) (m .objects) (m .limits) task,
           limit-map (hidden handle) (λ o. refl) (λ o. refl) (isSmall size) (m .shares) (m .objects) task,
         )
     verdict-hidden xs (Refresh task kind extension used) new d = refl
-    verdict-hidden xs (Read task used) new d = rw (at-other used (not-used (eqb used handle) task d) (m .objects))
-    verdict-hidden xs (Write task used offset) new d = rw (at-other used (not-used (eqb used handle) task d) (m .objects))
+    verdict-hidden xs (Read task used) new d = rw (at-other used (not-used (eqb used handle) _ d) (m .objects))
+    verdict-hidden xs (Write task used offset) new d = rw (at-other used (not-used (eqb used handle) _ d) (m .objects))
     verdict-hidden xs (Batch task kind extension) new d = refl
     verdict-hidden xs (Release task used) new d = refl
 
-    reply-hidden : (call : Call) → userOf handle (Use call) ≡ none → replyTo call (hiddenMemory handle m) ≡ replyTo call m
+    reply-hidden : (call : Call) → earlierTests handle (Use call) ≡ none → replyTo call (hiddenMemory handle m) ≡ replyTo call m
     unfolding replyTo
     reply-hidden (Join task share) d = refl
     reply-hidden (Schedule event task) d = refl
-    reply-hidden (Make task kind extension size) d = refl
+    reply-hidden (Make task kind extension size prefix) d = refl
     reply-hidden (Refresh task kind extension used) d = refl
-    reply-hidden (Read task used) d = rw (at-other used (not-used (eqb used handle) task d) (m .objects))
+    reply-hidden (Read task used) d = rw (at-other used (not-used (eqb used handle) _ d) (m .objects))
     reply-hidden (Write task used offset) d = refl
     reply-hidden (Batch task kind extension) d = refl
     reply-hidden (Release task used) d = refl
 
     -- what a call makes of the memory and of the expirations; the object that a make gives is another
-    memory-hidden : handle ≤ m .given → (call : Call) (new : List ℕ) → userOf handle (Use call) ≡ none
+    memory-hidden : handle ≤ m .given → (call : Call) (new : List ℕ) → earlierTests handle (Use call) ≡ none
         → memoryAfter call new (hiddenMemory handle m) ≡ hiddenMemory handle (memoryAfter call new m)
     unfolding memoryAfter hidden
     memory-hidden g (Join task share) new d = refl
     memory-hidden g (Schedule event task) new d = rw (makers-hidden event task (m .objects))
-    memory-hidden g (Make task kind extension size) new d =
+    memory-hidden g (Make task kind extension size prefix) new d =
         rw (map-append, ne-eqb (m .given + 1) handle (λ q. omega (arith, g, q)))
     memory-hidden g (Refresh task kind extension used) new d = refl
     memory-hidden g (Read task used) new d = refl
     memory-hidden g (Write task used offset) new d =
-        let each = map-same _ _ (m .objects) (all-every _ (other-written used offset new (not-used (eqb used handle) task d)) (m .objects)) in
+        let each = map-same _ _ (m .objects) (all-every _ (other-written used offset new (not-used (eqb used handle) _ d)) (m .objects)) in
         rw (map-map (written used offset new) (hidden handle) (m .objects), map-map (hidden handle) (written used offset new) (m .objects), each)
     memory-hidden g (Batch task kind extension) new d = refl
     memory-hidden g (Release task used) new d = refl
@@ -177,7 +183,7 @@ module _ (handle : ℕ) where
     unfolding expirationsAfter
     expirations-hidden xs (Join task share) new = refl
     expirations-hidden xs (Schedule event task) new = refl
-    expirations-hidden xs (Make task kind extension size) new = refl
+    expirations-hidden xs (Make task kind extension size prefix) new = refl
     expirations-hidden xs (Refresh task kind extension used) new = refl
     expirations-hidden xs (Read task used) new = refl
     expirations-hidden xs (Write task used offset) new = refl
@@ -191,14 +197,14 @@ module _ (handle : ℕ) where
 
   module _ (L : Ledger) where
     -- every call but a read or a write of the object is answered alike, and leaves alike
-    pub answered-alike : (request : Request) (new : List ℕ) → userOf handle request ≡ none
+    pub answered-alike : (request : Request) (new : List ℕ) → earlierTests handle request ≡ none
         → replyToRequest (hiddenIn handle L) request new ≡ replyToRequest L request new
     unfolding reply usage verdict hidden
     answered-alike (Use call) new d = rw (verdict-hidden (L .memory) (L .expirations) call new d, reply-hidden (L .memory) call d)
     answered-alike Report new d = simp count-map
     answered-alike (Remaining task used) new d = refl
 
-    carried-alike : handle ≤ L .memory .given → (call : Call) (new : List ℕ) → userOf handle (Use call) ≡ none → (v : Option Refusal)
+    carried-alike : handle ≤ L .memory .given → (call : Call) (new : List ℕ) → earlierTests handle (Use call) ≡ none → (v : Option Refusal)
         → afterBy v (settled (memoryAfter call new (hiddenMemory handle (L .memory))) (expirationsAfter call new (hiddenMemory handle (L .memory)) (L .expirations))) (hiddenIn handle L)
         ≡ hiddenIn handle (afterBy v (settled (memoryAfter call new (L .memory)) (expirationsAfter call new (L .memory) (L .expirations))) L)
     carried-alike g call new d none =
@@ -206,7 +212,7 @@ module _ (handle : ℕ) where
         (settled-hidden (memoryAfter call new (L .memory)) (expirationsAfter call new (L .memory) (L .expirations)))
     carried-alike g call new d (some r) = refl
 
-    pub left-alike : handle ≤ L .memory .given → (request : Request) (new : List ℕ) → userOf handle request ≡ none
+    pub left-alike : handle ≤ L .memory .given → (request : Request) (new : List ℕ) → earlierTests handle request ≡ none
         → afterRequest (hiddenIn handle L) request new ≡ hiddenIn handle (afterRequest L request new)
     unfolding next
     left-alike g (Use call) new d =
@@ -215,17 +221,17 @@ module _ (handle : ℕ) where
     left-alike g (Remaining task used) new d = refl
 
     -- a read or a write of it changes what is hidden alone, where all objects stand
-    pub left-unseen : Standing L → (request : Request) (new : List ℕ) (task : ℕ)
-        → userOf handle request ≡ some task → hiddenIn handle (afterRequest L request new) ≡ hiddenIn handle L
+    pub left-unseen : Standing L → (request : Request) (new : List ℕ) (tests : List Test)
+        → earlierTests handle request ≡ some tests → hiddenIn handle (afterRequest L request new) ≡ hiddenIn handle L
     unfolding next memoryAfter expirationsAfter written
-    left-unseen h request new task u =
+    left-unseen h request new tests u =
         let os = L .memory .objects in
-        by-use handle task (λ (r : Request). hiddenIn handle (afterRequest L r new) ≡ hiddenIn handle L)
-        (unchanged (hiddenIn handle) (verdictOn L (Read task handle) new) (rw (filter-all _ os h)))
-        (λ offset.
+        by-use handle (λ (ts : List Test) (r : Request). hiddenIn handle (afterRequest L r new) ≡ hiddenIn handle L)
+        (λ task. unchanged (hiddenIn handle) (verdictOn L (Read task handle) new) (rw (filter-all _ os h)))
+        (λ task offset.
         unchanged (hiddenIn handle) (verdictOn L (Write task handle offset) new)
         (rw (
           filter-all _ (map (written handle offset new) os) (all-map _ (written handle offset new) os h),
           unseen-map handle (written handle offset new) (unseen-written handle offset new) os,
         )))
-        request u
+        tests request u

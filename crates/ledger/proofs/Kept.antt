@@ -13,7 +13,7 @@ use Rattle.lists.proofs.Cases.{by-test}
 use Rattle.lists.proofs.All.{all-imp, all-filter, all-getD, all-replicate, found, none→All}
 use Rattle.lists.proofs.Counts.{any-append, any-map, count-none}
 use Rattle.ledger.specs.Limits.{taskCount}
-use Rattle.ledger.specs.Tasks.{freshClocks, allTicked}
+use Rattle.ledger.specs.Tasks.{taskAt, isAbsent, freshClocks, allTicked}
 use Rattle.ledger.specs.Expirations.{Expiration, isOf, isPinOf}
 use Rattle.ledger.specs.Objects.{Object, Memory, noShare, freshMemory, stands, written, makersAfter, memoryAfter, expirationsAfter, handlesOf}
 use Rattle.ledger.specs.Shares.{made, unmet}
@@ -23,7 +23,7 @@ use Rattle.ledger.specs.Kept.{TaskKept, ClocksKept, isOwned, ObjectsKept
 use Rattle.ledger.specs.declared.Call.{Call}
 use Rattle.ledger.specs.declared.Call.the-variants.{Join, Schedule, Make, Refresh, Read, Write, Batch, Release}
 use Rattle.ledger.specs.declared.Event.{Event}
-use Rattle.ledger.specs.declared.Event.the-variants.{Leave, Block, Resume, Tick}
+use Rattle.ledger.specs.declared.Event.the-variants.{Leave, Block, Resume, Tick, View}
 use Rattle.ledger.specs.declared.Refusal.{Refusal}
 use Rattle.ledger.specs.declared.Request.{Request}
 use Rattle.ledger.specs.declared.Request.the-variants.{Use, Report, Remaining}
@@ -49,7 +49,7 @@ kept-fresh limits =
       shares =
           record {
             sixteen = refl;
-            absent = λ task e. nobody task;
+            inactive = λ task e. nobody task;
             ordered = λ store task. rw (nobody task) (by-test store (λ e. rw e zero-le) (λ e. rw e zero-le));
             known = tt;
             room = λ store. by-test store (λ e. rw e zero-le) (λ e. rw e zero-le);
@@ -100,7 +100,18 @@ unfolding testsOf
 known m xs task Leave new c = leb-false taskCount task (c .0)
 known m xs task Block new c = leb-false taskCount task (c .0)
 known m xs task Resume new c = leb-false taskCount task (c .0)
+known m xs task View new c = leb-false taskCount task (c .0)
 known m xs task Tick new c = leb-false taskCount task (c .0)
+
+-- and one that joins as a viewer was absent
+views-absent : (m : Memory) (xs : List Expiration) (task : ℕ) (event : Event) (new : List ℕ) → Passed m xs (Schedule event task) new
+    → event ≡ View → isAbsent (taskAt (m .clocks) task .state) ≡ true
+unfolding testsOf
+views-absent m xs task Leave new c e = cc
+views-absent m xs task Block new c e = cc
+views-absent m xs task Resume new c e = cc
+views-absent m xs task View new (exists, (absent, end)) e = not-false _ absent
+views-absent m xs task Tick new c e = cc
 
 -- and leaves the objects their handles
 owned-after : (event : Event) (task : ℕ) (os : List Object) (x : Expiration) → isOwned os x ≡ true → isOwned (makersAfter event task os) x ≡ true
@@ -108,6 +119,7 @@ unfolding makersAfter
 owned-after Leave task os x o = rw any-map o
 owned-after Block task os x o = o
 owned-after Resume task os x o = o
+owned-after View task os x o = o
 owned-after Tick task os x o = o
 
 -- a call that is carried out
@@ -120,19 +132,19 @@ kept-carried m xs (Join task share) new c k =
     (pins-after m xs (Join task share) new tt k)
 kept-carried m xs (Schedule event task) new c k =
     kept-settled (clocks-after m xs new task event c (k .clocks)) (objects-after event task (k .objects))
-    (shares-after (m .clocks) task event (known m xs task event new c) (k .shares))
+    (shares-after (m .clocks) task event (known m xs task event new c) (views-absent m xs task event new c) (k .shares))
     (reowned (λ x e o. owned-after event task (m .objects) x o) (expirations-after m xs new task event c (k .expirations)))
     (pins-after m xs (Schedule event task) new tt k)
-kept-carried m xs (Make task kind extension size) new c k =
-    let (exists, (present, (active, (short, (range, (spent, (limit, (block, (room, end))))))))) = c in
-    kept-settled (k .clocks) (objects-made task size range spent (k .objects))
-    (shares-made (m .limits) (m .clocks) (m .shares) (m .objects) task (m .given + 1) size (leb-false taskCount task exists) limit block (k .shares))
+kept-carried m xs (Make task kind extension size prefix) new c k =
+    let (exists, (present, (active, (acts, (short, (range, (prefixed, (spent, (limit, (block, (room, end))))))))))) = c in
+    kept-settled (k .clocks) (objects-made task size prefix range prefixed spent (k .objects))
+    (shares-made (m .limits) (m .clocks) (m .shares) (m .objects) task (m .given + 1) size prefix (leb-false taskCount task exists) limit block (k .shares))
     (expirations-set task kind extension (m .given + 1) present short (leb-false _ _ room)
     (rw (any-append, eq-eqb (m .given + 1) (m .given + 1) refl, or-true))
     (reowned (λ x e o. rw (any-append, o)) (k .expirations)))
-    (pins-after m xs (Make task kind extension size) new tt k)
+    (pins-after m xs (Make task kind extension size prefix) new tt k)
 kept-carried m xs (Refresh task kind extension handle) new c k =
-    let (exists, (present, (active, (lasts, (short, (given, (gone, (room, end)))))))) = c in
+    let (exists, (present, (active, (acts, (lasts, (short, (given, (gone, (room, end))))))))) = c in
     kept-settled (k .clocks) (k .objects) (k .shares)
     (expirations-set task kind extension handle present short (leb-false _ _ room)
     (owned-by m xs k handle (not-false _ gone))
@@ -140,12 +152,12 @@ kept-carried m xs (Refresh task kind extension handle) new c k =
     (pins-after m xs (Refresh task kind extension handle) new lasts k)
 kept-carried m xs (Read task handle) new c k = kept-settled (k .clocks) (k .objects) (k .shares) (k .expirations) (k .pins, k .once)
 kept-carried m xs (Write task handle offset) new c k =
-    let (exists, (present, (active, (given, (gone, (intact, (outside, end))))))) = c in
+    let (exists, (present, (active, (acts, (given, (gone, (intact, (outside, end)))))))) = c in
     kept-settled (k .clocks) (objects-written handle offset new outside (k .objects))
     (shares-map (written handle offset new) (λ o. refl) (λ o. refl) (k .shares))
     (reowned (λ x e o. rw any-map o) (k .expirations)) (k .pins, k .once)
 kept-carried m xs (Batch task kind extension) new c k =
-    let (exists, (present, (active, (range, (lasts, (short, (given, (gone, (room, end))))))))) = c in
+    let (exists, (present, (active, (acts, (range, (lasts, (short, (given, (gone, (room, end)))))))))) = c in
     kept-settled (k .clocks) (k .objects) (k .shares)
     (expirations-set-each task kind extension present short (handlesOf new) xs (ltb-false _ _ room)
     (all-imp (λ h e. owned-by m xs k h (not-false _ e)) (handlesOf new) (none→All _ (handlesOf new) gone)) (k .expirations))

@@ -21,7 +21,7 @@ use Rattle.ledger.specs.Kept.{Within, isOwned, ExpirationKept, Expiratio
 use Rattle.ledger.specs.declared.Kind.{Kind}
 use Rattle.ledger.specs.declared.Kind.the-variants.{Local, Global, Pinned}
 use Rattle.ledger.specs.declared.Event.{Event}
-use Rattle.ledger.specs.declared.Event.the-variants.{Leave, Block, Resume, Tick}
+use Rattle.ledger.specs.declared.Event.the-variants.{Leave, Block, Resume, Tick, View}
 use Rattle.ledger.specs.declared.Share.{Share}
 use Rattle.ledger.specs.declared.Call.the-variants.{Join, Schedule}
 use Rattle.ledger.specs.declared.Limits.{Limits}
@@ -205,11 +205,12 @@ module _ (m : Memory) (xs : List Expiration) (new : List ℕ) (task : ℕ) where
         room = k .room;
       }
 
-  -- the four events
+  -- the five events
   pub expirations-after : (event : Event) → Passed m xs (Schedule event task) new → ExpirationsKept (m .limits) (m .clocks) (m .objects) xs
       → ExpirationsKept (m .limits) (after event) (m .objects) (lasting event task (advances event task (m .clocks)) (after event) xs)
   unfolding testsOf lasting moved
   expirations-after Resume c k = still Resume refl (λ at h. (refl, refl)) k
+  expirations-after View (exists, (absent, end)) k = still View refl (λ at h. absurd (true≢false (sym (not-false _ absent) ∙ h .1))) k
   expirations-after Block c k = live Block xs (k .room) (all-imp (λ x. lasts Block x (λ own at h. (h .0, refl))) xs (k .each))
   expirations-after Tick c k = live Tick xs (k .room) (all-imp (λ x. lasts Tick x (λ own at h. (omega arith, h .1))) xs (k .each))
   expirations-after Leave (exists, c) k =

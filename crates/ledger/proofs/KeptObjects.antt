@@ -1,7 +1,7 @@
 -- The objects stay as `ObjectsKept` says when one is made or written, and when those without an expiration go.
 use Prim.Native.Nat.{ℕ, _+_, _≤_, _<_}
 use native.Mathlib.Omega.{arith}
-use mathlib.Core.Bool.{Bool, true, false, true≢false, cond, _||_}
+use mathlib.Core.Bool.{Bool, true, false, true≢false, _||_}
 use mathlib.Core.List.{List, [], _∷_, _++_, map}
 use mathlib.Core.Path.{_≡_, refl, sym, _∙_}
 use borrow.Author.Tests.{leb-true, leb-false, ltb-false, eqb-true, eqb-false, eq-eqb}
@@ -18,7 +18,7 @@ use Rattle.ledger.specs.Limits.{smallSize, largeSize, lastHandle, isSmal
 use Rattle.ledger.specs.Expirations.{Expiration}
 use Rattle.ledger.specs.Objects.{Object, zeroed, isIntact, objectAt, written, orphaned, makersAfter, stands, standing}
 use Rattle.ledger.specs.declared.Event.{Event}
-use Rattle.ledger.specs.declared.Event.the-variants.{Leave, Block, Resume, Tick}
+use Rattle.ledger.specs.declared.Event.the-variants.{Leave, Block, Resume, Tick, View}
 use Rattle.ledger.specs.Kept.{ObjectKept, Ascending, ObjectsKept}
 
 -- the order of handles stays when some go
@@ -34,7 +34,7 @@ ascending-append o [] h a = (tt, tt)
 ascending-append o (p ∷ os) (h, hs) (l, a) = (all-append _ os (o ∷ []) l (h, tt), ascending-append o os hs a)
 
 -- no two objects have one handle: what holds of the object with a handle holds of each that has it
-only : (Q : Object → Type 0) (handle : ℕ) (os : List Object) → Ascending os → Q (objectAt handle os)
+pub only : (Q : Object → Type 0) (handle : ℕ) (os : List Object) → Ascending os → Q (objectAt handle os)
     → All (λ (o : Object). eqb (o .handle) handle ≡ true → Q o) os
 unfolding objectAt
 only Q handle [] a h = tt
@@ -68,17 +68,18 @@ pub in-block : (size : ℕ) → size ≤ largeSize → size ≤ blockSize size
 in-block size h = by-test (isSmall size) (λ e. rw e (leb-true size smallSize e)) (λ e. rw e h)
 
 -- one is made
-pub objects-made : {given : ℕ} {os : List Object} (task size : ℕ) → (eqb size 0 || ltb largeSize size) ≡ false
-    → leb lastHandle given ≡ false → ObjectsKept given os
-    → ObjectsKept (given + 1) (os ++ (zeroed task (given + 1) size ∷ []))
-objects-made {given} {os} task size range spent k =
+pub objects-made : {given : ℕ} {os : List Object} (task size prefix : ℕ) → (eqb size 0 || ltb largeSize size) ≡ false
+    → ltb size prefix ≡ false → leb lastHandle given ≡ false → ObjectsKept given os
+    → ObjectsKept (given + 1) (os ++ (zeroed task (given + 1) size prefix ∷ []))
+objects-made {given} {os} task size prefix range short spent k =
     record {
       each =
           all-append (ObjectKept (given + 1)) os _
-          (all-imp (λ o h. record { numbered = omega (arith, h .numbered); sized = h .sized; filled = h .filled; intact = h .intact }) os (k .each)) (
+          (all-imp (λ o h. record { numbered = omega (arith, h .numbered); sized = h .sized; prefixed = h .prefixed; filled = h .filled; intact = h .intact }) os (k .each)) (
             record {
               numbered = omega arith;
               sized = ranged size range;
+              prefixed = ltb-false size prefix short;
               filled = length-replicate (blockSize size) 0;
               intact = eq-eqb _ _ (total-zeros (blockSize size));
             },
@@ -98,7 +99,7 @@ objects-orphaned {given} {os} task k =
     record {
       each =
           all-map (ObjectKept given) (orphaned task) os
-          (all-imp (λ o h. record { numbered = h .numbered; sized = h .sized; filled = h .filled; intact = h .intact }) os (k .each));
+          (all-imp (λ o h. record { numbered = h .numbered; sized = h .sized; prefixed = h .prefixed; filled = h .filled; intact = h .intact }) os (k .each));
       ascending = ascending-orphaned task os (k .ascending);
       numbers = k .numbers;
     }
@@ -108,6 +109,7 @@ unfolding makersAfter
 objects-after Leave task k = objects-orphaned task k
 objects-after Block task k = k
 objects-after Resume task k = k
+objects-after View task k = k
 objects-after Tick task k = k
 
 module _ (handle offset : ℕ) (new : List ℕ) where
@@ -126,6 +128,7 @@ module _ (handle offset : ℕ) (new : List ℕ) where
       record {
         numbered = k .numbered;
         sized = k .sized;
+        prefixed = k .prefixed;
         filled =
             by-test (eqb (o .handle) handle)
             (λ e. rw e (length-overwritten offset new (o .bytes) (omega (arith, f e, in-block (o .size) (k .sized .1), k .filled)) ∙ k .filled))

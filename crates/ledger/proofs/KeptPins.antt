@@ -18,7 +18,7 @@ use Rattle.ledger.specs.Kept.{PinsKept, PinnedOnceKept}
 use Rattle.ledger.specs.declared.Kind.{Kind}
 use Rattle.ledger.specs.declared.Kind.the-variants.{Local, Global, Pinned}
 use Rattle.ledger.specs.declared.Event.{Event}
-use Rattle.ledger.specs.declared.Event.the-variants.{Leave, Block, Resume, Tick}
+use Rattle.ledger.specs.declared.Event.the-variants.{Leave, Block, Resume, Tick, View}
 use Rattle.ledger.specs.declared.Call.{Call}
 use Rattle.ledger.specs.declared.Call.the-variants.{Join, Schedule, Make, Refresh, Read, Write, Batch, Release}
 
@@ -60,6 +60,7 @@ pub lasting-pins : (event : Event) (task : ℕ) (advanced : Bool) (clocks : Cloc
 unfolding lasting
 lasting-pins Block task advanced clocks handle xs = live-pins advanced clocks handle xs
 lasting-pins Resume task advanced clocks handle xs = refl
+lasting-pins View task advanced clocks handle xs = refl
 lasting-pins Leave task advanced clocks handle xs =
     let others : List Expiration = filter (λ (x : Expiration). not (isSetBy task (x .due))) xs in
     live-pins advanced clocks handle (eachDue (deserted task) others) ∙ each-pins (deserted task) (deserted-pin task) handle others
@@ -107,7 +108,7 @@ set-pins due e handle (h ∷ hs) xs = set-pins due e handle hs _ ∙ rw (e, and-
 abbrev pub SetsNoPin : Call → Type 0
 SetsNoPin (Join task share) = Unit
 SetsNoPin (Schedule event task) = Unit
-SetsNoPin (Make task kind extension size) = Unit
+SetsNoPin (Make task kind extension size prefix) = Unit
 SetsNoPin (Refresh task kind extension handle) = isPinning kind ≡ false
 SetsNoPin (Read task handle) = Unit
 SetsNoPin (Write task handle offset) = Unit
@@ -120,7 +121,7 @@ pub pins-carried : (m : Memory) (xs : List Expiration) (call : Call) (new : List
 unfolding memoryAfter expirationsAfter
 pins-carried m xs (Join task share) new s k = k
 pins-carried m xs (Schedule event task) new s k = λ handle. k handle ∙ sym (lasting-pins event task _ _ handle xs)
-pins-carried m xs (Make task kind extension size) new s k = made-pins kind (m .given + 1) (dueAfter (m .clocks) task kind extension) (m .pinned) xs (unpinned-due (m .clocks) task extension kind) k
+pins-carried m xs (Make task kind extension size prefix) new s k = made-pins kind (m .given + 1) (dueAfter (m .clocks) task kind extension) (m .pinned) xs (unpinned-due (m .clocks) task extension kind) k
 pins-carried m xs (Refresh task kind extension handle) new s k = λ other. rw (unpinned-due (m .clocks) task extension kind, s, and-false) (k other)
 pins-carried m xs (Read task handle) new s k = k
 pins-carried m xs (Write task handle offset) new s k = k
@@ -149,6 +150,7 @@ lasting-once : (event : Event) (task : ℕ) (advanced : Bool) (clocks : Clocks) 
 unfolding lasting
 lasting-once Block task advanced clocks xs k = live-once advanced clocks xs k
 lasting-once Resume task advanced clocks xs k = k
+lasting-once View task advanced clocks xs k = k
 lasting-once Leave task advanced clocks xs k =
     let isOthers : Expiration → Bool = λ x. not (isSetBy task (x .due)) in
     live-once advanced clocks (eachDue (deserted task) (filter isOthers xs)) (each-once (deserted task) (deserted-pin task) (filter isOthers xs) (filter-once isOthers xs k))
@@ -173,7 +175,7 @@ pub once-carried : (m : Memory) (xs : List Expiration) (call : Call) (new : List
 unfolding expirationsAfter released
 once-carried m xs (Join task share) new s none k = k
 once-carried m xs (Schedule event task) new s none k = lasting-once event task _ _ xs k
-once-carried m xs (Make task kind extension size) new s none k =
+once-carried m xs (Make task kind extension size prefix) new s none k =
     made-once (record { handle = m .given + 1; due = dueAfter (m .clocks) task kind extension }) xs none k
 once-carried m xs (Refresh task kind extension handle) new s none k = λ other. rw (unpinned-due (m .clocks) task extension kind, s, and-false) (k other)
 once-carried m xs (Read task handle) new s none k = k

@@ -2,34 +2,33 @@
 use Prim.Native.Nat.{ℕ, _+_, _-_, _≤_, _<_}
 use native.Mathlib.Nat.{le-trans, le-refl}
 use native.Mathlib.Omega.{arith}
-use mathlib.Core.Bool.{Bool, true, false, true≢false, false≢true, and-eq-true-iff, cond, not, _&&_, _||_}
+use mathlib.Core.Bool.{Bool, true, false, true≢false, false≢true, and-eq-true-iff, cond, not, _&&_}
 use mathlib.Core.List.{List, [], _∷_, _++_, map}
 use mathlib.Core.Logic.{_≢_}
-use mathlib.Core.Path.{_≡_, refl, sym, ap, _∙_}
-use borrow.Author.Tests.{leb-false, ltb-false, not-false, eqb-true, eqb-false, eq-eqb, ne-eqb}
+use mathlib.Core.Path.{_≡_, refl, _∙_}
+use borrow.Author.Tests.{leb-false, ltb-false, not-false, eqb-true, eqb-false, eq-eqb}
 use lib.Dec.{eqb}
 use lib.ListN.{length, length-set, getD, set, List·getD-map}
 use lib.Seq.{getD-set-same}
-use Rattle.lists.specs.Sums.{sumBelow}
 use Rattle.lists.specs.Tests.{filter, All}
 use Rattle.lists.proofs.All.{at-set, all-imp, all-filter, all-map, all-append}
 use Rattle.lists.proofs.Cases.{by-test, or-false-parts}
 use Rattle.lists.proofs.Counts.{count-filter}
 use Rattle.lists.proofs.Sums.{sum-le, sum-but, sum-at}
 use Rattle.ledger.specs.Limits.{taskCount, isSmall}
-use Rattle.ledger.specs.Tasks.{Task, Clocks, taskAt, absentTask, joined, moved, unticked, isAbsent, clocksAfter, entered}
+use Rattle.ledger.specs.Tasks.{Clocks, taskAt, absentTask, joined, moved, unticked, isAbsent, isActive, clocksAfter, entered}
 use Rattle.ledger.specs.Expirations.{departed, Expiration}
 use Rattle.ledger.specs.Objects.{Object, Memory, noShare, zeroed, orphaned, makersAfter, sharesAfter}
 use Rattle.ledger.specs.Shares.{isIn, quotaIn, quotaOf, blocksIn, usedIn, made, unmet, allUnmet, takenFrom, isFull, isShort, isAtLimit}
 use Rattle.ledger.specs.Refusals.{isUpsideDown, testsOf}
 use Rattle.ledger.specs.Kept.{SharesKept}
 use Rattle.ledger.specs.declared.Event.{Event}
-use Rattle.ledger.specs.declared.Event.the-variants.{Leave, Block, Resume, Tick}
+use Rattle.ledger.specs.declared.Event.the-variants.{Leave, Block, Resume, Tick, View}
 use Rattle.ledger.specs.declared.Limits.{Limits}
 use Rattle.ledger.specs.declared.Share.{Share}
-use Rattle.ledger.specs.declared.Call.the-variants.{Join, Schedule}
+use Rattle.ledger.specs.declared.Call.the-variants.{Join}
 use Rattle.ledger.proofs.Passed.{Passed}
-use Rattle.ledger.proofs.KeptTasks.{tasks-after}
+use Rattle.ledger.proofs.KeptTasks.{tasks-after, absent-inactive}
 use Rattle.ledger.proofs.Shares.{unmet-so, spoken-map, made-map, spoken-filter, made-append, used-append, made-orphaned, used-map}
 
 -- some objects go
@@ -39,7 +38,7 @@ unfolding made
 shares-filter {shares = shares} {os = os} p k =
     record {
       sixteen = k .sixteen;
-      absent = k .absent;
+      inactive = k .inactive;
       ordered = k .ordered;
       known = all-filter p (λ o e h. h) os (k .known);
       room = λ store. le-trans (spoken-filter store shares p os) (k .room store);
@@ -53,7 +52,7 @@ pub shares-map : {limits : Limits} {clocks : Clocks} {shares : List Share} {os :
 shares-map {shares = shares} {os = os} f sizes makers k =
     record {
       sixteen = k .sixteen;
-      absent = k .absent;
+      inactive = k .inactive;
       ordered = k .ordered;
       known = all-map (λ (o : Object). o .maker ≤ departed) f os
           (all-imp {P = λ (o : Object). o .maker ≤ departed} {Q = λ (o : Object). f o .maker ≤ departed} (λ o h. rw (makers o) h) os (k .known));
@@ -94,18 +93,18 @@ module _ (m : Memory) (task : ℕ) (share : Share) (none : getD (m .shares) task
       (λ e. let none : made store (m .objects) other ≤ 0 = rw (← nothing store, ← eqb-true other task e) h in omega arith)
       (λ e. rw (other-joined other (eqb-false other task e)) h)
 
--- who joins is there, and all others are as they were
-entered-absent : (clocks : Clocks) (task other : ℕ) → task < length (clocks .tasks) → isAbsent (taskAt (entered task joined clocks) other .state) ≡ true
-    → (other ≢ task) × (isAbsent (taskAt clocks other .state) ≡ true)
+-- who joins is active, and all others are as they were
+entered-inactive : (clocks : Clocks) (task other : ℕ) → task < length (clocks .tasks) → isActive (taskAt (entered task joined clocks) other .state) ≡ false
+    → (other ≢ task) × (isActive (taskAt clocks other .state) ≡ false)
 unfolding entered
-entered-absent clocks task other l a =
+entered-inactive clocks task other l a =
     by-test (eqb other task)
     (λ e.
-    let here : isAbsent (getD (set (clocks .tasks) task joined) task absentTask .state) ≡ true = rw (eqb-true other task e) at a in
-    absurd (false≢true (rw (getD-set-same (clocks .tasks) task joined absentTask l) at here)))
+    let here : isActive (getD (set (clocks .tasks) task joined) task absentTask .state) ≡ false = rw (eqb-true other task e) at a in
+    absurd (true≢false (rw (getD-set-same (clocks .tasks) task joined absentTask l) at here)))
     (λ e.
     let d = eqb-false other task e in
-    (d, at-set (λ t. isAbsent (t .state) ≡ true → isAbsent (taskAt clocks other .state) ≡ true) (clocks .tasks) task other absentTask (λ q. absurd (d q)) (λ h. h) a))
+    (d, at-set (λ t. isActive (t .state) ≡ false → isActive (taskAt clocks other .state) ≡ false) (clocks .tasks) task other absentTask (λ q. absurd (d q)) (λ h. h) a))
 
 pub shares-joined : (m : Memory) (task : ℕ) (share : Share) (xs : List Expiration) (new : List ℕ) → Passed m xs (Join task share) new
     → length (m .clocks .tasks) ≡ taskCount → SharesKept (m .limits) (m .clocks) (m .shares) (m .objects)
@@ -113,15 +112,15 @@ pub shares-joined : (m : Memory) (task : ℕ) (share : Share) (xs : List Expirat
 unfolding testsOf
 shares-joined m task share xs new (exists, (absent, (ordered, (free, end)))) n k =
     let l = leb-false taskCount task exists in
-    let none = k .absent task (not-false _ absent) in
+    let none = k .inactive task (absent-inactive (taskAt (m .clocks) task .state) (not-false _ absent)) in
     let (fits-small, fits-large) = or-false-parts (isUpsideDown (share .small)) (isUpsideDown (share .large)) ordered in
     let (small, large) =
     or-false-parts (isShort true (m .shares) (m .objects) (m .limits) task (share .small .reserve)) (isShort false (m .shares) (m .objects) (m .limits) task (share .large .reserve)) free in
     record {
       sixteen = rw length-set (k .sixteen);
-      absent = λ other a.
-          let (d, was) = entered-absent (m .clocks) task other (rw n l) a in
-          at-set (λ s. s ≡ noShare) (m .shares) task other noShare (λ e. absurd (d e)) (k .absent other was);
+      inactive = λ other a.
+          let (d, was) = entered-inactive (m .clocks) task other (rw n l) a in
+          at-set (λ s. s ≡ noShare) (m .shares) task other noShare (λ e. absurd (d e)) (k .inactive other was);
       ordered = λ store other.
           at-set (λ s. quotaIn store s .reserve ≤ quotaIn store s .limit) (m .shares) task other noShare
           (λ e. by-test store (λ d. rw d (ltb-false _ _ fits-small)) (λ d. rw d (ltb-false _ _ fits-large))) (k .ordered store other);
@@ -130,23 +129,23 @@ shares-joined m task share xs new (exists, (absent, (ordered, (free, end)))) n k
       below = λ store other h. joined-below m task share none store other (k .below store other h);
     }
 
--- The four events: shares stay, but for the leaver's.
+-- The five events: shares stay, but for the leaver's.
 module _ (clocks : Clocks) (task : ℕ) where
-  -- who is absent afterwards was so, or has left
-  absent-after : (event : Event) (other : ℕ) → (other ≡ task → isAbsent (moved event (taskAt clocks task) .state) ≡ true → isAbsent (taskAt clocks other .state) ≡ true)
-      → isAbsent (taskAt (clocksAfter event task clocks) other .state) ≡ true → isAbsent (taskAt clocks other .state) ≡ true
-  absent-after event other own a =
-      tasks-after (λ ts. isAbsent (getD ts other absentTask .state) ≡ true → isAbsent (taskAt clocks other .state) ≡ true)
+  -- who is not active afterwards was not, or has left
+  inactive-after : (event : Event) (other : ℕ) → (other ≡ task → isActive (moved event (taskAt clocks task) .state) ≡ false → isActive (taskAt clocks other .state) ≡ false)
+      → isActive (taskAt (clocksAfter event task clocks) other .state) ≡ false → isActive (taskAt clocks other .state) ≡ false
+  inactive-after event other own a =
+      tasks-after (λ ts. isActive (getD ts other absentTask .state) ≡ false → isActive (taskAt clocks other .state) ≡ false)
       (λ ts h. rw (List·getD-map unticked ts other absentTask) h) event task clocks
-      (at-set (λ t. isAbsent (t .state) ≡ true → isAbsent (taskAt clocks other .state) ≡ true) (clocks .tasks) task other absentTask own (λ h. h)) a
+      (at-set (λ t. isActive (t .state) ≡ false → isActive (taskAt clocks other .state) ≡ false) (clocks .tasks) task other absentTask own (λ h. h)) a
 
   stay : {limits : Limits} {shares : List Share} {os : List Object} (event : Event)
-      → ((other : ℕ) → other ≡ task → isAbsent (moved event (taskAt clocks task) .state) ≡ true → isAbsent (taskAt clocks other .state) ≡ true)
+      → ((other : ℕ) → other ≡ task → isActive (moved event (taskAt clocks task) .state) ≡ false → isActive (taskAt clocks other .state) ≡ false)
       → SharesKept limits clocks shares os → SharesKept limits (clocksAfter event task clocks) shares os
   stay event own k =
       record {
         sixteen = k .sixteen;
-        absent = λ other a. k .absent other (absent-after event other (own other) a);
+        inactive = λ other a. k .inactive other (inactive-after event other (own other) a);
         ordered = k .ordered;
         known = k .known;
         room = k .room;
@@ -178,9 +177,9 @@ module _ (clocks : Clocks) (task : ℕ) where
     left =
         record {
           sixteen = rw length-set (k .sixteen);
-          absent = λ j a.
+          inactive = λ j a.
               by-test (eqb j task) (gone j)
-              (λ e. other-left j e ∙ k .absent j (absent-after Leave j (λ q. absurd (eqb-false j task e q)) a));
+              (λ e. other-left j e ∙ k .inactive j (inactive-after Leave j (λ q. absurd (eqb-false j task e q)) a));
           ordered = λ store j.
               at-set (λ s. quotaIn store s .reserve ≤ quotaIn store s .limit) shares task j noShare
               (λ e. by-test store (λ d. rw d (omega arith)) (λ d. rw d (omega arith))) (k .ordered store j);
@@ -197,13 +196,15 @@ module _ (clocks : Clocks) (task : ℕ) where
               (by-test (eqb j task) (λ e. rw e (omega arith)) (λ e. rw (e, other-left j e) (k .below store j b)));
         }
 
-  pub shares-after : {limits : Limits} {shares : List Share} {os : List Object} (event : Event) → task < taskCount → SharesKept limits clocks shares os
+  pub shares-after : {limits : Limits} {shares : List Share} {os : List Object} (event : Event) → task < taskCount
+      → (event ≡ View → isAbsent (taskAt clocks task .state) ≡ true) → SharesKept limits clocks shares os
       → SharesKept limits (clocksAfter event task clocks) (sharesAfter event task shares) (makersAfter event task os)
   unfolding makersAfter sharesAfter moved
-  shares-after Leave l k = left l k
-  shares-after Block l k = stay Block (λ other e a. absurd (false≢true a)) k
-  shares-after Resume l k = stay Resume (λ other e a. absurd (false≢true a)) k
-  shares-after Tick l k = stay Tick (λ other e a. rw e a) k
+  shares-after Leave l new k = left l k
+  shares-after Block l new k = stay Block (λ other e a. absurd (true≢false a)) k
+  shares-after Resume l new k = stay Resume (λ other e a. absurd (true≢false a)) k
+  shares-after View l new k = stay View (λ other e a. rw e (absent-inactive (taskAt clocks task .state) (new refl))) k
+  shares-after Tick l new k = stay Tick (λ other e a. rw e a) k
 
 -- A task makes an object: below its reserve it takes a block that was held back for it, and else one that was for nobody.
 same-store : (store b : Bool) (P : Bool → Type 0) → P b → cond store b (not b) ≡ true → P store
@@ -212,16 +213,16 @@ same-store true false P h e = absurd (false≢true e)
 same-store false true P h e = absurd (false≢true e)
 same-store false false P h e = h
 
-module _ (limits : Limits) (clocks : Clocks) (shares : List Share) (os : List Object) (task handle size : ℕ) where
+module _ (limits : Limits) (clocks : Clocks) (shares : List Share) (os : List Object) (task handle size prefix : ℕ) where
   abbrev ps : List Object
-  ps = os ++ (zeroed task handle size ∷ [])
+  ps = os ++ (zeroed task handle size prefix ∷ [])
 
   abbrev goes : Bool → Bool
-  goes store = isIn store (zeroed task handle size)
+  goes store = isIn store (zeroed task handle size prefix)
 
   -- the made one counts for its maker, and only makes an unmet reserve smaller
   fewer : (store : Bool) (j : ℕ) → unmet store shares ps j ≤ unmet store shares os j
-  fewer store j = omega (arith, unmet-so store shares ps j, unmet-so store shares os j, made-append store (zeroed task handle size) os j)
+  fewer store j = omega (arith, unmet-so store shares ps j, unmet-so store shares os j, made-append store (zeroed task handle size prefix) os j)
 
   made-room : (store : Bool) → task < taskCount → (goes store ≡ true → isFull store shares os limits task ≡ false)
       → usedIn store os + allUnmet store shares os ≤ blocksIn limits store → usedIn store ps + allUnmet store shares ps ≤ blocksIn limits store
@@ -229,8 +230,8 @@ module _ (limits : Limits) (clocks : Clocks) (shares : List Share) (os : List Ob
   made-room store l free k =
       by-test (goes store)
       (λ e.
-      let one : made store ps task ≡ made store os task + 1 = rw (made-append store (zeroed task handle size) os task, e, eq-eqb task task refl) in
-      let used : usedIn store ps ≡ usedIn store os + 1 = rw (used-append store (zeroed task handle size) os, e) in
+      let one : made store ps task ≡ made store os task + 1 = rw (made-append store (zeroed task handle size prefix) os task, e, eq-eqb task task refl) in
+      let used : usedIn store ps ≡ usedIn store os + 1 = rw (used-append store (zeroed task handle size prefix) os, e) in
       let others = sum-but taskCount task (unmet store shares ps) (unmet store shares os) l (λ j b d. fewer store j) in
       omega (
         arith,
@@ -244,14 +245,14 @@ module _ (limits : Limits) (clocks : Clocks) (shares : List Share) (os : List Ob
         leb-false (blocksIn limits store) (takenFrom store shares os task) (free e),
       ))
       (λ e.
-      let used : usedIn store ps ≡ usedIn store os + 0 = rw (used-append store (zeroed task handle size) os, e) in
+      let used : usedIn store ps ≡ usedIn store os + 0 = rw (used-append store (zeroed task handle size prefix) os, e) in
       omega (arith, k, used, sum-le taskCount (unmet store shares ps) (unmet store shares os) (λ j b. fewer store j)))
 
   made-below : (store : Bool) (j : ℕ) → (goes store ≡ true → isAtLimit store shares os task ≡ false)
       → made store os j ≤ quotaOf store shares os j .limit → made store ps j ≤ quotaOf store shares ps j .limit
   unfolding isAtLimit
   made-below store j free k =
-      rw (made-append store (zeroed task handle size) os j)
+      rw (made-append store (zeroed task handle size prefix) os j)
       (by-test (goes store && eqb task j)
       (λ e. let (g, same) = and-eq-true-iff (goes store) (eqb task j) .0 e in
       rw (e, ← eqb-true task j same) (omega (arith, leb-false (quotaOf store shares os task .limit) (made store os task) (free g))))
@@ -262,7 +263,7 @@ module _ (limits : Limits) (clocks : Clocks) (shares : List Share) (os : List Ob
   shares-made l limit full k =
       record {
         sixteen = k .sixteen;
-        absent = k .absent;
+        inactive = k .inactive;
         ordered = k .ordered;
         known = all-append (λ (o : Object). o .maker ≤ departed) os _ (k .known) (omega (arith, l), tt);
         room = λ store. made-room store l (same-store store (isSmall size) (λ b. isFull b shares os limits task ≡ false) full) (k .room store);

@@ -1,26 +1,25 @@
 -- The task entries stay as `ClocksKept` says.
 use Prim.Native.Nat.{ℕ, _<_}
-use native.Mathlib.Omega.{arith}
 use mathlib.Core.Bool.{true, false, cond, not, _||_, and-false}
 use mathlib.Core.List.{List, [], _∷_, map}
 use mathlib.Core.Path.{_≡_, refl, sym, _∙_}
-use borrow.Author.Tests.{leb-false}
+use borrow.Author.Tests.{leb-false, not-false}
 use lib.Dec.{leb}
-use lib.ListN.{length, set, length-set, length-map}
+use lib.ListN.{length, getD, set, length-set, length-map}
 use Rattle.lists.specs.Tests.{All}
 use Rattle.lists.proofs.Cases.{by-test}
 use Rattle.lists.proofs.All.{all-imp, all-map, all-set}
-use Rattle.lists.proofs.Counts.{all-false}
+use Rattle.lists.proofs.Counts.{all-false, any-set-as, all-set-as}
 use Rattle.ledger.specs.Limits.{taskCount}
-use Rattle.ledger.specs.Tasks.{Task, Clocks, taskAt, absentTask, joined, isAbsent, isRunning, isWaiting, moved, allTicked, unticked, tasksAfter, advances, clocksAfter, entered}
+use Rattle.ledger.specs.Tasks.{Task, Clocks, taskAt, absentTask, joined, isAbsent, isRunning, isWaiting, isViewing, isActive, moved, allTicked, unticked, tasksAfter, advances, clocksAfter, entered}
 use Rattle.ledger.specs.Expirations.{Expiration}
 use Rattle.ledger.specs.Objects.{Memory}
 use Rattle.ledger.specs.Refusals.{testsOf}
 use Rattle.ledger.specs.Kept.{TaskKept, ClocksKept}
 use Rattle.ledger.specs.declared.State.{State}
-use Rattle.ledger.specs.declared.State.the-variants.{Absent, Running, Waiting}
+use Rattle.ledger.specs.declared.State.the-variants.{Absent, Running, Waiting, Viewing}
 use Rattle.ledger.specs.declared.Event.{Event}
-use Rattle.ledger.specs.declared.Event.the-variants.{Leave, Block, Resume, Tick}
+use Rattle.ledger.specs.declared.Event.the-variants.{Leave, Block, Resume, Tick, View}
 use Rattle.ledger.specs.declared.Share.{Share}
 use Rattle.ledger.specs.declared.Call.the-variants.{Join, Schedule}
 use Rattle.ledger.proofs.Passed.{Passed}
@@ -53,11 +52,43 @@ started : (ts : List Task) (task : ℕ) (t : Task) → length ts ≡ taskCount �
 unfolding allTicked
 started ts task t n h e = let l : task < length ts = rw n (leb-false taskCount task h) in rw (all-false, and-false)
 
--- a task neither absent nor waiting is running
-pub running : (s : State) → isAbsent s ≡ false → isWaiting s ≡ false → isRunning s ≡ true
-running Absent a w = sym a
-running Running a w = refl
-running Waiting a w = sym w
+-- a task that is neither absent nor a viewer is active
+pub active : (s : State) → isAbsent s ≡ false → isViewing s ≡ false → isActive s ≡ true
+active Absent a v = sym a
+active Running a v = refl
+active Waiting a v = refl
+active Viewing a v = sym v
+
+-- an active task that does not wait runs
+pub acting : (s : State) → isActive s ≡ true → isWaiting s ≡ false → isRunning s ≡ true
+acting Absent a w = a
+acting Running a w = refl
+acting Waiting a w = sym w
+acting Viewing a w = a
+
+-- who is absent is not active
+pub absent-inactive : (s : State) → isAbsent s ≡ true → isActive s ≡ false
+absent-inactive Absent a = refl
+absent-inactive Running a = sym a
+absent-inactive Waiting a = sym a
+absent-inactive Viewing a = refl
+
+-- and does not run
+pub stopped : (s : State) → isAbsent s ≡ true → isRunning s ≡ false
+stopped Absent a = refl
+stopped Running a = sym a
+stopped Waiting a = refl
+stopped Viewing a = refl
+
+-- one that does not run in the place of another changes nothing for the advance test
+pub ticked-as : (ts : List Task) (task : ℕ) (t : Task) → isRunning (t .state) ≡ false → isRunning (getD ts task absentTask .state) ≡ false
+    → allTicked (set ts task t) ≡ allTicked ts
+unfolding allTicked
+ticked-as ts task t s e =
+    rw (
+      any-set-as (λ (u : Task). isRunning (u .state)) ts task t absentTask (rw (e, s)),
+      all-set-as (λ (u : Task). not (isRunning (u .state)) || u .ticked) ts task t absentTask (rw (e, s)),
+    )
 
 pub absent-kept : TaskKept absentTask
 absent-kept = record { ticked = λ e. cc; clock = λ e. refl }
@@ -73,17 +104,20 @@ module _ (m : Memory) (xs : List Expiration) (new : List ℕ) (task : ℕ) where
   moved-kept Leave c = absent-kept
   moved-kept Block c = record { ticked = λ e. cc; clock = λ e. cc }
   moved-kept Resume c = record { ticked = λ e. cc; clock = λ e. cc }
-  moved-kept Tick (exists, (present, (active, end))) =
-      record { ticked = λ e. running (taskAt (m .clocks) task .state) present active; clock = λ e. cc }
+  moved-kept View c = record { ticked = λ e. cc; clock = λ e. refl }
+  moved-kept Tick (exists, (present, (waits, (acts, end)))) =
+      record { ticked = λ e. acting (taskAt (m .clocks) task .state) (active (taskAt (m .clocks) task .state) present acts) waits; clock = λ e. cc }
 
   -- after every event some running task is unticked, if any runs
-  unticked-after : (event : Event) → length (m .clocks .tasks) ≡ taskCount → Passed m xs (Schedule event task) new
+  unticked-after : (event : Event) → ClocksKept (m .clocks) → Passed m xs (Schedule event task) new
       → allTicked (clocksAfter event task (m .clocks) .tasks) ≡ false
   unfolding testsOf moved clocksAfter advances tasksAfter
-  unticked-after Leave n c = tested _
-  unticked-after Block n c = tested _
-  unticked-after Resume n c = started (m .clocks .tasks) task _ n (c .0) refl
-  unticked-after Tick n c = tested _
+  unticked-after Leave k c = tested _
+  unticked-after Block k c = tested _
+  unticked-after Resume k c = started (m .clocks .tasks) task _ (k .sixteen) (c .0) refl
+  unticked-after View k (exists, (absent, end)) =
+      ticked-as (m .clocks .tasks) task _ refl (stopped (taskAt (m .clocks) task .state) (not-false _ absent)) ∙ k .unticked
+  unticked-after Tick k c = tested _
 
   pub clocks-joined : (share : Share) → Passed m xs (Join task share) new → ClocksKept (m .clocks) → ClocksKept (entered task joined (m .clocks))
   unfolding entered testsOf
@@ -102,5 +136,5 @@ module _ (m : Memory) (xs : List Expiration) (new : List ℕ) (task : ℕ) where
         tasks =
             tasks-after (All TaskKept) (λ ts h. all-map TaskKept unticked ts (all-imp cleared-kept ts h)) event task (m .clocks)
             (all-set TaskKept (m .clocks .tasks) task (k .tasks) (moved-kept event c));
-        unticked = unticked-after event (k .sixteen) c;
+        unticked = unticked-after event k c;
       }

@@ -31,3 +31,5 @@ pub mod Spared
 pub mod Noticed
 pub mod NoticedRows
 pub mod Reserves
+pub mod Veil
+pub mod Views

@@ -33,7 +33,7 @@ module _ (L : Ledger) (task : ℕ) (kind : Kind) (extension : ℕ) where
 
     refused : verdictOn L call bytes ≡ none → ⊥
     unfolding testsOf
-    refused e = true≢false (sym too-many ∙ passed (L .memory) (L .expirations) (testsOf call bytes) e .1 .1 .1 .0)
+    refused e = true≢false (sym too-many ∙ passed (L .memory) (L .expirations) (testsOf call bytes) e .1 .1 .1 .1 .0)
 
     unchanged : next L call bytes ≡ L
     unfolding next

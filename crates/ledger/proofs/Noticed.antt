@@ -13,9 +13,9 @@ use Rattle.lists.proofs.All.{all-left, found}
 use Rattle.lists.proofs.Cases.{by-test}
 use Rattle.lists.proofs.Sums.{total-differs}
 use Rattle.ledger.specs.Objects.{Object, plain, objectAt, isIntact, memoryAfter, expirationsAfter, freshMemory}
-use Rattle.ledger.specs.Refusals.{verdict}
-use Rattle.ledger.specs.Ledger.{Ledger, Sent, fresh, settled, replyBy, afterBy, verdictOn, standingVerdictOn, next, replyToRequest, afterRequest, afterSent, replies, afterAll}
-use Rattle.ledger.specs.Noticed.{disturbed, Change, changed, userOf, noticedBy, noticed, noticedIn, Notices}
+use Rattle.ledger.specs.Refusals.{Test, standingTests, writingTests, verdict}
+use Rattle.ledger.specs.Ledger.{Ledger, Sent, fresh, settled, replyBy, afterBy, verdictOn, next, replyToRequest, afterRequest, afterSent, replies, afterAll}
+use Rattle.ledger.specs.Noticed.{disturbed, Change, changed, earlierTests, noticedBy, noticed, noticedIn, Notices}
 use Rattle.ledger.specs.Numbers.{isRefusal}
 use Rattle.ledger.specs.declared.Answer.the-variants.{Refused}
 use Rattle.ledger.specs.declared.Refusal.{Refusal}
@@ -23,7 +23,7 @@ use Rattle.ledger.specs.declared.Refusal.the-variants.{SumDiffers}
 use Rattle.ledger.specs.declared.Request.{Request}
 use Rattle.ledger.specs.declared.Request.the-variants.{Use, Report, Remaining}
 use Rattle.ledger.proofs.Demand3.{HeapKept}
-use Rattle.ledger.proofs.Hidden.{hiddenIn, unseen-disturbed, unseen-map, answered-alike, left-alike, left-unseen}
+use Rattle.ledger.proofs.Hidden.{hiddenIn, unseen-disturbed, unseen-map, answered-alike, left-alike, left-unseen, by-use}
 use Rattle.ledger.proofs.Kept.{kept-fresh}
 use Rattle.ledger.proofs.Standing.{Standing}
 use Rattle.ledger.proofs.Broken.{Broken, use-answered, use-left, broken-after}
@@ -41,9 +41,9 @@ standing-after L h (Use call) new = by (verdictOn L call new)
     by (some r) = h
 
 -- a call is a use of the object, or none
-by-user : {C : Type 0} (who : Option ℕ) → ((task : ℕ) → who ≡ some task → C) → (who ≡ none → C) → C
-by-user none f g = g refl
-by-user (some task) f g = f task refl
+by-use-or : {C : Type 0} (found : Option (List Test)) → ((tests : List Test) → found ≡ some tests → C) → (found ≡ none → C) → C
+by-use-or none f g = g refl
+by-use-or (some tests) f g = f tests refl
 
 -- The ledger without the change, and the one with it: they are the same but for what is hidden.
 record Beside (handle : ℕ) (L M : Ledger) : Type 0 where
@@ -55,16 +55,22 @@ module _ (handle : ℕ) (L M : Ledger) (k : Beside handle L M) where
   same-given : M .memory .given ≡ L .memory .given
   same-given = ap (λ (N : Ledger). N .memory .given) (k .same)
 
-  same-standing : (task : ℕ) → standingVerdictOn M task handle ≡ standingVerdictOn L task handle
+  -- and the tests before 23 look at nothing that is
+  same-earlier : (request : Request) (tests : List Test) → earlierTests handle request ≡ some tests
+      → verdict (M .memory) (M .expirations) tests ≡ verdict (L .memory) (L .expirations) tests
   unfolding verdict
-  same-standing task = ap (λ (N : Ledger). standingVerdictOn N task handle) (k .same)
+  same-earlier request tests u =
+      by-use handle (λ (ts : List Test) (r : Request). verdict (M .memory) (M .expirations) ts ≡ verdict (L .memory) (L .expirations) ts)
+      (λ task. ap (λ (N : Ledger). verdict (N .memory) (N .expirations) (standingTests task handle)) (k .same))
+      (λ task offset. ap (λ (N : Ledger). verdict (N .memory) (N .expirations) (writingTests task handle)) (k .same))
+      tests request u
 
   -- one call
   answered : (s : Sent) → replyToRequest M (s .request) (s .bytes) ≡ noticed handle L s
   unfolding noticedBy
   answered s =
-      by-user (userOf handle (s .request))
-      (λ task u. rw (u, use-answered handle M (k .broken) (s .request) (s .bytes) task u, same-standing task))
+      by-use-or (earlierTests handle (s .request))
+      (λ tests u. rw (u, use-answered handle M (k .broken) (s .request) (s .bytes) tests u, same-earlier (s .request) tests u))
       (λ u. rw u
       (sym (answered-alike handle M (s .request) (s .bytes) u)
       ∙ ap (λ (N : Ledger). replyToRequest N (s .request) (s .bytes)) (k .same)
@@ -72,10 +78,10 @@ module _ (handle : ℕ) (L M : Ledger) (k : Beside handle L M) where
 
   beside-after : (s : Sent) → Beside handle (afterSent L s) (afterSent M s)
   beside-after s =
-      by-user (userOf handle (s .request))
-      (λ task u. rw (use-left handle M (k .broken) (s .request) (s .bytes) task u)
+      by-use-or (earlierTests handle (s .request))
+      (λ tests u. rw (use-left handle M (k .broken) (s .request) (s .bytes) tests u)
       (record {
-        same = k .same ∙ sym (left-unseen handle L (k .standing) (s .request) (s .bytes) task u);
+        same = k .same ∙ sym (left-unseen handle L (k .standing) (s .request) (s .bytes) tests u);
         standing = standing-after L (k .standing) (s .request) (s .bytes);
         broken = k .broken;
       }))
@@ -136,9 +142,9 @@ unfolding noticedBy freshMemory HeapKept
 notices =
     record {
       every = λ c ss. every-from (c .handle) ss (c .before) (changed c) (start c);
-      refused = λ c ss s task u.
+      refused = λ c ss s tests u.
           let k = beside-all (c .handle) ss (c .before) (changed c) (start c) in
-          rw (answered (c .handle) _ _ k s, u) (refused-by (standingVerdictOn (afterAll (c .before) ss) task (c .handle)));
+          rw (answered (c .handle) _ _ k s, u) (let L = afterAll (c .before) ss in refused-by (verdict (L .memory) (L .expirations) tests));
       others = λ c ss s u.
           let k = beside-all (c .handle) ss (c .before) (changed c) (start c) in
           rw (answered (c .handle) _ _ k s, u);

@@ -20,9 +20,9 @@ step : (L : Ledger) (new : List ℕ) (v : Move) → MovePassed L new v → (hand
     → Ahead (L .memory .clocks) setter at (cond (isTickOf setter v) 1 0 + ticks)
     → (then : ℕ) × (leftBy (L .memory .clocks) v (globalOne handle setter at ∷ []) ≡ globalOne handle setter then ∷ []) × Ahead (clocksBy (L .memory .clocks) v) setter then ticks
 unfolding released
-step L new neither c handle setter at ticks stays k = (at, refl, record { present = k .present; ahead = omega (arith, k .ahead) })
+step L new neither c handle setter at ticks stays k = (at, refl, record { active = k .active; ahead = omega (arith, k .ahead) })
 step L new (joins task share) c handle setter at ticks stays k =
-    (at, refl, joined-ahead (L .memory) (L .expirations) new task setter share at ticks c (record { present = k .present; ahead = omega (arith, k .ahead) }))
+    (at, refl, joined-ahead (L .memory) (L .expirations) new task setter share at ticks c (record { active = k .active; ahead = omega (arith, k .ahead) }))
 step L new (happens event task) c handle setter at ticks stays k =
     let m = L .memory in
     let k′ = kept-ahead m (L .expirations) new task setter event at ticks c stays k in (
@@ -30,7 +30,7 @@ step L new (happens event task) c handle setter at ticks stays k =
       one-left m (L .expirations) new task setter event handle at stays (omega (arith, k′ .ahead)),
       k′,
     )
-step L new (releases other) c handle setter at ticks stays k = (at, rw and-false, record { present = k .present; ahead = omega (arith, k .ahead) })
+step L new (releases other) c handle setter at ticks stays k = (at, rw and-false, record { active = k .active; ahead = omega (arith, k .ahead) })
 
 -- none of a list is of a sort: neither its first, nor any later one
 pub none-first : (b : Bool) (n : ℕ) → cond b 1 0 + n ≡ 0 → (b ≡ false) × (n ≡ 0)

@@ -51,7 +51,7 @@ no-refusal : (call : Call) (m : Memory) → refusalIn (replyTo call m .answer) �
 unfolding replyTo
 no-refusal (Join task share) m = refl
 no-refusal (Schedule event task) m = by-test (isTested event) (λ e. rw e) (λ e. rw e)
-no-refusal (Make task kind extension size) m = refl
+no-refusal (Make task kind extension size prefix) m = refl
 no-refusal (Refresh task kind extension handle) m = refl
 no-refusal (Read task handle) m = refl
 no-refusal (Write task handle offset) m = refl

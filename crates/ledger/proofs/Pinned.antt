@@ -14,8 +14,8 @@ use Rattle.lists.proofs.Implied.{any-none}
 use Rattle.lists.specs.Sums.{sumBelow}
 use Rattle.ledger.specs.Limits.{taskCount, standard, lastHandle}
 use Rattle.ledger.specs.Tasks.{taskAt, isAbsent, isWaiting, freshClocks, moved, allTicked, tasksAfter, advances, clocksAfter, entered}
-use Rattle.ledger.specs.Expirations.{Expiration, isPinned, isOf, isPinOf, dueAfter, putOff, lasting, released}
-use Rattle.ledger.specs.Objects.{Memory, Reply, freshMemory, objectAt, isIntact, stands, pinnedBy, replyTo, makersAfter, sharesAfter, memoryAfter, expirationsAfter}
+use Rattle.ledger.specs.Expirations.{isPinned, isOf, isPinOf, dueAfter, putOff, lasting, released}
+use Rattle.ledger.specs.Objects.{Memory, Reply, freshMemory, objectAt, isIntact, stands, replyTo, makersAfter, sharesAfter, memoryAfter, expirationsAfter}
 use Rattle.ledger.specs.Shares.{made as madeIn, unmet, isFull, isShort, isAtLimit}
 use Rattle.ledger.specs.Refusals.{isNotGiven, testsOf, verdict}
 use Rattle.ledger.specs.Ledger.{Ledger, Sent, fresh, settled, replyBy, afterBy, verdictOn, reply, next, afterRequest, afterSent, afterAll}
@@ -68,9 +68,9 @@ module _ (object : ℕ) where
   unfolding memoryAfter moveOf
   pinned-carried (Join task share) new m e h = h
   pinned-carried (Schedule event task) new m e h = h
-  pinned-carried (Make task Local extension size) new m e h = h
-  pinned-carried (Make task Global extension size) new m e h = h
-  pinned-carried (Make task Pinned extension size) new m e h = or-right (eqb object (m .given + 1)) h
+  pinned-carried (Make task Local extension size prefix) new m e h = h
+  pinned-carried (Make task Global extension size prefix) new m e h = h
+  pinned-carried (Make task Pinned extension size prefix) new m e h = or-right (eqb object (m .given + 1)) h
   pinned-carried (Refresh task kind extension handle) new m e h = h
   pinned-carried (Read task handle) new m e h = h
   pinned-carried (Write task handle offset) new m e h = h
@@ -112,7 +112,7 @@ made p = by (verdictOn L call (p .bytes)) (p .answered)
     L = afterAll (fresh (p .limits)) (p .earlier)
 
     call : Call
-    call = Make (p .task) Pinned (p .extension) (p .size)
+    call = Make (p .task) Pinned (p .extension) (p .size) (p .prefix)
 
     by : (v : Option Refusal) → replyBy v (replyTo call (L .memory)) .answer ≡ Handle (p .object)
         → any (eqb (p .object)) (afterBy v (settled (memoryAfter call (p .bytes) (L .memory)) (expirationsAfter call (p .bytes) (L .memory) (L .expirations))) L .memory .pinned) ≡ true
@@ -130,7 +130,7 @@ stands-until p ss e =
 first-pinned : PinnedMake
 unfolding fresh reply next afterAll testsOf verdict replyTo freshMemory memoryAfter expirationsAfter lasting freshClocks moved advances tasksAfter clocksAfter
     entered sumBelow madeIn unmet isFull isShort isAtLimit standard lastHandle
-first-pinned = record { limits = standard; earlier = join 0 ∷ []; task = 0; extension = 0; size = 4; bytes = []; object = 1; answered = refl }
+first-pinned = record { limits = standard; earlier = join 0 ∷ []; task = 0; extension = 0; size = 4; prefix = 0; bytes = []; object = 1; answered = refl }
 
 pinned-applies : PinnedApplies
 unfolding first-pinned sparing isReleased moveOf moveIn fresh next afterAll testsOf verdict

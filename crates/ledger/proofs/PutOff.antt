@@ -15,7 +15,7 @@ use Rattle.ledger.specs.Expirations.{departed, Expiration, remaining, pu
 use Rattle.ledger.specs.Kept.{ClocksKept}
 use Rattle.ledger.specs.PutOff.{waitingEdges, globalOne, leftOfOne, LeftWith, waitsAfter, AdvanceLeaves, WaitingEatsNothing}
 use Rattle.ledger.specs.declared.Event.{Event}
-use Rattle.ledger.specs.declared.Event.the-variants.{Leave, Block, Resume, Tick}
+use Rattle.ledger.specs.declared.Event.the-variants.{Leave, Block, Resume, Tick, View}
 use Rattle.ledger.proofs.Edges.{waiting-edges-hold}
 use Rattle.ledger.proofs.KeptTasks.{tasks-after, sixteen-after}
 
@@ -31,6 +31,7 @@ abbrev setterAfter : Event → ℕ → ℕ → ℕ
 setterAfter Leave task setter = cond (eqb setter task) departed setter
 setterAfter Block task setter = setter
 setterAfter Resume task setter = setter
+setterAfter View task setter = setter
 setterAfter Tick task setter = setter
 
 -- what an event with an advance leaves of one: it is put off where its setter waits, and then judged
@@ -43,6 +44,7 @@ unfolding lasting putOff deserted advances
 left-one Leave task clocks handle setter at e = rw e
 left-one Block task clocks handle setter at e = rw e
 left-one Resume task clocks handle setter at e = absurd (true≢false (sym e))
+left-one View task clocks handle setter at e = absurd (true≢false (sym e))
 left-one Tick task clocks handle setter at e = rw e
 
 -- who has left does not wait
@@ -64,6 +66,7 @@ waits-on Leave task clocks setter waits w d =
     (λ other. rw other w)
 waits-on Block task clocks setter waits w d = w
 waits-on Resume task clocks setter waits w d = w
+waits-on View task clocks setter waits w d = w
 waits-on Tick task clocks setter waits w d = w
 
 -- At an advance:

@@ -1,7 +1,7 @@
 -- Order 9 over every list of calls: what `Kept` says of shares, and that it spares a task below its reserve 9 and 26.
 use Prim.Native.Nat.{ℕ, _+_, _-_, _≤_, _<_}
 use native.Mathlib.Omega.{arith}
-use mathlib.Core.Bool.{Bool, true, false, true≢false, cond, not, and-true, _&&_, _||_}
+use mathlib.Core.Bool.{Bool, true, false, true≢false, not, _&&_, _||_}
 use mathlib.Core.List.{List, [], _∷_}
 use mathlib.Core.Logic.{_≢_}
 use mathlib.Core.Path.{_≡_, refl, sym, ap, subst, _∙_}
@@ -12,7 +12,7 @@ use Rattle.lists.specs.Sums.{sumBelow}
 use Rattle.lists.proofs.Cases.{by-test}
 use Rattle.lists.proofs.Sums.{sum-at}
 use Rattle.ledger.specs.Limits.{taskCount, standard, isSmall}
-use Rattle.ledger.specs.Objects.{Memory, freshMemory, noShare, memoryAfter, expirationsAfter}
+use Rattle.ledger.specs.Objects.{freshMemory, noShare, memoryAfter, expirationsAfter}
 use Rattle.ledger.specs.Shares.{quotaIn, quotaOf, blocksIn, usedIn, made, unmet, allUnmet, takenFrom, isFull, isShort, isAtLimit}
 use Rattle.ledger.specs.Refusals.{testsOf, verdict}
 use Rattle.ledger.specs.Ledger.{Ledger, Sent, fresh, verdictOn, reply, next, afterAll}
@@ -71,13 +71,13 @@ not-given n L call new a number clear q =
     (sym number ∙ ap (λ (b : Answer). isNumbered n (refusalIn b)) (sym q)
     ∙ (rw (refusal-told (verdictOn L call new) call (L .memory)) (spared n (L .memory) (L .expirations) (testsOf call new) clear)))
 
-never : (L : Ledger) → Kept L → (task : ℕ) (kind : Kind) (extension size : ℕ) (new : List ℕ)
+never : (L : Ledger) → Kept L → (task : ℕ) (kind : Kind) (extension size prefix : ℕ) (new : List ℕ)
     → 1 ≤ unmet (isSmall size) (L .memory .shares) (L .memory .objects) task
-    → (reply L (Make task kind extension size) new .answer ≢ Refused NoFreeBlock) × (reply L (Make task kind extension size) new .answer ≢ Refused AtLimit)
+    → (reply L (Make task kind extension size prefix) new .answer ≢ Refused NoFreeBlock) × (reply L (Make task kind extension size prefix) new .answer ≢ Refused AtLimit)
 unfolding testsOf
-never L k task kind extension size new h = (
-  not-given 9 L (Make task kind extension size) new (Refused NoFreeBlock) refl (rw (not-full L k task (isSmall size) h)),
-  not-given 26 L (Make task kind extension size) new (Refused AtLimit) refl (rw (not-at-limit L k task (isSmall size) h)),
+never L k task kind extension size prefix new h = (
+  not-given 9 L (Make task kind extension size prefix) new (Refused NoFreeBlock) refl (rw (not-full L k task (isSmall size) h)),
+  not-given 26 L (Make task kind extension size prefix) new (Refused AtLimit) refl (rw (not-at-limit L k task (isSmall size) h)),
 )
 
 -- 9 and 25 by the free blocks: so many blocks, so many in use, all that is unmet, and what of it is the task's own
@@ -123,7 +123,7 @@ reserves =
       room = room;
       below = λ limits ss store task l. kept-all limits ss .shares .below store task l;
       ordered = λ limits ss store task. kept-all limits ss .shares .ordered store task;
-      absent = λ limits ss task a. kept-all limits ss .shares .absent task a;
+      inactive = λ limits ss task a. kept-all limits ss .shares .inactive task a;
       never = λ limits ss. never (afterAll (fresh limits) ss) (kept-all limits ss);
       spoken = λ limits ss store. sym (by-larger store (afterAll (fresh limits) ss .memory .shares) (afterAll (fresh limits) ss .memory .objects) (kept-all limits ss .shares .known));
       nine = λ limits ss store task l.

@@ -17,7 +17,7 @@ use Rattle.ledger.specs.Awaited.{globalOf}
 use Rattle.ledger.specs.Kept.{Kept}
 use Rattle.ledger.specs.Outlives.{Move, neither, joins, happens, releases, moveIn, isTickOf, isStart, countOf, isRound}
 use Rattle.ledger.specs.declared.Event.{Event}
-use Rattle.ledger.specs.declared.Event.the-variants.{Leave, Block, Resume, Tick}
+use Rattle.ledger.specs.declared.Event.the-variants.{Leave, Block, Resume, Tick, View}
 use Rattle.ledger.proofs.Awaited.{awaited}
 use Rattle.ledger.proofs.Following.{clocksBy, clocks-moved}
 use Rattle.ledger.proofs.Outlives.{isDone}
@@ -29,12 +29,14 @@ unfolding moved
 moved-done Leave task t e = refl
 moved-done Block task t e = refl
 moved-done Resume task t e = absurd (true≢false e)
+moved-done View task t e = refl
 moved-done Tick task t e = or-true (not (isRunning (t .state)))
 
 ticks-self : (who : ℕ) (event : Event) (task : ℕ) → isTickOf who (happens event task) ≡ true → eqb who task ≡ true
 ticks-self who Leave task e = absurd (false≢true e)
 ticks-self who Block task e = absurd (false≢true e)
 ticks-self who Resume task e = absurd (false≢true e)
+ticks-self who View task e = absurd (false≢true e)
 ticks-self who Tick task e = e
 
 or-false-right : (b : Bool) → (b || false) ≡ true → b ≡ true

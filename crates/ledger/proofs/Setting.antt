@@ -1,13 +1,13 @@
 -- An expiration that is set now: its setter is there and the clocks are as they were; and while it is followed to stand, its object stands.
 use Prim.Native.Nat.{ℕ}
-use mathlib.Core.Bool.{Bool, true, false, or-true}
+use mathlib.Core.Bool.{Bool, true, or-true}
 use mathlib.Core.List.{List, [], _∷_, _++_}
 use mathlib.Core.Option.{Option, none, some}
 use mathlib.Core.Path.{_≡_, refl}
 use Rattle.lists.specs.Tests.{any, All}
 use Rattle.lists.proofs.Cases.{or-right}
 use Rattle.lists.proofs.Counts.{any-append}
-use Rattle.ledger.specs.Tasks.{Clocks, taskAt, isAbsent}
+use Rattle.ledger.specs.Tasks.{Clocks, taskAt, isActive}
 use Rattle.ledger.specs.Expirations.{DueTime, Expiration, isOf, dueAfter, released, setOnEach}
 use Rattle.ledger.specs.Objects.{Memory, stands, expirationsAfter, handlesOf}
 use Rattle.ledger.specs.Refusals.{testsOf}
@@ -22,13 +22,14 @@ use Rattle.ledger.specs.declared.Refusal.{Refusal}
 use Rattle.ledger.specs.declared.Request.{Request}
 use Rattle.ledger.specs.declared.Request.the-variants.{Use, Report, Remaining}
 use Rattle.ledger.proofs.Passed.{Passed, passed}
+use Rattle.ledger.proofs.KeptTasks.{active}
 use Rattle.ledger.proofs.Kept.{owned-by, kept-request, kept-after, kept-all}
 use Rattle.ledger.proofs.Following.{clocks-moved, lasting-none, following}
 
--- what an expiration that is set now tells: its setter is there, and its call moves no clock
+-- what an expiration that is set now tells: its setter is active, and its call moves no clock
 abbrev IsNew : Clocks → Move → Expiration → Type 0
 IsNew clocks v x =
-    (setter extension : ℕ) → x .due ≡ dueAfter clocks setter Global extension → (isAbsent (taskAt clocks setter .state) ≡ false) × (v ≡ neither)
+    (setter extension : ℕ) → x .due ≡ dueAfter clocks setter Global extension → (isActive (taskAt clocks setter .state) ≡ true) × (v ≡ neither)
 
 same-setter : (clocks : Clocks) (task : ℕ) (kind : Kind) (extension setter e : ℕ) → dueAfter clocks task kind extension ≡ dueAfter clocks setter Global e
     → task ≡ setter
@@ -47,15 +48,15 @@ all-new : (m : Memory) (xs : List Expiration) (call : Call) (new : List ℕ) →
 unfolding expirationsAfter testsOf moveOf released
 all-new m xs (Join task share) new c = tt
 all-new m xs (Schedule event task) new c = rw (lasting-none event task _ _) tt
-all-new m xs (Make task kind extension size) new (exists, (there, c)) =
-    (λ setter e d. (rw (same-setter (m .clocks) task kind extension setter e d) at there, refl), tt)
-all-new m xs (Refresh task kind extension handle) new (exists, (there, c)) =
-    (λ setter e d. (rw (same-setter (m .clocks) task kind extension setter e d) at there, refl), tt)
+all-new m xs (Make task kind extension size prefix) new (exists, (there, (waits, (acts, c)))) =
+    (λ setter e d. (rw (← same-setter (m .clocks) task kind extension setter e d) (active (taskAt (m .clocks) task .state) there acts), refl), tt)
+all-new m xs (Refresh task kind extension handle) new (exists, (there, (waits, (acts, c)))) =
+    (λ setter e d. (rw (← same-setter (m .clocks) task kind extension setter e d) (active (taskAt (m .clocks) task .state) there acts), refl), tt)
 all-new m xs (Read task handle) new c = tt
 all-new m xs (Write task handle offset) new c = tt
-all-new m xs (Batch task kind extension) new (exists, (there, c)) =
+all-new m xs (Batch task kind extension) new (exists, (there, (waits, (acts, c)))) =
     set-each _ (dueAfter (m .clocks) task kind extension)
-    (λ h setter e d. (rw (same-setter (m .clocks) task kind extension setter e d) at there, refl)) (handlesOf new) [] tt
+    (λ h setter e d. (rw (← same-setter (m .clocks) task kind extension setter e d) (active (taskAt (m .clocks) task .state) there acts), refl)) (handlesOf new) [] tt
 all-new m xs (Release task handle) new c = tt
 
 new-in : (L : Ledger) (request : Request) (new : List ℕ) → All (IsNew (L .memory .clocks) (moveIn L request new)) (setIn L request new)
@@ -73,8 +74,8 @@ all-middle : (P : Expiration → Type 0) (front : List Expiration) (x : Expirati
 all-middle P [] x back (h, hs) = h
 all-middle P (y ∷ ys) x back (h, hs) = all-middle P ys x back hs
 
--- when it is set: its setter is there, and the clocks are as they were
-pub set-now : (d : Setting) → (isAbsent (taskAt (whenSet d .memory .clocks) (d .setter) .state) ≡ false)
+-- when it is set: its setter is active, and the clocks are as they were
+pub set-now : (d : Setting) → (isActive (taskAt (whenSet d .memory .clocks) (d .setter) .state) ≡ true)
     × (d .expiration .due ≡ dueAfter (whenSet d .memory .clocks) (d .setter) Global (d .extension))
 set-now d =
     let L = afterAll (fresh (d .limits)) (d .earlier) in

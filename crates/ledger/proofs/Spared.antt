@@ -21,7 +21,7 @@ use Rattle.ledger.specs.declared.Answer.{Answer}
 use Rattle.ledger.specs.declared.Answer.the-variants.{Refused, Lasts}
 use Rattle.ledger.specs.declared.Call.{Call}
 use Rattle.ledger.specs.declared.Call.the-variants.{Join, Schedule, Make, Refresh, Read, Write, Batch, Release}
-use Rattle.ledger.specs.declared.Event.the-variants.{Leave, Block, Resume, Tick}
+use Rattle.ledger.specs.declared.Event.the-variants.{Leave, Block, Resume, Tick, View}
 use Rattle.ledger.specs.declared.Refusal.{Refusal}
 use Rattle.ledger.specs.declared.Refusal.the-variants.{SumDiffers}
 use Rattle.ledger.specs.declared.Request.{Request}
@@ -78,8 +78,9 @@ intact-spared m xs i (Join task share) new = refl
 intact-spared m xs i (Schedule Leave task) new = refl
 intact-spared m xs i (Schedule Block task) new = refl
 intact-spared m xs i (Schedule Resume task) new = refl
+intact-spared m xs i (Schedule View task) new = refl
 intact-spared m xs i (Schedule Tick task) new = refl
-intact-spared m xs i (Make task kind extension size) new = refl
+intact-spared m xs i (Make task kind extension size prefix) new = refl
 intact-spared m xs i (Refresh task kind extension handle) new = refl
 intact-spared m xs i (Read task handle) new = rw (intact-at handle (m .objects) i)
 intact-spared m xs i (Write task handle offset) new = rw (intact-at handle (m .objects) i)

@@ -18,7 +18,7 @@ use Rattle.ledger.specs.Ledger.{Ledger}
 use Rattle.ledger.specs.declared.Call.{Call}
 use Rattle.ledger.specs.declared.Call.the-variants.{Join, Schedule, Make, Refresh, Read, Write, Batch, Release}
 use Rattle.ledger.specs.declared.Event.{Event}
-use Rattle.ledger.specs.declared.Event.the-variants.{Leave, Block, Resume, Tick}
+use Rattle.ledger.specs.declared.Event.the-variants.{Leave, Block, Resume, Tick, View}
 
 -- an object that stands is the same object among the standing ones
 pub at-standing : (xs : List Expiration) (handle : ℕ) (os : List Object) → stands xs handle ≡ true
@@ -47,6 +47,7 @@ lasting-stands Leave task advanced clocks xs handle s =
     any-filter (isOf handle) _ xs (rw (due-stands (deserted task) others handle) at (live-stands advanced clocks (eachDue (deserted task) others) handle s))
 lasting-stands Block task advanced clocks xs handle s = live-stands advanced clocks xs handle s
 lasting-stands Resume task advanced clocks xs handle s = s
+lasting-stands View task advanced clocks xs handle s = s
 lasting-stands Tick task advanced clocks xs handle s = live-stands advanced clocks xs handle s
 
 -- nor do refresh and batch set one where none stands
@@ -67,7 +68,7 @@ released-stands gone xs handle s = any-filter (isOf handle) _ xs s
 abbrev pub setsOn : Call → List ℕ → List ℕ
 setsOn (Join task share) new = []
 setsOn (Schedule event task) new = []
-setsOn (Make task kind extension size) new = []
+setsOn (Make task kind extension size prefix) new = []
 setsOn (Refresh task kind extension handle) new = handle ∷ []
 setsOn (Read task handle) new = []
 setsOn (Write task handle offset) new = []
@@ -80,7 +81,7 @@ pub stood : (m : Memory) (xs : List Expiration) (call : Call) (new : List ℕ) �
 unfolding expirationsAfter setOnEach
 stood m xs (Join task share) new e handle g s = s
 stood m xs (Schedule event task) new e handle g s = lasting-stands event task _ _ xs handle s
-stood m xs (Make task kind extension size) new e handle g s =
+stood m xs (Make task kind extension size prefix) new e handle g s =
     or-second (eqb (m .given + 1) handle) (λ a. absurd (omega (arith, g, eqb-true (m .given + 1) handle a))) s
 stood m xs (Refresh task kind extension used) new e handle g s = each-stands (dueAfter (m .clocks) task kind extension) (used ∷ []) xs e handle s
 stood m xs (Read task used) new e handle g s = s

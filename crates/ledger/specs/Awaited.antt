@@ -40,7 +40,7 @@ isAccepted (some r) = false
 unfoldable pub isLastAwaited : Call → Clocks → Bool
 isLastAwaited (Join task share) clocks = false
 isLastAwaited (Schedule event task) clocks = isTested event && isNobodyAwaited (tasksAfter event task clocks)
-isLastAwaited (Make task kind extension size) clocks = false
+isLastAwaited (Make task kind extension size prefix) clocks = false
 isLastAwaited (Refresh task kind extension handle) clocks = false
 isLastAwaited (Read task handle) clocks = false
 isLastAwaited (Write task handle offset) clocks = false

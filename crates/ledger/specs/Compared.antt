@@ -38,7 +38,7 @@ shown clocks x = record { handle = x .handle; left = leftOf clocks (x .due) }
 
 -- L7: bytes only where the store is whole; isWhole says of a size whether its store is as long as the blocks need
 abbrev pub shownObject : (ℕ → Bool) → Object → Object
-shownObject isWhole o = record { handle = o .handle; size = o .size; bytes = cond (isWhole (o .size)) (o .bytes) []; sum = o .sum; maker = o .maker }
+shownObject isWhole o = record { handle = o .handle; size = o .size; bytes = cond (isWhole (o .size)) (o .bytes) []; sum = o .sum; maker = o .maker; prefix = o .prefix }
 
 pub record View : Type 0 where
   pub limits : Limits

@@ -9,7 +9,7 @@ use Rattle.ledger.specs.Tasks.{Clocks, taskAt, isWaiting}
 use Rattle.ledger.specs.declared.Kind.{Kind}
 use Rattle.ledger.specs.declared.Kind.the-variants.{Local, Global, Pinned}
 use Rattle.ledger.specs.declared.Event.{Event}
-use Rattle.ledger.specs.declared.Event.the-variants.{Leave, Block, Resume, Tick}
+use Rattle.ledger.specs.declared.Event.the-variants.{Leave, Block, Resume, Tick, View}
 
 -- E2, T6, E19: when an expiration is due, by the clock of the task that set it or by the global time; either keeps its setter
 pub data DueTime : Type 0 where
@@ -78,6 +78,7 @@ stillLive advanced clocks xs = filter (isLive clocks) (eachDue (putOff advanced 
 unfoldable pub lasting : Event → ℕ → Bool → Clocks → List Expiration → List Expiration
 lasting Block task advanced clocks xs = stillLive advanced clocks xs
 lasting Resume task advanced clocks xs = xs
+lasting View task advanced clocks xs = xs
 lasting Leave task advanced clocks xs =
     stillLive advanced clocks (eachDue (deserted task) (filter (λ (x : Expiration). not (isSetBy task (x .due))) xs))
 lasting Tick task advanced clocks xs = stillLive advanced clocks xs

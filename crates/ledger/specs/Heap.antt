@@ -31,7 +31,7 @@ heapReply m call new = replyBy (heapVerdictOn m call new) (replyTo call m)
 unfoldable pub heapNext : Memory → Call → List ℕ → Memory
 heapNext m call new = afterBy (heapVerdictOn m call new) (memoryAfter call new m) m
 
--- one of the eleven calls on its way
+-- one of the twelve calls on its way
 pub record Used : Type 0 where
   pub call : Call
   pub bytes : List ℕ
@@ -54,7 +54,7 @@ bookNext m book call new = afterBy (heapVerdictOn m call new) (expirationsAfter 
 unfoldable pub isInTimeAndBounds : Memory → List Expiration → Call → List ℕ → Bool
 isInTimeAndBounds m book (Join task share) new = not (isShortOf (m .limits) (m .shares) (standing book (m .objects)) task share)
 isInTimeAndBounds m book (Schedule event task) new = true
-isInTimeAndBounds m book (Make task kind extension size) new =
+isInTimeAndBounds m book (Make task kind extension size prefix) new =
     let os = standing book (m .objects) in
     not (isAtLimit (isSmall size) (m .shares) os task) && (not (isFull (isSmall size) (m .shares) os (m .limits) task) && ltb (length book) (m .limits .expirations))
 isInTimeAndBounds m book (Refresh task kind extension handle) new =
@@ -82,7 +82,8 @@ allInTimeAndBounds m book (u ∷ us) =
 abbrev pub sent : Used → Sent
 sent u = record { request = Use (u .call); bytes = u .bytes }
 
--- Demand 3: whatever the figures, for every list of the eleven calls, ledger and heap answer alike exactly when all use was in time and in bounds.
+-- Demand 3: whatever the figures, for every list of the twelve calls, ledger and heap answer alike exactly when all use was in time and in
+-- bounds.
 abbrev pub Demand3 : Type 0
 Demand3 =
     (limits : Limits) (us : List Used)

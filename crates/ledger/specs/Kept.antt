@@ -7,7 +7,7 @@ use lib.Dec.{eqb}
 use lib.ListN.{length, getD}
 use Rattle.lists.specs.Tests.{any, count, All}
 use Rattle.ledger.specs.Limits.{taskCount, largeSize, lastHandle, blockSize}
-use Rattle.ledger.specs.Tasks.{Task, Clocks, taskAt, isAbsent, isRunning, allTicked}
+use Rattle.ledger.specs.Tasks.{Task, Clocks, taskAt, isAbsent, isRunning, isActive, allTicked}
 use Rattle.ledger.specs.Expirations.{DueTime, byLocal, byGlobal, pinned, departed, Expiration, remaining, isLive, isOf, isPinOf}
 use Rattle.ledger.specs.Objects.{Object, isIntact, stands, noShare}
 use Rattle.ledger.specs.Shares.{quotaOf, blocksIn, usedIn, made, allUnmet}
@@ -32,6 +32,8 @@ pub record ObjectKept (given : ℕ) (o : Object) : Type 0 where
   pub numbered : (1 ≤ o .handle) × (o .handle ≤ given)
   -- W3, O33: a length that goes to a store, and as many bytes as a block of it has
   pub sized : (1 ≤ o .size) × (o .size ≤ largeSize)
+  -- W25: a prefix that is not longer than the object
+  pub prefixed : o .prefix ≤ o .size
   pub filled : length (o .bytes) ≡ blockSize (o .size)
   -- O34: which add up to the sum
   pub intact : isIntact o ≡ true
@@ -82,8 +84,8 @@ PinnedOnceKept xs = (handle : ℕ) → count (isPinOf handle) xs ≤ 1
 -- Q1: the sixteen shares
 pub record SharesKept (limits : Limits) (clocks : Clocks) (shares : List Share) (os : List Object) : Type 0 where
   pub sixteen : length shares ≡ taskCount
-  -- W20: an absent task has nothing
-  pub absent : (task : ℕ) → isAbsent (taskAt clocks task .state) ≡ true → getD shares task noShare ≡ noShare
+  -- W20: who is absent or views has nothing
+  pub inactive : (task : ℕ) → isActive (taskAt clocks task .state) ≡ false → getD shares task noShare ≡ noShare
   -- W21: no reserve is above its limit
   pub ordered : (store : Bool) (task : ℕ) → quotaOf store shares os task .reserve ≤ quotaOf store shares os task .limit
   -- W22: the maker of an object is one of the tasks, or departed

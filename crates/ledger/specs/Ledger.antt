@@ -54,7 +54,8 @@ next L call new =
     (settled (memoryAfter call new (L .memory)) (expirationsAfter call new (L .memory) (L .expirations)))
     L
 
--- all thirteen calls: report answers its figures (O24), and remaining life asks that the object stands (R46); neither changes anything (O25)
+-- all fourteen calls: report answers its figures (O24), and remaining life asks that the object stands (R46); neither changes anything
+-- (O25)
 abbrev pub replyToRequest : Ledger → Request → List ℕ → Reply
 replyToRequest L (Use call) new = reply L call new
 replyToRequest L Report new = plain (Counted (usage (L .memory) (L .expirations)))

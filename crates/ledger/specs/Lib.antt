@@ -22,3 +22,5 @@ pub mod Pinned
 pub mod Noticed
 pub mod NoticedRows
 pub mod Reserves
+pub mod Veil
+pub mod Views

@@ -11,7 +11,8 @@ use lib.ListN.{length, getD}
 use Rattle.lists.specs.Blocks.{overwritten}
 use Rattle.lists.specs.Tests.{any, All}
 use Rattle.ledger.specs.Objects.{Object, Reply, freshMemory, plain, objectAt, isIntact, stands}
-use Rattle.ledger.specs.Ledger.{Ledger, Sent, fresh, replyBy, standingVerdictOn, replyToRequest, afterSent, replies, afterAll}
+use Rattle.ledger.specs.Refusals.{Test, standingTests, writingTests, verdict}
+use Rattle.ledger.specs.Ledger.{Ledger, Sent, fresh, replyBy, replyToRequest, afterSent, replies, afterAll}
 use Rattle.ledger.specs.Heap.{Used, heapReplies}
 use Rattle.ledger.specs.Numbers.{isRefusal}
 use Rattle.ledger.specs.declared.Answer.{Answer}
@@ -31,6 +32,7 @@ disturbed handle at value o =
       bytes = cond (eqb (o .handle) handle) (overwritten at (value ∷ []) (o .bytes)) (o .bytes);
       sum = o .sum;
       maker = o .maker;
+      prefix = o .prefix;
     }
 
 abbrev pub disturbedIn : ℕ → ℕ → ℕ → Ledger → Ledger
@@ -58,27 +60,27 @@ pub record Change : Type 0 where
 abbrev pub changed : Change → Ledger
 changed c = disturbedIn (c .handle) (c .at) (c .value) (c .before)
 
--- N3: a use of an object is a read or a write of it: the task that uses it by this request, if any
-abbrev pub userOf : ℕ → Request → Option ℕ
-userOf handle (Use (Join task share)) = none
-userOf handle (Use (Schedule event task)) = none
-userOf handle (Use (Make task kind extension size)) = none
-userOf handle (Use (Refresh task kind extension used)) = none
-userOf handle (Use (Read task used)) = cond (eqb used handle) (some task) none
-userOf handle (Use (Write task used offset)) = cond (eqb used handle) (some task) none
-userOf handle (Use (Batch task kind extension)) = none
-userOf handle (Use (Release task used)) = none
-userOf handle Report = none
-userOf handle (Remaining task used) = none
+-- N3: a use of an object is a read or a write of it: the tests of its task and of the object that come before R23, where the request is one
+abbrev pub earlierTests : ℕ → Request → Option (List Test)
+earlierTests handle (Use (Join task share)) = none
+earlierTests handle (Use (Schedule event task)) = none
+earlierTests handle (Use (Make task kind extension size prefix)) = none
+earlierTests handle (Use (Refresh task kind extension used)) = none
+earlierTests handle (Use (Read task used)) = cond (eqb used handle) (some (standingTests task handle)) none
+earlierTests handle (Use (Write task used offset)) = cond (eqb used handle) (some (writingTests task handle)) none
+earlierTests handle (Use (Batch task kind extension)) = none
+earlierTests handle (Use (Release task used)) = none
+earlierTests handle Report = none
+earlierTests handle (Remaining task used) = none
 
--- N4: what a call is answered once the object with this handle was changed, by the ledger without the change: a use of it is refused, by 23 where no earlier test of
--- its task and of the object refuses it; any other call is answered as that ledger does
-unfoldable pub noticedBy : Option ℕ → ℕ → Ledger → Sent → Reply
-noticedBy none handle L s = replyToRequest L (s .request) (s .bytes)
-noticedBy (some task) handle L s = replyBy (standingVerdictOn L task handle) (plain (Refused SumDiffers))
+-- N4: what a call is answered once the object with this handle was changed, by the ledger without the change: a use of it is refused, by 23
+-- where no earlier test refuses it; any other call is answered as that ledger does
+unfoldable pub noticedBy : Option (List Test) → Ledger → Sent → Reply
+noticedBy none L s = replyToRequest L (s .request) (s .bytes)
+noticedBy (some tests) L s = replyBy (verdict (L .memory) (L .expirations) tests) (plain (Refused SumDiffers))
 
 abbrev pub noticed : ℕ → Ledger → Sent → Reply
-noticed handle L s = noticedBy (userOf handle (s .request)) handle L s
+noticed handle L s = noticedBy (earlierTests handle (s .request)) L s
 
 -- and a list of calls, the ledger without the change going on beside
 unfoldable pub noticedIn : ℕ → Ledger → List Sent → List Reply
@@ -89,10 +91,10 @@ pub record Notices : Type 0 where
   -- N5: after such a change every list of calls is answered so;
   pub every : (c : Change) (ss : List Sent) → replies (changed c) ss ≡ noticedIn (c .handle) (c .before) ss
   -- after whatever calls, each read and each write of the object is refused,
-  pub refused : (c : Change) (ss : List Sent) (s : Sent) (task : ℕ) → userOf (c .handle) (s .request) ≡ some task
+  pub refused : (c : Change) (ss : List Sent) (s : Sent) (tests : List Test) → earlierTests (c .handle) (s .request) ≡ some tests
       → isRefusal (replyToRequest (afterAll (changed c) ss) (s .request) (s .bytes) .answer) ≡ true
   -- and every other call is answered as the ledger without the change says.
-  pub others : (c : Change) (ss : List Sent) (s : Sent) → userOf (c .handle) (s .request) ≡ none
+  pub others : (c : Change) (ss : List Sent) (s : Sent) → earlierTests (c .handle) (s .request) ≡ none
       → replyToRequest (afterAll (changed c) ss) (s .request) (s .bytes) ≡ replyToRequest (afterAll (c .before) ss) (s .request) (s .bytes)
   -- N6: with no change from outside no call is ever answered 23, and the heap never gives it
   pub never : (limits : Limits) (ss : List Sent) → All (λ (y : Reply). y .answer ≢ Refused SumDiffers) (replies (fresh limits) ss)

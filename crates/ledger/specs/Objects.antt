@@ -8,8 +8,9 @@ use Rattle.lists.specs.Blocks.{overwritten}
 use Rattle.lists.specs.Sums.{total}
 use Rattle.lists.specs.Tests.{any, filter, count}
 use Rattle.ledger.specs.Limits.{taskCount, isSmall, blockSize}
-use Rattle.ledger.specs.Tasks.{Clocks, freshClocks, isTested, advances, clocksAfter, entered, joined}
+use Rattle.ledger.specs.Tasks.{Clocks, taskAt, freshClocks, isViewing, isTested, advances, clocksAfter, entered, joined}
 use Rattle.ledger.specs.Expirations.{departed, Expiration, isOf, dueAfter, lasting, released, setOnEach}
+use Rattle.ledger.specs.declared.State.{State}
 use Rattle.ledger.specs.declared.Kind.{Kind}
 use Rattle.ledger.specs.declared.Kind.the-variants.{Local, Global, Pinned}
 use Rattle.ledger.specs.declared.Usage.{Usage}
@@ -17,19 +18,20 @@ use Rattle.ledger.specs.declared.Answer.{Answer}
 use Rattle.ledger.specs.declared.Answer.the-variants.{Done, Advanced, Handle, Bytes}
 use Rattle.ledger.specs.declared.Call.{Call}
 use Rattle.ledger.specs.declared.Event.{Event}
-use Rattle.ledger.specs.declared.Event.the-variants.{Leave, Block, Resume, Tick}
+use Rattle.ledger.specs.declared.Event.the-variants.{Leave, Block, Resume, Tick, View}
 use Rattle.ledger.specs.declared.Call.the-variants.{Join, Schedule, Make, Refresh, Read, Write, Batch, Release}
 use Rattle.ledger.specs.declared.Limits.{Limits}
 use Rattle.ledger.specs.declared.Share.{Share}
 
 -- O1: an object; its handle is 01's number. O33: `bytes` are those of its whole block, and `sum` is what they are to add up to. Q3: `maker` is the task that made
--- it, or departed once that task has left
+-- it, or departed once that task has left. V4: `prefix` (02: head length) is how many of its bytes a viewer reads
 pub record Object : Type 0 where
   pub handle : ℕ
   pub size : ℕ
   pub bytes : List ℕ
   pub sum : ℕ
   pub maker : ℕ
+  pub prefix : ℕ
 
 -- what the ledger and the unbounded heap both keep. C2: `limits` are the figures of the pool, which no call changes. Q1: `shares` are the reserves and limits of the tasks in their order. E23: `pinned` has the
 -- handles of the objects whose pinned expiration is left
@@ -41,7 +43,7 @@ pub record Memory : Type 0 where
   pub shares : List Share
   pub pinned : List ℕ
 
--- Q2: who is absent has nothing
+-- Q2: who is absent or views has nothing
 abbrev pub noShare : Share
 noShare = record { small = record { reserve = 0; limit = 0 }; large = record { reserve = 0; limit = 0 } }
 
@@ -58,12 +60,17 @@ abbrev pub plain : Answer → Reply
 plain answer = record { answer = answer; bytes = [] }
 
 -- O12, O33: a new object has a block of zeros
-abbrev pub zeroed : ℕ → ℕ → ℕ → Object
-zeroed maker handle size = record { handle = handle; size = size; bytes = replicate (blockSize size) 0; sum = 0; maker = maker }
+abbrev pub zeroed : ℕ → ℕ → ℕ → ℕ → Object
+zeroed maker handle size prefix =
+    record { handle = handle; size = size; bytes = replicate (blockSize size) 0; sum = 0; maker = maker; prefix = prefix }
 
 -- O18: the object's own bytes, the first of its block
 abbrev pub ownBytes : Object → List ℕ
 ownBytes o = take (o .size) (o .bytes)
+
+-- V5: what a task that reads it is given: a viewer the prefix, any other task all
+abbrev pub bytesFor : State → Object → List ℕ
+bytesFor state o = cond (isViewing state) (take (o .prefix) (o .bytes)) (ownBytes o)
 
 -- O34: the bytes add up to the sum
 abbrev pub isIntact : Object → Bool
@@ -71,7 +78,7 @@ isIntact o = eqb (total (o .bytes)) (o .sum)
 
 -- the object with this handle
 unfoldable pub objectAt : ℕ → List Object → Object
-objectAt handle [] = zeroed departed 0 0
+objectAt handle [] = zeroed departed 0 0 0
 objectAt handle (o ∷ os) = cond (eqb (o .handle) handle) o (objectAt handle os)
 
 -- O20, O35: new bytes from the offset on, in the object with this handle, and the sum of all that its block then has; all others stay
@@ -84,6 +91,7 @@ written handle offset new o =
       bytes = cond (eqb (o .handle) handle) bytes (o .bytes);
       sum = cond (eqb (o .handle) handle) (total bytes) (o .sum);
       maker = o .maker;
+      prefix = o .prefix;
     }
 
 -- Q3: what a task made is nobody's once it has left, for good
@@ -95,12 +103,14 @@ orphaned task o =
       bytes = o .bytes;
       sum = o .sum;
       maker = cond (eqb (o .maker) task) departed (o .maker);
+      prefix = o .prefix;
     }
 
 unfoldable pub makersAfter : Event → ℕ → List Object → List Object
 makersAfter Leave task os = map (orphaned task) os
 makersAfter Block task os = os
 makersAfter Resume task os = os
+makersAfter View task os = os
 makersAfter Tick task os = os
 
 -- Q2: a leaver has nothing any more; who waits keeps what it has
@@ -108,6 +118,7 @@ unfoldable pub sharesAfter : Event → ℕ → List Share → List Share
 sharesAfter Leave task shares = set shares task noShare
 sharesAfter Block task shares = shares
 sharesAfter Resume task shares = shares
+sharesAfter View task shares = shares
 sharesAfter Tick task shares = shares
 
 -- O31: the handles of a batch stand in its bytes, four to a handle, the high one first
@@ -132,13 +143,13 @@ smallOnes os = count (λ (o : Object). isSmall (o .size)) os
 abbrev pub largeOnes : List Object → ℕ
 largeOnes os = count (λ (o : Object). not (isSmall (o .size))) os
 
--- O26, O27: what each of the eleven calls answers when it is carried out
+-- O26, O27: what each of the twelve calls answers when it is carried out
 unfoldable pub replyTo : Call → Memory → Reply
 replyTo (Join task share) m = plain Done
 replyTo (Schedule event task) m = plain (cond (isTested event) (Advanced (advances event task (m .clocks))) Done)
-replyTo (Make task kind extension size) m = plain (Handle (m .given + 1))
+replyTo (Make task kind extension size prefix) m = plain (Handle (m .given + 1))
 replyTo (Refresh task kind extension handle) m = plain Done
-replyTo (Read task handle) m = record { answer = Bytes; bytes = ownBytes (objectAt handle (m .objects)) }
+replyTo (Read task handle) m = record { answer = Bytes; bytes = bytesFor (taskAt (m .clocks) task .state) (objectAt handle (m .objects)) }
 replyTo (Write task handle offset) m = plain Done
 replyTo (Batch task kind extension) m = plain Done
 replyTo (Release task handle) m = plain Done
@@ -173,12 +184,12 @@ memoryAfter (Schedule event task) new m =
       shares = sharesAfter event task (m .shares);
       pinned = m .pinned;
     }
-memoryAfter (Make task kind extension size) new m =
+memoryAfter (Make task kind extension size prefix) new m =
     record {
       limits = m .limits;
       clocks = m .clocks;
       given = m .given + 1;
-      objects = m .objects ++ (zeroed task (m .given + 1) size ∷ []);
+      objects = m .objects ++ (zeroed task (m .given + 1) size prefix ∷ []);
       shares = m .shares;
       pinned = pinnedBy kind (m .given + 1) (m .pinned);
     }
@@ -195,7 +206,7 @@ unfoldable pub expirationsAfter : Call → List ℕ → Memory → List Expirati
 expirationsAfter (Join task share) new m xs = xs
 expirationsAfter (Schedule event task) new m xs =
     lasting event task (advances event task (m .clocks)) (clocksAfter event task (m .clocks)) xs
-expirationsAfter (Make task kind extension size) new m xs =
+expirationsAfter (Make task kind extension size prefix) new m xs =
     record { handle = m .given + 1; due = dueAfter (m .clocks) task kind extension } ∷ xs
 expirationsAfter (Refresh task kind extension handle) new m xs =
     record { handle = handle; due = dueAfter (m .clocks) task kind extension } ∷ xs

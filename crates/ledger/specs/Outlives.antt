@@ -7,14 +7,14 @@ use lib.Dec.{eqb, ltb}
 use lib.ListN.{length}
 use Rattle.lists.specs.Tests.{any, all}
 use Rattle.lists.specs.Tables.{allFrom}
-use Rattle.ledger.specs.Tasks.{Task, Clocks, taskAt, absentTask, isRunning, isWaiting, isTested, advances, clocksAfter}
+use Rattle.ledger.specs.Tasks.{Task, Clocks, taskAt, absentTask, isRunning, isWaiting, advances, clocksAfter}
 use Rattle.ledger.specs.Expirations.{DueTime, byLocal, byGlobal, pinned, departed, Expiration, dueAfter, lasting, released}
 use Rattle.ledger.specs.Objects.{stands, expirationsAfter}
 use Rattle.ledger.specs.Ledger.{Ledger, Sent, fresh, afterBy, verdictOn, afterRequest, afterSent, afterAll}
 use Rattle.ledger.specs.Kept.{isOwned}
 use Rattle.ledger.specs.declared.Kind.the-variants.{Global}
 use Rattle.ledger.specs.declared.Event.{Event}
-use Rattle.ledger.specs.declared.Event.the-variants.{Leave, Block, Resume, Tick}
+use Rattle.ledger.specs.declared.Event.the-variants.{Leave, Block, Resume, Tick, View}
 use Rattle.ledger.specs.declared.Share.{Share}
 use Rattle.ledger.specs.declared.Call.{Call}
 use Rattle.ledger.specs.declared.Call.the-variants.{Join, Schedule, Make, Refresh, Read, Write, Batch, Release}
@@ -32,7 +32,7 @@ pub data Move : Type 0 where
 unfoldable pub moveOf : Call → Move
 moveOf (Join task share) = joins task share
 moveOf (Schedule event task) = happens event task
-moveOf (Make task kind extension size) = neither
+moveOf (Make task kind extension size prefix) = neither
 moveOf (Refresh task kind extension handle) = neither
 moveOf (Read task handle) = neither
 moveOf (Write task handle offset) = neither
@@ -74,13 +74,15 @@ pub record Following : Type 0 where
   -- From fresh on, who is departed is absent.
   pub gone : (limits : Limits) (ss : List Sent) → taskAt (afterAll (fresh limits) ss .memory .clocks) departed ≡ absentTask
 
--- U4: how many accepted events of a list are of some sort: the ticks of one task, its leaves, and the joins and resumes of all, which no advance test follows (T14)
+-- U4: how many accepted events of a list are of some sort: the ticks of one task, its leaves, and the joins and resumes of all; a view
+-- (02: 0E) is neither (V2)
 abbrev pub isTickOf : ℕ → Move → Bool
 isTickOf who neither = false
 isTickOf who (joins task share) = false
 isTickOf who (happens Leave task) = false
 isTickOf who (happens Block task) = false
 isTickOf who (happens Resume task) = false
+isTickOf who (happens View task) = false
 isTickOf who (happens Tick task) = eqb who task
 isTickOf who (releases handle) = false
 
@@ -90,13 +92,18 @@ isLeaveOf who (joins task share) = false
 isLeaveOf who (happens Leave task) = eqb who task
 isLeaveOf who (happens Block task) = false
 isLeaveOf who (happens Resume task) = false
+isLeaveOf who (happens View task) = false
 isLeaveOf who (happens Tick task) = false
 isLeaveOf who (releases handle) = false
 
 abbrev pub isStart : Move → Bool
 isStart neither = false
 isStart (joins task share) = true
-isStart (happens event task) = not (isTested event)
+isStart (happens Leave task) = false
+isStart (happens Block task) = false
+isStart (happens Resume task) = true
+isStart (happens Tick task) = false
+isStart (happens View task) = false
 isStart (releases handle) = false
 
 unfoldable pub countOf : (Move → Bool) → Ledger → List Sent → ℕ

@@ -10,7 +10,7 @@ use Rattle.ledger.specs.Limits.{standard}
 use Rattle.ledger.specs.Expirations.{Expiration}
 use Rattle.ledger.specs.Ledger.{Ledger, Sent, fresh, afterSent, afterAll}
 use Rattle.ledger.specs.Outlives.{setIn, followed, isTickOf, isLeaveOf, countOf, Setting, whenSet, isRound, neverWaits, Stretch, areRounds}
-use Rattle.ledger.specs.Rows.{join, leave, block, resume, tick, make, refresh, batch, release}
+use Rattle.ledger.specs.Rows.{join, view, leave, block, resume, tick, make, refresh, batch, release}
 use Rattle.ledger.specs.declared.Kind.the-variants.{Local, Global, Pinned}
 
 -- A part of the calls after the expiration was set: 2 for a round in which the setter never waits, 1 for one in which it does, 0 for no round.
@@ -57,9 +57,10 @@ trials =
     -- A release ends the pinned one of its object, and not this one.
     trial (join 0 ∷ make 0 Pinned 0 4 ∷ []) (refresh 0 1 Global 1) 1
     (round (tick 0 ∷ release 0 1 ∷ []) ∷ []) 1 1 ∷
-    -- The second claim: e 0 is gone after two rounds. A refused join, a refused resume and calls that are no events break no round, and the setter may wait between two.
+    -- The second claim: e 0 is gone after two rounds. A refused join, a refused resume, a view and calls that are no events break no round,
+    -- a viewer need not tick in one, and the setter may wait between two.
     trial (join 0 ∷ join 1 ∷ []) (make 0 Global 0 4) 1
-    (round (tick 0 ∷ join 0 ∷ tick 1 ∷ []) ∷ loose (block 0 ∷ resume 0 ∷ []) ∷ round (make 1 Local 0 4 ∷ tick 1 ∷ resume 1 ∷ tick 0 ∷ []) ∷ []) 2 0 ∷
+    (round (tick 0 ∷ join 0 ∷ view 2 ∷ tick 1 ∷ []) ∷ loose (block 0 ∷ resume 0 ∷ []) ∷ round (make 1 Local 0 4 ∷ tick 1 ∷ resume 1 ∷ tick 0 ∷ []) ∷ []) 2 0 ∷
     -- So are both expirations of a batch, and that of a refresh with e 1 after three.
     trial (join 0 ∷ make 0 Local 9 4 ∷ []) (batch 0 Global 0 (1 ∷ 1 ∷ [])) 2
     (round (tick 0 ∷ []) ∷ round (tick 0 ∷ []) ∷ []) 2 0 ∷

@@ -24,12 +24,13 @@ pub record PinnedMake : Type 0 where
   pub task : ℕ
   pub extension : ℕ
   pub size : ℕ
+  pub prefix : ℕ
   pub bytes : List ℕ
   pub object : ℕ
-  pub answered : reply (afterAll (fresh limits) earlier) (Make task Pinned extension size) bytes .answer ≡ Handle object
+  pub answered : reply (afterAll (fresh limits) earlier) (Make task Pinned extension size prefix) bytes .answer ≡ Handle object
 
 abbrev pub madeBy : PinnedMake → Sent
-madeBy p = send (Make (p .task) Pinned (p .extension) (p .size)) (p .bytes)
+madeBy p = send (Make (p .task) Pinned (p .extension) (p .size) (p .prefix)) (p .bytes)
 
 abbrev pub whenMade : PinnedMake → Ledger
 whenMade p = afterSent (afterAll (fresh (p .limits)) (p .earlier)) (madeBy p)

@@ -7,11 +7,11 @@ use lib.Dec.{eqb, leb, ltb}
 use lib.ListN.{length}
 use Rattle.lists.specs.Tests.{any}
 use Rattle.ledger.specs.Limits.{taskCount, largeSize, largestBatch, lastHandle, isSmall}
-use Rattle.ledger.specs.Tasks.{taskAt, isAbsent, isRunning, isWaiting}
+use Rattle.ledger.specs.Tasks.{taskAt, isAbsent, isWaiting, isViewing}
 use Rattle.ledger.specs.Expirations.{Expiration}
 use Rattle.ledger.specs.Objects.{Memory, objectAt, isIntact, stands, handlesOf}
 use Rattle.ledger.specs.Shares.{isFull, isShortOf, isAtLimit}
-use Rattle.ledger.specs.declared.Event.the-variants.{Leave, Block, Resume, Tick}
+use Rattle.ledger.specs.declared.Event.the-variants.{Leave, Block, Resume, Tick, View}
 use Rattle.ledger.specs.declared.Call.{Call}
 use Rattle.ledger.specs.declared.Quota.{Quota}
 use Rattle.ledger.specs.declared.Share.{Share}
@@ -21,7 +21,7 @@ use Rattle.ledger.specs.declared.Kind.the-variants.{Local, Global, Pinne
 use Rattle.ledger.specs.declared.Verdict.{Verdict}
 use Rattle.ledger.specs.declared.Verdict.the-variants.{Accepted, Refused}
 use Rattle.ledger.specs.declared.Refusal.{Refusal}
-use Rattle.ledger.specs.declared.Refusal.the-variants.{NoSuchTask, TaskPresent, TaskAbsent, TaskWaiting, TaskRunning, ExtensionTooLong, LengthOutOfRange, HandlesSpent, NoFreeBlock, NoFreeExpiration, HandleNotGiven, ObjectGone, OutsideObject, BatchOutOfRange, OnlyMakePins, NotPinned, SumDiffers, ReserveAboveLimit, ReserveNotFree, AtLimit}
+use Rattle.ledger.specs.declared.Refusal.the-variants.{NoSuchTask, TaskPresent, TaskAbsent, TaskWaiting, TaskRunning, ExtensionTooLong, LengthOutOfRange, HandlesSpent, NoFreeBlock, NoFreeExpiration, HandleNotGiven, ObjectGone, OutsideObject, BatchOutOfRange, OnlyMakePins, NotPinned, SumDiffers, ReserveAboveLimit, ReserveNotFree, AtLimit, OnlyViews, PrefixTooLong}
 use Rattle.ledger.specs.declared.Limits.{Limits}
 
 -- A test refuses a call where it holds. The unbounded heap makes those that look at the memory alone; the others are the pool's own.
@@ -45,9 +45,13 @@ taskAbsent task = shared TaskAbsent (λ (m : Memory). isAbsent (taskAt (m .clock
 abbrev pub taskWaiting : ℕ → Test
 taskWaiting task = shared TaskWaiting (λ (m : Memory). isWaiting (taskAt (m .clocks) task .state))
 
--- R5: the task runs already
+-- R5: the task does not wait: it runs, or views
 abbrev pub taskRunning : ℕ → Test
-taskRunning task = shared TaskRunning (λ (m : Memory). isRunning (taskAt (m .clocks) task .state))
+taskRunning task = shared TaskRunning (λ (m : Memory). not (isWaiting (taskAt (m .clocks) task .state)))
+
+-- R27: the task only views: it is a viewer, and the call is none that a viewer may make
+abbrev pub onlyViews : ℕ → Test
+onlyViews task = shared OnlyViews (λ (m : Memory). isViewing (taskAt (m .clocks) task .state))
 
 -- R6: the extension is too long; E22: a pinned expiration has none
 abbrev pub mostExtension : Limits → Kind → ℕ
@@ -61,6 +65,10 @@ extensionTooLong kind extension = shared ExtensionTooLong (λ (m : Memory). ltb 
 -- R7: no object has that length
 abbrev pub lengthOutOfRange : ℕ → Test
 lengthOutOfRange size = shared LengthOutOfRange (λ (m : Memory). eqb size 0 || ltb largeSize size)
+
+-- R28: the prefix (02: head) is longer than the object
+abbrev pub prefixTooLong : ℕ → ℕ → Test
+prefixTooLong size prefix = shared PrefixTooLong (λ (m : Memory). ltb size prefix)
 
 -- R8: no handle is left
 abbrev pub handlesSpent : Test
@@ -138,35 +146,42 @@ someGone handles = own ObjectGone (λ (m : Memory) (xs : List Expiration). any (
 abbrev pub noRoomFor : ℕ → Test
 noRoomFor count = own NoFreeExpiration (λ (m : Memory) (xs : List Expiration). ltb (m .limits .expirations) (length xs + count))
 
--- R46: the task runs and the object stands, which remaining life asks
+-- R46: the task runs or views, and the object stands: which remaining life asks
 abbrev pub standingTests : ℕ → ℕ → List Test
 standingTests task handle =
     noSuchTask task ∷ taskAbsent task ∷ taskWaiting task ∷ handleNotGiven handle ∷ objectGone handle ∷ []
 
--- R36 to R43, R47, R48: each call's tests in their order, written out as the papers have them; the list is the bytes of a write or a batch
+-- the same of a task that may write
+abbrev pub writingTests : ℕ → ℕ → List Test
+writingTests task handle =
+    noSuchTask task ∷ taskAbsent task ∷ taskWaiting task ∷ onlyViews task ∷ handleNotGiven handle ∷ objectGone handle ∷ []
+
+-- R36 to R43, R47 to R49: each call's tests in their order, written out as the papers have them; the list is the bytes of a write or a
+-- batch
 unfoldable pub testsOf : Call → List ℕ → List Test
 testsOf (Join task share) new = noSuchTask task ∷ taskPresent task ∷ reserveAboveLimit share ∷ reserveNotFree task share ∷ []
 testsOf (Schedule Leave task) new = noSuchTask task ∷ taskAbsent task ∷ []
-testsOf (Schedule Block task) new = noSuchTask task ∷ taskAbsent task ∷ taskWaiting task ∷ []
-testsOf (Schedule Tick task) new = noSuchTask task ∷ taskAbsent task ∷ taskWaiting task ∷ []
+testsOf (Schedule Block task) new = noSuchTask task ∷ taskAbsent task ∷ taskWaiting task ∷ onlyViews task ∷ []
+testsOf (Schedule Tick task) new = noSuchTask task ∷ taskAbsent task ∷ taskWaiting task ∷ onlyViews task ∷ []
 testsOf (Schedule Resume task) new = noSuchTask task ∷ taskAbsent task ∷ taskRunning task ∷ []
-testsOf (Make task kind extension size) new =
-    noSuchTask task ∷ taskAbsent task ∷ taskWaiting task ∷ extensionTooLong kind extension ∷ lengthOutOfRange size ∷ handlesSpent
-    ∷ atLimit task size ∷ noFreeBlock task size ∷ noFreeExpiration ∷ []
+testsOf (Schedule View task) new = noSuchTask task ∷ taskPresent task ∷ []
+testsOf (Make task kind extension size prefix) new =
+    noSuchTask task ∷ taskAbsent task ∷ taskWaiting task ∷ onlyViews task ∷ extensionTooLong kind extension ∷ lengthOutOfRange size
+    ∷ prefixTooLong size prefix ∷ handlesSpent ∷ atLimit task size ∷ noFreeBlock task size ∷ noFreeExpiration ∷ []
 testsOf (Refresh task kind extension handle) new =
-    noSuchTask task ∷ taskAbsent task ∷ taskWaiting task ∷ onlyMakePins kind ∷ extensionTooLong kind extension
+    noSuchTask task ∷ taskAbsent task ∷ taskWaiting task ∷ onlyViews task ∷ onlyMakePins kind ∷ extensionTooLong kind extension
     ∷ handleNotGiven handle ∷ objectGone handle ∷ noFreeExpiration ∷ []
 testsOf (Read task handle) new =
     noSuchTask task ∷ taskAbsent task ∷ taskWaiting task ∷ handleNotGiven handle ∷ objectGone handle ∷ sumDiffers handle ∷ []
 testsOf (Write task handle offset) new =
-    noSuchTask task ∷ taskAbsent task ∷ taskWaiting task ∷ handleNotGiven handle ∷ objectGone handle
+    noSuchTask task ∷ taskAbsent task ∷ taskWaiting task ∷ onlyViews task ∷ handleNotGiven handle ∷ objectGone handle
     ∷ sumDiffers handle ∷ outsideObject handle offset (length new) ∷ []
 testsOf (Batch task kind extension) new =
     let handles = handlesOf new in
-    noSuchTask task ∷ taskAbsent task ∷ taskWaiting task ∷ batchOutOfRange (length handles) ∷ onlyMakePins kind
+    noSuchTask task ∷ taskAbsent task ∷ taskWaiting task ∷ onlyViews task ∷ batchOutOfRange (length handles) ∷ onlyMakePins kind
     ∷ extensionTooLong kind extension ∷ someNotGiven handles ∷ someGone handles ∷ noRoomFor (length handles) ∷ []
 testsOf (Release task handle) new =
-    noSuchTask task ∷ taskAbsent task ∷ taskWaiting task ∷ handleNotGiven handle ∷ objectGone handle ∷ notPinned handle ∷ []
+    noSuchTask task ∷ taskAbsent task ∷ taskWaiting task ∷ onlyViews task ∷ handleNotGiven handle ∷ objectGone handle ∷ notPinned handle ∷ []
 
 -- R32: the pool's verdict, by the first test that holds
 unfoldable pub verdict : Memory → List Expiration → List Test → Option Refusal

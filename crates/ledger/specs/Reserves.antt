@@ -1,7 +1,7 @@
 -- The claim of Q (order 9 of document 02), over every list of calls: free blocks for all unmet reserves, nobody above a limit, and no make
 -- of a task below its reserve is answered 9 or 26; and seven rows.
 use Prim.Native.Nat.{ℕ, max, _+_, _-_, _≤_, _<_}
-use mathlib.Core.Bool.{Bool, true, _&&_, _||_}
+use mathlib.Core.Bool.{Bool, true, false, _&&_, _||_}
 use mathlib.Core.List.{List, [], _∷_}
 use mathlib.Core.Logic.{_≢_}
 use mathlib.Core.Path.{_≡_}
@@ -12,10 +12,10 @@ use Rattle.lists.specs.Tests.{All}
 use Rattle.ledger.specs.Limits.{standard, taskCount, isSmall}
 use Rattle.ledger.specs.Expirations.{departed}
 use Rattle.ledger.specs.Objects.{noShare}
-use Rattle.ledger.specs.Tasks.{isAbsent, taskAt}
+use Rattle.ledger.specs.Tasks.{isActive, taskAt}
 use Rattle.ledger.specs.Shares.{quotaOf, blocksIn, usedIn, made, unmet, allUnmet, isFull, isShort}
 use Rattle.ledger.specs.Ledger.{Sent, fresh, reply, afterAll}
-use Rattle.ledger.specs.Rows.{join, joinWith, shareOf, leave, block, tick, make, refresh, release, report, refused, done, standsStill, advanced, handle, figures, _⇒_, _⨾_, Row, lateStart, _runs_clockReads_, RowHolds}
+use Rattle.ledger.specs.Rows.{join, joinWith, shareOf, leave, block, tick, make, refresh, release, report, refused, done, standsStill, handle, figures, _⇒_, _⨾_, Row, lateStart, _runs_clockReads_, RowHolds}
 use Rattle.ledger.specs.declared.Answer.the-variants.{Refused}
 use Rattle.ledger.specs.declared.Call.the-variants.{Make}
 use Rattle.ledger.specs.declared.Kind.{Kind}
@@ -114,14 +114,15 @@ pub record Reserves : Type 0 where
   -- nor a reserve above its limit,
   pub ordered : (limits : Limits) (ss : List Sent) (store : Bool) (task : ℕ)
       → let m = afterAll (fresh limits) ss .memory in quotaOf store (m .shares) (m .objects) task .reserve ≤ quotaOf store (m .shares) (m .objects) task .limit
-  -- and who is absent has nothing.
-  pub absent : (limits : Limits) (ss : List Sent) (task : ℕ)
-      → let m = afterAll (fresh limits) ss .memory in isAbsent (taskAt (m .clocks) task .state) ≡ true → getD (m .shares) task noShare ≡ noShare
+  -- and who is absent or views has nothing.
+  pub inactive : (limits : Limits) (ss : List Sent) (task : ℕ)
+      → let m = afterAll (fresh limits) ss .memory in isActive (taskAt (m .clocks) task .state) ≡ false → getD (m .shares) task noShare ≡ noShare
   -- Q11: and no make of a task below its reserve, of the store to which the length goes, is answered 9 or 26.
-  pub never : (limits : Limits) (ss : List Sent) (task : ℕ) (kind : Kind) (extension size : ℕ) (new : List ℕ)
+  pub never : (limits : Limits) (ss : List Sent) (task : ℕ) (kind : Kind) (extension size prefix : ℕ) (new : List ℕ)
       → let L = afterAll (fresh limits) ss in
       1 ≤ unmet (isSmall size) (L .memory .shares) (L .memory .objects) task
-      → (reply L (Make task kind extension size) new .answer ≢ Refused NoFreeBlock) × (reply L (Make task kind extension size) new .answer ≢ Refused AtLimit)
+      → (reply L (Make task kind extension size prefix) new .answer ≢ Refused NoFreeBlock)
+      × (reply L (Make task kind extension size prefix) new .answer ≢ Refused AtLimit)
   -- What is in use or held back of a store is what departed ones made, and of each task the larger of its reserve and what it made.
   pub spoken : (limits : Limits) (ss : List Sent) (store : Bool)
       → let m = afterAll (fresh limits) ss .memory in

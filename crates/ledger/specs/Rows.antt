@@ -13,7 +13,7 @@ use Rattle.ledger.specs.Compared.{wrapped}
 use Rattle.ledger.specs.declared.State.the-variants.{Running}
 use Rattle.ledger.specs.declared.Kind.{Kind}
 use Rattle.ledger.specs.declared.Kind.the-variants.{Local}
-use Rattle.ledger.specs.declared.Event.the-variants.{Leave, Block, Resume, Tick}
+use Rattle.ledger.specs.declared.Event.the-variants.{Leave, Block, Resume, Tick, View}
 use Rattle.ledger.specs.declared.Share.{Share}
 use Rattle.ledger.specs.declared.Call.{Call}
 use Rattle.ledger.specs.declared.Call.the-variants.{Join, Schedule, Make, Refresh, Read, Write, Batch, Release}
@@ -49,8 +49,16 @@ resume task = send (Schedule Resume task) []
 abbrev pub tick : ℕ → Sent
 tick task = send (Schedule Tick task) []
 
+-- V1: 02's 0E
+abbrev pub view : ℕ → Sent
+view task = send (Schedule View task) []
+
+-- V4: the worked cases of 01 have the prefix 0
+abbrev pub makeWith : ℕ → Kind → ℕ → ℕ → ℕ → Sent
+makeWith task kind extension size prefix = send (Make task kind extension size prefix) []
+
 abbrev pub make : ℕ → Kind → ℕ → ℕ → Sent
-make task kind extension size = send (Make task kind extension size) []
+make task kind extension size = makeWith task kind extension size 0
 
 abbrev pub refresh : ℕ → ℕ → Kind → ℕ → Sent
 refresh task handle kind extension = send (Refresh task kind extension handle) []

@@ -6,9 +6,9 @@ use lib.ListN.{getD, set, replicate}
 use Rattle.lists.specs.Tests.{any, all}
 use Rattle.ledger.specs.Limits.{taskCount}
 use Rattle.ledger.specs.declared.State.{State}
-use Rattle.ledger.specs.declared.State.the-variants.{Absent, Running, Waiting}
+use Rattle.ledger.specs.declared.State.the-variants.{Absent, Running, Waiting, Viewing}
 use Rattle.ledger.specs.declared.Event.{Event}
-use Rattle.ledger.specs.declared.Event.the-variants.{Leave, Block, Resume, Tick}
+use Rattle.ledger.specs.declared.Event.the-variants.{Leave, Block, Resume, Tick, View}
 
 -- T3: a task entry. `ticked` is 01's mark, `clock` the local time (01: own clock), a whole number here (T7)
 pub record Task : Type 0 where
@@ -35,32 +35,52 @@ abbrev pub isAbsent : State → Bool
 isAbsent Absent = true
 isAbsent Running = false
 isAbsent Waiting = false
+isAbsent Viewing = false
 
+-- V2: a viewer is not counted among those that run: not in the advance test, nor in a round, nor where a task is to have ticked
 abbrev pub isRunning : State → Bool
 isRunning Absent = false
 isRunning Running = true
 isRunning Waiting = false
+isRunning Viewing = false
 
 abbrev pub isWaiting : State → Bool
 isWaiting Absent = false
 isWaiting Running = false
 isWaiting Waiting = true
+isWaiting Viewing = false
+
+-- V1: a viewer (02: a task that joined by 0E)
+abbrev pub isViewing : State → Bool
+isViewing Absent = false
+isViewing Running = false
+isViewing Waiting = false
+isViewing Viewing = true
+
+-- V3: who runs or waits; who is absent or views has no share
+abbrev pub isActive : State → Bool
+isActive Absent = false
+isActive Running = true
+isActive Waiting = true
+isActive Viewing = false
 
 -- T9: a task that joins
 abbrev pub joined : Task
 joined = record { state = Running; ticked = false; clock = 0 }
 
--- T10 to T13: what each of the four makes of its task
+-- T10 to T13, V1: what each of the five makes of its task
 unfoldable pub moved : Event → Task → Task
 moved Block task = record { state = Waiting; ticked = false; clock = task .clock }
 moved Resume task = record { state = Running; ticked = false; clock = task .clock }
 moved Leave task = absentTask
 moved Tick task = record { state = task .state; ticked = true; clock = task .clock + 1 }
+moved View task = record { state = Viewing; ticked = false; clock = 0 }
 
 -- T14: the events that the advance test follows
 abbrev pub isTested : Event → Bool
 isTested Block = true
 isTested Resume = false
+isTested View = false
 isTested Leave = true
 isTested Tick = true
 

@@ -1,7 +1,7 @@
 // What code and specifications share: document 01's figures, its calls, their answers, and the refusals with their numbers.
 ghost use mathlib.Core.Path.{_≡_};
 ghost use Rattle.ledger.specs.Limits.{isAllowed};
-ghost use Rattle.ledger.specs.Numbers.{numberOf, numberAt, answerNumber};
+ghost use Rattle.ledger.specs.Numbers.{numberOf, answerNumber};
 
 // C1: the four figures that a site chooses for the life of a pool: blocks of the small store and of the large one, expirations (01: dates), largest extension.
 #[repr(C)]
@@ -44,11 +44,12 @@ pub const LARGE_SIZE: u32 = 256;
 // R20: the most objects that one batch refreshes.
 pub const LARGEST_BATCH: usize = 32;
 
-// T2: the state of a task.
+// T2, V1: the state of a task. A viewer reads prefixes and changes nothing.
 pub enum State {
     Absent,
     Running,
     Waiting,
+    Viewing,
 }
 
 // E2, E22: the kind of an expiration (01: date); Local is 01's own, Global its common, Pinned 02's kept.
@@ -72,15 +73,17 @@ pub struct Share {
     pub large: Quota,
 }
 
-// The four calls that change a task's state or clock and name nothing but the task.
+// The five calls that change a task's state or clock and name nothing but the task. V1: View (02: 0E) joins as a viewer.
 pub enum Event {
     Leave,
     Block,
     Resume,
     Tick,
+    View,
 }
 
-// The eleven calls that are compared with the unbounded heap. The bytes of a write and the handles of a batch stand beside it.
+// The twelve calls that are compared with the unbounded heap. The bytes of a write and the handles of a batch stand beside it. V4: the
+// prefix of a make is 02's head length.
 pub enum Call {
     Join {
         task: u8,
@@ -95,6 +98,7 @@ pub enum Call {
         kind: Kind,
         extension: u8,
         length: u16,
+        prefix: u16,
     },
     Refresh {
         task: u8,
@@ -122,7 +126,7 @@ pub enum Call {
     },
 }
 
-// All thirteen calls.
+// All fourteen calls.
 pub enum Request {
     Use(Call),
     Report,
@@ -143,7 +147,7 @@ pub struct Life {
     pub global: u8,
 }
 
-// R1 to R26 and R29, in the order of their numbers: 16 to 19 are of a frame, 29 of a pool that is made, the others of a call.
+// R1 to R29, in the order of their numbers: 16 to 19 are of a frame, 29 of a pool that is made, the others of a call.
 pub enum Refusal {
     NoSuchTask,
     TaskPresent,
@@ -171,6 +175,8 @@ pub enum Refusal {
     ReserveAboveLimit,
     ReserveNotFree,
     AtLimit,
+    OnlyViews,
+    PrefixTooLong,
     LimitsOutOfRange,
 }
 
@@ -191,10 +197,9 @@ pub enum Answer {
     Lasts(Life),
 }
 
-// The place of a refusal in the list above, from 1 on, which is its number but for the last. Of numbers with a gap the compiler makes no sum: it keeps a branch for each, and a call that changes the
-// record then copies columns once more.
-fn place_of(refusal: Refusal) -> u8
-    ensures { λ r. ⌜ numberAt r ≡ numberOf refusal ⌝ }
+// R45: the number of a refusal, which is its place in the list above, from 1 on.
+pub fn number_of(refusal: Refusal) -> u8
+    ensures { λ r. ⌜ r ≡ numberOf refusal ⌝ }
 {
     match refusal {
         Refusal::NoSuchTask => 1,
@@ -223,16 +228,10 @@ fn place_of(refusal: Refusal) -> u8
         Refusal::ReserveAboveLimit => 24,
         Refusal::ReserveNotFree => 25,
         Refusal::AtLimit => 26,
-        Refusal::LimitsOutOfRange => 27,
+        Refusal::OnlyViews => 27,
+        Refusal::PrefixTooLong => 28,
+        Refusal::LimitsOutOfRange => 29,
     }
-}
-
-// R45: the number of a refusal.
-pub fn number_of(refusal: Refusal) -> u8
-    ensures { λ r. ⌜ r ≡ numberOf refusal ⌝ }
-{
-    let place = place_of(refusal);
-    if place < 27 { place } else { 29 }
 }
 
 // The number of an answer: 0 where the call was carried out.

@@ -44,7 +44,7 @@ answered e = ap (λ (y : Reply). y .answer) e
 
 -- a make tells its handle; write and the calls of `does-silently` tell no number
 module _ {p : Pool} {vs : List Val} (is : Is the-row p vs) {answer : Answer} {p′ : Pool} {new small large small′ large′ : List ℕ} where
-  tells-handle : {task : ℕ} {kind : Kind} {extension size : ℕ} → Obeys (Use (Make task kind extension size)) new p small large (plain answer) p′ small′ large′
+  tells-handle : {task : ℕ} {kind : Kind} {extension size prefix : ℕ} → Obeys (Use (Make task kind extension size prefix)) new p small large (plain answer) p′ small′ large′
       → (old : ℕ) → Tells answer (old ∷ []) (handleOr old answer ∷ [])
   unfolding replyTo overwritten
   tells-handle o old =
@@ -76,8 +76,8 @@ module _ {p : Pool} {vs : List Val} (is : Is the-row p vs) {q : Pool} (same : q 
   unfolding replyTo
   refreshes-each f = does-silently (λ L. refl) f
 
-  pub makes : {task : ℕ} {kind : Kind} {extension size : ℕ} {small large small′ large′ : List ℕ} {old new : ℕ}
-      → Makes task kind extension size q small large answer p′ small′ large′ → new ≡ handleOr old answer
-      → MakesOne task kind extension size p small large (old ∷ []) (r .number) (r .pool) small′ large′ (new ∷ [])
+  pub makes : {task : ℕ} {kind : Kind} {extension size prefix : ℕ} {small large small′ large′ : List ℕ} {old new : ℕ}
+      → Makes task kind extension size prefix q small large answer p′ small′ large′ → new ≡ handleOr old answer
+      → MakesOne task kind extension size prefix p small large (old ∷ []) (r .number) (r .pool) small′ large′ (new ∷ [])
   makes f n =
       let m = rw same at f in rw n (record { answer = answer; makes = rw (gave .1) m; told = told answer (gave .0) (tells-handle is m _) })

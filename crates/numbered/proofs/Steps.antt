@@ -61,11 +61,11 @@ unknown n a b c d =
       kept = λ e. (a, b, c);
     }
 
-make-gives : (kind : KindByte) (task extension size : ℕ) (p : Pool) (small large numbers : List ℕ) (number : ℕ) (p′ : Pool) (small′ large′ numbers′ : List ℕ)
-    → MakesBy kind task extension size p small large numbers number p′ small′ large′ numbers′
-    → Gives (entry (withKind kind (λ (k : Kind). Use (Make task k extension size))) []) (lent numbers) p small large (withNumber number (lent numbers′)) p′ small′ large′
-make-gives (Known kind) task extension size p small large numbers number p′ small′ large′ numbers′ m = called (m .answer) (m .makes) (m .told)
-make-gives Unknown task extension size p small large numbers number p′ small′ large′ numbers′ (n, a, b, c, d) = unknown n a b c d
+make-gives : (kind : KindByte) (task extension size prefix : ℕ) (p : Pool) (small large numbers : List ℕ) (number : ℕ) (p′ : Pool) (small′ large′ numbers′ : List ℕ)
+    → MakesBy kind task extension size prefix p small large numbers number p′ small′ large′ numbers′
+    → Gives (entry (withKind kind (λ (k : Kind). Use (Make task k extension size prefix))) []) (lent numbers) p small large (withNumber number (lent numbers′)) p′ small′ large′
+make-gives (Known kind) task extension size prefix p small large numbers number p′ small′ large′ numbers′ m = called (m .answer) (m .makes) (m .told)
+make-gives Unknown task extension size prefix p small large numbers number p′ small′ large′ numbers′ (n, a, b, c, d) = unknown n a b c d
 
 refresh-gives : (kind : KindByte) (task extension handle : ℕ) (p : Pool) (number : ℕ) (p′ : Pool) (small large : List ℕ)
     → RefreshesBy kind task extension handle p number p′

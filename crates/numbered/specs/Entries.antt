@@ -29,8 +29,8 @@ use Rattle.frames.specs.declared.requests.KindByte.the-variants.{Known, Unknown
 use Rattle.execute.specs.Execution.{Executes}
 use Rattle.numbered.specs.Told.{tooShort, Loans, lent, withNumber, toldBy}
 
--- a call that touches no store: join, leave, block, resume, tick, release, report, remaining life, and a refresh or batch of a known kind; with the bytes that it brings and the
--- numbers that it is lent
+-- a call that touches no store: join, leave, block, resume, tick, view, release, report, remaining life, and a refresh or batch of a known
+-- kind; with the bytes that it brings and the numbers that it is lent
 pub record DoesWith (request : Request) (new : List ℕ) (p : Pool) (numbers : List ℕ) (number : ℕ) (p′ : Pool) (numbers′ : List ℕ) : Type 0 where
   pub answer : Answer
   pub follows : Contract.FollowsWith request new p answer p′
@@ -41,9 +41,9 @@ abbrev pub Does : Request → Pool → List ℕ → ℕ → Pool → List ℕ �
 Does request p numbers number p′ numbers′ = DoesWith request [] p numbers number p′ numbers′
 
 -- make of a known kind
-pub record MakesOne (task : ℕ) (kind : Kind) (extension size : ℕ) (p : Pool) (small large numbers : List ℕ) (number : ℕ) (p′ : Pool) (small′ large′ numbers′ : List ℕ) : Type 0 where
+pub record MakesOne (task : ℕ) (kind : Kind) (extension size prefix : ℕ) (p : Pool) (small large numbers : List ℕ) (number : ℕ) (p′ : Pool) (small′ large′ numbers′ : List ℕ) : Type 0 where
   pub answer : Answer
-  pub makes : Contract.Makes task kind extension size p small large answer p′ small′ large′
+  pub makes : Contract.Makes task kind extension size prefix p small large answer p′ small′ large′
   pub told : withNumber number (lent numbers′) ≡ toldBy (plain answer) (lent numbers)
 
 -- write: the record gets the block's new sum
@@ -81,10 +81,10 @@ pub record TellsShare (p : Pool) (task : ℕ) (old : List ℕ) (number : ℕ) (n
   pub tells : isWellFormed p ≡ true → ltb task taskCount ≡ true → (small large : List ℕ) (L : Ledger) → Reads p small large L → new ≡ shareShown (L .memory) task
 
 -- A call whose kind is given by its code: 19 where there is no such kind, before anything else is tested.
-abbrev pub MakesBy : KindByte → ℕ → ℕ → ℕ → Pool → List ℕ → List ℕ → List ℕ → ℕ → Pool → List ℕ → List ℕ → List ℕ → Type 0
-MakesBy (Known kind) task extension size p small large numbers number p′ small′ large′ numbers′ =
-    MakesOne task kind extension size p small large numbers number p′ small′ large′ numbers′
-MakesBy Unknown task extension size p small large numbers number p′ small′ large′ numbers′ =
+abbrev pub MakesBy : KindByte → ℕ → ℕ → ℕ → ℕ → Pool → List ℕ → List ℕ → List ℕ → ℕ → Pool → List ℕ → List ℕ → List ℕ → Type 0
+MakesBy (Known kind) task extension size prefix p small large numbers number p′ small′ large′ numbers′ =
+    MakesOne task kind extension size prefix p small large numbers number p′ small′ large′ numbers′
+MakesBy Unknown task extension size prefix p small large numbers number p′ small′ large′ numbers′ =
     (number ≡ numberOf UnknownKind) × (p′ ≡ p) × (small′ ≡ small) × (large′ ≡ large) × (numbers′ ≡ numbers)
 
 abbrev pub RefreshesBy : KindByte → ℕ → ℕ → ℕ → Pool → ℕ → Pool → Type 0

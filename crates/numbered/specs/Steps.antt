@@ -93,9 +93,9 @@ pub record EachGives : Type 0 where
   pub does : (request : Request) (new : List ℕ) (p : Pool) (numbers : List ℕ) (number : ℕ) (p′ : Pool) (numbers′ small large : List ℕ)
       → DoesWith request new p numbers number p′ numbers′
       → Gives (entry (some request) new) (lent numbers) p small large (withNumber number (lent numbers′)) p′ small large
-  pub makes : (kind : KindByte) (task extension size : ℕ) (p : Pool) (small large numbers : List ℕ) (number : ℕ) (p′ : Pool) (small′ large′ numbers′ : List ℕ)
-      → MakesBy kind task extension size p small large numbers number p′ small′ large′ numbers′
-      → Gives (entry (withKind kind (λ (k : Kind). Use (Make task k extension size))) []) (lent numbers) p small large (withNumber number (lent numbers′)) p′ small′ large′
+  pub makes : (kind : KindByte) (task extension size prefix : ℕ) (p : Pool) (small large numbers : List ℕ) (number : ℕ) (p′ : Pool) (small′ large′ numbers′ : List ℕ)
+      → MakesBy kind task extension size prefix p small large numbers number p′ small′ large′ numbers′
+      → Gives (entry (withKind kind (λ (k : Kind). Use (Make task k extension size prefix))) []) (lent numbers) p small large (withNumber number (lent numbers′)) p′ small′ large′
   pub refreshes : (kind : KindByte) (task extension handle : ℕ) (p : Pool) (number : ℕ) (p′ : Pool) (small large : List ℕ)
       → RefreshesBy kind task extension handle p number p′
       → Gives (entry (withKind kind (λ (k : Kind). Use (Refresh task k extension handle))) []) (lent []) p small large (withNumber number (lent [])) p′ small large

@@ -40,9 +40,10 @@ pub fn make_one(
     kind: Kind,
     extension: u8,
     size: u16,
+    prefix: u16,
     handle: &mut u32,
 ) -> Numbered
-    ensures { λ r. ⌜ MakesOne task kind extension size p (now (small .entry)) (now (large .entry)) (now (handle .entry) ∷ []) (r .number) (r .pool) (now (small .exit)) (now (large .exit)) (now (handle .exit) ∷ []) ⌝ }
+    ensures { λ r. ⌜ MakesOne task kind extension size prefix p (now (small .entry)) (now (large .entry)) (now (handle .entry) ∷ []) (r .number) (r .pool) (now (small .exit)) (now (large .exit)) (now (handle .exit) ∷ []) ⌝ }
 {
     let h = head_of(p);
     let mut handles = p.handles;
@@ -63,6 +64,7 @@ pub fn make_one(
         kind,
         extension,
         size,
+        prefix,
     );
     let answer = step.answer;
     let head = step.head;

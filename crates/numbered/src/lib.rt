@@ -46,14 +46,25 @@ pub fn make(
     kind: u8,
     extension: u8,
     size: u16,
+    prefix: u16,
     handle: &mut u32,
 ) -> Numbered
-    ensures { λ r. ⌜ MakesBy (kindOf kind) task extension size p (now (small .entry)) (now (large .entry)) (now (handle .entry) ∷ []) (r .number) (r .pool) (now (small .exit)) (now (large .exit)) (now (handle .exit) ∷ []) ⌝ }
+    ensures { λ r. ⌜ MakesBy (kindOf kind) task extension size prefix p (now (small .entry)) (now (large .entry)) (now (handle .entry) ∷ []) (r .number) (r .pool) (now (small .exit)) (now (large .exit)) (now (handle .exit) ∷ []) ⌝ }
 {
     let KindByte::Known(known) = kind_of(kind) else {
         return refused(Refusal::UnknownKind, p);
     };
-    make_one(p, small, large, task, known, extension, size, handle)
+    make_one(
+        p,
+        small,
+        large,
+        task,
+        known,
+        extension,
+        size,
+        prefix,
+        handle,
+    )
 }
 
 pub fn refresh(p: Pool, task: u8, kind: u8, extension: u8, handle: u32) -> Numbered

@@ -16,7 +16,7 @@ use Rattle.record.specs.declared.Pool.{Pool}
 use Rattle.expirations.specs.Standing.{standingOf}
 use Rattle.expirations.proofs.Counting.{standing-of}
 use Rattle.steps.specs.Objects.{readVerdict}
-use Rattle.objects.specs.Outcomes.{bytesIn}
+use Rattle.objects.specs.Outcomes.{shownIn}
 use Rattle.objects.specs.Usage.{usageIn}
 use Rattle.objects.specs.declared.FoundBytes.{FoundBytes}
 use Rattle.objects.proofs.Laws.{usage-of}
@@ -33,7 +33,7 @@ module _ (p : Pool) {h : Head} (e : h ≡ headOf p) where
 
   pub located-by-value : HeadTyped (headOf p) → Sized (p .handles) (p .extents) (p .clocks) (p .named) (p .dues) → (task handle : ℕ) {small large : List ℕ}
       → Ready (Use (Read task handle)) p small large → {f : FoundBytes}
-      → f ≡ bytesIn (readVerdict task handle small large) handle (lent h (p .handles) (p .extents) (p .clocks) (p .named) (p .dues))
+      → f ≡ shownIn (readVerdict task handle small large) task handle (lent h (p .handles) (p .extents) (p .clocks) (p .named) (p .dues))
       → Locates task handle p small large f
   located-by-value types sized task handle ready found = read-locates types sized task handle ready _ (rw e at found)
 

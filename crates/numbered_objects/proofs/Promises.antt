@@ -17,7 +17,7 @@ use Rattle.ledger.specs.declared.Answer.the-variants.{Refused, Bytes, Counted, 
 use Rattle.ledger.specs.declared.Call.the-variants.{Release}
 use Rattle.ledger.specs.declared.Life.{Life}
 use Rattle.ledger.specs.declared.Refusal.{Refusal}
-use Rattle.ledger.specs.declared.Refusal.the-variants.{NoSuchTask, TaskPresent, TaskAbsent, TaskWaiting, TaskRunning, ExtensionTooLong, LengthOutOfRange, HandlesSpent, NoFreeBlock, NoFreeExpiration, HandleNotGiven, ObjectGone, OutsideObject, WrongStoreLength, NotWellFormed, NotHexadecimal, UnknownOperation, WrongFrameLength, UnknownKind, BatchOutOfRange, OnlyMakePins, NotPinned, SumDiffers, ReserveAboveLimit, ReserveNotFree, AtLimit, LimitsOutOfRange}
+use Rattle.ledger.specs.declared.Refusal.the-variants.{NoSuchTask, TaskPresent, TaskAbsent, TaskWaiting, TaskRunning, ExtensionTooLong, LengthOutOfRange, HandlesSpent, NoFreeBlock, NoFreeExpiration, HandleNotGiven, ObjectGone, OutsideObject, WrongStoreLength, NotWellFormed, NotHexadecimal, UnknownOperation, WrongFrameLength, UnknownKind, BatchOutOfRange, OnlyMakePins, NotPinned, SumDiffers, ReserveAboveLimit, ReserveNotFree, AtLimit, OnlyViews, PrefixTooLong, LimitsOutOfRange}
 use Rattle.ledger.specs.declared.Request.{Request}
 use Rattle.ledger.specs.declared.Request.the-variants.{Use, Remaining}
 use Rattle.ledger.specs.declared.Usage.{Usage}
@@ -112,6 +112,8 @@ above-0 SumDiffers e = omega arith
 above-0 ReserveAboveLimit e = omega arith
 above-0 ReserveNotFree e = omega arith
 above-0 AtLimit e = omega arith
+above-0 OnlyViews e = omega arith
+above-0 PrefixTooLong e = omega arith
 above-0 LimitsOutOfRange e = omega arith
 
 module _ {task handle : ℕ} {p : Pool} {vs : List Val} (is : Is the-row p vs) {small large part : List ℕ} {number : ℕ} (r : ReadsTo task handle p small large number part) (zero : number ≡ 0) where

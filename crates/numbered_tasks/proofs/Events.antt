@@ -1,4 +1,4 @@
--- The four events and join on the columns of a record: leave, block and tick tell whether time advanced, join and resume nothing.
+-- The five events and join on the columns of a record: leave, block and tick tell whether time advanced, join, resume and view nothing.
 use Prim.Native.Nat.{ℕ}
 use mathlib.Core.Bool.{Bool, true, false, cond}
 use mathlib.Core.List.{List, [], _∷_}

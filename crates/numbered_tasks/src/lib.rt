@@ -1,8 +1,9 @@
-// The calls on a record by value that concern tasks and times: renew and renew_sized, join, leave, block, resume and tick; and two looks, awaited and share.
+// The calls on a record by value that concern tasks and times: renew and renew_sized, join, leave, block, resume, tick and view; and two
+// looks, awaited and share.
 ghost use mathlib.Core.List.{[], _∷_};
 ghost use mathlib.Core.Path.{_≡_};
 ghost use Rattle.ledger.specs.declared.Call.the-variants.{Join, Schedule};
-ghost use Rattle.ledger.specs.declared.Event.the-variants.{Leave, Block, Resume, Tick};
+ghost use Rattle.ledger.specs.declared.Event.the-variants.{Leave, Block, Resume, Tick, View};
 ghost use Rattle.ledger.specs.declared.Request.the-variants.{Use};
 ghost use Rattle.ledger.specs.Limits.{chosen, standard};
 ghost use Rattle.frames.specs.Frames.{shareOf};
@@ -67,7 +68,7 @@ pub fn renew_sized(p: Pool, small: u32, large: u32, expirations: u32, extension:
     }
 }
 
-// Join and resume change no column: the record lends its own, and gets another head.
+// Join, resume and view change no column: the record lends its own, and gets another head.
 pub fn join(p: Pool, task: u8, reserve: u8, limit: u8, largereserve: u8, largelimit: u8) -> Numbered
     ensures { λ r. ⌜ Does (Use (Join task (shareOf reserve limit largereserve largelimit))) p [] (r .number) (r .pool) [] ⌝ }
 {
@@ -156,13 +157,14 @@ pub fn resume(p: Pool, task: u8) -> Numbered
     ensures { λ r. ⌜ Does (Use (Schedule Resume task)) p [] (r .number) (r .pool) [] ⌝ }
 {
     let h = head_of(p);
-    let step = checked::resume(
+    let step = checked::start(
         h,
         &p.handles,
         &p.extents,
         &p.clocks,
         &p.named,
         &p.dues,
+        Event::Resume,
         task,
     );
     let answer = step.answer;
@@ -196,6 +198,29 @@ pub fn tick(p: Pool, task: u8, advanced: &mut u8) -> Numbered
     let head = step.head;
     *advanced = advance_or(*advanced, answer);
     give_back(answer, head, handles, extents, clocks, named, dues)
+}
+
+// V1: joins as a viewer (02: 0E).
+pub fn view(p: Pool, task: u8) -> Numbered
+    ensures { λ r. ⌜ Does (Use (Schedule View task)) p [] (r .number) (r .pool) [] ⌝ }
+{
+    let h = head_of(p);
+    let step = checked::start(
+        h,
+        &p.handles,
+        &p.extents,
+        &p.clocks,
+        &p.named,
+        &p.dues,
+        Event::View,
+        task,
+    );
+    let answer = step.answer;
+    let head = step.head;
+    Numbered {
+        number: answer_number(answer),
+        pool: with_head(p, head),
+    }
 }
 
 // For whom the global time waits. It is no call of the ledger: it changes nothing, and no frame asks it.

@@ -1,5 +1,6 @@
 -- Laws of a batch: the tests in the two parts in which they are made, before the pass over its handles and after it.
 use Prim.Native.Nat.{ℕ, _+_, _≤_}
+use mathlib.Core.Bool.{true}
 use mathlib.Core.List.{List}
 use mathlib.Core.Path.{_≡_, sym}
 use borrow.Author.Tests.{ltb-false}
@@ -26,7 +27,7 @@ use Rattle.objects.specs.Batches.{PlansBatch}
 -- the first tests accept no more handles than a plan has room for
 pub batch-fits : (limits : Limits) (task : ℕ) (kind : Kind) (extension : ℕ) (tasks : List TaskEntry) (count : ℕ) → batchCallVerdict limits task kind extension tasks count ≡ Accepted → count ≤ largestBatch
 batch-fits limits task kind extension tasks count e =
-    let (known, later) = both-accept (taskVerdict task tasks) _ e in
+    let (known, later) = both-accept (taskVerdict true task tasks) _ e in
     let (size, short) = both-accept _ (setVerdict limits kind extension) later in
     let (some, few) = or-false-parts (eqb count 0) (ltb largestBatch count) (not-refused _ _ size) in
     ltb-false largestBatch count few

@@ -58,10 +58,10 @@ module _ (hs ls : List ℕ) (a : length hs ≡ blockEntries) (b : length ls ≡ 
     pub usage-of : usageIn (h .given) hs (standingIn xs) ≡ usageOf (tablesBy h (blocksOf hs ls) xs)
     usage-of = ap (λ hs′. usageIn (h .given) hs′ (standingIn xs)) (sym (handles-of hs ls a b)) ∙ usage-in h (blocksOf hs ls) xs
 
-    pub make-planned : (task : ℕ) (kind : Kind) (extension size : ℕ) (holding : Holding) → Holds (isSmall size) (h .shares) (blocksOf hs ls) holding
-        → makePlan task kind extension size h (freePlaceIn (h .limits) size hs) holding (standingIn xs) .verdict ≡ makeVerdict task kind extension size (tablesBy h (blocksOf hs ls) xs)
+    pub make-planned : (task : ℕ) (kind : Kind) (extension size prefix : ℕ) (holding : Holding) → Holds (isSmall size) (h .shares) (blocksOf hs ls) holding
+        → makePlan task kind extension size prefix h (freePlaceIn (h .limits) size hs) holding (standingIn xs) .verdict ≡ makeVerdict task kind extension size prefix (tablesBy h (blocksOf hs ls) xs)
     unfolding makePlan makeVerdict tablesBy
-    make-planned task kind extension size holding holds =
+    make-planned task kind extension size prefix holding holds =
         by-test (leb taskCount task)
         (λ e. rw e)
         (λ e.

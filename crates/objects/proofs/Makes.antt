@@ -1,13 +1,12 @@
 -- Laws of a make: its tests in the two parts in which they are made, and what it decides by what the tasks have of the store.
 use Prim.Native.Nat.{ℕ, _+_, _-_, _≤_, _<_}
 use native.Mathlib.Omega.{arith}
-use mathlib.Core.Bool.{Bool, true, false}
+use mathlib.Core.Bool.{Bool, true}
 use mathlib.Core.List.{List}
-use mathlib.Core.Path.{_≡_, refl, sym, ap, _∙_}
-use borrow.Author.Tests.{le-leb, lt-leb, leb-true, leb-false}
+use mathlib.Core.Path.{_≡_, sym, ap, _∙_}
+use borrow.Author.Tests.{le-leb, leb-true}
 use lib.Dec.{leb}
-use lib.ListN.{getD}
-use Rattle.lists.proofs.Cases.{by-test, same-test}
+use Rattle.lists.proofs.Cases.{same-test}
 use Rattle.lists.proofs.Sums.{sum-at}
 use Rattle.ledger.specs.Limits.{taskCount, isSmall}
 use Rattle.ledger.specs.Shares.{blocksIn}
@@ -17,7 +16,7 @@ use Rattle.ledger.specs.declared.Refusal.{Refusal}
 use Rattle.ledger.specs.declared.Share.{Share}
 use Rattle.ledger.specs.declared.Verdict.{Verdict}
 use Rattle.ledger.specs.declared.Verdict.the-variants.{Accepted, Refused}
-use Rattle.record.specs.Shares.{takenIn, madeIn, quotaAt, unmetIn, allUnmetIn, takenBut, isLimited}
+use Rattle.record.specs.Shares.{takenIn, unmetIn, allUnmetIn, takenBut, isLimited}
 use Rattle.record.specs.Tables.{BlockEntry}
 use Rattle.record.specs.declared.Head.{Head}
 use Rattle.record.specs.declared.TaskEntry.{TaskEntry}
@@ -30,40 +29,40 @@ use Rattle.refusals.specs.Verdicts.{makeCallVerdict}
 use Rattle.objects.specs.Outcomes.{isLimitedBy, isFilledBy, makePlan}
 use Rattle.objects.specs.declared.Plan.{Plan}
 
-module _ (limits : Limits) (task : ℕ) (kind : Kind) (extension size : ℕ) (tasks : List TaskEntry) (given : ℕ) where
-  pub call-known : makeCallVerdict limits task kind extension size tasks given ≡ Accepted → task < taskCount
-  call-known e = task-known task tasks (both-accept (taskVerdict task tasks) _ e .0)
+module _ (limits : Limits) (task : ℕ) (kind : Kind) (extension size prefix : ℕ) (tasks : List TaskEntry) (given : ℕ) where
+  pub call-known : makeCallVerdict limits task kind extension size prefix tasks given ≡ Accepted → task < taskCount
+  call-known e = task-known true task tasks (both-accept (taskVerdict true task tasks) _ e .0)
 
   pub make-tests : (limited full : Bool) (standing : ℕ)
-      → andThen (makeCallVerdict limits task kind extension size tasks given) (takingVerdict limits limited full standing)
-      ≡ makeVerdictBy limits task kind extension size tasks given limited full standing
+      → andThen (makeCallVerdict limits task kind extension size prefix tasks given) (takingVerdict limits limited full standing)
+      ≡ makeVerdictBy limits task kind extension size prefix tasks given limited full standing
   make-tests limited full standing = simp then-assoc
 
-module _ (task : ℕ) (kind : Kind) (extension size : ℕ) (h : Head) (holding : Holding) (standing : ℕ) where
+module _ (task : ℕ) (kind : Kind) (extension size prefix : ℕ) (h : Head) (holding : Holding) (standing : ℕ) where
   abbrev first : Verdict
-  first = makeCallVerdict (h .limits) task kind extension size (h .tasks) (h .given)
+  first = makeCallVerdict (h .limits) task kind extension size prefix (h .tasks) (h .given)
 
   abbrev last : Verdict
   last = takingVerdict (h .limits) (isLimitedBy (isSmall size) (h .shares) holding task) (isFilledBy (isSmall size) (h .limits) (h .shares) holding task) standing
 
   planned-by : {v w : Verdict} {place at : ℕ} → v ≡ first → andThen v last ≡ w → place ≡ at
-      → _≡_ {A = Plan} (record { verdict = w; place = place }) (makePlan task kind extension size h at holding standing)
+      → _≡_ {A = Plan} (record { verdict = w; place = place }) (makePlan task kind extension size prefix h at holding standing)
   unfolding makePlan
   planned-by so e same =
       rw (
         same,
         sym e ∙ ap (λ (u : Verdict). andThen u last) so
-            ∙ make-tests (h .limits) task kind extension size (h .tasks) (h .given) (isLimitedBy (isSmall size) (h .shares) holding task) (isFilledBy (isSmall size) (h .limits) (h .shares) holding task) standing,
+            ∙ make-tests (h .limits) task kind extension size prefix (h .tasks) (h .given) (isLimitedBy (isSmall size) (h .shares) holding task) (isFilledBy (isSmall size) (h .limits) (h .shares) holding task) standing,
       )
 
   -- refused by the first part
   pub planned-refused : {v : Verdict} {why : Refusal} {place at : ℕ} → v ≡ first → v ≡ Refused why → place ≡ at
-      → _≡_ {A = Plan} (record { verdict = Refused why; place = place }) (makePlan task kind extension size h at holding standing)
+      → _≡_ {A = Plan} (record { verdict = Refused why; place = place }) (makePlan task kind extension size prefix h at holding standing)
   planned-refused so e same = planned-by so (ap (λ (u : Verdict). andThen u last) e) same
 
   -- or decided by the second
   pub planned-taken : {v w : Verdict} {place at : ℕ} → v ≡ first → v ≡ Accepted → w ≡ last → place ≡ at
-      → _≡_ {A = Plan} (record { verdict = w; place = place }) (makePlan task kind extension size h at holding standing)
+      → _≡_ {A = Plan} (record { verdict = w; place = place }) (makePlan task kind extension size prefix h at holding standing)
   planned-taken so e l same = planned-by so (ap (λ (u : Verdict). andThen u last) e ∙ sym l) same
 
 -- What the holding of a store says is what its blocks say.

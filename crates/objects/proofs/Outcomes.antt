@@ -76,40 +76,40 @@ module _ (handle : ℕ) (p : Tables) where
   bytes-accepted (Refused r) e = (cc, cc, cc, cc)
 
 -- an accepted one's block is one of the blocks'
-pub standing-listed : (task handle : ℕ) (p : Tables) → standingVerdict task handle p ≡ Accepted → placeOf handle (p .blocks) < blockEntries
+pub standing-listed : (acts : Bool) (task handle : ℕ) (p : Tables) → standingVerdict acts task handle p ≡ Accepted → placeOf handle (p .blocks) < blockEntries
 unfolding standingVerdict
-standing-listed task handle p v = place-listed handle (p .given) _ (both-accept (taskVerdict task (p .tasks)) _ v .1)
+standing-listed acts task handle p v = place-listed handle (p .given) _ (both-accept (taskVerdict acts task (p .tasks)) _ v .1)
 
 -- and in use
-pub standing-used : (task handle : ℕ) (p : Tables) → length (p .blocks) ≡ blockEntries → standingVerdict task handle p ≡ Accepted
+pub standing-used : (acts : Bool) (task handle : ℕ) (p : Tables) → length (p .blocks) ≡ blockEntries → standingVerdict acts task handle p ≡ Accepted
     → eqb (getD (p .blocks) (placeOf handle (p .blocks)) freeBlock .handle) 0 ≡ false
 unfolding standingVerdict
-standing-used task handle p size v =
-    let (nonzero, place) = handle-found handle (p .given) (placeOf handle (p .blocks)) (both-accept (taskVerdict task (p .tasks)) _ v .1) in
+standing-used acts task handle p size v =
+    let (nonzero, place) = handle-found handle (p .given) (placeOf handle (p .blocks)) (both-accept (taskVerdict acts task (p .tasks)) _ v .1) in
     let (k, listed, at, its) = first-at (isBlockOf handle) freeBlock 0 (p .blocks) (rw (zero-add, size) place) in
     let here : placeOf handle (p .blocks) ≡ k = omega (arith, at) in
     rw (here, eqb-true _ handle its) nonzero
 
 -- so its bytes lie in stores that are as long as the figures need
-pub standing-block : (h : Head) {hs ls cs ns ds small large : List ℕ} → Sized hs ls cs ns ds → (task handle : ℕ)
+pub standing-block : (h : Head) {hs ls cs ns ds small large : List ℕ} → Sized hs ls cs ns ds → (acts : Bool) (task handle : ℕ)
     → (let p = lent h hs ls cs ns ds in isWellFormed p ≡ true → isWholeSmall (h .limits) small ≡ true → isWholeLarge (h .limits) large ≡ true
-    → standingVerdict task handle p ≡ Accepted → InBlock small large (placeOf handle (p .blocks)) (sizeOf (placeOf handle (p .blocks))))
+    → standingVerdict acts task handle p ≡ Accepted → InBlock small large (placeOf handle (p .blocks)) (sizeOf (placeOf handle (p .blocks))))
 unfolding tablesBy
-standing-block h {hs} {ls} {cs} {ns} {ds} sized task handle w s l v =
+standing-block h {hs} {ls} {cs} {ns} {ds} sized acts task handle w s l v =
     let p = lent h hs ls cs ns ds in
     let fit = fit-parts p w in
     let size = length-blocks hs ls (sized .blocks .of-handles) (sized .blocks .of-extents) in
-    in-block (h .limits) (fit .allowed) s l (fit-used fit _ (standing-used task handle p size v) .listed) (omega arith)
+    in-block (h .limits) (fit .allowed) s l (fit-used fit _ (standing-used acts task handle p size v) .listed) (omega arith)
 
 -- the tests of a refresh, before it and after it
 abbrev pub firstVerdict : ℕ → Kind → ℕ → Head → Verdict
-firstVerdict task kind extension h = andThen (taskVerdict task (h .tasks)) (setVerdict (h .limits) kind extension)
+firstVerdict task kind extension h = andThen (taskVerdict true task (h .tasks)) (setVerdict (h .limits) kind extension)
 
 module _ (task : ℕ) (kind : Kind) (extension handle : ℕ) (h : Head) (hs ls cs ns ds : List ℕ) where
   pub refresh-refused : {why : Refusal} → firstVerdict task kind extension h ≡ Refused why
       → RefusedFound why ≡ foundBy false (refreshVerdict task kind extension handle (lent h hs ls cs ns ds)) task handle (lent h hs ls cs ns ds)
   unfolding refreshVerdict tablesBy
-  refresh-refused e = rw (← then-assoc (kindVerdict kind), ← then-assoc (taskVerdict task (h .tasks))) (refused-before false task handle (lent h hs ls cs ns ds) (firstVerdict task kind extension h) _ e)
+  refresh-refused e = rw (← then-assoc (kindVerdict kind), ← then-assoc (taskVerdict true task (h .tasks))) (refused-before false task handle (lent h hs ls cs ns ds) (firstVerdict task kind extension h) _ e)
 
   pub refresh-found : SizedEntries cs ns ds → firstVerdict task kind extension h ≡ Accepted
       → foundIf (foundBy false (handleVerdict handle (lent h hs ls cs ns ds)) task handle (lent h hs ls cs ns ds)) (roomVerdict (h .limits) (standingOf cs))
@@ -117,7 +117,7 @@ module _ (task : ℕ) (kind : Kind) (extension handle : ℕ) (h : Head) (hs ls c
   unfolding refreshVerdict tablesBy
   refresh-found sized e =
       let p = lent h hs ls cs ns ds in
-      rw (standing-of sized, ← then-assoc (kindVerdict kind), ← then-assoc (taskVerdict task (h .tasks))) (tested-after false task handle p (handleVerdict handle p) _ ∙ accepted-before false task handle p (firstVerdict task kind extension h) _ e)
+      rw (standing-of sized, ← then-assoc (kindVerdict kind), ← then-assoc (taskVerdict true task (h .tasks))) (tested-after false task handle p (handleVerdict handle p) _ ∙ accepted-before false task handle p (firstVerdict task kind extension h) _ e)
 
 module _ (h : Head) {hs ls cs ns ds : List ℕ} (sized : Sized hs ls cs ns ds) (asks : Bool) (task handle : ℕ) where
   -- 11 and 12 by the handles

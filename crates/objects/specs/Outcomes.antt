@@ -17,7 +17,7 @@ use Rattle.ledger.specs.declared.Share.{Share}
 use Rattle.record.specs.Tables.{Tables}
 use Rattle.record.specs.declared.Head.{Head}
 use Rattle.shares.specs.declared.Holding.{Holding}
-use Rattle.steps.specs.Objects.{placeOf, makeVerdictBy}
+use Rattle.steps.specs.Objects.{placeOf, stateIn, shownLength, makeVerdictBy}
 use Rattle.steps.specs.Remaining.{lifeIn}
 use Rattle.objects.specs.declared.Plan.{Plan}
 use Rattle.objects.specs.declared.Found.{Found}
@@ -61,6 +61,14 @@ bytesBy verdict handle p = bytesOf (foundBy false verdict 0 handle p) p
 abbrev pub bytesIn : (Tables → Verdict) → ℕ → Tables → FoundBytes
 bytesIn verdict handle p = bytesBy (verdict p) handle p
 
+-- V5: and a read goes on by as many bytes as its task is shown
+abbrev pub shownOf : ℕ → Tables → FoundBytes → FoundBytes
+shownOf task p (RefusedBytes r) = RefusedBytes r
+shownOf task p (AtBytes block length sum) = AtBytes block (shownLength (stateIn (p .tasks) task) (getD (p .blocks) block freeBlock)) sum
+
+abbrev pub shownIn : (Tables → Verdict) → ℕ → ℕ → Tables → FoundBytes
+shownIn verdict task handle p = shownOf task p (bytesIn verdict handle p)
+
 -- 26 and 9, by what the tasks have of the store
 abbrev pub isLimitedBy : Bool → List Share → Holding → ℕ → Bool
 isLimitedBy store shares holding task = leb (quotaIn store (getD shares task noShare) .limit) (getD (holding .made) task 0)
@@ -70,11 +78,11 @@ isFilledBy store limits shares holding task =
     leb (blocksIn limits store + (quotaIn store (getD shares task noShare) .reserve - getD (holding .made) task 0)) (holding .spoken)
 
 -- the verdict of a make, by these and how many expirations stand; and the block that was found
-unfoldable pub makePlan : ℕ → Kind → ℕ → ℕ → Head → ℕ → Holding → ℕ → Plan
-makePlan task kind extension size h place holding standing =
+unfoldable pub makePlan : ℕ → Kind → ℕ → ℕ → ℕ → Head → ℕ → Holding → ℕ → Plan
+makePlan task kind extension size prefix h place holding standing =
     record {
       verdict =
-          makeVerdictBy (h .limits) task kind extension size (h .tasks) (h .given) (isLimitedBy (isSmall size) (h .shares) holding task)
+          makeVerdictBy (h .limits) task kind extension size prefix (h .tasks) (h .given) (isLimitedBy (isSmall size) (h .shares) holding task)
           (isFilledBy (isSmall size) (h .limits) (h .shares) holding task) standing;
       place = place;
     }

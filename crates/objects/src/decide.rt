@@ -52,15 +52,25 @@ pub fn plan_make(
     kind: Kind,
     extension: u8,
     size: u16,
+    prefix: u16,
 ) -> Plan
     requires { ⌜ (length (now handles) ≡ blockEntries) × (isAllowed (h .limits) ≡ true) ⌝ }
-    ensures { λ r. ⌜ r ≡ makePlan task kind extension size h (freePlaceIn (h .limits) size (now (handles .entry))) holding standing ⌝ }
+    ensures { λ r. ⌜ r ≡ makePlan task kind extension size prefix h (freePlaceIn (h .limits) size (now (handles .entry))) holding standing ⌝ }
 {
     let size = size as u32;
     let limits = h.limits;
     let place = free_place(limits, handles, size);
     let tasks = h.tasks;
-    match make_call_verdict(limits, task, kind, extension, size, tasks, h.given) {
+    match make_call_verdict(
+        limits,
+        task,
+        kind,
+        extension,
+        size,
+        prefix as u32,
+        tasks,
+        h.given,
+    ) {
         Verdict::Refused(why) => Plan {
             verdict: Verdict::Refused(why),
             place: place,

@@ -7,8 +7,8 @@ ghost use Rattle.record.specs.Reading.{isWholeSmall, isWholeLarge};
 ghost use Rattle.record.specs.Tables.{Sized, SizedEntries, entriesOf, blockEntries, lent};
 ghost use Rattle.record.specs.WellFormed.{isWellFormed};
 ghost use Rattle.steps.specs.Remaining.{lifeIn, LifeWithin};
-ghost use Rattle.steps.specs.Objects.{handleVerdict, standingVerdict, readVerdict, writeVerdict, refreshVerdict, releaseVerdict};
-ghost use Rattle.objects.specs.Outcomes.{foundIn, foundIf, lifeIf, bytesIn};
+ghost use Rattle.steps.specs.Objects.{handleVerdict, standingVerdict, intactVerdict, readVerdict, writeVerdict, refreshVerdict, releaseVerdict};
+ghost use Rattle.objects.specs.Outcomes.{foundIn, foundIf, lifeIf, bytesIn, shownIn};
 use super::Found;
 use super::FoundBytes;
 use expirations::is_pinned;
@@ -22,7 +22,9 @@ use record::BLOCK_COUNT;
 use record::EXPIRATION_COUNT;
 use record::Head;
 use record::codes::length_in;
+use record::codes::prefix_in;
 use record::codes::sum_in;
+use record::running::is_viewing;
 use refusals::and_then;
 use refusals::found_verdict;
 use refusals::locate;
@@ -93,7 +95,8 @@ fn found_if(found: Found, verdict: Verdict) -> Found
     }
 }
 
-// The object whose life is asked for; only then are its figures worked out. Read, write and release begin with the same tests.
+// The object whose life is asked for; only then are its figures worked out. Read, write and release begin with the same tests; the last two
+// act, which a viewer may not.
 pub fn find_standing<'a>(
     h: Head,
     handles: &'a [u32; BLOCK_COUNT],
@@ -103,20 +106,21 @@ pub fn find_standing<'a>(
     dues: &'a [u32; EXPIRATION_COUNT],
     task: u8,
     handle: u32,
+    acts: bool,
     asks: bool,
 ) -> Found
     requires { ⌜ Sized (now handles) (now extents) (now clocks) (now named) (now dues) × (isWellFormed (lent h (now handles) (now extents) (now clocks) (now named) (now dues)) ≡ true) ⌝ }
-    ensures { λ r. ⌜ r ≡ foundIn asks (standingVerdict task handle) task handle (lent h (now (handles .entry)) (now (extents .entry)) (now (clocks .entry)) (now (named .entry)) (now (dues .entry))) ⌝ }
+    ensures { λ r. ⌜ r ≡ foundIn asks (standingVerdict acts task handle) task handle (lent h (now (handles .entry)) (now (extents .entry)) (now (clocks .entry)) (now (named .entry)) (now (dues .entry))) ⌝ }
 {
     let tasks = h.tasks;
-    match task_verdict(task, tasks) {
+    match task_verdict(acts, task, tasks) {
         Verdict::Refused(why) => Found::Refused(why),
         Verdict::Accepted => find(h, handles, extents, clocks, named, dues, task, handle, asks),
     }
 }
 
-// The object that is read: the bytes of its block add up to its sum.
-pub fn find_for_read<'a>(
+// The object whose bytes are asked for: those of its block add up to its sum.
+fn find_bytes<'a>(
     h: Head,
     handles: &'a [u32; BLOCK_COUNT],
     extents: &'a [u64; BLOCK_COUNT],
@@ -127,9 +131,10 @@ pub fn find_for_read<'a>(
     large: &'a [u8],
     task: u8,
     handle: u32,
+    acts: bool,
 ) -> FoundBytes
     requires { ⌜ Sized (now handles) (now extents) (now clocks) (now named) (now dues) × (isWellFormed (lent h (now handles) (now extents) (now clocks) (now named) (now dues)) ≡ true) × (isWholeSmall (h .limits) (now small) ≡ true) × (isWholeLarge (h .limits) (now large) ≡ true) ⌝ }
-    ensures { λ r. ⌜ r ≡ bytesIn (readVerdict task handle (now (small .entry)) (now (large .entry))) handle (lent h (now (handles .entry)) (now (extents .entry)) (now (clocks .entry)) (now (named .entry)) (now (dues .entry))) ⌝ }
+    ensures { λ r. ⌜ r ≡ bytesIn (intactVerdict acts task handle (now (small .entry)) (now (large .entry))) handle (lent h (now (handles .entry)) (now (extents .entry)) (now (clocks .entry)) (now (named .entry)) (now (dues .entry))) ⌝ }
 {
     match find_standing(
         h,
@@ -140,6 +145,7 @@ pub fn find_for_read<'a>(
         dues,
         task,
         handle,
+        acts,
         false,
     ) {
         Found::Refused(why) => FoundBytes::Refused(why),
@@ -153,6 +159,55 @@ pub fn find_for_read<'a>(
                 }
             } else {
                 FoundBytes::Refused(Refusal::SumDiffers)
+            }
+        }
+    }
+}
+
+// The object that is read: all of it, or V5: where a viewer reads, its prefix.
+pub fn find_for_read<'a>(
+    h: Head,
+    handles: &'a [u32; BLOCK_COUNT],
+    extents: &'a [u64; BLOCK_COUNT],
+    clocks: &'a [u8; EXPIRATION_COUNT],
+    named: &'a [u8; EXPIRATION_COUNT],
+    dues: &'a [u32; EXPIRATION_COUNT],
+    small: &'a [u8],
+    large: &'a [u8],
+    task: u8,
+    handle: u32,
+) -> FoundBytes
+    requires { ⌜ Sized (now handles) (now extents) (now clocks) (now named) (now dues)
+        × (isWellFormed (lent h (now handles) (now extents) (now clocks) (now named) (now dues)) ≡ true)
+        × (isWholeSmall (h .limits) (now small) ≡ true)
+        × (isWholeLarge (h .limits) (now large) ≡ true) ⌝ }
+    ensures { λ r. ⌜ r ≡ shownIn (readVerdict task handle (now (small .entry)) (now (large .entry))) task handle (lent h (now (handles .entry)) (now (extents .entry)) (now (clocks .entry)) (now (named .entry)) (now (dues .entry))) ⌝ }
+{
+    match find_bytes(
+        h,
+        handles,
+        extents,
+        clocks,
+        named,
+        dues,
+        small,
+        large,
+        task,
+        handle,
+        false,
+    ) {
+        FoundBytes::Refused(why) => FoundBytes::Refused(why),
+        FoundBytes::At { block, length, sum } => {
+            let tasks = h.tasks;
+            let e = tasks[task as usize];
+            if is_viewing(e.state) {
+                FoundBytes::At {
+                    block,
+                    length: prefix_in(extents[block]),
+                    sum,
+                }
+            } else {
+                FoundBytes::At { block, length, sum }
             }
         }
     }
@@ -176,7 +231,7 @@ pub fn find_for_write<'a>(
     requires { ⌜ Sized (now handles) (now extents) (now clocks) (now named) (now dues) × (isWellFormed (lent h (now handles) (now extents) (now clocks) (now named) (now dues)) ≡ true) × (isWholeSmall (h .limits) (now small) ≡ true) × (isWholeLarge (h .limits) (now large) ≡ true) ⌝ }
     ensures { λ r. ⌜ r ≡ bytesIn (writeVerdict task handle offset count (now (small .entry)) (now (large .entry))) handle (lent h (now (handles .entry)) (now (extents .entry)) (now (clocks .entry)) (now (named .entry)) (now (dues .entry))) ⌝ }
 {
-    match find_for_read(
+    match find_bytes(
         h,
         handles,
         extents,
@@ -187,6 +242,7 @@ pub fn find_for_write<'a>(
         large,
         task,
         handle,
+        true,
     ) {
         FoundBytes::Refused(why) => FoundBytes::Refused(why),
         FoundBytes::At { block, length, sum } => {
@@ -217,7 +273,7 @@ pub fn find_for_refresh<'a>(
 {
     let tasks = h.tasks;
     match and_then(
-        task_verdict(task, tasks),
+        task_verdict(true, task, tasks),
         set_verdict(h.limits, kind, extension),
     ) {
         Verdict::Refused(why) => Found::Refused(why),
@@ -261,6 +317,7 @@ pub fn find_for_release<'a>(
         dues,
         task,
         handle,
+        true,
         false,
     ) {
         Found::Refused(why) => Found::Refused(why),

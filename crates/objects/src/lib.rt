@@ -35,7 +35,7 @@ pub enum Found {
     At { block: usize, life: Life },
 }
 
-// Where the bytes of a read or a write are: the object's block, its length, and the sum of the block's bytes.
+// Where the bytes of a read or a write are: the object's block, its length or what of it is shown, and the sum of the block's bytes.
 pub enum FoundBytes {
     Refused(Refusal),
     At { block: usize, length: u16, sum: u16 },

@@ -14,7 +14,8 @@ use Rattle.lists.proofs.All.{all-imp, all-left}
 use Rattle.lists.proofs.Cases.{by-test}
 use Rattle.ledger.specs.Objects.{Object, Reply, objectAt, stands, freshMemory, makersAfter, sharesAfter, memoryAfter, expirationsAfter}
 use Rattle.ledger.specs.Ledger.{Ledger, Sent, fresh, next, replyToRequest, replies, afterAll}
-use Rattle.ledger.specs.Noticed.{Change, changed, userOf, noticedIn}
+use Rattle.ledger.specs.Refusals.{Test}
+use Rattle.ledger.specs.Noticed.{Change, changed, earlierTests, noticedIn}
 use Rattle.ledger.specs.Numbers.{isRefusal}
 use Rattle.ledger.specs.declared.Limits.{Limits}
 use Rattle.ledger.specs.Limits.{standard, lastHandle}
@@ -157,11 +158,11 @@ module _ {handle : ℕ} {L : Ledger} {ss : List Sent} {ys : List Reply} {p′ : 
       let (_, reads, fits) = follows in
       o .answers (record { fit = fits; whole = λ e. runs-whole (k .runs) still-whole }) (afterAll (changed change) ss) reads
 
-  refused-here : (s : Sent) (task : ℕ) → userOf handle (s .request) ≡ some task → isRefusal (replyToRequest (afterAll (changed change) ss) (s .request) (s .bytes) .answer) ≡ true
+  refused-here : (s : Sent) (tests : List Test) → earlierTests handle (s .request) ≡ some tests → isRefusal (replyToRequest (afterAll (changed change) ss) (s .request) (s .bytes) .answer) ≡ true
   unfolding change
-  refused-here s task u = notices .refused change ss s task u
+  refused-here s tests u = notices .refused change ss s tests u
 
-  others-here : (s : Sent) → userOf handle (s .request) ≡ none
+  others-here : (s : Sent) → earlierTests handle (s .request) ≡ none
       → replyToRequest (afterAll (changed change) ss) (s .request) (s .bytes) ≡ replyToRequest (afterAll L ss) (s .request) (s .bytes)
   unfolding change
   others-here s u = notices .others change ss s u
@@ -170,7 +171,7 @@ pub pool-notices : PoolNotices
 pool-notices =
     record {
       every = λ handle L ss ys p′ small′ large′ k. noticed-here k;
-      refused = λ handle L ss ys p′ small′ large′ k s task u y p″ small″ large″ o. rw (answered-here k s y p″ small″ large″ o) (refused-here k s task u);
+      refused = λ handle L ss ys p′ small′ large′ k s tests u y p″ small″ large″ o. rw (answered-here k s y p″ small″ large″ o) (refused-here k s tests u);
       others = λ handle L ss ys p′ small′ large′ k s u y p″ small″ large″ o. answered-here k s y p″ small″ large″ o ∙ others-here k s u;
     }
 

@@ -19,7 +19,7 @@ use Rattle.record.specs.Reading.{Reads}
 use Rattle.record.specs.Shares.{madeIn, quotaAt, unmetIn, spokenIn}
 use Rattle.record.specs.Tables.{Tables, tablesOf}
 use Rattle.calls.specs.Contract.{areWhole}
-use Rattle.steps.proofs.Shares.{absent-nothing, shares-alike, taken-alike, made-alike, unmet-alike, all-alike}
+use Rattle.steps.proofs.Shares.{inactive-nothing, shares-alike, taken-alike, made-alike, unmet-alike, all-alike}
 use Rattle.pool.specs.Reserves.{PoolReserves}
 use Rattle.pool.proofs.Outlives.{fresh-follows}
 
@@ -56,16 +56,16 @@ pool-reserves =
       room = λ limits ss p small large r store. room-reads (fresh-follows r .1) store (reserves .room limits ss store);
       below = λ limits ss p small large r store task l. below-reads (fresh-follows r .1) store task (reserves .below limits ss store task l);
       ordered = λ limits ss p small large r store task. ordered-reads (fresh-follows r .1) store task (reserves .ordered limits ss store task);
-      absent = λ limits ss p small large r task a. absent-nothing (tablesOf p) (shared-part (tablesOf p) (fresh-follows r .2)) task a;
-      never = λ limits ss p small large r task kind extension size new short y p′ small′ large′ o.
+      inactive = λ limits ss p small large r task a. inactive-nothing (tablesOf p) (shared-part (tablesOf p) (fresh-follows r .2)) task a;
+      never = λ limits ss p small large r task kind extension size prefix new short y p′ small′ large′ o.
           let (_, reads, fit) = fresh-follows r in
           let N = afterAll (fresh limits) ss in
-          let (nine, limit) = reserves .never limits ss task kind extension size new (unmet-reads reads (isSmall size) task short) in
+          let (nine, limit) = reserves .never limits ss task kind extension size prefix new (unmet-reads reads (isSmall size) task short) in
           let told : (why : Answer) → (areWhole (p .limits) small large ≡ true → y .answer ≡ why → ⊥) → (Refused WrongStoreLength ≡ why → ⊥) → y .answer ≡ why → ⊥ =
           λ why ready wrong e. by-test (areWhole (p .limits) small large)
           (λ w. ready w e)
           (λ w. wrong (sym (ap (λ (y : Reply). y .answer) (o .wrong fit refl w .refused)) ∙ e)) in
-          let answered : areWhole (p .limits) small large ≡ true → y ≡ reply N (Make task kind extension size) new = λ w. o .answers (record { fit = fit; whole = λ u. w }) N reads in (
+          let answered : areWhole (p .limits) small large ≡ true → y ≡ reply N (Make task kind extension size prefix) new = λ w. o .answers (record { fit = fit; whole = λ u. w }) N reads in (
             told (Refused NoFreeBlock) (λ w e. nine (ap (λ (y : Reply). y .answer) (sym (answered w)) ∙ e)) not-nine,
             told (Refused AtLimit) (λ w e. limit (ap (λ (y : Reply). y .answer) (sym (answered w)) ∙ e)) not-limit,
           );

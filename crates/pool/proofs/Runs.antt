@@ -48,7 +48,7 @@ use Rattle.steps.proofs.EventTypes.{InRange, typed-scheduled}
 use Rattle.steps.proofs.Joins.{joining, join-stays, join-reads, join-fits}
 use Rattle.steps.proofs.Verdicts.{join-verdict}
 use Rattle.steps.proofs.ObjectTypes.{typed-made, typed-refreshed, typed-released}
-use Rattle.objects.specs.Outcomes.{bytesIn}
+use Rattle.objects.specs.Outcomes.{bytesIn, shownIn}
 use Rattle.objects.specs.declared.FoundBytes.{FoundBytes}
 use Rattle.objects.specs.declared.FoundBytes.the-variants.{At, Refused as RefusedBytes}
 use Rattle.calls.specs.Contract.{isStored, areWhole, TellsWhole, Ready, Obeys}
@@ -63,20 +63,20 @@ use Rattle.calls.proofs.Served.{whatever-bytes, schedule-serves, join-serves, r
 use Rattle.calls.proofs.WriteLent.{write-refused-lent, write-done-lent}
 use Rattle.pool.specs.Demands.{done, call, OfType, EveryListRuns}
 
--- A length and a maker that an extent has room for: every block of a record has such.
+-- A length, a maker and a prefix that an extent has room for: every block of a record has such.
 abbrev Short : BlockEntry → Type 0
-Short b = (b .length < lengthRange) × (b .maker < makerRange)
+Short b = (b .length < lengthRange) × (b .maker < makerRange) × (b .prefix < lengthRange)
 
 short-blocks : (hs ls : List ℕ) → All Short (blocksOf hs ls)
 unfolding blocksOf
 short-blocks [] [] = tt
 short-blocks [] (l ∷ ls) = tt
 short-blocks (h ∷ hs) [] = tt
-short-blocks (h ∷ hs) (l ∷ ls) = ((omega arith, omega arith), short-blocks hs ls)
+short-blocks (h ∷ hs) (l ∷ ls) = ((omega arith, omega arith, omega arith), short-blocks hs ls)
 
 -- The record with these entries
 extentIn : BlockEntry → ℕ
-extentIn b = extentOf (b .length) (b .sum) (b .maker)
+extentIn b = extentOf (b .length) (b .sum) (b .maker) (b .prefix)
 
 clockIn : ExpirationEntry → ℕ
 clockIn e = e .clock
@@ -105,7 +105,7 @@ poolBy t =
 blocks-by : (bs : List BlockEntry) → All Short bs → blocksOf (map handleOf bs) (map extentIn bs) ≡ bs
 unfolding blocksOf extentIn
 blocks-by [] h = refl
-blocks-by (b ∷ bs) (h, hs) = ap₂ _∷_ (entry-of (b .handle) (b .length) (b .sum) (b .maker) (h .0) (h .1)) (blocks-by bs hs)
+blocks-by (b ∷ bs) (h, hs) = ap₂ _∷_ (entry-of (b .handle) (b .length) (b .sum) (b .maker) (b .prefix) (h .0) (h .1) (h .2)) (blocks-by bs hs)
 
 entries-by : (xs : List ExpirationEntry) → entriesOf (map clockIn xs) (map blockIn xs) (map dueIn xs) ≡ xs
 unfolding entriesOf clockIn blockIn dueIn
@@ -157,7 +157,7 @@ short-swept leaver advanced tasks global t h = kept-short (swept leaver advanced
 short-orphaned : (leaver : ℕ) (bs : List BlockEntry) → All Short bs → All Short (map (orphanedBlock leaver) bs)
 short-orphaned leaver bs h =
     all-map Short (orphanedBlock leaver) bs
-    (all-imp (λ b s. (s .0, by-test (eqb (b .maker) leaver) (λ e. rw e (omega arith)) (λ e. rw e (s .1)))) bs h)
+    (all-imp (λ b s. (s .0, by-test (eqb (b .maker) leaver) (λ e. rw e (omega arith)) (λ e. rw e (s .1)), s .2)) bs h)
 
 short-by : (v : Verdict) (event : Event) (task : ℕ) (t : Tables) → All Short (t .blocks) → All Short (outcomeBy v event task t .pool .blocks)
 unfolding poolAfter movedPool orphanedPool
@@ -201,12 +201,12 @@ fine-released : (handle : ℕ) (t : Tables) → Fine t → Fine (releasedPool ha
 unfolding releasedPool
 fine-released handle t f = record { types = typed-released handle t (f .types); short = kept-short (releasedPool handle t .expirations) 0 (t .blocks) (f .short) }
 
-fine-made : (task : ℕ) (kind : Kind) (extension size : ℕ) (t : Tables) → Fine t → WellFormed.isWellFormed t ≡ true → makeVerdict task kind extension size t ≡ Accepted
-    → Fine (madePool task kind extension size t)
+fine-made : (task : ℕ) (kind : Kind) (extension size prefix : ℕ) (t : Tables) → Fine t → WellFormed.isWellFormed t ≡ true → makeVerdict task kind extension size prefix t ≡ Accepted
+    → Fine (madePool task kind extension size prefix t)
 unfolding madePool
-fine-made task kind extension size t f w v =
-    let taken = make-takes task kind extension size t (fit-parts t w) (f .types) v in
-    record { types = typed-made task kind extension size t (f .types) v; short = all-set Short (t .blocks) _ (f .short) (omega (arith, taken .block .most), omega (arith, taken .may .known)) }
+fine-made task kind extension size prefix t f w v =
+    let taken = make-takes task kind extension size prefix t (fit-parts t w) (f .types) v in
+    record { types = typed-made task kind extension size prefix t (f .types) v; short = all-set Short (t .blocks) _ (f .short) (omega (arith, taken .block .most), omega (arith, taken .may .known), omega (arith, taken .prefixed, taken .block .most)) }
 
 -- A call that can be made
 record Made (request : Request) (new : List ℕ) (p : Pool) (small large : List ℕ) : Type 0 where
@@ -306,26 +306,26 @@ module _ (new : List ℕ) {p : Pool} (o : OfType p) (small large : List ℕ) whe
     report-made : Made Report new p small large
     report-made = served (report-serves new p small large _ (report-obeys p w)) o
 
-  make-by : (task : ℕ) (kind : Kind) (extension size : ℕ) → Ready (Use (Make task kind extension size)) p small large
-      → (v : Verdict) → makeVerdict task kind extension size (tablesOf p) ≡ v → Made (Use (Make task kind extension size)) new p small large
+  make-by : (task : ℕ) (kind : Kind) (extension size prefix : ℕ) → Ready (Use (Make task kind extension size prefix)) p small large
+      → (v : Verdict) → makeVerdict task kind extension size prefix (tablesOf p) ≡ v → Made (Use (Make task kind extension size prefix)) new p small large
   unfolding tablesOf tablesBy madePool
-  make-by task kind extension size ready Accepted e =
-      let t = madePool task kind extension size (tablesOf p) in
-      let f = fine-made task kind extension size (tablesOf p) fine (ready .fit) e in
+  make-by task kind extension size prefix ready Accepted e =
+      let t = madePool task kind extension size prefix (tablesOf p) in
+      let f = fine-made task kind extension size prefix (tablesOf p) fine (ready .fit) e in
       let place = freePlace (p .limits) size (tablesOf p .blocks) in
-      let taken = make-takes task kind extension size (tablesOf p) (fit-parts (tablesOf p) (ready .fit)) types e in
-      served (make-serves new p small large task kind extension size _ (poolBy t) _ _
+      let taken = make-takes task kind extension size prefix (tablesOf p) (fit-parts (tablesOf p) (ready .fit)) types e in
+      served (make-serves new p small large task kind extension size prefix _ (poolBy t) _ _
       (make-cleared types ready {p′ = poolBy t} place refl
       (sym (ap handleOf (block-at (p .handles) (p .extents) (o .sized .blocks .of-handles) (o .sized .blocks .of-extents) place)) ∙ taken .block .free)
       (List·getD-map handleOf (t .blocks) place freeBlock ∙ ap handleOf (getD-set-same (tablesOf p .blocks) place _ freeBlock (taken .block .listed)))
       (tables-by t f) e refl refl)) (of-type-by t f)
-  make-by task kind extension size ready (Refused r) e =
-      served (make-serves new p small large task kind extension size _ p small large (make-kept types ready r e)) o
+  make-by task kind extension size prefix ready (Refused r) e =
+      served (make-serves new p small large task kind extension size prefix _ p small large (make-kept types ready r e)) o
 
   read-made : (task handle : ℕ) → Ready (Use (Read task handle)) p small large → Made (Use (Read task handle)) new p small large
   unfolding reply next testsOf memoryAfter expirationsAfter
   read-made task handle ready =
-      let found = locates types ready (bytesIn (readVerdict task handle small large) handle (tablesOf p)) refl in
+      let found = locates types ready (shownIn (readVerdict task handle small large) task handle (tablesOf p)) refl in
       obeyed (whatever-bytes new (λ L. refl) (λ L. refl) (λ b. b) (found .reads)) o
 
   write-by : (task handle offset : ℕ) → Ready (Use (Write task handle offset)) p small large
@@ -342,7 +342,7 @@ module _ (new : List ℕ) {p : Pool} (o : OfType p) (small large : List ℕ) whe
   ready-made : (request : Request) → Ready request p small large → Made request new p small large
   ready-made (Use (Join task share)) r = join-by (r .fit) task share _ refl
   ready-made (Use (Schedule event task)) r = schedule-by (r .fit) event task _ refl
-  ready-made (Use (Make task kind extension size)) r = make-by task kind extension size r _ refl
+  ready-made (Use (Make task kind extension size prefix)) r = make-by task kind extension size prefix r _ refl
   ready-made (Use (Refresh task kind extension handle)) r = refresh-by (r .fit) task kind extension handle _ refl
   ready-made (Use (Read task handle)) r = read-made task handle r
   ready-made (Use (Write task handle offset)) r = write-by task handle offset r _ refl

@@ -49,7 +49,7 @@ Demand2 =
     → (ss : List Sent) (ys : List Reply) (p′ : Pool) (small′ large′ : List ℕ) → Runs (freshPool limits) small large ss ys p′ small′ large′
     → (ys ≡ replies (fresh limits) ss) × Reads p′ small′ large′ (afterAll (fresh limits) ss) × (isWellFormed p′ ≡ true)
 
--- Demand 3: for every such list of the eleven calls the answers equal the unbounded heap's exactly when all use was in time and in bounds.
+-- Demand 3: for every such list of the twelve calls the answers equal the unbounded heap's exactly when all use was in time and in bounds.
 abbrev pub PoolDemand3 : Type 0
 PoolDemand3 =
     (limits : Limits) → isAllowed limits ≡ true → (small large : List ℕ) → length small ≡ wholeSmall limits → length large ≡ wholeLarge limits

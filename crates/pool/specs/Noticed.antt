@@ -10,7 +10,8 @@ use Rattle.lists.specs.Tests.{All}
 use Rattle.ledger.specs.Objects.{Reply}
 use Rattle.ledger.specs.Ledger.{Ledger, Sent, fresh, replyToRequest, afterAll}
 use Rattle.ledger.specs.Limits.{standard, isAllowed}
-use Rattle.ledger.specs.Noticed.{userOf, noticedIn}
+use Rattle.ledger.specs.Refusals.{Test}
+use Rattle.ledger.specs.Noticed.{earlierTests, noticedIn}
 use Rattle.ledger.specs.Numbers.{isRefusal}
 use Rattle.ledger.specs.Rows.{join, make}
 use Rattle.ledger.specs.declared.Answer.the-variants.{Refused}
@@ -58,12 +59,12 @@ pub record PoolNotices : Type 0 where
       → ys ≡ noticedIn handle L ss
   -- after whatever calls, each read and each write of the object is refused,
   pub refused : (handle : ℕ) (L : Ledger) (ss : List Sent) (ys : List Reply) (p′ : Pool) (small′ large′ : List ℕ) → ChangedRun handle L ss ys p′ small′ large′
-      → (s : Sent) (task : ℕ) → userOf handle (s .request) ≡ some task
+      → (s : Sent) (tests : List Test) → earlierTests handle (s .request) ≡ some tests
       → (y : Reply) (p″ : Pool) (small″ large″ : List ℕ) → Obeys (s .request) (s .bytes) p′ small′ large′ y p″ small″ large″
       → isRefusal (y .answer) ≡ true
   -- and every other call is answered as the ledger without the change says.
   pub others : (handle : ℕ) (L : Ledger) (ss : List Sent) (ys : List Reply) (p′ : Pool) (small′ large′ : List ℕ) → ChangedRun handle L ss ys p′ small′ large′
-      → (s : Sent) → userOf handle (s .request) ≡ none
+      → (s : Sent) → earlierTests handle (s .request) ≡ none
       → (y : Reply) (p″ : Pool) (small″ large″ : List ℕ) → Obeys (s .request) (s .bytes) p′ small′ large′ y p″ small″ large″
       → y ≡ replyToRequest (afterAll L ss) (s .request) (s .bytes)
 

@@ -1,13 +1,13 @@
 -- Q10 and Q11 of the pool, over lists of calls: free blocks for all unmet reserves, nobody above a limit, and no make of a task below its reserve is answered 9 or 26.
 use Prim.Native.Nat.{ℕ, _≤_, _<_}
-use mathlib.Core.Bool.{Bool, true}
+use mathlib.Core.Bool.{Bool, true, false}
 use mathlib.Core.List.{List, [], _∷_}
 use mathlib.Core.Logic.{_≢_}
 use mathlib.Core.Path.{_≡_}
 use lib.ListN.{getD}
 use Rattle.ledger.specs.Limits.{standard, taskCount, isSmall}
 use Rattle.ledger.specs.Objects.{Reply, noShare}
-use Rattle.ledger.specs.Tasks.{isAbsent}
+use Rattle.ledger.specs.Tasks.{isActive}
 use Rattle.ledger.specs.Shares.{blocksIn}
 use Rattle.ledger.specs.Ledger.{Sent}
 use Rattle.ledger.specs.Rows.{joinWith, shareOf}
@@ -36,14 +36,14 @@ pub record PoolReserves : Type 0 where
   pub ordered : (limits : Limits) (ss : List Sent) (p : Pool) (small large : List ℕ) → FreshRun limits ss p small large
       → (store : Bool) (task : ℕ)
       → let t = tablesOf p in quotaAt store (t .shares) (t .blocks) task .reserve ≤ quotaAt store (t .shares) (t .blocks) task .limit
-  -- who is absent has nothing,
-  pub absent : (limits : Limits) (ss : List Sent) (p : Pool) (small large : List ℕ) → FreshRun limits ss p small large
-      → (task : ℕ) → let t = tablesOf p in isAbsent (stateOf (getD (t .tasks) task absentEntry .state)) ≡ true → getD (t .shares) task noShare ≡ noShare
+  -- who is absent or views has nothing,
+  pub inactive : (limits : Limits) (ss : List Sent) (p : Pool) (small large : List ℕ) → FreshRun limits ss p small large
+      → (task : ℕ) → let t = tablesOf p in isActive (stateOf (getD (t .tasks) task absentEntry .state)) ≡ false → getD (t .shares) task noShare ≡ noShare
   -- and whatever a make of a task below its reserve is answered, it is neither 9 nor 26.
   pub never : (limits : Limits) (ss : List Sent) (p : Pool) (small large : List ℕ) → FreshRun limits ss p small large
-      → (task : ℕ) (kind : Kind) (extension size : ℕ) (new : List ℕ)
+      → (task : ℕ) (kind : Kind) (extension size prefix : ℕ) (new : List ℕ)
       → let t = tablesOf p in 1 ≤ unmetIn (isSmall size) (t .shares) (t .blocks) task
-      → (y : Reply) (p′ : Pool) (small′ large′ : List ℕ) → Obeys (Use (Make task kind extension size)) new p small large y p′ small′ large′
+      → (y : Reply) (p′ : Pool) (small′ large′ : List ℕ) → Obeys (Use (Make task kind extension size prefix)) new p small large y p′ small′ large′
       → (y .answer ≢ Refused NoFreeBlock) × (y .answer ≢ Refused AtLimit)
   -- A task may be below its reserve: after a join with a reserve of one small block it is. (There is such a run: `EveryListFromFresh`.)
   pub applies : (p : Pool) (small large : List ℕ) → FreshRun standard (joinWith 0 (shareOf 1 1 0 0) ∷ []) p small large

@@ -1,9 +1,8 @@
 -- Bytes change by accepted makes and writes alone: what a call leaves tells it of one action, and the lists follow.
 use Prim.Native.Nat.{ℕ, _+_}
 use mathlib.Core.Bool.{Bool, true, false, false≢true, true≢false, _||_}
-use mathlib.Core.List.{List, [], _∷_}
+use mathlib.Core.List.{List}
 use mathlib.Core.Path.{_≡_, refl, sym, ap, _∙_}
-use native.Mathlib.Omega.{arith}
 use borrow.Author.Tests.{eqb-true, eqb-false}
 use lib.Dec.{eqb}
 use lib.ListN.{length, getD}
@@ -29,7 +28,7 @@ use Rattle.ramsummer.specs.Bytes.{PutsIn, clears, writes, StoresLeft, st
 module _ (asked : Asked) (loans : Loans) (t : Told) (p p′ : Pool) (small large small′ large′ : List ℕ) where
   -- an answer's stores, where 0 is told, by the frame that was asked
   module _ (zero : t .number ≡ 0) where
-    made : {task : ℕ} {kind : Kind} {extension size count : ℕ} → frameAsked asked ≡ Frame.Request (Use (Make task kind extension size)) count
+    made : {task : ℕ} {kind : Kind} {extension size prefix count : ℕ} → frameAsked asked ≡ Frame.Request (Use (Make task kind extension size prefix)) count
         → length small′ ≡ length small → length large′ ≡ length large
         → (refused : Bool) → LeavesMade refused p small large p′ small′ large′ → StoresLeft (asks asked loans) t p small large p′ small′ large′
     made e m n true (a, (s, l)) = stay s l
@@ -46,7 +45,7 @@ module _ (asked : Asked) (loans : Loans) (t : Told) (p p′ : Pool) (small large
         → StoresLeft (asks asked loans) t p small large p′ small′ large′
     stored (Frame.Request (Use (Join task share)) count) e y o = stay (o .left .0) (o .left .1)
     stored (Frame.Request (Use (Schedule event task)) count) e y o = stay (o .left .0) (o .left .1)
-    stored (Frame.Request (Use (Make task kind extension size)) count) e y o = made e (o .sizes .0) (o .sizes .1) (isRefusal (y .answer)) (o .left)
+    stored (Frame.Request (Use (Make task kind extension size prefix)) count) e y o = made e (o .sizes .0) (o .sizes .1) (isRefusal (y .answer)) (o .left)
     stored (Frame.Request (Use (Refresh task kind extension handle)) count) e y o = stay (o .left .0) (o .left .1)
     stored (Frame.Request (Use (Read task handle)) count) e y o = stay (o .left .1 .0) (o .left .1 .1)
     stored (Frame.Request (Use (Write task handle offset)) count) e y o = written e (o .sizes .0) (o .sizes .1) (isRefusal (y .answer)) (o .left)
@@ -60,7 +59,7 @@ module _ (asked : Asked) (loans : Loans) (t : Told) (p p′ : Pool) (small large
   looked : (frame : Frame) → isLookOf frame ≡ true → (y : Reply) → IsReplyTo frame (bytesAsked asked) p small large y p′ small′ large′ → Same p small large p′ small′ large′
   looked (Frame.Request (Use (Join task share)) count) k y o = absurd (false≢true k)
   looked (Frame.Request (Use (Schedule event task)) count) k y o = absurd (false≢true k)
-  looked (Frame.Request (Use (Make task kind extension size)) count) k y o = absurd (false≢true k)
+  looked (Frame.Request (Use (Make task kind extension size prefix)) count) k y o = absurd (false≢true k)
   looked (Frame.Request (Use (Refresh task kind extension handle)) count) k y o = absurd (false≢true k)
   looked (Frame.Request (Use (Read task handle)) count) k y o = o .left
   looked (Frame.Request (Use (Write task handle offset)) count) k y o = absurd (false≢true k)

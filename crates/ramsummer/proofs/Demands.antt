@@ -15,8 +15,8 @@ use Rattle.ledger.specs.Limits.{taskCount, isAllowed}
 use Rattle.ledger.specs.Numbers.{answerNumber}
 use Rattle.ledger.specs.Tasks.{isTested}
 use Rattle.ledger.specs.Objects.{Memory, Reply, plain, replyTo, freshMemory}
-use Rattle.ledger.specs.Ledger.{Ledger, fresh, replyBy, reply, next, replies}
-use Rattle.ledger.specs.Heap.{Used, sent, heapReply, heapNext, heapReplies}
+use Rattle.ledger.specs.Ledger.{Ledger, fresh, replyBy, next, replies}
+use Rattle.ledger.specs.Heap.{Used, sent, heapNext, heapReplies}
 use Rattle.ledger.specs.declared.Answer.the-variants.{Refused}
 use Rattle.ledger.specs.declared.Call.{Call}
 use Rattle.ledger.specs.declared.Call.the-variants.{Join, Schedule, Make, Refresh, Read, Write, Batch, Release}
@@ -38,28 +38,28 @@ use Rattle.numbered.specs.Steps.{Asked, entry, line, frameAsked, bytesAsked, is
 use Rattle.ramsummer.specs.Demands.{HostRuns, replyIn, afterIn, toldOf, afterAction, toldOfAll, afterActions, IsPoolOf, HostDemand2, Using, calls, noCall, unheard, actionOf, callsIn, heapToldAll, HostDemand3}
 
 -- A well-formed record with whole stores that reads as a ledger;
-record Held (L : Ledger) (p : Pool) (small large : List ℕ) : Type 0 where
-  fit : isWellFormed p ≡ true
-  whole : areWhole (p .limits) small large ≡ true
-  reads : Reads p small large L
+pub record Held (L : Ledger) (p : Pool) (small large : List ℕ) : Type 0 where
+  pub fit : isWellFormed p ≡ true
+  pub whole : areWhole (p .limits) small large ≡ true
+  pub reads : Reads p small large L
 
 -- or a record that is not well-formed.
-abbrev BesideBy : Option Ledger → Pool → List ℕ → List ℕ → Type 0
+abbrev pub BesideBy : Option Ledger → Pool → List ℕ → List ℕ → Type 0
 BesideBy (some L) p small large = Held L p small large
 BesideBy none p small large = isWellFormed p ≡ false
 
-record Beside (beside : Option Ledger) (p : Pool) (small large : List ℕ) : Type 0 where
-  so : BesideBy beside p small large
+pub record Beside (beside : Option Ledger) (p : Pool) (small large : List ℕ) : Type 0 where
+  pub so : BesideBy beside p small large
 
 -- a pool that was made, with stores as long as its blocks need
-made : (limits : Limits) → isAllowed limits ≡ true → (small large : List ℕ) → length small ≡ wholeSmall limits → length large ≡ wholeLarge limits
+pub made : (limits : Limits) → isAllowed limits ≡ true → (small large : List ℕ) → length small ≡ wholeSmall limits → length large ≡ wholeLarge limits
     → Held (fresh limits) (freshPool limits) small large
 unfolding freshPool
 made limits may small large s l =
     record { fit = fresh-well-formed limits may; whole = rw (eq-eqb _ _ s, eq-eqb _ _ l); reads = fresh-reads limits small large }
 
 -- what a frame makes of it
-framed : (beside : Option Ledger) (frame : Frame) (bytes : List ℕ) {p p′ : Pool} {small large small′ large′ : List ℕ} {y : Reply} → Beside beside p small large
+pub framed : (beside : Option Ledger) (frame : Frame) (bytes : List ℕ) {p p′ : Pool} {small large small′ large′ : List ℕ} {y : Reply} → Beside beside p small large
     → IsReplyTo frame bytes p small large y p′ small′ large′ → (y ≡ replyIn beside frame bytes) × Beside (afterIn beside frame bytes) p′ small′ large′
 framed (some L) (Frame.Request request count) bytes b o =
     let h = b .so in (
@@ -121,7 +121,7 @@ acts (shares task old) (some L) {p′ = p′} {small = small} {large} {small′ 
 acts (shares task old) none b g =
     let (n, same) = g .share .unfit (b .so) in (ap₂ withNumber n (rw (← same) (g .shown)), rw (g .samePool, g .sameSmall, g .sameLarge) b)
 
-runs-follow : {p p′ : Pool} {small small′ large large′ : List ℕ} {ds : List Action} {ts : List Told} → HostRuns p small large ds ts p′ small′ large′
+pub runs-follow : {p p′ : Pool} {small small′ large large′ : List ℕ} {ds : List Action} {ts : List Told} → HostRuns p small large ds ts p′ small′ large′
     → (beside : Option Ledger) → Beside beside p small large → (ts ≡ toldOfAll beside ds) × Beside (afterActions beside ds) p′ small′ large′
 unfolding toldOfAll afterActions
 runs-follow HostRuns.done beside b = (refl, b)
@@ -191,7 +191,7 @@ accepted : (call : Call) (m : Memory) → answerNumber (replyTo call m .answer) 
 unfolding replyTo
 accepted (Join task share) m = refl
 accepted (Schedule event task) m = by-test (isTested event) (λ e. rw e) (λ e. rw e)
-accepted (Make task kind extension size) m = refl
+accepted (Make task kind extension size prefix) m = refl
 accepted (Refresh task kind extension handle) m = refl
 accepted (Read task handle) m = refl
 accepted (Write task handle offset) m = refl

@@ -24,8 +24,8 @@ use Rattle.ramsummer.specs.Demands.{HostRuns}
 
 -- An action puts these bytes at an offset in a block: an accepted make zeros into all of a block that was free, an accepted write its own into the block of its object.
 pub data PutsIn : Action → Told → Pool → Pool → ℕ → ℕ → List ℕ → Type 0 where
-  clears : {asked : Asked} {loans : Loans} {task : ℕ} {kind : Kind} {extension size count : ℕ} {t : Told} {p p′ : Pool} {block : ℕ}
-      → frameAsked asked ≡ Frame.Request (Use (Make task kind extension size)) count → t .number ≡ 0
+  clears : {asked : Asked} {loans : Loans} {task : ℕ} {kind : Kind} {extension size prefix count : ℕ} {t : Told} {p p′ : Pool} {block : ℕ}
+      → frameAsked asked ≡ Frame.Request (Use (Make task kind extension size prefix)) count → t .number ≡ 0
       → isBlock (p .limits) block ≡ true → getD (p .handles) block 0 ≡ 0 → getD (p′ .handles) block 0 ≡ p .given + 1
       → PutsIn (asks asked loans) t p p′ block 0 (replicate (sizeOf block) 0)
   writes : {asked : Asked} {loans : Loans} {task handle offset count : ℕ} {t : Told} {p p′ : Pool}
@@ -64,7 +64,7 @@ isRenewal (shares task old) = false
 abbrev pub isLookOf : Frame → Bool
 isLookOf (Frame.Request (Use (Join task share)) count) = false
 isLookOf (Frame.Request (Use (Schedule event task)) count) = false
-isLookOf (Frame.Request (Use (Make task kind extension size)) count) = false
+isLookOf (Frame.Request (Use (Make task kind extension size prefix)) count) = false
 isLookOf (Frame.Request (Use (Refresh task kind extension handle)) count) = false
 isLookOf (Frame.Request (Use (Read task handle)) count) = true
 isLookOf (Frame.Request (Use (Write task handle offset)) count) = false

@@ -1,5 +1,5 @@
--- Demands 2 and 3 for a host, over lists of what it does through the entries: everything that it is told is what the ledger tells; and over the eleven calls
--- it is what the unbounded heap tells, exactly when all use was in time and in bounds.
+-- Demands 2 and 3 for a host, over lists of what it does through the entries: everything that it is told is what the ledger tells; and over
+-- the twelve calls it is what the unbounded heap tells, exactly when all use was in time and in bounds.
 use Prim.Native.Nat.{ℕ}
 use mathlib.Core.Bool.{true, false, cond}
 use mathlib.Core.List.{List, [], _∷_, map}
@@ -91,7 +91,8 @@ HostDemand2 =
     HostRuns p small₀ large₀ ds ts p′ small′ large′
     → (ts ≡ toldOfAll none ds) × IsPoolOf (afterActions none ds) p′ small′ large′)
 
--- What a host asks in demand 3's lists: one of the eleven calls, by its own entry or by a line; a kind that is none, or a line that yields no call; and a line with no room for its answer.
+-- What a host asks in demand 3's lists: one of the twelve calls, by its own entry or by a line; a kind that is none, or a line that yields
+-- no call; and a line with no room for its answer.
 pub data Using : Type 0 where
   calls : (asked : Asked) (loans : Loans) (call : Call) (count : ℕ) → isHeard asked loans ≡ true → frameAsked asked ≡ Frame.Request (Use call) count → Using
   noCall : (asked : Asked) (loans : Loans) (why : Refusal) → isHeard asked loans ≡ true → frameAsked asked ≡ Frame.Refused why → Using

@@ -3,7 +3,7 @@
 ghost use mathlib.Core.List.{[], _∷_};
 ghost use mathlib.Core.Path.{_≡_};
 ghost use Rattle.ledger.specs.declared.Call.the-variants.{Join, Schedule, Release};
-ghost use Rattle.ledger.specs.declared.Event.the-variants.{Leave, Block, Resume, Tick};
+ghost use Rattle.ledger.specs.declared.Event.the-variants.{Leave, Block, Resume, Tick, View};
 ghost use Rattle.ledger.specs.declared.Request.the-variants.{Use, Report, Remaining};
 ghost use Rattle.ledger.specs.Limits.{chosen, standard};
 ghost use Rattle.frames.specs.Frames.{kindOf, shareOf};
@@ -87,6 +87,16 @@ pub extern "C" fn ramsummer_tick(p: &mut Pool, task: u8, advanced: &mut u8) -> u
     r.number
 }
 
+// V1: joins as a viewer (02: 0E).
+#[no_mangle]
+pub extern "C" fn ramsummer_view(p: &mut Pool, task: u8) -> u8
+    ensures { λ r. ⌜ Does (Use (Schedule View task)) (now (p .entry)) [] r (now (p .exit)) [] ⌝ }
+{
+    let r = numbered_tasks::view(*p, task);
+    *p = r.pool;
+    r.number
+}
+
 #[no_mangle]
 pub extern "C" fn ramsummer_make(
     p: &mut Pool,
@@ -96,11 +106,22 @@ pub extern "C" fn ramsummer_make(
     kind: u8,
     extension: u8,
     size: u16,
+    prefix: u16,
     handle: &mut u32,
 ) -> u8
-    ensures { λ r. ⌜ MakesBy (kindOf kind) task extension size (now (p .entry)) (now (small .entry)) (now (large .entry)) (now (handle .entry) ∷ []) r (now (p .exit)) (now (small .exit)) (now (large .exit)) (now (handle .exit) ∷ []) ⌝ }
+    ensures { λ r. ⌜ MakesBy (kindOf kind) task extension size prefix (now (p .entry)) (now (small .entry)) (now (large .entry)) (now (handle .entry) ∷ []) r (now (p .exit)) (now (small .exit)) (now (large .exit)) (now (handle .exit) ∷ []) ⌝ }
 {
-    let r = numbered::make(*p, small, large, task, kind, extension, size, handle);
+    let r = numbered::make(
+        *p,
+        small,
+        large,
+        task,
+        kind,
+        extension,
+        size,
+        prefix,
+        handle,
+    );
     *p = r.pool;
     r.number
 }

@@ -2,9 +2,9 @@
 use Prim.Native.Nat.{ℕ, _≤_, _<_}
 use native.Mathlib.Omega.{arith}
 use mathlib.Core.List.{List, map, map-map, map-id}
-use mathlib.Core.Path.{_≡_, refl, sym, _∙_, ap}
+use mathlib.Core.Path.{_≡_, sym, _∙_, ap}
 use lib.Dec.{ltb}
-use lib.ListN.{length, getD, set, length-map, length-set, List·getD-eq-default, List·getD-map}
+use lib.ListN.{length, getD, set, length-map, List·getD-eq-default, List·getD-map}
 use lib.Seq.{set-getD}
 use borrow.Author.Tests.{ltb-true, ltb-false}
 use Rattle.lists.specs.Columns.{_⊛_}
@@ -12,7 +12,7 @@ use Rattle.lists.proofs.Cases.{by-test}
 use Rattle.lists.proofs.Columns.{length-⊛, at-⊛, set-⊛, map-⊛, unseen-⊛}
 use Rattle.lists.proofs.Tables.{map-set}
 use Rattle.record.specs.Codes.{freeBlock, freeEntry}
-use Rattle.record.specs.Tables.{BlockEntry, ExpirationEntry, lengthRange, makerRange, lengthIn, sumIn, makerIn, extentOf, withSum, withMaker, blockEntry, expirationEntry, blocksOf, entriesOf}
+use Rattle.record.specs.Tables.{BlockEntry, ExpirationEntry, lengthRange, makerRange, lengthIn, sumIn, makerIn, prefixIn, extentOf, withSum, withMaker, blockEntry, expirationEntry, blocksOf, entriesOf}
 
 -- two columns of as many
 module _ {n : ℕ} (hs ls : List ℕ) (a : length hs ≡ n) (b : length ls ≡ n) where
@@ -50,49 +50,60 @@ pub extents-set : (hs ls : List ℕ) (i l : ℕ) → blocksOf hs (set ls i l) �
 extents-set hs ls i l = rw (set-getD hs i 0) at (blocks-set hs ls i (getD hs i 0) l)
 
 -- what an extent is made of can be read out of it
-pub entry-of : (handle size sum maker : ℕ) → size < lengthRange → maker < makerRange
-    → blockEntry handle (extentOf size sum maker) ≡ record { handle = handle; length = size; sum = sum; maker = maker }
-entry-of handle size sum maker h m =
-    rw (low, middle, high)
+pub entry-of : (handle size sum maker prefix : ℕ) → size < lengthRange → maker < makerRange → prefix < lengthRange
+    → blockEntry handle (extentOf size sum maker prefix) ≡ record { handle = handle; length = size; sum = sum; maker = maker; prefix = prefix }
+entry-of handle size sum maker prefix h m p =
+    rw (of-length, of-sum, of-maker, of-prefix)
   where
-    low : lengthIn (extentOf size sum maker) ≡ size
-    low = omega arith
+    of-length : lengthIn (extentOf size sum maker prefix) ≡ size
+    of-length = omega arith
 
-    middle : sumIn (extentOf size sum maker) ≡ sum
-    middle = omega arith
+    of-sum : sumIn (extentOf size sum maker prefix) ≡ sum
+    of-sum = omega arith
 
-    high : makerIn (extentOf size sum maker) ≡ maker
-    high = omega arith
+    of-maker : makerIn (extentOf size sum maker prefix) ≡ maker
+    of-maker = omega arith
+
+    of-prefix : prefixIn (extentOf size sum maker prefix) ≡ prefix
+    of-prefix = omega arith
 
 -- and so can another sum,
 pub entry-summed : (handle extent sum : ℕ)
-    → blockEntry handle (withSum extent sum) ≡ record { handle = handle; length = lengthIn extent; sum = sum; maker = makerIn extent }
+    → blockEntry handle (withSum extent sum)
+    ≡ record { handle = handle; length = lengthIn extent; sum = sum; maker = makerIn extent; prefix = prefixIn extent }
 entry-summed handle extent sum =
-    rw (low, middle, high)
+    rw (of-length, of-sum, of-maker, of-prefix)
   where
-    low : lengthIn (withSum extent sum) ≡ lengthIn extent
-    low = omega arith
+    of-length : lengthIn (withSum extent sum) ≡ lengthIn extent
+    of-length = omega arith
 
-    middle : sumIn (withSum extent sum) ≡ sum
-    middle = omega arith
+    of-sum : sumIn (withSum extent sum) ≡ sum
+    of-sum = omega arith
 
-    high : makerIn (withSum extent sum) ≡ makerIn extent
-    high = omega arith
+    of-maker : makerIn (withSum extent sum) ≡ makerIn extent
+    of-maker = omega arith
+
+    of-prefix : prefixIn (withSum extent sum) ≡ prefixIn extent
+    of-prefix = omega arith
 
 -- and another maker
 pub entry-made : (handle extent maker : ℕ) → maker < makerRange
-    → blockEntry handle (withMaker extent maker) ≡ record { handle = handle; length = lengthIn extent; sum = sumIn extent; maker = maker }
+    → blockEntry handle (withMaker extent maker)
+    ≡ record { handle = handle; length = lengthIn extent; sum = sumIn extent; maker = maker; prefix = prefixIn extent }
 entry-made handle extent maker m =
-    rw (low, middle, high)
+    rw (of-length, of-sum, of-maker, of-prefix)
   where
-    low : lengthIn (withMaker extent maker) ≡ lengthIn extent
-    low = omega arith
+    of-length : lengthIn (withMaker extent maker) ≡ lengthIn extent
+    of-length = omega arith
 
-    middle : sumIn (withMaker extent maker) ≡ sumIn extent
-    middle = omega arith
+    of-sum : sumIn (withMaker extent maker) ≡ sumIn extent
+    of-sum = omega arith
 
-    high : makerIn (withMaker extent maker) ≡ maker
-    high = omega arith
+    of-maker : makerIn (withMaker extent maker) ≡ maker
+    of-maker = omega arith
+
+    of-prefix : prefixIn (withMaker extent maker) ≡ prefixIn extent
+    of-prefix = omega arith
 
 -- three columns of as many
 module _ {n : ℕ} (cs bs ds : List ℕ) (a : length cs ≡ n) (b : length bs ≡ n) (d : length ds ≡ n) where

@@ -115,6 +115,7 @@ pub record FitUsed (p : Tables) (block : ℕ) : Type 0 where
   pub used : getD (p .blocks) block freeBlock .handle ≢ 0
   pub named : any (isNaming block) (p .expirations) ≡ true
   pub sized : isSizedFor block (getD (p .blocks) block freeBlock .length) ≡ true
+  pub prefixed : getD (p .blocks) block freeBlock .prefix ≤ getD (p .blocks) block freeBlock .length
   pub numbered : getD (p .blocks) block freeBlock .handle ≤ p .given
   pub listed : isBlock (p .limits) block ≡ true
 
@@ -122,5 +123,6 @@ pub fit-used : {p : Tables} → Fit p → (block : ℕ) → eqb (getD (p .blocks
 unfolding isFitBlock
 fit-used {p} f block used =
     let fits = allFrom-at (isFitBlock (p .given) (p .expirations)) freeBlock (λ i. refl) (p .blocks) (f .blocks) block in
-    let (named, sized, numbered) = and₃ (any (isNaming block) (p .expirations)) _ _ (rw used at fits) in
-    record { used = eqb-false _ 0 used; named = named; sized = sized; numbered = leb-true _ _ numbered; listed = rw used at (allFrom-at (isBlockAt (p .limits)) freeBlock (λ i. refl) (p .blocks) (f .listed) block) }
+    let (shaped, numbered) = and-eq-true-iff _ _ .0 (rw used at fits) in
+    let (named, sized, prefixed) = and₃ (any (isNaming block) (p .expirations)) _ _ shaped in
+    record { used = eqb-false _ 0 used; named = named; sized = sized; prefixed = leb-true _ _ prefixed; numbered = leb-true _ _ numbered; listed = rw used at (allFrom-at (isBlockAt (p .limits)) freeBlock (λ i. refl) (p .blocks) (f .listed) block) }

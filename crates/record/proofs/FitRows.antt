@@ -2,12 +2,13 @@
 use mathlib.Core.Path.{refl}
 use Rattle.lists.specs.Sums.{sumBelow}
 use Rattle.ledger.specs.Limits.{counterRange}
+use Rattle.ledger.specs.Tasks.{allTicked}
 use Rattle.record.specs.Shares.{isTaken, madeIn, allUnmetIn, isSharedIn}
-use Rattle.record.specs.WellFormed.{isFitDue}
+use Rattle.record.specs.WellFormed.{isFitTask, isFitDue}
 use Rattle.record.specs.FitRows.{FitRows}
 
 pub fit-rows : FitRows
-unfolding isFitDue counterRange sumBelow isTaken madeIn allUnmetIn isSharedIn
+unfolding allTicked isFitTask isFitDue counterRange sumBelow isTaken madeIn allUnmetIn isSharedIn
 fit-rows =
     record {
       oneTick = refl;
@@ -22,6 +23,8 @@ fit-rows =
       secondEntry = refl;
       absentWithNothing = refl;
       absentWithALimit = refl;
+      viewerWithNothing = refl;
+      viewerWithALimit = refl;
       reserveAtLimit = refl;
       reserveAboveLimit = refl;
       madeByDeparted = refl;
@@ -32,4 +35,13 @@ fit-rows =
       takenReserve = refl;
       atLimit = refl;
       aboveLimit = refl;
+      prefixOfAll = refl;
+      prefixPastTheEnd = refl;
+      viewerFits = refl;
+      viewerTicked = refl;
+      fifthState = refl;
+      tickedBesideViewer = refl;
+      viewersAlone = refl;
+      viewerSetLocal = refl;
+      viewerSetGlobal = refl;
     }

@@ -1,42 +1,42 @@
 -- The state that a code means, by tests of the code, and the advance test of a table of tasks.
 use Prim.Native.Nat.{ℕ}
-use mathlib.Core.Bool.{Bool, true, false, cond, not, _&&_, _||_, and-true, and-false, or-assoc, or-false}
+use mathlib.Core.Bool.{Bool, true, false, not, _&&_, _||_, and-true, and-false, or-assoc, or-false}
 use mathlib.Core.List.{List, [], _∷_, map}
 use mathlib.Core.Path.{_≡_, refl, sym, ap}
 use borrow.Author.Tests.{eqb-true}
 use lib.Dec.{eqb}
 use Rattle.lists.specs.Tests.{any}
-use Rattle.lists.proofs.Cases.{not-and-not}
+use Rattle.lists.proofs.Cases.{by-test, not-and-not}
 use Rattle.lists.proofs.Counts.{any-map, all-mapped}
 use Rattle.lists.proofs.Implied.{all-not-any}
-use Rattle.ledger.specs.Tasks.{Task, isAbsent, isRunning, isWaiting, allTicked}
-use Rattle.ledger.specs.declared.State.the-variants.{Absent, Running, Waiting}
+use Rattle.ledger.specs.Tasks.{Task, isAbsent, isRunning, isWaiting, isViewing, isActive, allTicked}
+use Rattle.ledger.specs.declared.State.{State}
+use Rattle.ledger.specs.declared.State.the-variants.{Absent, Running, Waiting, Viewing}
 use Rattle.record.specs.Codes.{stateOf, taskOf, isRunningEntry, isPendingEntry}
 use Rattle.record.specs.declared.TaskEntry.{TaskEntry}
 
-running-by : (one two : Bool) → one ≡ isRunning (cond one Running (cond two Waiting Absent))
-running-by true two = refl
-running-by false true = refl
-running-by false false = refl
-
-waiting-by : (one two : Bool) → (one ≡ true → two ≡ false) → two ≡ isWaiting (cond one Running (cond two Waiting Absent))
-waiting-by true two h = h refl
-waiting-by false true h = refl
-waiting-by false false h = refl
-
-absent-by : (one two : Bool) → (not one && not two) ≡ isAbsent (cond one Running (cond two Waiting Absent))
-absent-by true two = refl
-absent-by false true = refl
-absent-by false false = refl
+-- what a state is asked comes out by which of the three codes it is
+by-code : (code : ℕ) (P : Bool → Bool → Bool → State → Type 0) → P true false false Running → P false true false Waiting → P false false true Viewing
+    → P false false false Absent → P (eqb code 1) (eqb code 2) (eqb code 3) (stateOf code)
+by-code code P one two three none =
+    by-test (eqb code 1) (λ e. rw (eqb-true code 1 e) one)
+    (λ d. by-test (eqb code 2) (λ e. rw (eqb-true code 2 e) two)
+    (λ f. by-test (eqb code 3) (λ e. rw (eqb-true code 3 e) three) (λ e. rw (d, f, e) none)))
 
 pub running-code : (code : ℕ) → eqb code 1 ≡ isRunning (stateOf code)
-running-code code = running-by (eqb code 1) (eqb code 2)
+running-code code = by-code code (λ one two three s. one ≡ isRunning s) refl refl refl refl
 
 pub waiting-code : (code : ℕ) → eqb code 2 ≡ isWaiting (stateOf code)
-waiting-code code = waiting-by (eqb code 1) (eqb code 2) (λ e. rw (eqb-true code 1 e))
+waiting-code code = by-code code (λ one two three s. two ≡ isWaiting s) refl refl refl refl
 
-pub absent-code : (code : ℕ) → (not (eqb code 1) && not (eqb code 2)) ≡ isAbsent (stateOf code)
-absent-code code = absent-by (eqb code 1) (eqb code 2)
+pub viewing-code : (code : ℕ) → eqb code 3 ≡ isViewing (stateOf code)
+viewing-code code = by-code code (λ one two three s. three ≡ isViewing s) refl refl refl refl
+
+pub absent-code : (code : ℕ) → (not (eqb code 1) && not (eqb code 2) && not (eqb code 3)) ≡ isAbsent (stateOf code)
+absent-code code = by-code code (λ one two three s. (not one && not two && not three) ≡ isAbsent s) refl refl refl refl
+
+pub active-code : (code : ℕ) → (eqb code 1 || eqb code 2) ≡ isActive (stateOf code)
+active-code code = by-code code (λ one two three s. (one || two) ≡ isActive s) refl refl refl refl
 
 -- the advance test of the entries that are left: none of the earlier is pending, and some tells whether one of them runs
 unfoldable pub tickedFrom : Bool → List TaskEntry → Bool

@@ -6,14 +6,15 @@ use Rattle.ledger.specs.Limits.{taskCount, counterRange}
 use Rattle.ledger.specs.Tasks.{Task, isRunning}
 use Rattle.ledger.specs.Expirations.{departed}
 use Rattle.ledger.specs.declared.State.{State}
-use Rattle.ledger.specs.declared.State.the-variants.{Absent, Running, Waiting}
+use Rattle.ledger.specs.declared.State.the-variants.{Absent, Running, Waiting, Viewing}
 use Rattle.record.specs.declared.TaskEntry.{TaskEntry}
 use Rattle.record.specs.Tables.{BlockEntry, ExpirationEntry}
 use Rattle.record.specs.declared.Due.{Due}
 use Rattle.record.specs.declared.Due.the-variants.{Free, Local, Global, Pinned, Unknown}
 
+-- T2: 1 runs, 2 waits, 3 views (02: a viewer); any other is absent, though only 0 is fit (W12)
 abbrev pub stateOf : ℕ → State
-stateOf code = cond (eqb code 1) Running (cond (eqb code 2) Waiting Absent)
+stateOf code = cond (eqb code 1) Running (cond (eqb code 2) Waiting (cond (eqb code 3) Viewing Absent))
 
 -- a task entry as the ledger has it
 abbrev pub taskOf : TaskEntry → Task
@@ -86,14 +87,14 @@ abbrev pub absentEntry : TaskEntry
 absentEntry = record { state = 0; ticked = 0; clock = record { 0 = 0 } }
 
 abbrev pub freeBlock : BlockEntry
-freeBlock = record { handle = 0; length = 0; sum = 0; maker = 0 }
+freeBlock = record { handle = 0; length = 0; sum = 0; maker = 0; prefix = 0 }
 
 abbrev pub freeEntry : ExpirationEntry
 freeEntry = record { clock = 0; block = 0; due = 0 }
 
 -- a block and an entry that are given up: what else they hold has no meaning
 abbrev pub freedBlock : BlockEntry → BlockEntry
-freedBlock b = record { handle = 0; length = b .length; sum = b .sum; maker = b .maker }
+freedBlock b = record { handle = 0; length = b .length; sum = b .sum; maker = b .maker; prefix = b .prefix }
 
 abbrev pub freedEntry : ExpirationEntry → ExpirationEntry
 freedEntry e = record { clock = 0; block = e .block; due = e .due }

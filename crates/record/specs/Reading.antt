@@ -68,7 +68,7 @@ sizeOf block = cond (isSmallBlock block) smallSize largeSize
 unfoldable pub objectIn : List ℕ → List ℕ → ℕ → BlockEntry → List Object
 objectIn small large block b =
     cond (eqb (b .handle) 0) []
-    (record { handle = b .handle; size = b .length; bytes = blockBytes small large block (sizeOf block); sum = b .sum; maker = b .maker } ∷ [])
+    (record { handle = b .handle; size = b .length; bytes = blockBytes small large block (sizeOf block); sum = b .sum; maker = b .maker; prefix = b .prefix } ∷ [])
 
 unfoldable pub recordView : Tables → List ℕ → List ℕ → View
 recordView p small large =

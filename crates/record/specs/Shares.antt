@@ -8,7 +8,7 @@ use Rattle.lists.specs.Sums.{sumBelow}
 use Rattle.lists.specs.Tables.{allFrom}
 use Rattle.lists.specs.Tests.{all, count}
 use Rattle.ledger.specs.Limits.{taskCount, isSmall}
-use Rattle.ledger.specs.Tasks.{isAbsent}
+use Rattle.ledger.specs.Tasks.{isActive}
 use Rattle.ledger.specs.Expirations.{departed}
 use Rattle.ledger.specs.Objects.{noShare}
 use Rattle.ledger.specs.Shares.{quotaIn, blocksIn}
@@ -63,10 +63,10 @@ isNothing quota = eqb (quota .reserve) 0 && eqb (quota .limit) 0
 abbrev pub isOrdered : Quota → Bool
 isOrdered quota = leb (quota .reserve) (quota .limit)
 
--- W20: an absent task has no share; W21: of either store, no reserve is above its limit
+-- W20: who is absent or views has no share; W21: of either store, no reserve is above its limit
 abbrev pub isFitShare : List TaskEntry → ℕ → Share → Bool
 isFitShare tasks task share =
-    (not (isAbsent (stateOf (getD tasks task absentEntry .state))) || (isNothing (share .small) && isNothing (share .large)))
+    (isActive (stateOf (getD tasks task absentEntry .state)) || (isNothing (share .small) && isNothing (share .large)))
     && (isOrdered (share .small) && isOrdered (share .large))
 
 -- W22: the maker of an object is a task, or departed

@@ -31,28 +31,35 @@ groupCount = expirationEntries / groupSize
 abbrev pub byteValues : ℕ
 byteValues = 256
 
--- the values that a length has, and a maker; and those of all that stands below the sum
+-- the values that a length has, a prefix too, and a maker; those of all that stands below the prefix, and below the sum
 abbrev pub lengthRange : ℕ
 lengthRange = 65536
 
 abbrev pub makerRange : ℕ
 makerRange = 256
 
+abbrev pub prefixUnit : ℕ
+prefixUnit = 4294967296
+
 abbrev pub sumUnit : ℕ
 sumUnit = 281474976710656
 
--- O33, Q3: an extent has, from its low end, the length of an object, its maker and, at the top, the sum of the block's bytes; what is between is left for later
+-- O33, Q3, V4: an extent has, from its low end, the length of an object, its maker, eight bits that are left for later, its prefix (02:
+-- head length) and, at the top, the sum of the block's bytes
 abbrev pub lengthIn : ℕ → ℕ
 lengthIn extent = extent % lengthRange
 
 abbrev pub makerIn : ℕ → ℕ
 makerIn extent = extent / lengthRange % makerRange
 
+abbrev pub prefixIn : ℕ → ℕ
+prefixIn extent = extent / prefixUnit % lengthRange
+
 abbrev pub sumIn : ℕ → ℕ
 sumIn extent = extent / sumUnit
 
-abbrev pub extentOf : ℕ → ℕ → ℕ → ℕ
-extentOf size sum maker = sum * sumUnit + (maker * lengthRange + size)
+abbrev pub extentOf : ℕ → ℕ → ℕ → ℕ → ℕ
+extentOf size sum maker prefix = sum * sumUnit + (prefix * prefixUnit + (maker * lengthRange + size))
 
 -- with another sum, and with another maker, all else as it was
 abbrev pub withSum : ℕ → ℕ → ℕ
@@ -67,6 +74,7 @@ pub record BlockEntry : Type 0 where
   pub length : ℕ
   pub sum : ℕ
   pub maker : ℕ
+  pub prefix : ℕ
 
 -- an expiration (01: date)
 pub record ExpirationEntry : Type 0 where
@@ -75,7 +83,8 @@ pub record ExpirationEntry : Type 0 where
   pub due : ℕ
 
 abbrev pub blockEntry : ℕ → ℕ → BlockEntry
-blockEntry handle extent = record { handle = handle; length = lengthIn extent; sum = sumIn extent; maker = makerIn extent }
+blockEntry handle extent =
+    record { handle = handle; length = lengthIn extent; sum = sumIn extent; maker = makerIn extent; prefix = prefixIn extent }
 
 abbrev pub expirationEntry : ℕ → ℕ → ℕ → ExpirationEntry
 expirationEntry clock block due = record { clock = clock; block = block; due = due }

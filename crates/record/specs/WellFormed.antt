@@ -26,7 +26,7 @@ isUsed b = not (eqb (b .handle) 0)
 -- W12: known codes; W9: who is ticked runs; W11: an absent task has local time 0
 unfoldable pub isFitTask : TaskEntry → Bool
 isFitTask e =
-    ltb (e .state) 3 && ltb (e .ticked) 2 && (not (eqb (e .ticked) 1) || isRunning (stateOf (e .state)))
+    ltb (e .state) 4 && ltb (e .ticked) 2 && (not (eqb (e .ticked) 1) || isRunning (stateOf (e .state)))
     && (not (isAbsent (stateOf (e .state))) || eqb (e .clock .0) 0)
 
 -- units left, from 1 to the most that an expiration can have
@@ -59,10 +59,14 @@ abbrev pub isSizedFor : ℕ → ℕ → Bool
 isSizedFor block size =
     cond (isSmallBlock block) (leb 1 size && leb size smallSize) (leb (smallSize + 1) size && leb size largeSize)
 
--- W2 to W4: a block in use is named, and has a length of its store and a handle that was given
+-- W25: a prefix that is not longer than the object
+abbrev pub isPrefixed : BlockEntry → Bool
+isPrefixed b = leb (b .prefix) (b .length)
+
+-- W2 to W4, W25: a block in use is named, and has a length of its store, such a prefix, and a handle that was given
 unfoldable pub isFitBlock : ℕ → List ExpirationEntry → ℕ → BlockEntry → Bool
 isFitBlock given xs block b =
-    not (isUsed b) || (any (isNaming block) xs && isSizedFor block (b .length) && leb (b .handle) given)
+    not (isUsed b) || (any (isNaming block) xs && isSizedFor block (b .length) && isPrefixed b && leb (b .handle) given)
 
 -- W5: no handle stands twice; 0 is none
 abbrev pub isDistinct : List ℕ → Bool

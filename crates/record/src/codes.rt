@@ -1,6 +1,6 @@
 // What the numbers of an entry mean, and what remains of an expiration (01: units left) by counters that wrap (T8).
 ghost use mathlib.Core.Path.{_≡_};
-ghost use Rattle.record.specs.Tables.{lengthIn, sumIn, makerIn, extentOf, withSum, withMaker};
+ghost use Rattle.record.specs.Tables.{lengthIn, sumIn, makerIn, prefixIn, extentOf, withSum, withMaker};
 ghost use Rattle.record.specs.Codes.{stateOf, isGlobalClock, leftAt};
 use super::GlobalTime;
 use super::LocalTime;
@@ -14,6 +14,8 @@ pub const RUNNING: u16 = 1;
 
 pub const WAITING: u16 = 2;
 
+pub const VIEWING: u16 = 3;
+
 // The clock of an expiration entry: none, LOCAL and the number of the task whose clock it is, or for the global time GLOBAL and the number of the task that set it;
 // DEPARTED where that has left; PINNED is no clock's.
 pub const FREE: u8 = 0;
@@ -26,10 +28,12 @@ pub const DEPARTED: u8 = GLOBAL + (TASK_COUNT as u8);
 
 pub const PINNED: u8 = DEPARTED + 1;
 
-// The values that a length has, and a maker; and those of all that stands below the sum.
+// The values that a length has, a prefix too, and a maker; those of all that stands below the prefix, and below the sum.
 const LENGTH_RANGE: u64 = 65536;
 
 const MAKER_RANGE: u64 = 256;
+
+const PREFIX_UNIT: u64 = 4294967296;
 
 const SUM_UNIT: u64 = 281474976710656;
 
@@ -47,6 +51,13 @@ pub fn maker_in(extent: u64) -> u8
     (extent / LENGTH_RANGE % MAKER_RANGE) as u8
 }
 
+// V4: how many of its bytes a viewer reads (02: head length),
+pub fn prefix_in(extent: u64) -> u16
+    ensures { λ r. ⌜ r ≡ prefixIn extent ⌝ }
+{
+    (extent / PREFIX_UNIT % LENGTH_RANGE) as u16
+}
+
 // the sum of the block's bytes,
 pub fn sum_in(extent: u64) -> u16
     ensures { λ r. ⌜ r ≡ sumIn extent ⌝ }
@@ -54,11 +65,12 @@ pub fn sum_in(extent: u64) -> u16
     (extent / SUM_UNIT) as u16
 }
 
-// the extent of the three,
-pub fn extent_of(length: u16, sum: u16, maker: u8) -> u64
-    ensures { λ r. ⌜ r ≡ extentOf length sum maker ⌝ }
+// the extent of the four,
+pub fn extent_of(length: u16, sum: u16, maker: u8, prefix: u16) -> u64
+    ensures { λ r. ⌜ r ≡ extentOf length sum maker prefix ⌝ }
 {
-    (sum as u64) * SUM_UNIT + ((maker as u64) * LENGTH_RANGE + length as u64)
+    (sum as u64) * SUM_UNIT
+        + ((prefix as u64) * PREFIX_UNIT + ((maker as u64) * LENGTH_RANGE + length as u64))
 }
 
 // one with another sum,
@@ -84,6 +96,9 @@ pub fn state_of(code: u16) -> State
     }
     if code == WAITING {
         return State::Waiting;
+    }
+    if code == VIEWING {
+        return State::Viewing;
     }
     State::Absent
 }

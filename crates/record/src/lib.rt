@@ -39,7 +39,7 @@ pub struct LocalTime(pub u32);
 #[repr(C)]
 pub struct GlobalTime(pub u32);
 
-// T3: a task entry. State 0 is absent, 1 running, 2 waiting; ticked (01: mark) is 0 or 1.
+// T3: a task entry. State 0 is absent, 1 running, 2 waiting, 3 viewing; ticked (01: mark) is 0 or 1.
 #[repr(C)]
 pub struct TaskEntry {
     pub state: u16,
@@ -47,8 +47,9 @@ pub struct TaskEntry {
     pub clock: LocalTime,
 }
 
-// Block i has the object `handles[i]` (01: number; 0 is a free block); its word `extents[i]` has from its low end the object's length (16 bits), its maker (8: a task, or
-// 16 where that has left), 24 bits that are left for later, and at the top the sum of the block's bytes (16). The small store's blocks come first, then the large one's.
+// Block i has the object `handles[i]` (01: number; 0 is a free block); its word `extents[i]` has from its low end the object's length (16
+// bits), its maker (8: a task, or 16 where that has left), 8 bits that are left for later, its prefix (16; 02: head length) and at the top
+// the sum of the block's bytes (16). The small store's blocks come first, then the large one's.
 // Expiration i (01: date) goes by the clock `clocks[i]`, a code of codes.rt in which 0 is a free entry, belongs to the object in the block `named[i]`, and is due
 // when that clock reads `dues[i]`.
 // The shares (Q1: reserves and limits) stand apart from the task entries: with them these would be 12 bytes long, and each test that goes over them would cost more.
@@ -85,7 +86,7 @@ pub enum Due {
     Unknown,
 }
 
-// Q2: who is absent has nothing.
+// Q2: who is absent or views has nothing.
 const NO_QUOTA: Quota = Quota {
     reserve: 0,
     limit: 0,

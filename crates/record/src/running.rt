@@ -3,11 +3,12 @@ ghost use mathlib.Core.List.{map};
 ghost use mathlib.Core.Path.{_≡_};
 ghost use Rattle.lists.specs.Tests.{all};
 ghost use Rattle.ledger.specs.Awaited.{awaitedOf};
-ghost use Rattle.ledger.specs.Tasks.{isAbsent, isWaiting, allTicked};
+ghost use Rattle.ledger.specs.Tasks.{isAbsent, isWaiting, isViewing, isActive, allTicked};
 ghost use Rattle.record.specs.Codes.{stateOf, taskOf, isRunningEntry, isPendingEntry};
 ghost use Rattle.record.specs.WellFormed.{isFitTask};
 use super::TaskEntry;
 use super::codes::RUNNING;
+use super::codes::VIEWING;
 use super::codes::WAITING;
 use ledger::TASK_COUNT;
 
@@ -26,7 +27,20 @@ pub fn is_waiting(e: TaskEntry) -> bool
 pub fn is_absent(state: u16) -> bool
     ensures { λ r. ⌜ r ≡ isAbsent (stateOf state) ⌝ }
 {
-    (state != RUNNING) & (state != WAITING)
+    (state != RUNNING) & (state != WAITING) & (state != VIEWING)
+}
+
+pub fn is_viewing(state: u16) -> bool
+    ensures { λ r. ⌜ r ≡ isViewing (stateOf state) ⌝ }
+{
+    state == VIEWING
+}
+
+// V3: who runs or waits.
+pub fn is_active(state: u16) -> bool
+    ensures { λ r. ⌜ r ≡ isActive (stateOf state) ⌝ }
+{
+    (state == RUNNING) | (state == WAITING)
 }
 
 // Running, and not ticked.
@@ -39,7 +53,7 @@ fn is_pending(e: TaskEntry) -> bool
 fn fits_task(e: TaskEntry) -> bool
     ensures { λ r. ⌜ r ≡ isFitTask e ⌝ }
 {
-    (e.state < 3)
+    (e.state < 4)
         & (e.ticked < 2)
         & ((e.ticked != 1) | is_running(e))
         & (!is_absent(e.state) | (e.clock.0 == 0))

@@ -8,13 +8,13 @@ use lib.Dec.{leb}
 use lib.ListN.{length, getD, set, replicate}
 use Rattle.lists.specs.Filled.{Filled}
 use Rattle.lists.specs.Tests.{any}
-use Rattle.lists.proofs.Filling.{filled-start, filled-turn}
+use Rattle.lists.proofs.Filling.{filled-start, filled-turn, filled-map}
 use Rattle.lists.proofs.Loops.{Scanned, scanned-start}
 use Rattle.ledger.specs.Limits.{largestBatch}
 use Rattle.record.specs.Tables.{blockEntries}
 use Rattle.steps.specs.Objects.{placeIn, isUngiven, isMissingIn}
 use Rattle.refusals.specs.Batches.{FindsBatch}
-use Rattle.refusals.proofs.Searching.{any-kept, any-kept-end, filled-map}
+use Rattle.refusals.proofs.Searching.{any-kept, any-kept-end}
 
 -- the pass after i of n handles: what was found of those, and what is left to find
 module _ (given : ℕ) (handles named : List ℕ) (n : ℕ) where

@@ -3,12 +3,11 @@ use Prim.Native.Nat.{ℕ, zero, suc, _+_, _≤_, _<_}
 use native.Mathlib.Nat.{add-zero}
 use native.Mathlib.Omega.{arith}
 use mathlib.Core.Bool.{Bool, true, false, _||_, or-assoc, or-false}
-use mathlib.Core.List.{List, [], _∷_, _++_, map}
+use mathlib.Core.List.{List, [], _∷_, _++_}
 use mathlib.Core.Path.{_≡_, sym, ap, _∙_}
 use lib.Dec.{eqb}
-use lib.ListN.{length, take, drop, getD, length-take, length-drop, length-map, take-append-drop, List·getD-map}
-use lib.Seq.{length-take-le, getD-take, take-take, drop-append-le, ext-getD}
-use Rattle.lists.specs.Filled.{Filled}
+use lib.ListN.{length, take, drop, getD, length-take, length-drop, take-append-drop}
+use lib.Seq.{take-take, drop-append-le}
 use Rattle.lists.specs.Tests.{any}
 use Rattle.lists.specs.Tables.{firstFrom}
 use Rattle.lists.proofs.Cases.{or-false-parts}
@@ -62,11 +61,3 @@ module _ {ℓ} {A : Type ℓ} (p : A → Bool) where
 
     pub any-kept-end : {v : Bool} (some : Bool) → Scanned v xs n i (λ ys. some || any p ys) → n ≤ i → some ≡ v
     any-kept-end some s h = sym (or-false some) ∙ scanned-end s h
-
--- where the first places hold f of another list's elements, they are that list made anew
-pub filled-map : {A B : Type 0} (f : A → B) (d : A) (xs : List A) {n i : ℕ} {out : List B}
-    → Filled (f d) (λ (k : ℕ) (v : B). v ≡ f (getD xs k d)) n i out → length xs ≤ i → length xs ≤ n → take (length xs) out ≡ map f xs
-filled-map f d xs {out = out} m h l =
-    let size : length (take (length xs) out) ≡ length xs = length-take-le (length xs) out (omega (arith, m .size)) in
-    ext-getD (f d) (take (length xs) out) (map f xs) (simp length-map size)
-    (λ k b. getD-take (length xs) out k (f d) (omega arith) ∙ m .so k (omega arith) ∙ sym (List·getD-map f xs k d))

@@ -45,27 +45,28 @@ fn refuse_if(holds: bool, why: Refusal) -> Verdict
     }
 }
 
-// 3, 4
-fn by_state(state: State) -> Verdict
-    ensures { λ r. ⌜ r ≡ byState state ⌝ }
+// 3, 4, and 27 where the call is none that a viewer may make
+fn by_state(acts: bool, state: State) -> Verdict
+    ensures { λ r. ⌜ r ≡ byState acts state ⌝ }
 {
     match state {
         State::Absent => Verdict::Refused(Refusal::TaskAbsent),
         State::Running => Verdict::Accepted,
         State::Waiting => Verdict::Refused(Refusal::TaskWaiting),
+        State::Viewing => refuse_if(acts, Refusal::OnlyViews),
     }
 }
 
-// 1, 3, 4
-pub fn task_verdict(task: u8, tasks: [TaskEntry; TASK_COUNT]) -> Verdict
-    ensures { λ r. ⌜ r ≡ taskVerdict task tasks ⌝ }
+// 1, 3, 4, and 27 where the task is to act
+pub fn task_verdict(acts: bool, task: u8, tasks: [TaskEntry; TASK_COUNT]) -> Verdict
+    ensures { λ r. ⌜ r ≡ taskVerdict acts task tasks ⌝ }
 {
     let i = task as usize;
     if TASK_COUNT <= i {
         return Verdict::Refused(Refusal::NoSuchTask);
     }
     let e = tasks[i];
-    by_state(state_of(e.state))
+    by_state(acts, state_of(e.state))
 }
 
 // The longest extension of a kind.
@@ -137,20 +138,21 @@ pub fn room_verdict(limits: Limits, standing: usize) -> Verdict
     )
 }
 
-// R40, the tests that look at no block: 1, 3, 4, 6, 7, 8
+// R40, the tests that look at no block: 1, 3, 4, 27, 6, 7, 28, 8
 pub fn make_call_verdict(
     limits: Limits,
     task: u8,
     kind: Kind,
     extension: u8,
     length: u32,
+    prefix: u32,
     tasks: [TaskEntry; TASK_COUNT],
     given: u32,
 ) -> Verdict
-    ensures { λ r. ⌜ r ≡ makeCallVerdict limits task kind extension length tasks given ⌝ }
+    ensures { λ r. ⌜ r ≡ makeCallVerdict limits task kind extension length prefix tasks given ⌝ }
 {
     and_then(
-        task_verdict(task, tasks),
+        task_verdict(true, task, tasks),
         and_then(
             extension_verdict(limits, kind, extension),
             and_then(
@@ -158,7 +160,10 @@ pub fn make_call_verdict(
                     (length == 0) | (LARGE_SIZE < length),
                     Refusal::LengthOutOfRange,
                 ),
-                refuse_if(u32::MAX <= given, Refusal::HandlesSpent),
+                and_then(
+                    refuse_if(length < prefix, Refusal::PrefixTooLong),
+                    refuse_if(u32::MAX <= given, Refusal::HandlesSpent),
+                ),
             ),
         ),
     )
@@ -177,7 +182,7 @@ pub fn taking_verdict(limits: Limits, limited: bool, full: bool, standing: usize
     )
 }
 
-// R47, the tests that look at no object: 1, 3, 4, 20, 21, 6
+// R47, the tests that look at no object: 1, 3, 4, 27, 20, 21, 6
 pub fn batch_call_verdict(
     limits: Limits,
     task: u8,
@@ -189,7 +194,7 @@ pub fn batch_call_verdict(
     ensures { λ r. ⌜ r ≡ batchCallVerdict limits task kind extension tasks count ⌝ }
 {
     and_then(
-        task_verdict(task, tasks),
+        task_verdict(true, task, tasks),
         and_then(
             refuse_if(
                 (count == 0) | (LARGEST_BATCH < count),

@@ -1,10 +1,12 @@
 // Any call by its request, on lent columns: 15 first, then 14 where the request touches a store, then the dispatch.
 ghost use mathlib.Core.Path.{_≡_};
+ghost use lib.Dec.{eqb};
 ghost use Rattle.ledger.specs.declared.Answer.the-variants.{Refused as RefusedAnswer};
 ghost use Rattle.calls.specs.Contract.{isStored};
 ghost use Rattle.record.specs.Tables.{pooled, Sized};
 ghost use Rattle.calls.specs.Served.{Serves};
 ghost use Rattle.dispatch.specs.Done.{withoutBytes, givenBack};
+ghost use Rattle.requests.specs.Stored.{storedAs};
 use dispatch;
 use dispatch::Done;
 use fitness::fitness_of;
@@ -17,42 +19,54 @@ use record::BLOCK_COUNT;
 use record::EXPIRATION_COUNT;
 use record::Head;
 
-// The calls that test 14.
+// R35: the three calls that test 14.
+fn is_make(c: Call) -> bool
+    ensures { λ r. ⌜ r ≡ eqb (storedAs c) 1 ⌝ }
+{
+    let Call::Make {
+        task: _,
+        kind: _,
+        extension: _,
+        length: _,
+        prefix: _,
+    } = c
+    else {
+        return false;
+    };
+    true
+}
+
+fn is_read(c: Call) -> bool
+    ensures { λ r. ⌜ r ≡ eqb (storedAs c) 2 ⌝ }
+{
+    let Call::Read { task: _, handle: _ } = c else {
+        return false;
+    };
+    true
+}
+
+fn is_write(c: Call) -> bool
+    ensures { λ r. ⌜ r ≡ eqb (storedAs c) 3 ⌝ }
+{
+    let Call::Write {
+        task: _,
+        handle: _,
+        offset: _,
+    } = c
+    else {
+        return false;
+    };
+    true
+}
+
+// One of them.
 fn is_stored(request: Request) -> bool
     ensures { λ r. ⌜ r ≡ isStored request ⌝ }
 {
-    match request {
-        Request::Use(c) => match c {
-            Call::Schedule { event: _, task: _ } => false,
-            Call::Make {
-                task: _,
-                kind: _,
-                extension: _,
-                length: _,
-            } => true,
-            Call::Refresh {
-                task: _,
-                kind: _,
-                extension: _,
-                handle: _,
-            } => false,
-            Call::Read { task: _, handle: _ } => true,
-            Call::Write {
-                task: _,
-                handle: _,
-                offset: _,
-            } => true,
-            Call::Batch {
-                task: _,
-                kind: _,
-                extension: _,
-            } => false,
-            Call::Release { task: _, handle: _ } => false,
-            Call::Join { task: _, share: _ } => false,
-        },
-        Request::Report => false,
-        Request::Remaining { task: _, handle: _ } => false,
-    }
+    let Request::Use(c) = request else {
+        return false;
+    };
+    is_make(c) | is_read(c) | is_write(c)
 }
 
 // A request that is refused before its own tests.
@@ -67,7 +81,8 @@ fn refused(why: Refusal, h: Head) -> Done
     }
 }
 
-// One call of the thirteen, by its request. The bytes are those of a write or a batch; other calls leave them aside. Who lends the columns never looks at the record again.
+// One call of the fourteen, by its request. The bytes are those of a write or a batch; other calls leave them aside. Who lends the columns
+// never looks at the record again.
 pub fn call(
     h: Head,
     handles: &mut [u32; BLOCK_COUNT],
@@ -87,10 +102,25 @@ pub fn call(
     if !sharing.fit {
         return refused(Refusal::NotWellFormed, h);
     }
-    if is_stored(request) & !are_whole(h.limits, small.len(), large.len()) {
+    let holdings = sharing.holdings;
+    if !is_stored(request) {
+        return dispatch::call(
+            h,
+            handles,
+            extents,
+            clocks,
+            named,
+            dues,
+            small,
+            large,
+            holdings,
+            request,
+            bytes,
+        );
+    }
+    if !are_whole(h.limits, small.len(), large.len()) {
         return refused(Refusal::WrongStoreLength, h);
     }
-    let holdings = sharing.holdings;
     dispatch::call(
         h,
         handles,

@@ -1,4 +1,5 @@
 pub mod Between
+pub mod Clear
 pub mod Counting
 pub mod Either
 pub mod Held

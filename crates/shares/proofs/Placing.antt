@@ -1,6 +1,6 @@
 -- How blocks are known to be placed, each in a block of its store: by any test of all blocks that asks it.
 use Prim.Native.Nat.{ℕ}
-use mathlib.Core.Bool.{Bool, true, false, false≢true, not, _&&_}
+use mathlib.Core.Bool.{Bool, true, false, false≢true, not, _&&_, and-eq-true-iff}
 use mathlib.Core.List.{List, map}
 use mathlib.Core.Path.{_≡_, refl}
 use lib.ListN.{getD}
@@ -23,7 +23,7 @@ placed-by test free shows blocks e =
 
 fit-block : (given : ℕ) (xs : List ExpirationEntry) (k : ℕ) (b : BlockEntry) → isFitBlock given xs k b ≡ true → isUsed b ≡ true → isSizedFor k (b .length) ≡ true
 unfolding isFitBlock
-fit-block given xs k b t u = and₃ (any (isNaming k) xs) _ _ (rw u at t) .1
+fit-block given xs k b t u = and₃ (any (isNaming k) xs) _ _ (and-eq-true-iff _ _ .0 (rw u at t) .0) .1
 
 placed-all : (given : ℕ) (xs : List ExpirationEntry) (blocks : List BlockEntry) → allFrom 0 (isFitBlock given xs) blocks ≡ true → Placed blocks
 unfolding isFitBlock

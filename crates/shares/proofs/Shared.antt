@@ -14,7 +14,7 @@ use Rattle.lists.proofs.Counts.{all-two}
 use Rattle.lists.proofs.Implied.{allFrom-same}
 use Rattle.ledger.specs.Limits.{isSmall}
 use Rattle.ledger.specs.Shares.{quotaIn, blocksIn}
-use Rattle.ledger.specs.Tasks.{isAbsent}
+use Rattle.ledger.specs.Tasks.{isActive}
 use Rattle.ledger.specs.declared.Limits.{Limits}
 use Rattle.ledger.specs.declared.Quota.{Quota}
 use Rattle.ledger.specs.declared.Share.{Share}
@@ -57,7 +57,8 @@ alike a false p {n} {m} {y} {z} f g = and-false (a || (n && m)) ∙ sym (and-fal
 fit-share : (tasks : List TaskEntry) (k : ℕ) (share : Share)
     → isFitShare tasks k share ≡ (isClear tasks k share && (isOrdered (share .small) && isOrdered (share .large)))
 fit-share tasks k share =
-    alike (not (isAbsent (stateOf (getD tasks k absentEntry .state)))) (isOrdered (share .small)) (isOrdered (share .large)) (clear-so (share .small)) (clear-so (share .large))
+    alike (isActive (stateOf (getD tasks k absentEntry .state))) (isOrdered (share .small)) (isOrdered (share .large))
+    (clear-so (share .small)) (clear-so (share .large))
 
 fit-shares : (tasks : List TaskEntry) (shares : List Share)
     → allFrom 0 (isFitShare tasks) shares ≡ (allFrom 0 (isClear tasks) shares && (allOrdered true shares && allOrdered false shares))

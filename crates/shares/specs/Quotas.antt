@@ -1,6 +1,6 @@
 -- Quotas, by what each task made.
 use Prim.Native.Nat.{ℕ, _+_, _-_}
-use mathlib.Core.Bool.{Bool, not, _&&_, _||_}
+use mathlib.Core.Bool.{Bool, _&&_, _||_}
 use mathlib.Core.List.{List}
 use mathlib.Core.Path.{_≡_}
 use lib.Dec.{eqb, leb}
@@ -11,7 +11,7 @@ use Rattle.lists.specs.Tables.{allFrom}
 use Rattle.ledger.specs.Limits.{taskCount}
 use Rattle.ledger.specs.Objects.{noShare}
 use Rattle.ledger.specs.Shares.{quotaIn, blocksIn}
-use Rattle.ledger.specs.Tasks.{isAbsent}
+use Rattle.ledger.specs.Tasks.{isActive}
 use Rattle.ledger.specs.declared.Limits.{Limits}
 use Rattle.ledger.specs.declared.Share.{Share}
 use Rattle.record.specs.Codes.{stateOf, absentEntry}
@@ -33,7 +33,7 @@ isWithinBy store made k share = isOrdered (quotaIn store share) && leb (getD mad
 -- W20, where W21 holds
 abbrev pub isClear : List TaskEntry → ℕ → Share → Bool
 isClear tasks k share =
-    not (isAbsent (stateOf (getD tasks k absentEntry .state))) || (eqb (share .small .limit) 0 && eqb (share .large .limit) 0)
+    isActive (stateOf (getD tasks k absentEntry .state)) || (eqb (share .small .limit) 0 && eqb (share .large .limit) 0)
 
 -- Q6: what the code holds of a store
 pub record HeldBy (store : Bool) (shares : List Share) (made : List ℕ) (taken : ℕ) (holding : Holding) : Type 0 where

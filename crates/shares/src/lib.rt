@@ -1,7 +1,9 @@
 // What of a store each task has: how many objects it made, and how many blocks are spoken for, in use or held back (the rules Q4 to Q7); and the test of shares and makers (W20 to W24).
-ghost use mathlib.Core.Bool.{cond};
+ghost use mathlib.Core.Bool.{true, cond};
 ghost use mathlib.Core.Path.{_≡_};
+ghost use Rattle.lists.specs.Tests.{all};
 ghost use Rattle.ledger.specs.Shares.{quotaIn, blocksIn};
+ghost use Rattle.record.specs.WellFormed.{isFitTask};
 ghost use Rattle.shares.specs.Counting.{firstBlock, endBlock, SizedColumns};
 ghost use Rattle.shares.specs.Holdings.{HoldsIn, Shares};
 ghost use Rattle.shares.specs.Quotas.{HeldBy, isSharedBy};
@@ -132,7 +134,8 @@ pub fn sharing_of<'a>(
     used: &'a [bool; BLOCK_COUNT],
     extents: &'a [u64; BLOCK_COUNT],
 ) -> Sharing
-    requires { ⌜ SizedColumns (now used) (now extents) ⌝ }
+    requires { ⌜ SizedColumns (now used) (now extents)
+        × (all isFitTask (h .tasks) ≡ true) ⌝ }
     ensures { λ r. ⌜ Shares h (now (used .entry)) (now (extents .entry)) r ⌝ }
 {
     let limits = h.limits;

@@ -1,17 +1,20 @@
 // What of their quotas tasks have. No loop has a way out before its end, so that all tasks are asked at once.
-ghost use Prim.Native.Nat.{_-_};
-ghost use mathlib.Core.Bool.{_&&_};
+ghost use Prim.Native.Nat.{_-_, _<_};
+ghost use mathlib.Core.Bool.{true, cond, _&&_};
 ghost use mathlib.Core.Path.{_≡_};
 ghost use lib.Dec.{leb};
 ghost use Rattle.lists.specs.Tables.{allFrom};
+ghost use Rattle.lists.specs.Tests.{all};
+ghost use Rattle.ledger.specs.Tasks.{isActive};
+ghost use Rattle.record.specs.Codes.{stateOf};
 ghost use Rattle.record.specs.Shares.{isOrdered};
+ghost use Rattle.record.specs.WellFormed.{isFitTask};
 ghost use Rattle.shares.specs.Quotas.{Unmets, isWithinBy, isClear};
 use super::quota_in;
 use ledger::Quota;
 use ledger::Share;
 use ledger::TASK_COUNT;
 use record::TaskEntry;
-use record::running::is_absent;
 
 fn unmet(reserve: u8, made: u8) -> u8
     ensures { λ r. ⌜ r ≡ reserve - made ⌝ }
@@ -56,15 +59,24 @@ pub fn all_within(
     fit
 }
 
-// W20: by W21 an absent task reserves nothing where its limits are 0.
+// 1 where a task is absent or views, else 0: by its number, since of a test of two states the compiler makes longer code.
+fn is_idle(state: u16) -> u16
+    requires { ⌜ state < 4 ⌝ }
+    ensures { λ r. ⌜ r ≡ cond (isActive (stateOf state)) 0 1 ⌝ }
+{
+    1 - (state + 1) / 2 % 2
+}
+
+// W20: who is not active has no limits; by W21 it then reserves nothing.
 pub fn all_clear(tasks: [TaskEntry; TASK_COUNT], shares: [Share; TASK_COUNT]) -> bool
+    requires { ⌜ all isFitTask tasks ≡ true ⌝ }
     ensures { λ r. ⌜ r ≡ allFrom 0 (isClear tasks) shares ⌝ }
 {
-    let mut fit = true;
+    let mut over: u16 = 0;
     for i in 0..TASK_COUNT {
         let e = tasks[i];
         let share = shares[i];
-        fit = fit & (!is_absent(e.state) | ((share.small.limit == 0) & (share.large.limit == 0)));
+        over = over | (share.small.limit as u16 | share.large.limit as u16) * is_idle(e.state);
     }
-    fit
+    over == 0
 }

@@ -19,7 +19,7 @@ use Rattle.ledger.specs.Expirations.{departed, Expiration, remaining, isPinned,
 use Rattle.ledger.specs.Expirations.{DueTime, byLocal, byGlobal, pinned}
 use Rattle.ledger.specs.Compared.{wrapped, Left, localLeft, globalLeft, pinnedLeft, Shown, leftOf, shown}
 use Rattle.ledger.specs.declared.Event.{Event}
-use Rattle.ledger.specs.declared.Event.the-variants.{Leave, Block, Resume, Tick}
+use Rattle.ledger.specs.declared.Event.the-variants.{Leave, Block, Resume, Tick, View}
 use Rattle.ledger.specs.declared.Limits.{Limits}
 use Rattle.record.specs.Codes.{dueBy, dueOf, setterOf, leftAt, absentEntry, freeBlock}
 use Rattle.record.specs.Reading.{shownDue, shownEntry}
@@ -39,6 +39,7 @@ abbrev pub unitsAfter : Event → ℕ → ℕ
 unitsAfter Leave units = 0
 unitsAfter Block units = units
 unitsAfter Resume units = units
+unitsAfter View units = units
 unitsAfter Tick units = units - 1
 
 -- an expiration with these units left, unless it is ended or there are none
@@ -50,6 +51,7 @@ abbrev isEnding : Event → Bool
 isEnding Leave = true
 isEnding Block = false
 isEnding Resume = false
+isEnding View = false
 isEnding Tick = false
 
 -- the setter that an event leaves of a global one
@@ -106,6 +108,7 @@ setter-ages units t step event tested false handle kind = rw and-false
 setter-ages units t step Leave tested true handle kind = refl
 setter-ages units t step Block tested true handle kind = refl
 setter-ages units t step Resume tested true handle kind = refl
+setter-ages units t step View tested true handle kind = absurd (false≢true tested)
 setter-ages units t step Tick tested true handle kind = rw step
 
 -- a due that is not due yet
@@ -158,6 +161,7 @@ lasting-filter Leave task advanced c xs tested =
     ∙ ap (eachDue (lateAfter Leave task advanced c)) (filter-and _ (λ (x : Expiration). not (isSetBy task (x .due))) xs)
 lasting-filter Block task advanced c xs tested = live-of c _ (lateAfter Block task advanced c) (late-block task advanced c) xs
 lasting-filter Resume task advanced c xs tested = absurd (false≢true tested)
+lasting-filter View task advanced c xs tested = absurd (false≢true tested)
 lasting-filter Tick task advanced c xs tested = live-of c _ (lateAfter Tick task advanced c) (late-tick task advanced c) xs
 
 -- An event with an advance test, of a task that there is: the ledger's units and the record's age alike.
@@ -221,6 +225,7 @@ leaver-ends : (event : Event) (task setter : ℕ) → setter < taskCount → eqb
 leaver-ends Leave task setter known = refl
 leaver-ends Block task setter known = ne-eqb setter taskCount (λ e. omega arith)
 leaver-ends Resume task setter known = ne-eqb setter taskCount (λ e. omega arith)
+leaver-ends View task setter known = ne-eqb setter taskCount (λ e. omega arith)
 leaver-ends Tick task setter known = ne-eqb setter taskCount (λ e. omega arith)
 
 -- and so is the setter that it leaves
@@ -234,6 +239,7 @@ leaver-left event task setter = by event
     by Leave = refl
     by Block = none
     by Resume = none
+    by View = none
     by Tick = none
 
 -- an entry that lasts shows what it shows, and any other nothing

@@ -1,9 +1,9 @@
 -- A batch on a well-formed record follows the ledger that it reads as: it is one refresh after another, each of which would be accepted.
-use Prim.Native.Nat.{ℕ, _+_, _≤_, _<_}
+use Prim.Native.Nat.{ℕ, _+_, _≤_}
 use native.Mathlib.Omega.{arith}
 use mathlib.Core.Bool.{true, false, _||_}
 use mathlib.Core.List.{List, [], _∷_}
-use mathlib.Core.Path.{_≡_, refl, sym, _∙_}
+use mathlib.Core.Path.{_≡_, refl}
 use borrow.Author.Tests.{ltb-false, lt-leb}
 use lib.Dec.{eqb, ltb}
 use lib.ListN.{length}
@@ -13,7 +13,7 @@ use Rattle.lists.proofs.Cases.{or-false-parts}
 use Rattle.ledger.specs.Limits.{largestBatch}
 use Rattle.ledger.specs.Expirations.{Expiration, dueAfter, setOnEach}
 use Rattle.ledger.specs.Objects.{Memory, memoryAfter, expirationsAfter, handlesOf}
-use Rattle.ledger.specs.Ledger.{Ledger, settled}
+use Rattle.ledger.specs.Ledger.{Ledger}
 use Rattle.ledger.specs.declared.Kind.{Kind}
 use Rattle.ledger.specs.declared.Call.the-variants.{Refresh, Batch}
 use Rattle.ledger.specs.declared.Refusal.the-variants.{HandleNotGiven, ObjectGone, NoFreeExpiration, BatchOutOfRange}
@@ -22,7 +22,7 @@ use Rattle.record.specs.Reading.{Typed, Reads}
 use Rattle.record.specs.WellFormed.{isWellFormed}
 use Rattle.record.specs.Tables.{Tables}
 use Rattle.record.proofs.Facts.{Fit, fit-parts}
-use Rattle.steps.specs.Objects.{isUngiven, isMissing, standingIn, refuseIf, taskVerdict, kindVerdict, extensionVerdict, handleVerdict, roomVerdict, refreshVerdict, batchVerdict, refreshedPool, batchedPool}
+use Rattle.steps.specs.Objects.{isUngiven, isMissing, standingIn, refuseIf, taskVerdict, kindVerdict, extensionVerdict, handleVerdict, refreshVerdict, batchVerdict, refreshedPool, batchedPool}
 use Rattle.steps.specs.Staying.{Stays}
 use Rattle.steps.proofs.Chosen.{both-accept, not-refused}
 use Rattle.steps.proofs.ObjectTypes.{typed-refreshed}
@@ -34,7 +34,7 @@ use Rattle.steps.proofs.Staying.{same-stays, stays-on, refresh-stays}
 
 -- what a batch has that is accepted: it is not too long, each of its objects stands, and there is room for all
 pub record Renewable (task : ℕ) (kind : Kind) (extension : ℕ) (handles : List ℕ) (p : Tables) : Type 0 where
-  pub task-ok : taskVerdict task (p .tasks) ≡ Accepted
+  pub task-ok : taskVerdict true task (p .tasks) ≡ Accepted
   pub kind-ok : kindVerdict kind ≡ Accepted
   pub extension-ok : extensionVerdict (p .limits) kind extension ≡ Accepted
   pub found : All (λ (handle : ℕ). handleVerdict handle p ≡ Accepted) handles

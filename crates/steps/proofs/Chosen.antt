@@ -21,9 +21,9 @@ use Rattle.ledger.specs.Refusals.{mostExtension, isPinning as isPinningKind}
 use Rattle.ledger.specs.declared.Kind.{Kind}
 use Rattle.ledger.specs.declared.Kind.the-variants.{Local, Global, Pinned}
 use Rattle.ledger.specs.declared.State.{State}
-use Rattle.ledger.specs.declared.State.the-variants.{Absent, Running, Waiting}
+use Rattle.ledger.specs.declared.State.the-variants.{Absent, Running, Waiting, Viewing}
 use Rattle.ledger.specs.declared.Refusal.{Refusal}
-use Rattle.ledger.specs.declared.Refusal.the-variants.{NoSuchTask, LengthOutOfRange, HandlesSpent, NoFreeBlock, AtLimit, OnlyMakePins, OutsideObject, SumDiffers}
+use Rattle.ledger.specs.declared.Refusal.the-variants.{NoSuchTask, LengthOutOfRange, HandlesSpent, PrefixTooLong, NoFreeBlock, AtLimit, OnlyMakePins, OutsideObject, SumDiffers}
 use Rattle.ledger.specs.declared.Verdict.{Verdict}
 use Rattle.ledger.specs.declared.Verdict.the-variants.{Accepted, Refused}
 use Rattle.ledger.specs.declared.Limits.{Limits}
@@ -34,7 +34,7 @@ use Rattle.record.specs.WellFormed.{isBlock, isEntryAt}
 use Rattle.record.proofs.Facts.{Fit}
 use Rattle.record.specs.Tables.{Tables, blockEntries}
 use Rattle.record.specs.declared.TaskEntry.{TaskEntry}
-use Rattle.steps.specs.Objects.{placeOf, isFreeBlock, endFor, freePlace, isFreeEntry, standingIn, freeSlot, andThen, refuseIf, byState, taskVerdict, kindVerdict, extensionVerdict, foundVerdict, handleVerdict, roomVerdict, isFilled, makeVerdict, refreshVerdict, standingVerdict, readVerdict, writeVerdict}
+use Rattle.steps.specs.Objects.{placeOf, isFreeBlock, endFor, freePlace, isFreeEntry, standingIn, freeSlot, andThen, refuseIf, byState, taskVerdict, kindVerdict, extensionVerdict, foundVerdict, handleVerdict, roomVerdict, isFilled, makeVerdict, refreshVerdict, standingVerdict, intactVerdict, writeVerdict}
 use Rattle.record.specs.Shares.{isLimited}
 use Rattle.steps.proofs.Rooms.{room-left}
 use Rattle.steps.proofs.Taken.{MaySet, SlotFree, PlaceFree}
@@ -48,10 +48,11 @@ pub not-refused : (b : Bool) (r : Refusal) → refuseIf b r ≡ Accepted → b �
 not-refused true r e = cc
 not-refused false r e = refl
 
-running : (s : State) → byState s ≡ Accepted → isAbsent s ≡ false
-running Absent e = cc
-running Running e = refl
-running Waiting e = cc
+present : (acts : Bool) (s : State) → byState acts s ≡ Accepted → isAbsent s ≡ false
+present acts Absent e = cc
+present acts Running e = refl
+present acts Waiting e = cc
+present acts Viewing e = refl
 
 -- no kind has more than the largest extension
 most-within : (limits : Limits) (kind : Kind) → mostExtension limits kind ≤ limits .extension
@@ -59,14 +60,14 @@ most-within limits Local = omega arith
 most-within limits Global = omega arith
 most-within limits Pinned = omega arith
 
-may-set : (task : ℕ) (kind : Kind) (extension : ℕ) (p : Tables) → Fit p → taskVerdict task (p .tasks) ≡ Accepted → extensionVerdict (p .limits) kind extension ≡ Accepted
+may-set : (task : ℕ) (kind : Kind) (extension : ℕ) (p : Tables) → Fit p → taskVerdict true task (p .tasks) ≡ Accepted → extensionVerdict (p .limits) kind extension ≡ Accepted
     → MaySet task extension p
 may-set task kind extension p fit t x =
     let (known, state) = both-accept _ _ t in
     let short = le-trans (ltb-false (mostExtension (p .limits) kind) extension (not-refused _ _ x)) (most-within (p .limits) kind) in
     record {
       known = leb-false taskCount task (not-refused _ _ known);
-      present = running (stateOf (getD (p .tasks) task absentEntry .state)) state;
+      present = present true (stateOf (getD (p .tasks) task absentEntry .state)) state;
       short = short;
       most = le-trans short (allowed (p .limits) (fit .allowed) .most-extension);
     }
@@ -137,36 +138,40 @@ module _ (p : Tables) (fit : Fit p) (types : Typed p) (size : ℕ) (range : (eqb
       (large ∙ sym s) (rw large (lt-ltb (n + k) end below))))
 
 -- what a make that is accepted takes
-pub record Taken (task extension size : ℕ) (p : Tables) : Type 0 where
+pub record Taken (task extension size prefix : ℕ) (p : Tables) : Type 0 where
   pub may : MaySet task extension p
+  pub prefixed : prefix ≤ size
   pub unspent : p .given < lastHandle
   pub limited : isLimited (isSmall size) (p .shares) (p .blocks) task ≡ false
   pub filled : isFilled (isSmall size) (p .limits) (p .shares) (p .blocks) task ≡ false
   pub block : PlaceFree (p .limits) (freePlace (p .limits) size (p .blocks)) size (p .blocks)
   pub entry : SlotFree (p .limits) (freeSlot (p .expirations)) (p .expirations)
 
-pub make-unspent : (task : ℕ) (kind : Kind) (extension size : ℕ) (p : Tables) → makeVerdict task kind extension size p ≡ Accepted → p .given < lastHandle
+pub make-unspent : (task : ℕ) (kind : Kind) (extension size prefix : ℕ) (p : Tables) → makeVerdict task kind extension size prefix p ≡ Accepted → p .given < lastHandle
 unfolding makeVerdict
-make-unspent task kind extension size p v =
-    let v₁ = both-accept (taskVerdict task (p .tasks)) _ v .1 in
+make-unspent task kind extension size prefix p v =
+    let v₁ = both-accept (taskVerdict true task (p .tasks)) _ v .1 in
     let v₂ = both-accept (extensionVerdict (p .limits) kind extension) _ v₁ .1 in
     let v₃ = both-accept (refuseIf (eqb size 0 || ltb largeSize size) LengthOutOfRange) _ v₂ .1 in
-    let (given-ok, _) = both-accept (refuseIf (leb lastHandle (p .given)) HandlesSpent) _ v₃ in
+    let v₄ = both-accept (refuseIf (ltb size prefix) PrefixTooLong) _ v₃ .1 in
+    let (given-ok, _) = both-accept (refuseIf (leb lastHandle (p .given)) HandlesSpent) _ v₄ in
     leb-false lastHandle (p .given) (not-refused _ HandlesSpent given-ok)
 
-pub make-takes : (task : ℕ) (kind : Kind) (extension size : ℕ) (p : Tables) → Fit p → Typed p → makeVerdict task kind extension size p ≡ Accepted
-    → Taken task extension size p
+pub make-takes : (task : ℕ) (kind : Kind) (extension size prefix : ℕ) (p : Tables) → Fit p → Typed p → makeVerdict task kind extension size prefix p ≡ Accepted
+    → Taken task extension size prefix p
 unfolding makeVerdict
-make-takes task kind extension size p fit types v =
+make-takes task kind extension size prefix p fit types v =
     let (task-ok, v₁) = both-accept _ _ v in
     let (extension-ok, v₂) = both-accept _ _ v₁ in
     let (size-ok, v₃) = both-accept _ _ v₂ in
-    let (_, v₄) = both-accept (refuseIf (leb lastHandle (p .given)) HandlesSpent) _ v₃ in
-    let (limit-ok, v₅) = both-accept (refuseIf (isLimited (isSmall size) (p .shares) (p .blocks) task) AtLimit) _ v₄ in
-    let (block-ok, slot-ok) = both-accept _ _ v₅ in
+    let (prefix-ok, v₄) = both-accept (refuseIf (ltb size prefix) PrefixTooLong) _ v₃ in
+    let (_, v₅) = both-accept (refuseIf (leb lastHandle (p .given)) HandlesSpent) _ v₄ in
+    let (limit-ok, v₆) = both-accept (refuseIf (isLimited (isSmall size) (p .shares) (p .blocks) task) AtLimit) _ v₅ in
+    let (block-ok, slot-ok) = both-accept _ _ v₆ in
     record {
       may = may-set task kind extension p fit task-ok extension-ok;
-      unspent = make-unspent task kind extension size p v;
+      prefixed = ltb-false size prefix (not-refused _ PrefixTooLong prefix-ok);
+      unspent = make-unspent task kind extension size prefix p v;
       limited = not-refused _ AtLimit limit-ok;
       filled = not-refused _ NoFreeBlock block-ok;
       block = place-free p fit types size (not-refused _ LengthOutOfRange size-ok) (room-left p fit types task size (not-refused _ NoFreeBlock block-ok));
@@ -204,35 +209,40 @@ handle-found handle given place v =
 pub place-listed : (handle given place : ℕ) → foundVerdict handle given place ≡ Accepted → place < blockEntries
 place-listed handle given place v = leb-false _ _ (handle-found handle given place v .1)
 
-pub task-known : (task : ℕ) (tasks : List TaskEntry) → taskVerdict task tasks ≡ Accepted → task < taskCount
-task-known task tasks v =
+pub task-known : (acts : Bool) (task : ℕ) (tasks : List TaskEntry) → taskVerdict acts task tasks ≡ Accepted → task < taskCount
+task-known acts task tasks v =
     leb-false taskCount task (not-refused _ NoSuchTask (both-accept (refuseIf (leb taskCount task) NoSuchTask) _ v .0))
 
 -- what the tests of remaining life, of a read and of a write share: each begins with those of the one before
-pub standing-found : (task handle : ℕ) (p : Tables) → standingVerdict task handle p ≡ Accepted → handleVerdict handle p ≡ Accepted
+pub standing-found : (acts : Bool) (task handle : ℕ) (p : Tables) → standingVerdict acts task handle p ≡ Accepted → handleVerdict handle p ≡ Accepted
 unfolding standingVerdict
-standing-found task handle p v = both-accept (taskVerdict task (p .tasks)) _ v .1
+standing-found acts task handle p v = both-accept (taskVerdict acts task (p .tasks)) _ v .1
 
-pub read-stands : (task handle : ℕ) (small large : List ℕ) (p : Tables) → readVerdict task handle small large p ≡ Accepted
-    → standingVerdict task handle p ≡ Accepted
-unfolding readVerdict
-read-stands task handle small large p v = both-accept (standingVerdict task handle p) _ v .0
+-- who may make such a call is one of the tasks
+pub standing-known : (acts : Bool) (task handle : ℕ) (p : Tables) → standingVerdict acts task handle p ≡ Accepted → task < taskCount
+unfolding standingVerdict
+standing-known acts task handle p v = task-known acts task (p .tasks) (both-accept (taskVerdict acts task (p .tasks)) _ v .0)
+
+pub intact-stands : (acts : Bool) (task handle : ℕ) (small large : List ℕ) (p : Tables) → intactVerdict acts task handle small large p ≡ Accepted
+    → standingVerdict acts task handle p ≡ Accepted
+unfolding intactVerdict
+intact-stands acts task handle small large p v = both-accept (standingVerdict acts task handle p) _ v .0
 
 pub write-begins : (task handle offset count : ℕ) (small large : List ℕ) (p : Tables) → writeVerdict task handle offset count small large p ≡ Accepted
-    → readVerdict task handle small large p ≡ Accepted
+    → intactVerdict true task handle small large p ≡ Accepted
 unfolding writeVerdict
-write-begins task handle offset count small large p v = both-accept (readVerdict task handle small large p) _ v .0
+write-begins task handle offset count small large p v = both-accept (intactVerdict true task handle small large p) _ v .0
 
 -- a read that is accepted has a block whose bytes add up to the sum in its entry
-pub read-sum : (task handle : ℕ) (small large : List ℕ) (p : Tables) → readVerdict task handle small large p ≡ Accepted
+pub intact-sum : (acts : Bool) (task handle : ℕ) (small large : List ℕ) (p : Tables) → intactVerdict acts task handle small large p ≡ Accepted
     → (let place = placeOf handle (p .blocks) in sumAt small large place ≡ getD (p .blocks) place freeBlock .sum)
-unfolding readVerdict
-read-sum task handle small large p v =
-    eqb-true _ _ (not-false _ (not-refused _ SumDiffers (both-accept (standingVerdict task handle p) _ v .1)))
+unfolding intactVerdict
+intact-sum acts task handle small large p v =
+    eqb-true _ _ (not-false _ (not-refused _ SumDiffers (both-accept (standingVerdict acts task handle p) _ v .1)))
 
 -- and a write one of as many bytes as it asks for
 pub write-end : (task handle offset count : ℕ) (small large : List ℕ) (p : Tables) → writeVerdict task handle offset count small large p ≡ Accepted
     → offset + count ≤ getD (p .blocks) (placeOf handle (p .blocks)) freeBlock .length
 unfolding writeVerdict
 write-end task handle offset count small large p v =
-    ltb-false _ _ (not-refused _ OutsideObject (both-accept (readVerdict task handle small large p) _ v .1))
+    ltb-false _ _ (not-refused _ OutsideObject (both-accept (intactVerdict true task handle small large p) _ v .1))

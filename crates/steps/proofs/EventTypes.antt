@@ -12,7 +12,7 @@ use Rattle.lists.proofs.Cases.{by-test}
 use Rattle.ledger.specs.Limits.{counterRange, taskCount}
 use Rattle.ledger.specs.Tasks.{isTested, allTicked}
 use Rattle.ledger.specs.declared.Event.{Event}
-use Rattle.ledger.specs.declared.Event.the-variants.{Leave, Block, Resume, Tick}
+use Rattle.ledger.specs.declared.Event.the-variants.{Leave, Block, Resume, Tick, View}
 use Rattle.ledger.specs.declared.Verdict.{Verdict}
 use Rattle.ledger.specs.declared.Verdict.the-variants.{Accepted, Refused}
 use Rattle.record.specs.Codes.{taskOf, absentEntry}
@@ -33,6 +33,7 @@ unfolding counterRange
 moved-range Leave e h = omega arith
 moved-range Block e h = h
 moved-range Resume e h = h
+moved-range View e h = omega arith
 moved-range Tick e h = omega arith
 
 -- the entries after an event

@@ -10,7 +10,7 @@ use lib.ListN.{length, getD}
 use Rattle.lists.specs.Tables.{readBy, readFrom, mapFrom}
 use Rattle.lists.proofs.Cases.{by-test}
 use Rattle.ledger.specs.Limits.{taskCount}
-use Rattle.ledger.specs.Tasks.{Clocks, clocksAfter, isTested, allTicked}
+use Rattle.ledger.specs.Tasks.{Clocks, taskAt, clocksAfter, isAbsent, isTested, allTicked}
 use Rattle.ledger.specs.Objects.{replyTo, memoryAfter, expirationsAfter}
 use Rattle.ledger.specs.Refusals.{asRefusal}
 use Rattle.ledger.specs.Kept.{PinsKept}
@@ -20,6 +20,7 @@ use Rattle.ledger.specs.Ledger.{Ledger, settled, replyBy, afterBy, reply, next}
 use Rattle.ledger.specs.Compared.{shown, viewOf}
 use Rattle.ledger.specs.declared.Share.{Share}
 use Rattle.ledger.specs.declared.Event.{Event}
+use Rattle.ledger.specs.declared.Event.the-variants.{View}
 use Rattle.ledger.specs.Expirations.{Expiration}
 use Rattle.ledger.specs.declared.Refusal.the-variants.{NoSuchTask}
 use Rattle.ledger.specs.declared.Call.the-variants.{Schedule}
@@ -37,7 +38,8 @@ use Rattle.ledger.specs.declared.Verdict.the-variants.{Accepted, Refused}
 use Rattle.steps.proofs.FitAfter.{fit-after}
 use Rattle.steps.proofs.Orphans.{shares-counted, withMakers, fit-orphaned, reads-orphaned}
 use Rattle.steps.proofs.Shares.{shared-kept, kept-shared}
-use Rattle.steps.proofs.ReadTasks.{ClocksAlike, verdict-alike, advances-alike, clocks-alike, untested-clocks-alike}
+use Rattle.steps.proofs.FitTasks.{view-absent}
+use Rattle.steps.proofs.ReadTasks.{ClocksAlike, state-alike, verdict-alike, advances-alike, clocks-alike, untested-clocks-alike}
 use Rattle.steps.proofs.ReadExpirations.{expirations-alike, untested-expirations-alike}
 use Rattle.steps.proofs.ReadObjects.{freed-shown, objects-alike, standing-ascending}
 use Rattle.steps.proofs.Standing.{none-freed}
@@ -129,10 +131,15 @@ module _ (event : Event) (task : ℕ) (p : Tables) (small large : List ℕ) (L :
 
   -- the shares are kept with it
   pub shared-after : Typed p → task < taskCount → Shared p → Shared (poolAfter event task p)
-  unfolding memoryAfter
+  unfolding memoryAfter recordView viewOf
   shared-after types known shared =
-      kept-shared reads-after (as-many types) (shares-filter _ (shares-after (L .memory .clocks) task event known (shared-kept reads (types .shares) shared)))
+      kept-shared reads-after (as-many types) (shares-filter _ (shares-after (L .memory .clocks) task event known absent (shared-kept reads (types .shares) shared)))
     where
+      -- who becomes a viewer was absent
+      absent : event ≡ View → isAbsent (taskAt (L .memory .clocks) task .state) ≡ true
+      absent e =
+          ap isAbsent (sym (state-alike (p .tasks) (L .memory .clocks) (reads .alike .tasks) task) ∙ view-absent (stateOf (getD (p .tasks) task absentEntry .state)) (rw e at accepted))
+
       as-many : Typed p → length (poolAfter event task p .shares) ≡ taskCount
       as-many types = shares-left event task p ∙ types .shares
 

@@ -39,7 +39,7 @@ blockOf handle blocks = getD blocks (placeOf handle blocks) freeBlock
 abbrev pub objectOf : List ℕ → List ℕ → List BlockEntry → ℕ → Object
 objectOf small large blocks i =
     let b = getD blocks i freeBlock in
-    record { handle = b .handle; size = b .length; bytes = blockBytes small large i (sizeOf i); sum = b .sum; maker = b .maker }
+    record { handle = b .handle; size = b .length; bytes = blockBytes small large i (sizeOf i); sum = b .sum; maker = b .maker; prefix = b .prefix }
 
 abbrev isObjectOf : ℕ → Object → Bool
 isObjectOf handle o = eqb (o .handle) handle
@@ -58,6 +58,7 @@ pub record Found (limits : Limits) (small large : List ℕ) (blocks : List Block
   pub used : isUsed (blockOf handle blocks) ≡ true
   pub size : o .size ≡ blockOf handle blocks .length
   pub sum : o .sum ≡ blockOf handle blocks .sum
+  pub prefix : o .prefix ≡ blockOf handle blocks .prefix
   pub bytes : isWhole limits small large (blockOf handle blocks .length) ≡ true
       → o .bytes ≡ blockBytes small large (placeOf handle blocks) (sizeOf (placeOf handle blocks))
 
@@ -158,6 +159,7 @@ module _ {p : Tables} {small large : List ℕ} {L : Ledger} (fit : Fit p) (reads
           its = its-handle some;
           used = rw (its-handle some, nonzero);
           size = ap (λ (o : Object). o .size) same;
+          prefix = ap (λ (o : Object). o .prefix) same;
           sum = ap (λ (o : Object). o .sum) same;
           bytes = λ w. rw (ap (λ (o : Object). o .size) same, w) at (ap (λ (o : Object). o .bytes) same);
         }

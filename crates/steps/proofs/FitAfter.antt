@@ -3,7 +3,7 @@ use Prim.Native.Nat.{ℕ, _<_}
 use native.Mathlib.Omega.{arith}
 use mathlib.Core.Bool.{Bool, true, false, true≢false, not}
 use mathlib.Core.List.{List, map}
-use mathlib.Core.Path.{_≡_, refl}
+use mathlib.Core.Path.{_≡_, refl, sym, _∙_}
 use borrow.Author.Tests.{eqb-false, not-true}
 use lib.Dec.{eqb}
 use lib.ListN.{getD, set, List·getD-map}
@@ -12,24 +12,25 @@ use Rattle.lists.proofs.Cases.{and₃, or-map}
 use Rattle.lists.proofs.All.{all-getD}
 use Rattle.lists.proofs.Tests.{passes-imp, passes-map, passes-set, passes-at}
 use Rattle.ledger.specs.Limits.{taskCount, counterRange}
-use Rattle.ledger.specs.Tasks.{isAbsent, allTicked}
+use Rattle.ledger.specs.Tasks.{isAbsent, isRunning, allTicked}
 use Rattle.ledger.specs.Expirations.{departed}
+use Rattle.ledger.proofs.KeptTasks.{stopped}
 use Rattle.ledger.specs.declared.State.the-variants.{Running}
 use Rattle.ledger.specs.declared.Event.{Event}
-use Rattle.ledger.specs.declared.Event.the-variants.{Leave, Block, Resume, Tick}
+use Rattle.ledger.specs.declared.Event.the-variants.{Leave, Block, Resume, Tick, View}
 use Rattle.record.specs.Codes.{stateOf, taskOf, dueOf, absentEntry}
 use Rattle.record.specs.Reading.{Typed}
-use Rattle.record.specs.WellFormed.{isFitTask, isFitDue, isWellFormed}
+use Rattle.record.specs.WellFormed.{isFitTask, isFitDue}
 use Rattle.record.specs.declared.TaskEntry.{TaskEntry}
 use Rattle.record.specs.declared.GlobalTime.{GlobalTime}
 use Rattle.record.specs.Tables.{Tables}
 use Rattle.record.specs.declared.Due.{Due}
 use Rattle.record.specs.declared.Due.the-variants.{Free, Local, Global, Pinned, Unknown}
-use Rattle.record.proofs.Facts.{Fit, fit-parts, fit-whole}
+use Rattle.record.proofs.Facts.{Fit}
 use Rattle.steps.specs.Events.{verdictOf, untickedEntry, advancedTasks, advancedTime, swept, withTimes, orphanedPool, movedPool, poolAfter}
 use Rattle.ledger.specs.declared.Verdict.the-variants.{Accepted}
 use Rattle.ledger.specs.declared.Limits.{Limits}
-use Rattle.steps.proofs.FitTasks.{Later, later-same, later-next, StaysPresent, OthersStayPresent, set-stays-present, tick-running, ticked-fits, unticked-fits, advanced-unticked, running-unticked}
+use Rattle.steps.proofs.FitTasks.{Later, later-same, later-next, StaysPresent, OthersStayPresent, set-stays-present, tick-running, ticked-fits, unticked-fits, advanced-unticked, running-unticked, idle-unticked, view-absent}
 use Rattle.steps.proofs.FitSwept.{local-fits, fit-swept}
 use Rattle.steps.proofs.Orphans.{fit-orphaned, typed-orphaned}
 
@@ -73,13 +74,13 @@ module _ (p : Tables) (f : Fit p) (task : ℕ) (e : TaskEntry) (fits : isFitTask
       fit-advanced (allTicked (map taskOf tasks)) leaver tasks p f (r .global)
       (λ any other. set-stays-present Later later-same (p .tasks) task e any (λ at. follows (rw (← at) other))) set-fits (advanced-unticked tasks)
 
-  -- by an event that makes the task run
-  pub fit-running : stateOf (e .state) ≡ Running → eqb (e .ticked) 1 ≡ false → StaysPresent _≡_ (getD (p .tasks) task absentEntry) e
+  -- by an event with none, after which not all that run are ticked
+  fit-untested : allTicked (map taskOf (set (p .tasks) task e)) ≡ false → StaysPresent _≡_ (getD (p .tasks) task absentEntry) e
       → Fit (withTimes (set (p .tasks) task e) (p .global) p)
-  fit-running running unticked follows =
+  fit-untested unticked follows =
       record {
         tasks = set-fits;
-        unticked = running-unticked (p .tasks) task e running unticked (f .unticked);
+        unticked = unticked;
         entries =
             passes-imp
             (λ x. same-fits (p .limits) _ _ _ _ (dueOf x) (set-stays-present _≡_ (λ now. refl) (p .tasks) task e _ (λ at. follows)))
@@ -92,7 +93,19 @@ module _ (p : Tables) (f : Fit p) (task : ℕ) (e : TaskEntry) (fits : isFitTask
         counted = f .counted;
       }
 
--- the four events
+  -- as where it makes the task run,
+  pub fit-running : stateOf (e .state) ≡ Running → eqb (e .ticked) 1 ≡ false → StaysPresent _≡_ (getD (p .tasks) task absentEntry) e
+      → Fit (withTimes (set (p .tasks) task e) (p .global) p)
+  fit-running running unticked follows = fit-untested (running-unticked (p .tasks) task e running unticked (f .unticked)) follows
+
+  -- or an absent one a viewer
+  fit-viewing : isRunning (stateOf (e .state)) ≡ false → isAbsent (stateOf (getD (p .tasks) task absentEntry .state)) ≡ true
+      → Fit (withTimes (set (p .tasks) task e) (p .global) p)
+  fit-viewing still absent =
+      fit-untested (idle-unticked (p .tasks) task e still (stopped (stateOf (getD (p .tasks) task absentEntry .state)) absent) (f .unticked))
+      (λ present. absurd (true≢false (sym absent ∙ present)))
+
+-- the five events
 fit-moved : (event : Event) (task : ℕ) (p : Tables) → Fit p → Typed p
     → verdictOf event (stateOf (getD (p .tasks) task absentEntry .state)) ≡ Accepted → Fit (movedPool event task p)
 unfolding movedPool isFitTask counterRange
@@ -100,6 +113,7 @@ fit-moved Leave task p f r a =
     fit-tested p f task _ refl r task (λ other. absurd (eqb-false task task other refl))
 fit-moved Block task p f r a = fit-tested p f task _ refl r taskCount (λ other present. (refl, later-same _))
 fit-moved Resume task p f r a = fit-running p f task _ refl refl refl (λ present. (refl, refl))
+fit-moved View task p f r a = fit-viewing p f task _ refl refl (rw (view-absent (stateOf (getD (p .tasks) task absentEntry .state)) a))
 fit-moved Tick task p f r a =
     let entry = getD (p .tasks) task absentEntry in
     let fits = passes-at isFitTask (p .tasks) task absentEntry (f .tasks) refl in

@@ -1,7 +1,7 @@
 -- Make and refresh leave a well-formed record well-formed, whichever free block and free entry they take.
 use Prim.Native.Nat.{ℕ, zero, suc, _+_, _≤_, _<_}
 use native.Mathlib.Omega.{arith}
-use mathlib.Core.Bool.{true, false, false≢true, not, _||_, and-eq-true-iff, or-true}
+use mathlib.Core.Bool.{_&&_, true, false, false≢true, not, _||_, and-eq-true-iff, or-true}
 use mathlib.Core.List.{List, [], _∷_, map}
 use mathlib.Core.Path.{_≡_, refl, sym, ap, _∙_}
 use borrow.Author.Tests.{not-true, eqb-false, leb-true, leb-false, le-leb, lt-ltb, eq-eqb, ne-eqb}
@@ -19,11 +19,10 @@ use Rattle.ledger.specs.Limits.{taskCount, smallSize, largeSize, isSmall}
 use Rattle.ledger.specs.Refusals.{isPinning as isPinningKind}
 use Rattle.ledger.specs.declared.Kind.{Kind}
 use Rattle.ledger.specs.declared.Kind.the-variants.{Local, Global, Pinned}
-use Rattle.ledger.specs.Expirations.{departed}
 use Rattle.ledger.specs.declared.Limits.{Limits}
 use Rattle.record.specs.Codes.{dueBy, dueOf, isPinnedDue, freeBlock, freeEntry}
 use Rattle.record.specs.Reading.{Typed}
-use Rattle.record.specs.WellFormed.{isUsed, isFitDue, isFitEntry, isNaming, isSizedFor, isFitBlock, isDistinct, isBlockAt, isEntryAt, handleOf}
+use Rattle.record.specs.WellFormed.{isUsed, isFitDue, isFitEntry, isNaming, isSizedFor, isPrefixed, isFitBlock, isDistinct, isBlockAt, isEntryAt, handleOf}
 use Rattle.record.specs.Tables.{BlockEntry, ExpirationEntry, Tables}
 use Rattle.record.proofs.Facts.{Fit}
 use Rattle.steps.proofs.FitSwept.{used-fits}
@@ -43,8 +42,9 @@ unfolding isFitBlock
 blocks-still given after slot e xs blocks more entry =
     allFrom-imp _ _
     (λ i b. or-map (not (isUsed b)) (λ h.
-    let (named, sized, numbered) = and₃ (any (isNaming i) xs) _ _ h in
-    rw (named-still slot i e xs entry named, sized, le-leb (b .handle) after (omega (arith, leb-true (b .handle) given numbered)))))
+    let (shaped, numbered) = and-eq-true-iff (any (isNaming i) xs && isSizedFor i (b .length) && isPrefixed b) _ .0 h in
+    let (named, sized, prefixed) = and₃ (any (isNaming i) xs) _ _ shaped in
+    rw (named-still slot i e xs entry named, sized, prefixed, le-leb (b .handle) after (omega (arith, leb-true (b .handle) given numbered)))))
     0 blocks
 
 -- an entry of the figures comes into use
@@ -150,38 +150,39 @@ new-sized place size limits blocks block =
     (λ s. rw (block .store, s, le-leb size largeSize (block .most), le-leb (smallSize + 1) size (omega (arith, leb-false size smallSize s))))
 
 -- A make
-module _ (p : Tables) (fit : Fit p) (types : Typed p) (kind : Kind) (task extension size place slot : ℕ)
-    (may : MaySet task extension p) (block : PlaceFree (p .limits) place size (p .blocks)) (entry : SlotFree (p .limits) slot (p .expirations)) where
+module _ (p : Tables) (fit : Fit p) (types : Typed p) (kind : Kind) (task extension size prefix place slot : ℕ)
+    (may : MaySet task extension p) (short : prefix ≤ size) (block : PlaceFree (p .limits) place size (p .blocks)) (entry : SlotFree (p .limits) slot (p .expirations)) where
   -- older entries are fit by the new blocks
-  entries-still : all (isFitEntry (p .limits) (p .tasks) (p .global) (withObject task place size p .blocks)) (p .expirations) ≡ true
+  entries-still : all (isFitEntry (p .limits) (p .tasks) (p .global) (withObject task place size prefix p .blocks)) (p .expirations) ≡ true
   entries-still =
       passes-imp
       (λ e h.
-      let stays = block-stays (p .limits) (p .tasks) (p .global) (p .blocks) place (newBlock task (p .given) size) (block .free) e h in
+      let stays = block-stays (p .limits) (p .tasks) (p .global) (p .blocks) place (newBlock task (p .given) size prefix) (block .free) e h in
       used-fits (p .limits) _ (p .global) _ _ (dueOf e) (λ dated. ap isUsed (stays dated)) h)
       (p .expirations) (fit .entries)
 
-  new-used : isUsed (getD (withObject task place size p .blocks) place freeBlock) ≡ true
+  new-used : isUsed (getD (withObject task place size prefix p .blocks) place freeBlock) ≡ true
   new-used =
-      rw (getD-set-same (p .blocks) place (newBlock task (p .given) size) freeBlock (block .listed), ne-eqb (p .given + 1) 0 (λ z. omega arith))
+      rw (getD-set-same (p .blocks) place (newBlock task (p .given) size prefix) freeBlock (block .listed), ne-eqb (p .given + 1) 0 (λ z. omega arith))
 
   -- the new block is named by the new entry
-  block-fits : isFitBlock (p .given + 1) (set (p .expirations) slot (entryFor kind task extension place p)) place (newBlock task (p .given) size) ≡ true
+  block-fits : isFitBlock (p .given + 1) (set (p .expirations) slot (entryFor kind task extension place p)) place (newBlock task (p .given) size prefix) ≡ true
   unfolding isFitBlock
   block-fits =
       rw (
         any-set-new (isNaming place) (p .expirations) slot _ (entry .listed) (entry-names kind task extension place p (may .known)),
         new-sized place size (p .limits) (p .blocks) block,
+        le-leb prefix size short,
         le-leb (p .given + 1) (p .given + 1) (omega arith),
         or-true,
       )
 
-  pub fit-made : Fit (withEntry slot (entryFor kind task extension place p) (withObject task place size p))
+  pub fit-made : Fit (withEntry slot (entryFor kind task extension place p) (withObject task place size prefix p))
   fit-made =
       record {
         tasks = fit .tasks;
         unticked = fit .unticked;
-        entries = passes-set _ (p .expirations) slot _ entries-still (entry-fits p types kind task extension place may (withObject task place size p .blocks) new-used);
+        entries = passes-set _ (p .expirations) slot _ entries-still (entry-fits p types kind task extension place may (withObject task place size prefix p .blocks) new-used);
         blocks =
             allFrom-set _ (p .blocks) place _ block-fits
             (blocks-still (p .given) (p .given + 1) slot _ (p .expirations) (p .blocks) (omega arith) entry (fit .blocks));
@@ -192,6 +193,6 @@ module _ (p : Tables) (fit : Fit p) (types : Typed p) (kind : Kind) (task extens
             (none-pinned (p .limits) (p .tasks) (p .global) (p .blocks) (p .expirations) place (rw (block .free)) (fit .entries)))
             (fit .once);
         allowed = fit .allowed;
-        listed = allFrom-set (isBlockAt (p .limits)) (p .blocks) place (newBlock task (p .given) size) (rw (block .its, or-true)) (fit .listed);
+        listed = allFrom-set (isBlockAt (p .limits)) (p .blocks) place (newBlock task (p .given) size prefix) (rw (block .its, or-true)) (fit .listed);
         counted = counted-set p slot _ entry fit;
       }

@@ -17,7 +17,7 @@ use Rattle.ledger.specs.Tasks.{isAbsent, allTicked}
 use Rattle.ledger.specs.Expirations.{departed}
 use Rattle.ledger.specs.declared.Limits.{Limits}
 use Rattle.record.specs.Codes.{stateOf, dueBy, taskOf, dueOf, isDated, isPinnedDue, setterOf, leftAt, absentEntry, freeBlock}
-use Rattle.record.specs.WellFormed.{isUsed, isFitTask, isAhead, isFitDue, isFitEntry, isNaming, isFitBlock, isDistinct, handleOf}
+use Rattle.record.specs.WellFormed.{isUsed, isFitTask, isAhead, isFitDue, isFitEntry, isNaming, isSizedFor, isPrefixed, isFitBlock, isDistinct, handleOf}
 use Rattle.record.specs.declared.TaskEntry.{TaskEntry}
 use Rattle.record.specs.Tables.{BlockEntry, ExpirationEntry, Tables}
 use Rattle.record.specs.declared.LocalTime.{LocalTime}
@@ -123,7 +123,10 @@ pub kept-fits : (given : ℕ) (xs ys : List ExpirationEntry) (block : ℕ) (b : 
 unfolding isFitBlock
 kept-fits given xs ys block b h =
     by-test (any (isNaming block) ys)
-    (λ n. rw n (or-map (not (isUsed b)) (λ e. let (named, sized, numbered) = and₃ (any (isNaming block) xs) _ _ e in rw (sized, numbered)) h))
+    (λ n. rw n (or-map (not (isUsed b)) (λ e.
+    let (shaped, numbered) = and-eq-true-iff (any (isNaming block) xs && isSizedFor block (b .length) && isPrefixed b) _ .0 e in
+    let (named, sized, prefixed) = and₃ (any (isNaming block) xs) _ _ shaped in
+    rw (sized, prefixed, numbered)) h))
     (λ n. rw n)
 
 -- no block gets a handle

@@ -3,19 +3,21 @@ use Prim.Native.Nat.{ℕ, _≤_, _<_}
 use native.Mathlib.Omega.{arith}
 use mathlib.Core.Bool.{Bool, true, false, not, _&&_, _||_, and-eq-true-iff, and-false}
 use mathlib.Core.List.{List, [], _∷_, map}
-use mathlib.Core.Path.{_≡_, refl}
+use mathlib.Core.Path.{_≡_, refl, _∙_}
 use borrow.Author.Tests.{leb-true, leb-false}
 use lib.Dec.{eqb, leb, ltb}
-use lib.ListN.{length, getD, set}
+use lib.ListN.{length, getD, set, List·getD-map}
 use lib.Seq.{set-out}
 use Rattle.lists.proofs.Cases.{by-test, and₃}
+use Rattle.lists.proofs.Tables.{map-set}
 use Rattle.lists.proofs.Tests.{fails-set}
 use Rattle.lists.proofs.All.{at-set}
 use Rattle.ledger.specs.Limits.{counterRange}
 use Rattle.ledger.specs.Tasks.{Task, isAbsent, isRunning, allTicked}
+use Rattle.ledger.proofs.KeptTasks.{ticked-as}
 use Rattle.ledger.specs.declared.State.{State}
-use Rattle.ledger.specs.declared.State.the-variants.{Absent, Running, Waiting}
-use Rattle.ledger.specs.declared.Event.the-variants.{Tick}
+use Rattle.ledger.specs.declared.State.the-variants.{Absent, Running, Waiting, Viewing}
+use Rattle.ledger.specs.declared.Event.the-variants.{Tick, View}
 use Rattle.record.specs.Codes.{stateOf, taskOf, leftAt, absentEntry}
 use Rattle.record.specs.WellFormed.{isFitTask}
 use Rattle.record.specs.declared.TaskEntry.{TaskEntry}
@@ -53,19 +55,27 @@ set-stays-present moves same tasks task e any f =
     at-set (StaysPresent moves (getD tasks any absentEntry)) tasks task any absentEntry
     (λ at. rw at (f at)) (λ present. (present, same _))
 
--- the state of a task that may tick
+-- the state of a task that may become a viewer,
+pub view-absent : (s : State) → verdictOf View s ≡ Accepted → s ≡ Absent
+view-absent Absent a = refl
+view-absent Running a = cc
+view-absent Waiting a = cc
+view-absent Viewing a = cc
+
+-- and of one that may tick
 pub tick-running : (s : State) → verdictOf Tick s ≡ Accepted → s ≡ Running
 tick-running Absent a = cc
 tick-running Running a = refl
 tick-running Waiting a = cc
+tick-running Viewing a = cc
 
 -- a fit entry's state is known, and its clock 0 if the task is absent
 fit-entry : (e : TaskEntry) → isFitTask e ≡ true
-    → (ltb (e .state) 3 ≡ true) × ((not (isAbsent (stateOf (e .state))) || eqb (e .clock .0) 0) ≡ true)
+    → (ltb (e .state) 4 ≡ true) × ((not (isAbsent (stateOf (e .state))) || eqb (e .clock .0) 0) ≡ true)
 unfolding isFitTask
 fit-entry e h =
-    let (codes, running, clock) = and₃ (ltb (e .state) 3 && ltb (e .ticked) 2) _ _ h in
-    (and-eq-true-iff (ltb (e .state) 3) _ .0 codes .0, clock)
+    let (codes, running, clock) = and₃ (ltb (e .state) 4 && ltb (e .ticked) 2) _ _ h in
+    (and-eq-true-iff (ltb (e .state) 4) _ .0 codes .0, clock)
 
 -- a running task's entry stays fit when it ticks, and any entry when it is unticked
 pub ticked-fits : (e : TaskEntry) → stateOf (e .state) ≡ Running → isFitTask e ≡ true → isFitTask (movedEntry Tick e) ≡ true
@@ -85,6 +95,12 @@ none-ticked (e ∷ tasks) = by-test (isRunning (stateOf (e .state))) (λ r. rw r
 -- it fails after an advance, or has failed
 pub advanced-unticked : (tasks : List TaskEntry) → allTicked (map taskOf (advancedTasks (allTicked (map taskOf tasks)) tasks)) ≡ false
 advanced-unticked tasks = by-test (allTicked (map taskOf tasks)) (λ e. rw e (none-ticked tasks)) (λ e. rw e e)
+
+-- it comes out the same where one that does not run takes the place of another
+pub idle-unticked : (tasks : List TaskEntry) (task : ℕ) (e : TaskEntry) → isRunning (stateOf (e .state)) ≡ false
+    → isRunning (stateOf (getD tasks task absentEntry .state)) ≡ false → allTicked (map taskOf tasks) ≡ false → allTicked (map taskOf (set tasks task e)) ≡ false
+idle-unticked tasks task e still before h =
+    rw (map-set taskOf) (ticked-as (map taskOf tasks) task (taskOf e) still (rw (List·getD-map taskOf tasks task absentEntry) before) ∙ h)
 
 -- it fails where a task runs that has not ticked
 pub running-unticked : (tasks : List TaskEntry) (task : ℕ) (e : TaskEntry) → stateOf (e .state) ≡ Running → eqb (e .ticked) 1 ≡ false

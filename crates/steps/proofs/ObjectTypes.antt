@@ -25,12 +25,12 @@ typed-entry slot e p types =
       given = types .given;
     }
 
-pub typed-made : (task : ℕ) (kind : Kind) (extension size : ℕ) (p : Tables) → Typed p → makeVerdict task kind extension size p ≡ Accepted
-    → Typed (madePool task kind extension size p)
+pub typed-made : (task : ℕ) (kind : Kind) (extension size prefix : ℕ) (p : Tables) → Typed p → makeVerdict task kind extension size prefix p ≡ Accepted
+    → Typed (madePool task kind extension size prefix p)
 unfolding madePool lastHandle counterRange
-typed-made task kind extension size p types accepted =
-    let unspent = make-unspent task kind extension size p accepted in
-    typed-entry _ _ (withObject _ _ size p)
+typed-made task kind extension size prefix p types accepted =
+    let unspent = make-unspent task kind extension size prefix p accepted in
+    typed-entry _ _ (withObject _ _ size prefix p)
     (record {
       tasks = types .tasks;
       shares = types .shares;

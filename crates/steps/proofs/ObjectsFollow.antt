@@ -1,18 +1,21 @@
 -- Make, refresh, read and write on a well-formed record follow the ledger that it reads as.
-use Prim.Native.Nat.{ℕ, _+_, _≤_, _<_}
-use native.Mathlib.Omega.{arith}
-use mathlib.Core.Bool.{true, false}
+use Prim.Native.Nat.{ℕ, _+_, _≤_}
+use mathlib.Core.Bool.{Bool, true, false}
 use mathlib.Core.List.{List, []}
 use mathlib.Core.Logic.{_≢_}
 use mathlib.Core.Path.{_≡_, refl, sym, subst, _∙_}
+use native.Mathlib.Nat.{le-refl, le-trans}
 use borrow.Author.Tests.{not-false, not-true, eqb-false}
 use lib.Dec.{eqb}
 use lib.ListN.{length, getD, replicate}
-use Rattle.ledger.specs.Objects.{ownBytes, replyTo, memoryAfter, expirationsAfter, objectAt, stands}
+use Rattle.lists.proofs.Cases.{by-test}
+use Rattle.ledger.specs.Tasks.{taskAt, isViewing}
+use Rattle.ledger.specs.Objects.{bytesFor, replyTo, memoryAfter, expirationsAfter, objectAt, stands}
 use Rattle.ledger.specs.Refusals.{asRefusal}
 use Rattle.ledger.specs.Remaining.{remainingLife}
 use Rattle.ledger.specs.Ledger.{Ledger, settled, replyBy, afterBy, verdictOn, reply, next}
 use Rattle.ledger.specs.Compared.{viewOf}
+use Rattle.ledger.specs.declared.State.{State}
 use Rattle.ledger.specs.declared.Kind.{Kind}
 use Rattle.ledger.specs.declared.Call.{Call}
 use Rattle.ledger.specs.declared.Call.the-variants.{Make, Refresh, Write}
@@ -22,15 +25,17 @@ use Rattle.stores.specs.Places.{InBlock, smallAfter, largeAfter}
 use Rattle.record.specs.Codes.{freeBlock}
 use Rattle.record.specs.Reading.{isWholeSmall, isWholeLarge, blockBytes, recordView, Typed, Reads, sizeOf}
 use Rattle.record.specs.WellFormed.{isWellFormed}
-use Rattle.record.specs.Tables.{Tables, blockEntries}
+use Rattle.record.specs.Tables.{Tables}
 use Rattle.record.proofs.Distinct.{handleAt}
 use Rattle.record.proofs.Facts.{fit-parts, shared-part, fit-whole, fit-used}
-use Rattle.steps.specs.Objects.{placeOf, freePlace, handleVerdict, makeVerdict, refreshVerdict, standingVerdict, readVerdict, writeVerdict, madePool, refreshedPool, writtenPool}
+use Rattle.steps.specs.Objects.{placeOf, freePlace, handleVerdict, makeVerdict, refreshVerdict, standingVerdict, stateIn, shownLength, intactVerdict, readVerdict, writeVerdict, madePool, refreshedPool, writtenPool}
 use Rattle.steps.specs.Remaining.{lifeIn}
-use Rattle.steps.proofs.Chosen.{make-takes, refresh-takes, handle-found, standing-found, read-stands, write-begins, write-end}
+use Rattle.steps.proofs.Chosen.{make-takes, refresh-takes, handle-found, standing-found, intact-stands, write-begins, write-end}
 use Rattle.steps.proofs.Finding.{Found, gone-alike, found, blockOf}
+use Rattle.steps.proofs.ReadTasks.{state-alike}
 use Rattle.steps.proofs.Remaining.{life-alike}
 use Rattle.steps.proofs.StoreBytes.{both-whole, whole-block, used-in-block, first-bytes, made-bytes}
+use Rattle.stores.proofs.Places.{first-bytes as first-of}
 use Rattle.steps.proofs.FitMade.{fit-made, fit-refreshed}
 use Rattle.steps.proofs.ReadMade.{made-reads, refreshed-reads}
 use Rattle.steps.proofs.Summed.{fit-summed, shared-summed}
@@ -59,23 +64,23 @@ module _ {p : Tables} {small large : List ℕ} {L : Ledger} (w : isWellFormed p 
   place-found handle v = let (nonzero, standing) = handle-stands handle v in found (fit-parts p w) reads handle nonzero standing
 
   -- and with the life that the ledger gives it
-  pub read-life : (task handle : ℕ) → standingVerdict task handle p ≡ Accepted
+  pub read-life : (task handle : ℕ) → standingVerdict false task handle p ≡ Accepted
       → lifeIn task (placeOf handle (p .blocks)) (p .tasks) (p .global) (p .expirations) ≡ remainingLife task handle (L .memory .clocks) (L .expirations)
   read-life task handle v =
-      let (nonzero, standing) = handle-stands handle (standing-found task handle p v) in
+      let (nonzero, standing) = handle-stands handle (standing-found false task handle p v) in
       life-alike (fit-parts p w) reads task handle nonzero standing
 
   pub same-given : p .given ≡ L .memory .given
   unfolding recordView viewOf
   same-given = reads .alike .given
 
-  pub make-fits : (task : ℕ) (kind : Kind) (extension size : ℕ) → makeVerdict task kind extension size p ≡ Accepted
-      → isWellFormed (madePool task kind extension size p) ≡ true
+  pub make-fits : (task : ℕ) (kind : Kind) (extension size prefix : ℕ) → makeVerdict task kind extension size prefix p ≡ Accepted
+      → isWellFormed (madePool task kind extension size prefix p) ≡ true
   unfolding madePool
-  make-fits task kind extension size v =
+  make-fits task kind extension size prefix v =
       let fit = fit-parts p w in
-      let taken = make-takes task kind extension size p fit types v in
-      fit-whole _ (fit-made p fit types kind task extension size _ _ (taken .may) (taken .block) (taken .entry)) (shared-made p fit types kind task extension size (taken) (shared-part p w))
+      let taken = make-takes task kind extension size prefix p fit types v in
+      fit-whole _ (fit-made p fit types kind task extension size prefix _ _ (taken .may) (taken .prefixed) (taken .block) (taken .entry)) (shared-made p fit types kind task extension size prefix (taken) (shared-part p w))
 
   pub refresh-fits : (task : ℕ) (kind : Kind) (extension handle : ℕ) → refreshVerdict task kind extension handle p ≡ Accepted
       → isWellFormed (refreshedPool task kind extension handle p) ≡ true
@@ -100,43 +105,57 @@ module _ {p : Tables} {small large : List ℕ} {L : Ledger} (w : isWellFormed p 
 
   -- with both stores as long as the blocks need
   module _ (small-whole : isWholeSmall (p .limits) small ≡ true) (large-whole : isWholeLarge (p .limits) large ≡ true) where
-    pub make-reads : (task : ℕ) (kind : Kind) (extension size : ℕ) → makeVerdict task kind extension size p ≡ Accepted
+    pub make-reads : (task : ℕ) (kind : Kind) (extension size prefix : ℕ) → makeVerdict task kind extension size prefix p ≡ Accepted
         → (let place = freePlace (p .limits) size (p .blocks) in
         let zeros : List ℕ = replicate (sizeOf place) 0 in
-        Reads (madePool task kind extension size p) (smallAfter place 0 zeros small) (largeAfter place 0 zeros large)
-        (carried (Make task kind extension size) [] L))
+        Reads (madePool task kind extension size prefix p) (smallAfter place 0 zeros small) (largeAfter place 0 zeros large)
+        (carried (Make task kind extension size prefix) [] L))
     unfolding madePool
-    make-reads task kind extension size v =
-        let taken = make-takes task kind extension size p (fit-parts p w) types v in
-        made-reads p small large _ _ L (fit-parts p w) types reads kind task extension size _ _ (taken .may) (taken .block) (taken .entry)
+    make-reads task kind extension size prefix v =
+        let taken = make-takes task kind extension size prefix p (fit-parts p w) types v in
+        made-reads p small large _ _ L (fit-parts p w) types reads kind task extension size prefix _ _ (taken .may) (taken .block) (taken .entry)
         small-whole large-whole (made-bytes (p .limits) (fit-parts p w .allowed) small large small-whole large-whole _ (taken .block .its))
 
-    -- a read that is accepted finds the object in a block,
-    module _ (task handle : ℕ) (v : readVerdict task handle small large p ≡ Accepted) where
-      read-found : Found (p .limits) small large (p .blocks) handle (objectAt handle (L .memory .objects))
-      read-found = place-found handle (standing-found task handle p (read-stands task handle small large p v))
+    -- a read that is accepted, and a write before 13, finds the object in a block,
+    module _ (acts : Bool) (task handle : ℕ) (v : intactVerdict acts task handle small large p ≡ Accepted) where
+      intact-found : Found (p .limits) small large (p .blocks) handle (objectAt handle (L .memory .objects))
+      intact-found = place-found handle (standing-found acts task handle p (intact-stands acts task handle small large p v))
 
       in-use : eqb (handleAt (p .blocks) (placeOf handle (p .blocks))) 0 ≡ false
-      in-use = not-true _ (read-found .used)
+      in-use = not-true _ (intact-found .used)
 
       -- which lies in its store, and the object's bytes with it
-      pub read-block : InBlock small large (placeOf handle (p .blocks)) (sizeOf (placeOf handle (p .blocks)))
-      read-block = whole-block (p .limits) (fit-parts p w .allowed) small large small-whole large-whole _ (fit-used (fit-parts p w) _ in-use .listed)
+      pub intact-block : InBlock small large (placeOf handle (p .blocks)) (sizeOf (placeOf handle (p .blocks)))
+      intact-block = whole-block (p .limits) (fit-parts p w .allowed) small large small-whole large-whole _ (fit-used (fit-parts p w) _ in-use .listed)
 
-      pub read-place : InBlock small large (placeOf handle (p .blocks)) (blockOf handle (p .blocks) .length)
-      read-place = used-in-block (p .limits) (fit-parts p w .allowed) small large small-whole large-whole p (fit-parts p w) _ refl in-use
+      own-place : InBlock small large (placeOf handle (p .blocks)) (blockOf handle (p .blocks) .length)
+      own-place = used-in-block (p .limits) (fit-parts p w .allowed) small large small-whole large-whole p (fit-parts p w) _ refl in-use
 
+      -- and so does what of them is shown
+      pub shown-place : (state : State) → InBlock small large (placeOf handle (p .blocks)) (shownLength state (blockOf handle (p .blocks)))
+      shown-place state =
+          first-of own-place _
+          (le-trans (by-test (isViewing state) (λ e. rw e (fit-used (fit-parts p w) _ in-use .prefixed)) (λ e. rw e (le-refl _))) (own-place .within))
+
+    module _ (task handle : ℕ) (v : readVerdict task handle small large p ≡ Accepted) where
       -- those are what the ledger answers
-      pub read-bytes : ownBytes (objectAt handle (L .memory .objects))
-          ≡ blockBytes small large (placeOf handle (p .blocks)) (blockOf handle (p .blocks) .length)
+      pub read-bytes : bytesFor (taskAt (L .memory .clocks) task .state) (objectAt handle (L .memory .objects))
+          ≡ blockBytes small large (placeOf handle (p .blocks)) (shownLength (stateIn (p .tasks) task) (blockOf handle (p .blocks)))
+      unfolding recordView viewOf
       read-bytes =
-          let bytes = read-found .bytes (both-whole (p .limits) (fit-parts p w .allowed) small large small-whole large-whole (blockOf handle (p .blocks) .length)) in
-          rw (bytes, read-found .size) (first-bytes (p .limits) (fit-parts p w .allowed) small large small-whole large-whole _ _ read-place)
+          let here = intact-found false task handle v in
+          let bytes = here .bytes (both-whole (p .limits) (fit-parts p w .allowed) small large small-whole large-whole (blockOf handle (p .blocks) .length)) in
+          let first =
+          first-bytes (p .limits) (fit-parts p w .allowed) small large small-whole large-whole _ _ (shown-place false task handle v (taskAt (L .memory .clocks) task .state)) in
+          rw (state-alike (p .tasks) (L .memory .clocks) (reads .alike .tasks) task)
+          (by-test (isViewing (taskAt (L .memory .clocks) task .state))
+          (λ e. rw (e, bytes, here .prefix) (rw e at first))
+          (λ e. rw (e, bytes, here .size) (rw e at first)))
 
     -- a write that is accepted lies in a block in use
     module _ (task handle offset : ℕ) (new : List ℕ) (v : writeVerdict task handle offset (length new) small large p ≡ Accepted) where
       here : Found (p .limits) small large (p .blocks) handle (objectAt handle (L .memory .objects))
-      here = read-found task handle (write-begins task handle offset (length new) small large p v)
+      here = intact-found true task handle (write-begins task handle offset (length new) small large p v)
 
       used : handleAt (p .blocks) (placeOf handle (p .blocks)) ≢ 0
       used = eqb-false _ 0 (not-true _ (here .used))

@@ -1,31 +1,30 @@
 -- A record whose blocks have lost a maker: all else is as it was, and it reads as the ledger whose objects have.
-use Prim.Native.Nat.{ℕ, suc, _≤_}
+use Prim.Native.Nat.{ℕ, suc}
 use native.Mathlib.Omega.{arith}
-use mathlib.Core.Bool.{Bool, true, false, true≢false, cond, not}
-use mathlib.Core.List.{List, [], _∷_, map, map-map, map-id, List·Permᴰ}
+use mathlib.Core.Bool.{Bool, true, false, true≢false}
+use mathlib.Core.List.{List, [], _∷_, map, map-map, map-id}
 use mathlib.Core.Path.{_≡_, refl, sym, ap, fun-ext, _∙_}
-use borrow.Author.Tests.{eqb-true, leb-true, le-leb}
-use lib.Dec.{eqb, leb}
+use borrow.Author.Tests.{eqb-true}
+use lib.Dec.{eqb}
 use lib.ListN.{length, getD, set, length-map, length-set, List·getD-map}
 use Rattle.lists.specs.Tests.{any, all, All}
-use Rattle.lists.specs.Tables.{readBy, readFrom, mapFrom, allFrom}
-use Rattle.lists.proofs.All.{all-every, all-imp, all-map, map-same}
+use Rattle.lists.specs.Tables.{readFrom, mapFrom, allFrom}
+use Rattle.lists.proofs.All.{all-every, all-map, map-same}
 use Rattle.lists.proofs.Cases.{by-test}
 use Rattle.lists.proofs.Permutations.{map-perm}
 use Rattle.lists.proofs.Tables.{readBy-same, mapFrom-map, allFrom-mapFrom}
 use Rattle.ledger.specs.Limits.{taskCount}
-use Rattle.ledger.specs.Expirations.{departed}
 use Rattle.ledger.specs.Objects.{Object, noShare, orphaned, makersAfter, sharesAfter}
 use Rattle.ledger.specs.Compared.{shownObject, viewOf}
 use Rattle.ledger.specs.Kept.{Ascending}
 use Rattle.ledger.specs.Ledger.{Ledger}
 use Rattle.ledger.specs.declared.Share.{Share}
 use Rattle.ledger.specs.declared.Event.{Event}
-use Rattle.ledger.specs.declared.Event.the-variants.{Leave, Block, Resume, Tick}
+use Rattle.ledger.specs.declared.Event.the-variants.{Leave, Block, Resume, Tick, View}
 use Rattle.record.specs.Codes.{freeBlock}
 use Rattle.record.specs.Reading.{shownEntry, objectIn, recordView, isWhole, Typed, Reads}
 use Rattle.record.specs.Tables.{BlockEntry, ExpirationEntry, Tables}
-use Rattle.record.specs.WellFormed.{isUsed, isFitEntry, isNaming, isSizedFor, isFitBlock, isBlockAt, handleOf}
+use Rattle.record.specs.WellFormed.{isFitEntry, isNaming, isFitBlock, isBlockAt, handleOf}
 use Rattle.record.proofs.Facts.{Fit}
 use Rattle.record.proofs.Distinct.{handleAt}
 use Rattle.steps.specs.Events.{keptBlock, leaverOf, orphanedBlock, orphanedPool}
@@ -36,6 +35,7 @@ abbrev pub isLeaving : Event → Bool
 isLeaving Leave = true
 isLeaving Block = false
 isLeaving Resume = false
+isLeaving View = false
 isLeaving Tick = false
 
 -- where nobody does
@@ -54,6 +54,7 @@ unfolding orphanedPool sharesAfter withBlocks
 orphaned-none Leave task p e = absurd (true≢false e)
 orphaned-none Block task p e = ap (λ (bs : List BlockEntry). withBlocks bs p) (nobody-left (p .blocks))
 orphaned-none Resume task p e = ap (λ (bs : List BlockEntry). withBlocks bs p) (nobody-left (p .blocks))
+orphaned-none View task p e = ap (λ (bs : List BlockEntry). withBlocks bs p) (nobody-left (p .blocks))
 orphaned-none Tick task p e = ap (λ (bs : List BlockEntry). withBlocks bs p) (nobody-left (p .blocks))
 
 -- the shares stay as many
@@ -62,6 +63,7 @@ unfolding sharesAfter
 shares-counted Leave task shares = length-set shares task noShare
 shares-counted Block task shares = refl
 shares-counted Resume task shares = refl
+shares-counted View task shares = refl
 shares-counted Tick task shares = refl
 
 module _ (leaver : ℕ) where
@@ -195,4 +197,5 @@ module _ {p : Tables} {small large : List ℕ} {L : Ledger} (task : ℕ) (reads 
       }
   reads-orphaned Block = same Block refl
   reads-orphaned Resume = same Resume refl
+  reads-orphaned View = same View refl
   reads-orphaned Tick = same Tick refl

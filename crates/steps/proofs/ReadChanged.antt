@@ -73,6 +73,7 @@ objectAfter p small large block offset new sum j =
       bytes = cond (eqb j block) (overwritten offset new old) old;
       sum = cond (eqb j block) sum (b .sum);
       maker = b .maker;
+      prefix = b .prefix;
     }
 
 -- New bytes in a block in use, of whole stores.
@@ -114,7 +115,7 @@ module _ (p : Tables) (small large : List ℕ) (fit : Fit p) (small-whole : isWh
       (each : (j : ℕ) → handleAt (p .blocks) j ≢ 0 → f (objectOf small large (p .blocks) j) ≡ objectAfter p small large block offset new sum′ j) where
     entry-after : (j : ℕ)
         → let b = getD (p .blocks) j freeBlock in
-        getD (withSum block sum′ p .blocks) j freeBlock ≡ record { handle = b .handle; length = b .length; sum = cond (eqb j block) sum′ (b .sum); maker = b .maker }
+        getD (withSum block sum′ p .blocks) j freeBlock ≡ record { handle = b .handle; length = b .length; sum = cond (eqb j block) sum′ (b .sum); maker = b .maker; prefix = b .prefix }
     entry-after j =
         by-test (eqb j block)
         (λ e. rw (e, eqb-true j block e) (getD-set-same (p .blocks) block _ freeBlock (listed block used)))

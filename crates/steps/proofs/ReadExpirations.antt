@@ -17,9 +17,9 @@ use Rattle.ledger.specs.Expirations.{Expiration, remaining, lasting}
 use Rattle.ledger.specs.Expirations.{DueTime, byLocal, byGlobal, pinned}
 use Rattle.ledger.specs.Compared.{Left, localLeft, globalLeft, pinnedLeft, Shown, leftOf, shown}
 use Rattle.ledger.specs.declared.State.{State}
-use Rattle.ledger.specs.declared.State.the-variants.{Absent, Running, Waiting}
+use Rattle.ledger.specs.declared.State.the-variants.{Absent, Running, Waiting, Viewing}
 use Rattle.ledger.specs.declared.Event.{Event}
-use Rattle.ledger.specs.declared.Event.the-variants.{Leave, Block, Resume, Tick}
+use Rattle.ledger.specs.declared.Event.the-variants.{Leave, Block, Resume, Tick, View}
 use Rattle.record.specs.Codes.{stateOf, dueOf, setterOf, absentEntry}
 use Rattle.record.specs.Reading.{shownDue, shownEntry}
 use Rattle.record.specs.WellFormed.{isFitDue, isFitEntry}
@@ -40,9 +40,11 @@ tested-present : (event : Event) (s : State) → isTested event ≡ true → ver
 tested-present Leave Absent tested accepted = cc
 tested-present Block Absent tested accepted = cc
 tested-present Resume Absent tested accepted = cc
+tested-present View Absent tested accepted = absurd (false≢true tested)
 tested-present Tick Absent tested accepted = cc
 tested-present event Running tested accepted = refl
 tested-present event Waiting tested accepted = refl
+tested-present event Viewing tested accepted = refl
 
 -- and so to one that there is not
 accepted-listed : (event : Event) (task : ℕ) (c : Clocks) → isTested event ≡ true → verdictOf event (taskAt c task .state) ≡ Accepted
@@ -58,6 +60,7 @@ unfolding lasting
 lasting-all Leave task advanced c xs untested = absurd (true≢false untested)
 lasting-all Block task advanced c xs untested = absurd (true≢false untested)
 lasting-all Resume task advanced c xs untested = refl
+lasting-all View task advanced c xs untested = refl
 lasting-all Tick task advanced c xs untested = absurd (true≢false untested)
 
 -- and leaves its task's clock, unless the task was absent
@@ -67,6 +70,10 @@ unfolding moved
 moved-stays Leave t s untested accepted present = absurd (true≢false untested)
 moved-stays Block t s untested accepted present = absurd (true≢false untested)
 moved-stays Resume t s untested accepted present = refl
+moved-stays View t Absent untested accepted present = absurd (true≢false present)
+moved-stays View t Running untested accepted present = cc
+moved-stays View t Waiting untested accepted present = cc
+moved-stays View t Viewing untested accepted present = cc
 moved-stays Tick t s untested accepted present = absurd (true≢false untested)
 
 -- the setter of a local expiration is not absent

@@ -117,17 +117,17 @@ block-size place size store = rw store
 
 -- A make
 module _ (p : Tables) (small large small′ large′ : List ℕ) (L : Ledger) (fit : Fit p) (types : Typed p) (reads : Reads p small large L)
-    (kind : Kind) (task extension size place slot : ℕ) (may : MaySet task extension p) (block : PlaceFree (p .limits) place size (p .blocks))
+    (kind : Kind) (task extension size prefix place slot : ℕ) (may : MaySet task extension p) (block : PlaceFree (p .limits) place size (p .blocks))
     (entry : SlotFree (p .limits) slot (p .expirations)) (small-whole : isWholeSmall (p .limits) small ≡ true) (large-whole : isWholeLarge (p .limits) large ≡ true)
     (cleared : BytesCleared small large small′ large′ place) where
   -- the older entries show what they showed: those in use name blocks that were in use
-  expirations-stay : readBy (shownEntry (p .tasks) (p .global) (withObject task place size p .blocks)) (p .expirations)
+  expirations-stay : readBy (shownEntry (p .tasks) (p .global) (withObject task place size prefix p .blocks)) (p .expirations)
       ≡ readBy (shownEntry (p .tasks) (p .global) (p .blocks)) (p .expirations)
   expirations-stay =
       readBy-same _ _ (p .expirations)
       (all-imp
       (λ e h.
-      let stays = block-stays (p .limits) (p .tasks) (p .global) (p .blocks) place (newBlock task (p .given) size) (block .free) e h in
+      let stays = block-stays (p .limits) (p .tasks) (p .global) (p .blocks) place (newBlock task (p .given) size prefix) (block .free) e h in
       same-shown (p .tasks) (p .global) _ _ (dueOf e) (λ dated. ap handleOf (stays dated)))
       (p .expirations) (all-true _ (p .expirations) (fit .entries)))
 
@@ -143,16 +143,16 @@ module _ (p : Tables) (small large small′ large′ : List ℕ) (L : Ledger) (f
       rw (z, cleared .others i (λ at. eqb-false (b .handle) 0 z (rw at (block .free))) (sizeOf i) part))
 
   -- the new one has zeros
-  object-shown : objectIn small′ large′ place (newBlock task (p .given) size) ≡ zeroed task (L .memory .given + 1) size ∷ []
+  object-shown : objectIn small′ large′ place (newBlock task (p .given) size prefix) ≡ zeroed task (L .memory .given + 1) size prefix ∷ []
   unfolding objectIn recordView viewOf
   object-shown = rw (ne-eqb (p .given + 1) 0 (λ z. omega arith), cleared .zeros (sizeOf place) (omega arith), block-size place size (block .store), reads .alike .given)
 
   -- the record's blocks have it in some place, the ledger at the end
-  objects-set : List·Permᴰ (map (shownObject (isWhole (p .limits) small large)) (readFrom 0 (objectIn small′ large′) (withObject task place size p .blocks)))
-      (map (shownObject (isWhole (p .limits) small large)) (L .memory .objects ++ (zeroed task (L .memory .given + 1) size ∷ [])))
+  objects-set : List·Permᴰ (map (shownObject (isWhole (p .limits) small large)) (readFrom 0 (objectIn small′ large′) (withObject task place size prefix p .blocks)))
+      (map (shownObject (isWhole (p .limits) small large)) (L .memory .objects ++ (zeroed task (L .memory .given + 1) size prefix ∷ [])))
   unfolding recordView viewOf objectIn
   objects-set =
-      let front = readFrom-set freeBlock (objectIn small′ large′) (p .blocks) place (newBlock task (p .given) size) (block .listed) (rw (block .free)) in
+      let front = readFrom-set freeBlock (objectIn small′ large′) (p .blocks) place (newBlock task (p .given) size prefix) (block .listed) (rw (block .free)) in
       rw map-append
       (List·Permᴰ·trans (map-perm (shownObject (isWhole (p .limits) small large)) (rw (object-shown, readFrom-same freeBlock _ (objectIn small large) (p .blocks) object-stays) at front))
       (List·Permᴰ·trans (List·Permᴰ·cons refl (reads .alike .objects)) (last-perm _ _)))
@@ -164,17 +164,17 @@ module _ (p : Tables) (small large small′ large′ : List ℕ) (L : Ledger) (f
   same-whole : isWhole (p .limits) small′ large′ ≡ isWhole (p .limits) small large
   same-whole = fun-ext (λ n. rw (cleared .small-size, cleared .large-size))
 
-  pub made-reads : (let call = Make task kind extension size in
-      Reads (withEntry slot (entryFor kind task extension place p) (withObject task place size p)) small′ large′
+  pub made-reads : (let call = Make task kind extension size prefix in
+      Reads (withEntry slot (entryFor kind task extension place p) (withObject task place size prefix p)) small′ large′
       (settled (memoryAfter call [] (L .memory)) (expirationsAfter call [] (L .memory) (L .expirations))))
   unfolding recordView viewOf memoryAfter expirationsAfter
   made-reads =
       let handle = L .memory .given + 1 in
       let y = newExpiration (L .memory .clocks) kind task extension handle in
       let old = every-object-stands fit reads in
-      let all = standing-made y (L .expirations) (L .memory .objects) (zeroed task handle size) (eq-eqb handle handle refl) old in
+      let all = standing-made y (L .expirations) (L .memory .objects) (zeroed task handle size prefix) (eq-eqb handle handle refl) old in
       let given = ap (λ n. n + 1) (reads .alike .given) in
-      let named = ap handleOf (getD-set-same (p .blocks) place (newBlock task (p .given) size) freeBlock (block .listed)) ∙ given in
+      let named = ap handleOf (getD-set-same (p .blocks) place (newBlock task (p .given) size prefix) freeBlock (block .listed)) ∙ given in
       record {
         alike =
             record {
@@ -185,9 +185,9 @@ module _ (p : Tables) (small large small′ large′ : List ℕ) (L : Ledger) (f
               shares = reads .alike .shares;
               objects = rw (all, same-whole) objects-set;
               expirations =
-                  expirations-set p small large L fit types reads kind task extension place slot may entry (withObject task place size p .blocks) handle named
+                  expirations-set p small large L fit types reads kind task extension place slot may entry (withObject task place size prefix p .blocks) handle named
                   expirations-stay;
             };
-        ascending = rw all (pairwise-append _ (zeroed task handle size) (L .memory .objects) handles-below (reads .ascending));
-        pins = pins-carried (L .memory) (L .expirations) (Make task kind extension size) [] tt (reads .pins);
+        ascending = rw all (pairwise-append _ (zeroed task handle size prefix) (L .memory .objects) handles-below (reads .ascending));
+        pins = pins-carried (L .memory) (L .expirations) (Make task kind extension size prefix) [] tt (reads .pins);
       }

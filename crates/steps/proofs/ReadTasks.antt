@@ -17,9 +17,9 @@ use Rattle.ledger.specs.Objects.{Memory}
 use Rattle.ledger.specs.Refusals.{asRefusal, testsOf, verdict}
 use Rattle.ledger.specs.Compared.{wrapped, wrappedTask}
 use Rattle.ledger.specs.declared.State.{State}
-use Rattle.ledger.specs.declared.State.the-variants.{Absent, Running, Waiting}
+use Rattle.ledger.specs.declared.State.the-variants.{Absent, Running, Waiting, Viewing}
 use Rattle.ledger.specs.declared.Event.{Event}
-use Rattle.ledger.specs.declared.Event.the-variants.{Leave, Block, Resume, Tick}
+use Rattle.ledger.specs.declared.Event.the-variants.{Leave, Block, Resume, Tick, View}
 use Rattle.ledger.specs.declared.Call.the-variants.{Schedule}
 use Rattle.ledger.specs.declared.Refusal.the-variants.{NoSuchTask}
 use Rattle.record.specs.Codes.{stateOf, taskOf, absentEntry}
@@ -42,20 +42,22 @@ module _ (tasks : List TaskEntry) (c : Clocks) (same : map taskOf tasks ≡ map 
   pub clock-alike : getD tasks i absentEntry .clock .0 ≡ wrapped (taskAt c i .clock)
   clock-alike = ap (λ (t : Task). t .clock) task-alike
 
-by-state {ℓ} : {C : Type ℓ} (s : State) → (s ≡ Absent → C) → (s ≡ Running → C) → (s ≡ Waiting → C) → C
-by-state Absent f g h = f refl
-by-state Running f g h = g refl
-by-state Waiting f g h = h refl
+by-state {ℓ} : {C : Type ℓ} (s : State) → (s ≡ Absent → C) → (s ≡ Running → C) → (s ≡ Waiting → C) → (s ≡ Viewing → C) → C
+by-state Absent f g h i = f refl
+by-state Running f g h i = g refl
+by-state Waiting f g h i = h refl
+by-state Viewing f g h i = i refl
 
 -- the ledger's tests of an event: first 1, then those of the task's state
 tests-alike : (m : Memory) (xs : List Expiration) (event : Event) (task : ℕ) (new : List ℕ)
     → verdict m xs (testsOf (Schedule event task) new)
     ≡ cond (leb taskCount task) (some NoSuchTask) (asRefusal (verdictOf event (taskAt (m .clocks) task .state)))
 unfolding verdict testsOf
-tests-alike m xs Leave task new = by-state (taskAt (m .clocks) task .state) (λ e. rw e) (λ e. rw e) (λ e. rw e)
-tests-alike m xs Block task new = by-state (taskAt (m .clocks) task .state) (λ e. rw e) (λ e. rw e) (λ e. rw e)
-tests-alike m xs Resume task new = by-state (taskAt (m .clocks) task .state) (λ e. rw e) (λ e. rw e) (λ e. rw e)
-tests-alike m xs Tick task new = by-state (taskAt (m .clocks) task .state) (λ e. rw e) (λ e. rw e) (λ e. rw e)
+tests-alike m xs Leave task new = by-state (taskAt (m .clocks) task .state) (λ e. rw e) (λ e. rw e) (λ e. rw e) (λ e. rw e)
+tests-alike m xs Block task new = by-state (taskAt (m .clocks) task .state) (λ e. rw e) (λ e. rw e) (λ e. rw e) (λ e. rw e)
+tests-alike m xs Resume task new = by-state (taskAt (m .clocks) task .state) (λ e. rw e) (λ e. rw e) (λ e. rw e) (λ e. rw e)
+tests-alike m xs View task new = by-state (taskAt (m .clocks) task .state) (λ e. rw e) (λ e. rw e) (λ e. rw e) (λ e. rw e)
+tests-alike m xs Tick task new = by-state (taskAt (m .clocks) task .state) (λ e. rw e) (λ e. rw e) (λ e. rw e) (λ e. rw e)
 
 -- the ledger's verdict is the record's
 pub verdict-alike : (m : Memory) (xs : List Expiration) (event : Event) (task : ℕ) (new : List ℕ) (tasks : List TaskEntry)
@@ -72,6 +74,7 @@ unfolding moved counterRange
 entry-moved Leave e t same = refl
 entry-moved Block e t same = rw (ap (λ (u : Task). u .clock) same)
 entry-moved Resume e t same = rw (ap (λ (u : Task). u .clock) same)
+entry-moved View e t same = refl
 entry-moved Tick e t same =
     let before : e .clock .0 ≡ wrapped (t .clock) = ap (λ (u : Task). u .clock) same in
     let after : nextTime (e .clock .0) ≡ wrapped (t .clock + 1) = omega arith in

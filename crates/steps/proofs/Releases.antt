@@ -82,7 +82,7 @@ module _ {p : Tables} {small large : List ℕ} {L : Ledger} (w : isWellFormed p 
     (task handle : ℕ) (v : releaseVerdict task handle p ≡ Accepted) where
   handle-ok : handleVerdict handle p ≡ Accepted
   unfolding releaseVerdict
-  handle-ok = standing-found task handle p (both-accept (standingVerdict task handle p) _ v .0)
+  handle-ok = standing-found true task handle p (both-accept (standingVerdict true task handle p) _ v .0)
 
   pub release-reads : Reads (releasedPool handle p) small large (carried (Release task handle) [] L)
   unfolding releasedPool recordView viewOf memoryAfter expirationsAfter

@@ -3,12 +3,11 @@ use Prim.Native.Nat.{ℕ, suc, _+_, _-_, _≤_, _<_}
 use native.Mathlib.Nat.{zero-add}
 use native.Mathlib.Omega.{arith}
 use mathlib.Core.Bool.{Bool, true, false, cond, not, _&&_, _||_, and-assoc, and-eq-true-iff}
-use mathlib.Core.List.{List, [], _∷_, map, Permᴰ·symm}
+use mathlib.Core.List.{List, [], _∷_, Permᴰ·symm}
 use mathlib.Core.Path.{_≡_, refl, sym, ap, fun-ext, _∙_}
 use borrow.Author.Tests.{eqb-true, leb-true, le-leb}
-use lib.Dec.{eqb, leb, ltb}
+use lib.Dec.{eqb, leb}
 use lib.ListN.{length, getD}
-use Rattle.lists.specs.Sums.{sumBelow}
 use Rattle.lists.specs.Tables.{readFrom, allFrom}
 use Rattle.lists.specs.Tests.{all, count, All}
 use Rattle.lists.proofs.All.{all-map, map-all}
@@ -18,7 +17,7 @@ use Rattle.lists.proofs.Permutations.{all-perm, count-perm}
 use Rattle.lists.proofs.Sums.{sum-same}
 use Rattle.lists.proofs.Tables.{allFrom-at, allFrom-each, allFrom-within}
 use Rattle.ledger.specs.Limits.{taskCount, isSmall}
-use Rattle.ledger.specs.Tasks.{isAbsent, taskAt}
+use Rattle.ledger.specs.Tasks.{isActive, taskAt}
 use Rattle.ledger.specs.Expirations.{departed}
 use Rattle.ledger.specs.Objects.{Object, noShare}
 use Rattle.ledger.specs.Shares.{quotaIn, quotaOf, blocksIn, usedIn, made, unmet, allUnmet, takenFrom, isFull, isShort, isShortOf, isAtLimit}
@@ -29,7 +28,7 @@ use Rattle.ledger.specs.declared.Share.{Share}
 use Rattle.ledger.proofs.Shares.{unmet-so}
 use Rattle.record.specs.Codes.{stateOf, absentEntry}
 use Rattle.record.specs.Reading.{objectIn, recordView, isWhole, Reads}
-use Rattle.record.specs.Shares.{isTaken, isMadeBy, takenIn, madeIn, unmetIn, allUnmetIn, spokenIn, takenBut, isLimited, isNothing, isOrdered, isFitShare, isKnown, isWithinLimit, isSharedIn, isShared}
+use Rattle.record.specs.Shares.{isTaken, takenIn, madeIn, unmetIn, allUnmetIn, spokenIn, takenBut, isLimited, isNothing, isOrdered, isFitShare, isKnown, isWithinLimit, isSharedIn, isShared}
 use Rattle.record.specs.Tables.{BlockEntry, Tables}
 use Rattle.record.specs.declared.TaskEntry.{TaskEntry}
 use Rattle.record.proofs.Facts.{Shared}
@@ -72,7 +71,7 @@ read-known small large i (b ∷ bs) h =
 
 -- what a fit share has
 record FitShareAt (tasks : List TaskEntry) (task : ℕ) (share : Share) : Type 0 where
-  nothing : isAbsent (stateOf (getD tasks task absentEntry .state)) ≡ true → share ≡ noShare
+  nothing : isActive (stateOf (getD tasks task absentEntry .state)) ≡ false → share ≡ noShare
   small : share .small .reserve ≤ share .small .limit
   large : share .large .reserve ≤ share .large .limit
 
@@ -82,8 +81,8 @@ share-of a b c d p q r s = rw (p, q, r, s)
 
 fit-share : (tasks : List TaskEntry) (task : ℕ) (share : Share) → isFitShare tasks task share ≡ true → FitShareAt tasks task share
 fit-share tasks task share e =
-    let absent = isAbsent (stateOf (getD tasks task absentEntry .state)) in
-    let (none, ordered) = and-eq-true-iff (not absent || (isNothing (share .small) && isNothing (share .large))) _ .0 e in
+    let active = isActive (stateOf (getD tasks task absentEntry .state)) in
+    let (none, ordered) = and-eq-true-iff (active || (isNothing (share .small) && isNothing (share .large))) _ .0 e in
     let (small, large) = and-eq-true-iff (isOrdered (share .small)) _ .0 ordered in
     record {
       nothing = λ a.
@@ -97,17 +96,17 @@ fit-share tasks task share e =
 
 share-fits : (tasks : List TaskEntry) (task : ℕ) (share : Share) → FitShareAt tasks task share → isFitShare tasks task share ≡ true
 share-fits tasks task share f =
-    by-test (isAbsent (stateOf (getD tasks task absentEntry .state)))
-    (λ a. rw (a, f .nothing a))
+    by-test (isActive (stateOf (getD tasks task absentEntry .state)))
     (λ a. rw (a, le-leb (share .small .reserve) (share .small .limit) (f .small), le-leb (share .large .reserve) (share .large .limit) (f .large)))
+    (λ a. rw (a, f .nothing a))
 
 none-fits : (tasks : List TaskEntry) (task : ℕ) → isFitShare tasks task noShare ≡ true
-none-fits tasks task = by-test (isAbsent (stateOf (getD tasks task absentEntry .state))) (λ a. rw a) (λ a. rw a)
+none-fits tasks task = by-test (isActive (stateOf (getD tasks task absentEntry .state))) (λ a. rw a) (λ a. rw a)
 
--- who is absent has nothing
-pub absent-nothing : (p : Tables) → Shared p → (task : ℕ) → isAbsent (stateOf (getD (p .tasks) task absentEntry .state)) ≡ true → getD (p .shares) task noShare ≡ noShare
+-- who is not active has nothing
+pub inactive-nothing : (p : Tables) → Shared p → (task : ℕ) → isActive (stateOf (getD (p .tasks) task absentEntry .state)) ≡ false → getD (p .shares) task noShare ≡ noShare
 unfolding isShared
-absent-nothing p e task =
+inactive-nothing p e task =
     let (rest, _) = and-eq-true-iff _ (isSharedIn false (p .limits) (p .shares) (p .blocks)) .0 e in
     let (rest, _) = and-eq-true-iff _ (isSharedIn true (p .limits) (p .shares) (p .blocks)) .0 rest in
     let (fits, _) = and-eq-true-iff (allFrom 0 (isFitShare (p .tasks)) (p .shares)) _ .0 rest in
@@ -204,7 +203,7 @@ module _ {p : Tables} {small large : List ℕ} {L : Ledger} (reads : Reads p sma
       read-known small large 0 (p .blocks)
       (map-all KnownMaker show read (all-perm KnownMaker (Permᴰ·symm (reads .alike .objects)) (all-map KnownMaker show (L .memory .objects) h)))
 
-  -- who is absent there is so here
+  -- whose state there is the one here
   state-there : (task : ℕ) → stateOf (getD (p .tasks) task absentEntry .state) ≡ taskAt (L .memory .clocks) task .state
   unfolding recordView viewOf
   state-there task = state-alike (p .tasks) (L .memory .clocks) (reads .alike .tasks) task
@@ -220,7 +219,7 @@ module _ {p : Tables} {small large : List ℕ} {L : Ledger} (reads : Reads p sma
       λ task. fit-share (p .tasks) task (getD (p .shares) task noShare) (allFrom-at (isFitShare (p .tasks)) noShare (none-fits (p .tasks)) (p .shares) fits task) in
       record {
         sixteen = rw (← shares-alike) n;
-        absent = λ task a. rw (← shares-alike) (at task .nothing (rw (state-there task) a));
+        inactive = λ task a. rw (← shares-alike) (at task .nothing (rw (state-there task) a));
         ordered = λ store task. rw (← shares-alike) (by-test store (λ s. rw s (at task .small)) (λ s. rw s (at task .large)));
         known = known-kept known;
         room = λ store. by-test store (λ s. rw s (store-kept true n small .0)) (λ s. rw s (store-kept false n large .0));
@@ -235,7 +234,7 @@ module _ {p : Tables} {small large : List ℕ} {L : Ledger} (reads : Reads p sma
             (λ task l. rw (zero-add task)
             (share-fits (p .tasks) task (getD (p .shares) task noShare)
             (record {
-              nothing = λ a. shares-at task ∙ k .absent task (rw (← state-there task) a);
+              nothing = λ a. shares-at task ∙ k .inactive task (rw (← state-there task) a);
               small = rw (shares-at task) (k .ordered true task);
               large = rw (shares-at task) (k .ordered false task);
             }))),

@@ -1,20 +1,20 @@
 -- A sweep in which nothing ends leaves the tables of a well-formed record as they are.
 use Prim.Native.Nat.{ℕ}
-use mathlib.Core.Bool.{Bool, true, false, not, _||_}
-use mathlib.Core.List.{List, map, map-id}
-use mathlib.Core.Path.{_≡_, refl, sym, _∙_}
+use mathlib.Core.Bool.{Bool, true}
+use mathlib.Core.List.{List, map}
+use mathlib.Core.Path.{_≡_}
 use borrow.Author.Tests.{eqb-true}
 use lib.Dec.{eqb}
 use Rattle.lists.specs.Tests.{any, All}
 use Rattle.lists.specs.Tables.{mapFrom, allFrom}
-use Rattle.lists.proofs.All.{all-imp, map-same}
-use Rattle.lists.proofs.Cases.{by-test, and₃}
+use Rattle.lists.proofs.Cases.{by-test}
 use Rattle.lists.proofs.Tables.{mapFrom-kept}
 use Rattle.record.specs.Tables.{BlockEntry, ExpirationEntry, Tables}
 use Rattle.record.specs.WellFormed.{isNaming, isFitBlock, isWellFormed}
 use Rattle.record.specs.declared.TaskEntry.{TaskEntry}
 use Rattle.record.specs.declared.GlobalTime.{GlobalTime}
 use Rattle.record.proofs.Facts.{fit-parts}
+use Rattle.steps.proofs.Taken.{fit-block}
 use Rattle.steps.specs.Events.{passedEntry, keptBlock, swept, withTimes}
 
 -- a fit block stays: it is named, or free
@@ -26,7 +26,7 @@ fit-stays given xs i b fit =
     (λ n.
     by-test (eqb (b .handle) 0)
     (λ z. rw (n, ← eqb-true (b .handle) 0 z))
-    (λ z. let (named, sized, numbered) = and₃ (any (isNaming i) xs) _ _ (rw z at fit) in rw named))
+    (λ z. rw (fit-block given xs i b fit z .0)))
 
 -- so no block of a well-formed record is freed
 pub none-freed : (given : ℕ) (xs : List ExpirationEntry) (blocks : List BlockEntry) → allFrom 0 (isFitBlock given xs) blocks ≡ true

@@ -78,10 +78,10 @@ unfolding scheduled
 event-stays event task p = stays-by (verdictAt event task (p .tasks)) event task p
 
 -- a make: the one block that it sets has a handle that was not given
-pub make-stays : (task : ℕ) (kind : Kind) (extension size : ℕ) (p : Tables) → freePlace (p .limits) size (p .blocks) < length (p .blocks)
-    → Stays p (madePool task kind extension size p)
+pub make-stays : (task : ℕ) (kind : Kind) (extension size prefix : ℕ) (p : Tables) → freePlace (p .limits) size (p .blocks) < length (p .blocks)
+    → Stays p (madePool task kind extension size prefix p)
 unfolding madePool
-make-stays task kind extension size p listed =
+make-stays task kind extension size prefix p listed =
     let place = freePlace (p .limits) size (p .blocks) in
     record {
       limits = refl;

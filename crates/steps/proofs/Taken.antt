@@ -17,7 +17,7 @@ use Rattle.ledger.specs.Tasks.{isAbsent}
 use Rattle.ledger.specs.declared.Limits.{Limits}
 use Rattle.record.specs.Codes.{dueBy, stateOf, dueOf, isDated, leftAt, absentEntry, freeBlock, freeEntry, localCode, globalCode, departedCode}
 use Rattle.record.specs.Reading.{isSmallBlock, Typed}
-use Rattle.record.specs.WellFormed.{isFitDue, isFitEntry, isNaming, isSizedFor, isFitBlock, isBlock}
+use Rattle.record.specs.WellFormed.{isFitDue, isFitEntry, isNaming, isSizedFor, isPrefixed, isFitBlock, isBlock}
 use Rattle.record.specs.declared.TaskEntry.{TaskEntry}
 use Rattle.record.specs.Tables.{BlockEntry, ExpirationEntry, Tables}
 use Rattle.record.specs.declared.GlobalTime.{GlobalTime}
@@ -48,8 +48,8 @@ pub record PlaceFree (limits : Limits) (place size : ℕ) (blocks : List BlockEn
   pub most : size ≤ largeSize
 
 -- the block that a make leaves there
-abbrev pub newBlock : ℕ → ℕ → ℕ → BlockEntry
-newBlock maker given size = record { handle = given + 1; length = size; sum = 0; maker = maker }
+abbrev pub newBlock : ℕ → ℕ → ℕ → ℕ → BlockEntry
+newBlock maker given size prefix = record { handle = given + 1; length = size; sum = 0; maker = maker; prefix = prefix }
 
 -- a free entry has no expiration
 pub slot-due : {limits : Limits} (slot : ℕ) (xs : List ExpirationEntry) → SlotFree limits slot xs → dueOf (getD xs slot freeEntry) ≡ Free
@@ -99,9 +99,12 @@ block-stays limits tasks global blocks place b free e fit dated =
 
 -- what a fit block in use has
 pub fit-block : (given : ℕ) (xs : List ExpirationEntry) (i : ℕ) (b : BlockEntry) → isFitBlock given xs i b ≡ true → eqb (b .handle) 0 ≡ false
-    → (any (isNaming i) xs ≡ true) × (isSizedFor i (b .length) ≡ true) × (leb (b .handle) given ≡ true)
+    → (any (isNaming i) xs ≡ true) × (isSizedFor i (b .length) ≡ true) × (isPrefixed b ≡ true) × (leb (b .handle) given ≡ true)
 unfolding isFitBlock
-fit-block given xs i b fit used = and₃ (any (isNaming i) xs) _ _ (rw used at fit)
+fit-block given xs i b fit used =
+    let (shaped, numbered) = and-eq-true-iff _ _ .0 (rw used at fit) in
+    let (named, sized, prefixed) = and₃ (any (isNaming i) xs) _ _ shaped in
+    (named, sized, prefixed, numbered)
 
 -- so every handle is one that was given, or none
 pub blocks-given : (p : Tables) → Fit p → All (λ (b : BlockEntry). b .handle ≤ p .given) (p .blocks)
@@ -110,5 +113,5 @@ blocks-given p fit =
     (λ i b fits.
     by-test (eqb (b .handle) 0)
     (λ z. omega (arith, eqb-true (b .handle) 0 z))
-    (λ z. leb-true (b .handle) (p .given) (fit-block (p .given) (p .expirations) i b fits z .2)))
+    (λ z. leb-true (b .handle) (p .given) (fit-block (p .given) (p .expirations) i b fits z .3)))
     0 (p .blocks) (fit .blocks)

@@ -15,18 +15,18 @@ use Rattle.ledger.specs.Limits.{lastHandle, isSmall}
 use Rattle.ledger.specs.declared.Share.{Share}
 use Rattle.steps.specs.Joins.{joinVerdict}
 use Rattle.steps.proofs.Shares.{full-alike, limit-alike, scant-alike}
-use Rattle.ledger.specs.Tasks.{isAbsent, isWaiting}
+use Rattle.ledger.specs.Tasks.{isAbsent, isWaiting, isViewing}
 use Rattle.ledger.specs.Expirations.{Expiration}
 use Rattle.ledger.specs.Objects.{Memory, objectAt, isIntact, stands, handlesOf}
-use Rattle.ledger.specs.Refusals.{mostExtension, Test, shared, own, noSuchTask, taskAbsent, taskWaiting, handleNotGiven, objectGone, testsOf, verdict, asRefusal}
+use Rattle.ledger.specs.Refusals.{mostExtension, Test, shared, own, noSuchTask, taskAbsent, taskWaiting, onlyViews, handleNotGiven, objectGone, testsOf, verdict, asRefusal}
 use Rattle.ledger.specs.Compared.{viewOf}
 use Rattle.ledger.specs.Ledger.{Ledger, verdictOn, standingVerdictOn}
 use Rattle.ledger.specs.declared.Call.the-variants.{Join, Make, Refresh, Read, Write, Batch, Release}
 use Rattle.ledger.specs.declared.Kind.{Kind}
 use Rattle.ledger.specs.declared.State.{State}
-use Rattle.ledger.specs.declared.State.the-variants.{Absent, Running, Waiting}
+use Rattle.ledger.specs.declared.State.the-variants.{Absent, Running, Waiting, Viewing}
 use Rattle.ledger.specs.declared.Refusal.{Refusal}
-use Rattle.ledger.specs.declared.Refusal.the-variants.{TaskAbsent, TaskWaiting}
+use Rattle.ledger.specs.declared.Refusal.the-variants.{TaskAbsent, TaskWaiting, OnlyViews}
 use Rattle.ledger.specs.declared.Verdict.{Verdict}
 use Rattle.ledger.specs.declared.Verdict.the-variants.{Accepted, Refused}
 use Rattle.stores.specs.Places.{sumAt}
@@ -34,7 +34,7 @@ use Rattle.record.specs.Reading.{isWholeSmall, isWholeLarge, recordView, Typed,
 use Rattle.record.specs.Tables.{Tables}
 use Rattle.record.proofs.Facts.{Fit}
 use Rattle.steps.proofs.ReadTasks.{state-alike}
-use Rattle.steps.specs.Objects.{andThen, refuseIf, byState, placeOf, isUngiven, isMissing, standingIn, taskVerdict, handleVerdict, makeVerdict, refreshVerdict, standingVerdict, readVerdict, writeVerdict, batchVerdict, releaseVerdict}
+use Rattle.steps.specs.Objects.{andThen, refuseIf, byState, placeOf, isUngiven, isMissing, standingIn, taskVerdict, handleVerdict, makeVerdict, refreshVerdict, standingVerdict, intactVerdict, readVerdict, writeVerdict, batchVerdict, releaseVerdict}
 use Rattle.steps.proofs.Finding.{Found, blockOf, gone-alike, found}
 use Rattle.steps.proofs.Pinning.{pinned-alike}
 use Rattle.steps.proofs.Rooms.{entries-alike}
@@ -45,11 +45,23 @@ pub then-assoc : (u v w : Verdict) → andThen (andThen u v) w ≡ andThen u (an
 then-assoc Accepted v w = refl
 then-assoc (Refused r) v w = refl
 
--- 3 and 4 as tests
-by-state : (s : State) → byState s ≡ andThen (refuseIf (isAbsent s) TaskAbsent) (refuseIf (isWaiting s) TaskWaiting)
-by-state Absent = refl
-by-state Running = refl
-by-state Waiting = refl
+-- 3 and 4 as tests, and 27 where the task is to act
+to-look : (s : State) → byState false s ≡ andThen (refuseIf (isAbsent s) TaskAbsent) (refuseIf (isWaiting s) TaskWaiting)
+to-look Absent = refl
+to-look Running = refl
+to-look Waiting = refl
+to-look Viewing = refl
+
+to-act : (s : State) → byState true s ≡ andThen (refuseIf (isAbsent s) TaskAbsent) (andThen (refuseIf (isWaiting s) TaskWaiting) (refuseIf (isViewing s) OnlyViews))
+to-act Absent = refl
+to-act Running = refl
+to-act Waiting = refl
+to-act Viewing = refl
+
+-- the tests with which those of a call of a task begin
+abbrev taskTests : Bool → ℕ → List Test → List Test
+taskTests true task ts = noSuchTask task ∷ taskAbsent task ∷ taskWaiting task ∷ onlyViews task ∷ ts
+taskTests false task ts = noSuchTask task ∷ taskAbsent task ∷ taskWaiting task ∷ ts
 
 -- a test's refusal, and whether the test holds
 abbrev refusalOf : Test → Refusal
@@ -100,12 +112,15 @@ module _ {p : Tables} {small large : List ℕ} {L : Ledger} (typed : Typed p) (f
   batch-room-test : (more : ℕ) → ltb (L .memory .limits .expirations) (length (L .expirations) + more) ≡ ltb (p .limits .expirations) (standingIn (p .expirations) + more)
   batch-room-test more = rw (limits-alike, entries-alike fit reads)
 
-  -- 1, 3, 4
-  task-tests : (task : ℕ) {ts : List Test} {v : Verdict} → Agree (L .memory) (L .expirations) ts v
-      → Agree (L .memory) (L .expirations) (noSuchTask task ∷ taskAbsent task ∷ taskWaiting task ∷ ts) (andThen (taskVerdict task (p .tasks)) v)
+  -- 1, 3, 4, and 27 where the task is to act
+  task-tests : (acts : Bool) (task : ℕ) {ts : List Test} {v : Verdict} → Agree (L .memory) (L .expirations) ts v
+      → Agree (L .memory) (L .expirations) (taskTests acts task ts) (andThen (taskVerdict acts task (p .tasks)) v)
   unfolding recordView viewOf
-  task-tests task h =
-      simp (state-alike (p .tasks) (L .memory .clocks) (reads .alike .tasks) task, by-state, then-assoc)
+  task-tests true task h =
+      simp (state-alike (p .tasks) (L .memory .clocks) (reads .alike .tasks) task, to-act, then-assoc)
+      (test-alike refl (λ e. test-alike refl (λ e. test-alike refl (λ e. test-alike refl (λ e. h)))))
+  task-tests false task h =
+      simp (state-alike (p .tasks) (L .memory .clocks) (reads .alike .tasks) task, to-look, then-assoc)
       (test-alike refl (λ e. test-alike refl (λ e. test-alike refl (λ e. h))))
 
   module _ (handle : ℕ) where
@@ -134,24 +149,24 @@ module _ {p : Tables} {small large : List ℕ} {L : Ledger} (typed : Typed p) (f
     handle-tests h = rw then-assoc (test-alike given-test (λ given. test-alike (gone-test given) (h given)))
 
     -- all that remaining life tests, and what follows
-    standing-tests : (task : ℕ) {ts : List Test} {v : Verdict}
+    standing-tests : (acts : Bool) (task : ℕ) {ts : List Test} {v : Verdict}
         → (isUngiven (p .given) handle ≡ false → isMissing (p .blocks) handle ≡ false → Agree (L .memory) (L .expirations) ts v)
-        → Agree (L .memory) (L .expirations)
-        (noSuchTask task ∷ taskAbsent task ∷ taskWaiting task ∷ handleNotGiven handle ∷ objectGone handle ∷ ts)
-        (andThen (standingVerdict task handle p) v)
+        → Agree (L .memory) (L .expirations) (taskTests acts task (handleNotGiven handle ∷ objectGone handle ∷ ts))
+        (andThen (standingVerdict acts task handle p) v)
     unfolding standingVerdict
-    standing-tests task h = rw (then-assoc (taskVerdict task (p .tasks)) (handleVerdict handle p)) (task-tests task (handle-tests h))
+    standing-tests acts task h = rw (then-assoc (taskVerdict acts task (p .tasks)) (handleVerdict handle p)) (task-tests acts task (handle-tests h))
 
-  pub make-verdict : (task : ℕ) (kind : Kind) (extension size : ℕ) (new : List ℕ)
-      → verdictOn L (Make task kind extension size) new ≡ asRefusal (makeVerdict task kind extension size p)
+  pub make-verdict : (task : ℕ) (kind : Kind) (extension size prefix : ℕ) (new : List ℕ)
+      → verdictOn L (Make task kind extension size prefix) new ≡ asRefusal (makeVerdict task kind extension size prefix p)
   unfolding testsOf makeVerdict
-  make-verdict task kind extension size new =
-      task-tests task
+  make-verdict task kind extension size prefix new =
+      task-tests true task
       (test-alike (extension-test kind extension)
+      (λ e. test-alike refl
       (λ e. test-alike refl
       (λ e. test-alike (ap (leb lastHandle) given-alike)
       (λ e. test-alike (limit-alike reads (isSmall size) task)
-      (λ e. test-alike (full-alike reads (isSmall size) task) (λ e. last-alike room-test)))))) .so
+      (λ e. test-alike (full-alike reads (isSmall size) task) (λ e. last-alike room-test))))))) .so
 
   -- a join's
   pub join-verdict : (task : ℕ) (share : Share) (new : List ℕ) → verdictOn L (Join task share) new ≡ asRefusal (joinVerdict task share p)
@@ -165,14 +180,14 @@ module _ {p : Tables} {small large : List ℕ} {L : Ledger} (typed : Typed p) (f
       → verdictOn L (Refresh task kind extension handle) new ≡ asRefusal (refreshVerdict task kind extension handle p)
   unfolding testsOf refreshVerdict
   refresh-verdict task kind extension handle new =
-      task-tests task
+      task-tests true task
       (test-alike refl
       (λ e. test-alike (extension-test kind extension) (λ e. handle-tests handle (λ given stays. last-alike room-test)))) .so
 
   -- of remaining life
-  pub standing-verdict : (task handle : ℕ) → standingVerdictOn L task handle ≡ asRefusal (standingVerdict task handle p)
+  pub standing-verdict : (task handle : ℕ) → standingVerdictOn L task handle ≡ asRefusal (standingVerdict false task handle p)
   unfolding standingVerdict
-  standing-verdict task handle = task-tests task (test-alike (given-test handle) (λ given. last-alike (gone-test handle given))) .so
+  standing-verdict task handle = task-tests false task (test-alike (given-test handle) (λ given. last-alike (gone-test handle given))) .so
 
   -- with both stores as long as the blocks need
   module _ (small-whole : isWholeSmall (p .limits) small ≡ true) (large-whole : isWholeLarge (p .limits) large ≡ true) where
@@ -187,15 +202,15 @@ module _ {p : Tables} {small large : List ℕ} {L : Ledger} (typed : Typed p) (f
 
     pub read-verdict : (task handle : ℕ) (new : List ℕ)
         → verdictOn L (Read task handle) new ≡ asRefusal (readVerdict task handle small large p)
-    unfolding testsOf readVerdict
-    read-verdict task handle new = standing-tests handle task (λ given stays. last-alike (sum-test handle given stays)) .so
+    unfolding testsOf intactVerdict
+    read-verdict task handle new = standing-tests handle false task (λ given stays. last-alike (sum-test handle given stays)) .so
 
     pub write-verdict : (task handle offset : ℕ) (new : List ℕ)
         → verdictOn L (Write task handle offset) new ≡ asRefusal (writeVerdict task handle offset (length new) small large p)
-    unfolding testsOf writeVerdict readVerdict
+    unfolding testsOf writeVerdict intactVerdict
     write-verdict task handle offset new =
-        rw (then-assoc (standingVerdict task handle p))
-        (standing-tests handle task
+        rw (then-assoc (standingVerdict true task handle p))
+        (standing-tests handle true task
         (λ given stays. test-alike (sum-test handle given stays)
         (λ intact. last-alike (size-test handle given stays (offset + length new)))) .so)
 
@@ -203,7 +218,7 @@ module _ {p : Tables} {small large : List ℕ} {L : Ledger} (typed : Typed p) (f
   pub release-verdict : (task handle : ℕ) (new : List ℕ) → verdictOn L (Release task handle) new ≡ asRefusal (releaseVerdict task handle p)
   unfolding testsOf releaseVerdict
   release-verdict task handle new =
-      standing-tests handle task
+      standing-tests handle true task
       (λ given stays. last-alike (ap not (pinned-alike fit reads handle (or-false-parts _ _ given .0) (not-false _ (gone-test handle given ∙ stays))))) .so
 
   -- 12, of handles that were all given
@@ -216,7 +231,7 @@ module _ {p : Tables} {small large : List ℕ} {L : Ledger} (typed : Typed p) (f
   unfolding testsOf batchVerdict
   batch-verdict task kind extension new =
       let handles = handlesOf new in
-      task-tests task
+      task-tests true task
       (test-alike refl
       (λ e. test-alike refl
       (λ e. test-alike (extension-test kind extension)

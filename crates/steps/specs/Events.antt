@@ -1,6 +1,6 @@
 -- What an event makes of a record, as a function of its entries.
 use Prim.Native.Nat.{ℕ, _+_, _-_, _%_}
-use mathlib.Core.Bool.{Bool, true, false, cond, not, _&&_}
+use mathlib.Core.Bool.{Bool, true, cond, not, _&&_}
 use mathlib.Core.List.{List, map}
 use lib.Dec.{eqb, leb, ltb}
 use lib.ListN.{getD, set}
@@ -11,13 +11,13 @@ use Rattle.ledger.specs.Tasks.{isWaiting, isTested, allTicked}
 use Rattle.ledger.specs.Expirations.{departed}
 use Rattle.ledger.specs.Objects.{sharesAfter}
 use Rattle.ledger.specs.declared.State.{State}
-use Rattle.ledger.specs.declared.State.the-variants.{Absent, Running, Waiting}
+use Rattle.ledger.specs.declared.State.the-variants.{Absent, Running, Waiting, Viewing}
 use Rattle.ledger.specs.declared.Event.{Event}
-use Rattle.ledger.specs.declared.Event.the-variants.{Leave, Block, Resume, Tick}
+use Rattle.ledger.specs.declared.Event.the-variants.{Leave, Block, Resume, Tick, View}
 use Rattle.ledger.specs.declared.Answer.{Answer}
 use Rattle.ledger.specs.declared.Answer.the-variants.{Done, Advanced}
 use Rattle.ledger.specs.declared.Answer.the-variants.{Refused as RefusedAnswer}
-use Rattle.ledger.specs.declared.Refusal.the-variants.{NoSuchTask, TaskAbsent, TaskWaiting, TaskRunning}
+use Rattle.ledger.specs.declared.Refusal.the-variants.{NoSuchTask, TaskPresent, TaskAbsent, TaskWaiting, TaskRunning, OnlyViews}
 use Rattle.record.specs.Codes.{stateOf, taskOf, globalCode, departedCode, isGlobalClock, dueOf, setterOf, leftAt, absentEntry, freedBlock, freedEntry}
 use Rattle.record.specs.WellFormed.{isNaming}
 use Rattle.record.specs.declared.TaskEntry.{TaskEntry}
@@ -28,20 +28,28 @@ use Rattle.record.specs.declared.Due.the-variants.{Free, Local, Global, Pinned,
 use Rattle.ledger.specs.declared.Verdict.{Verdict}
 use Rattle.ledger.specs.declared.Verdict.the-variants.{Accepted, Refused}
 
--- R37 to R39, after 1: leave 3; block and tick 3, 4; resume 3, 5
+-- R37 to R39 and R49, after 1: leave 3; block and tick 3, 4, 27; resume 3, 5; view 2
 abbrev pub verdictOf : Event → State → Verdict
 verdictOf Leave Absent = Refused TaskAbsent
 verdictOf Leave Running = Accepted
 verdictOf Leave Waiting = Accepted
+verdictOf Leave Viewing = Accepted
 verdictOf Block Absent = Refused TaskAbsent
 verdictOf Block Running = Accepted
 verdictOf Block Waiting = Refused TaskWaiting
+verdictOf Block Viewing = Refused OnlyViews
 verdictOf Resume Absent = Refused TaskAbsent
 verdictOf Resume Running = Refused TaskRunning
 verdictOf Resume Waiting = Accepted
+verdictOf Resume Viewing = Refused TaskRunning
 verdictOf Tick Absent = Refused TaskAbsent
 verdictOf Tick Running = Accepted
 verdictOf Tick Waiting = Refused TaskWaiting
+verdictOf Tick Viewing = Refused OnlyViews
+verdictOf View Absent = Accepted
+verdictOf View Running = Refused TaskPresent
+verdictOf View Waiting = Refused TaskPresent
+verdictOf View Viewing = Refused TaskPresent
 
 -- the verdict on an event: first 1, then the tests of the task's state
 abbrev pub verdictAt : Event → ℕ → List TaskEntry → Verdict
@@ -61,6 +69,7 @@ movedEntry Block e = clearedEntry 2 e
 movedEntry Resume e = clearedEntry 1 e
 movedEntry Leave e = absentEntry
 movedEntry Tick e = record { state = e .state; ticked = 1; clock = record { 0 = nextTime (e .clock .0) } }
+movedEntry View e = clearedEntry 3 absentEntry
 
 abbrev pub untickedEntry : TaskEntry → TaskEntry
 untickedEntry e = clearedEntry (e .state) e
@@ -79,6 +88,7 @@ advancedTime advanced global = record { 0 = cond advanced (nextTime (global .0))
 abbrev pub leaverOf : Event → ℕ → ℕ
 leaverOf Block task = taskCount
 leaverOf Resume task = taskCount
+leaverOf View task = taskCount
 leaverOf Leave task = task
 leaverOf Tick task = taskCount
 
@@ -137,7 +147,14 @@ withTimes tasks global p =
 
 -- Q3: what the leaver made is nobody's; where nobody leaves (taskCount) every maker stays
 abbrev pub orphanedBlock : ℕ → BlockEntry → BlockEntry
-orphanedBlock leaver b = record { handle = b .handle; length = b .length; sum = b .sum; maker = cond (eqb (b .maker) leaver) departed (b .maker) }
+orphanedBlock leaver b =
+    record {
+      handle = b .handle;
+      length = b .length;
+      sum = b .sum;
+      maker = cond (eqb (b .maker) leaver) departed (b .maker);
+      prefix = b .prefix;
+    }
 
 -- Q2, Q3: what an event leaves of shares and makers
 unfoldable pub orphanedPool : Event → ℕ → Tables → Tables

@@ -1,21 +1,22 @@
 -- What make, refresh, read, write, batch and release test and change of a record, as functions of its entries and, for read and write, of the stores' bytes.
 use Prim.Native.Nat.{ℕ, _+_, _%_}
-use mathlib.Core.Bool.{Bool, cond, not, _||_}
+use mathlib.Core.Bool.{Bool, true, false, cond, not, _||_}
 use mathlib.Core.List.{List, [], _∷_, map}
 use lib.Dec.{eqb, leb, ltb}
 use lib.ListN.{length, getD, set, take, drop}
 use Rattle.lists.specs.Tests.{any, count}
 use Rattle.lists.specs.Tables.{firstFrom, mapFrom}
 use Rattle.ledger.specs.Limits.{capacity, taskCount, largeSize, largestBatch, lastHandle, counterRange, isSmall}
+use Rattle.ledger.specs.Tasks.{isViewing}
 use Rattle.ledger.specs.Refusals.{mostExtension, isPinning as isPinningKind}
 use Rattle.ledger.specs.declared.Limits.{Limits}
 use Rattle.ledger.specs.declared.Kind.{Kind}
 use Rattle.ledger.specs.declared.Kind.the-variants.{Local, Global, Pinned}
 use Rattle.ledger.specs.declared.State.{State}
-use Rattle.ledger.specs.declared.State.the-variants.{Absent, Running, Waiting}
+use Rattle.ledger.specs.declared.State.the-variants.{Absent, Running, Waiting, Viewing}
 use Rattle.ledger.specs.declared.Refusal.{Refusal}
 use Rattle.ledger.specs.declared.Share.{Share}
-use Rattle.ledger.specs.declared.Refusal.the-variants.{NoSuchTask, TaskAbsent, TaskWaiting, ExtensionTooLong, LengthOutOfRange, HandlesSpent, NoFreeBlock, AtLimit, NoFreeExpiration, HandleNotGiven, ObjectGone, OutsideObject, BatchOutOfRange, OnlyMakePins, NotPinned, SumDiffers}
+use Rattle.ledger.specs.declared.Refusal.the-variants.{NoSuchTask, TaskAbsent, TaskWaiting, ExtensionTooLong, LengthOutOfRange, HandlesSpent, NoFreeBlock, AtLimit, NoFreeExpiration, HandleNotGiven, ObjectGone, OutsideObject, BatchOutOfRange, OnlyMakePins, NotPinned, SumDiffers, OnlyViews, PrefixTooLong}
 use Rattle.ledger.specs.declared.Verdict.{Verdict}
 use Rattle.ledger.specs.declared.Verdict.the-variants.{Accepted, Refused}
 use Rattle.stores.specs.Places.{sumAt, sumAfter}
@@ -80,14 +81,18 @@ andThen (Refused r) v = Refused r
 abbrev pub refuseIf : Bool → Refusal → Verdict
 refuseIf holds r = cond holds (Refused r) Accepted
 
--- 1, 3, 4
-abbrev pub byState : State → Verdict
-byState Absent = Refused TaskAbsent
-byState Running = Accepted
-byState Waiting = Refused TaskWaiting
+-- 1, 3, 4, and 27 where the task is to act, which a viewer may not
+abbrev pub byState : Bool → State → Verdict
+byState acts Absent = Refused TaskAbsent
+byState acts Running = Accepted
+byState acts Waiting = Refused TaskWaiting
+byState acts Viewing = refuseIf acts OnlyViews
 
-abbrev pub taskVerdict : ℕ → List TaskEntry → Verdict
-taskVerdict task tasks = andThen (refuseIf (leb taskCount task) NoSuchTask) (byState (stateOf (getD tasks task absentEntry .state)))
+abbrev pub stateIn : List TaskEntry → ℕ → State
+stateIn tasks task = stateOf (getD tasks task absentEntry .state)
+
+abbrev pub taskVerdict : Bool → ℕ → List TaskEntry → Verdict
+taskVerdict acts task tasks = andThen (refuseIf (leb taskCount task) NoSuchTask) (byState acts (stateIn tasks task))
 
 -- 6, and 21 for what only make sets
 abbrev pub extensionVerdict : Limits → Kind → ℕ → Verdict
@@ -121,37 +126,45 @@ takingVerdict limits limited full standing =
     andThen (refuseIf limited AtLimit) (andThen (refuseIf full NoFreeBlock) (roomVerdict limits standing))
 
 -- R40 to R43, the tests of the four; make's also by the handles given and by what was found of its store
-abbrev pub makeVerdictBy : Limits → ℕ → Kind → ℕ → ℕ → List TaskEntry → ℕ → Bool → Bool → ℕ → Verdict
-makeVerdictBy limits task kind extension size tasks given limited full standing =
-    andThen (taskVerdict task tasks)
+abbrev pub makeVerdictBy : Limits → ℕ → Kind → ℕ → ℕ → ℕ → List TaskEntry → ℕ → Bool → Bool → ℕ → Verdict
+makeVerdictBy limits task kind extension size prefix tasks given limited full standing =
+    andThen (taskVerdict true task tasks)
     (andThen (extensionVerdict limits kind extension)
     (andThen (refuseIf (eqb size 0 || ltb largeSize size) LengthOutOfRange)
+    (andThen (refuseIf (ltb size prefix) PrefixTooLong)
     (andThen (refuseIf (leb lastHandle given) HandlesSpent)
-    (takingVerdict limits limited full standing))))
+    (takingVerdict limits limited full standing)))))
 
-unfoldable pub makeVerdict : ℕ → Kind → ℕ → ℕ → Tables → Verdict
-makeVerdict task kind extension size p =
-    makeVerdictBy (p .limits) task kind extension size (p .tasks) (p .given) (isLimited (isSmall size) (p .shares) (p .blocks) task)
+unfoldable pub makeVerdict : ℕ → Kind → ℕ → ℕ → ℕ → Tables → Verdict
+makeVerdict task kind extension size prefix p =
+    makeVerdictBy (p .limits) task kind extension size prefix (p .tasks) (p .given) (isLimited (isSmall size) (p .shares) (p .blocks) task)
     (isFilled (isSmall size) (p .limits) (p .shares) (p .blocks) task) (standingIn (p .expirations))
 
 unfoldable pub refreshVerdict : ℕ → Kind → ℕ → ℕ → Tables → Verdict
 refreshVerdict task kind extension handle p =
-    andThen (taskVerdict task (p .tasks))
+    andThen (taskVerdict true task (p .tasks))
     (andThen (kindVerdict kind)
     (andThen (extensionVerdict (p .limits) kind extension) (andThen (handleVerdict handle p) (roomVerdict (p .limits) (standingIn (p .expirations))))))
 
--- R46: the tests of remaining life, with which those of a read, a write and a release begin
-unfoldable pub standingVerdict : ℕ → ℕ → Tables → Verdict
-standingVerdict task handle p = andThen (taskVerdict task (p .tasks)) (handleVerdict handle p)
+-- R46: the tests of remaining life, with which those of a read begin and, where the task acts, those of a write and a release
+unfoldable pub standingVerdict : Bool → ℕ → ℕ → Tables → Verdict
+standingVerdict acts task handle p = andThen (taskVerdict acts task (p .tasks)) (handleVerdict handle p)
 
 -- 23, by the bytes that a block has and the sum in its entry
 abbrev pub sumVerdict : List ℕ → List ℕ → ℕ → BlockEntry → Verdict
 sumVerdict small large block b = refuseIf (not (eqb (sumAt small large block) (b .sum))) SumDiffers
 
-unfoldable pub readVerdict : ℕ → ℕ → List ℕ → List ℕ → Tables → Verdict
-readVerdict task handle small large p =
+unfoldable pub intactVerdict : Bool → ℕ → ℕ → List ℕ → List ℕ → Tables → Verdict
+intactVerdict acts task handle small large p =
     let place = placeOf handle (p .blocks) in
-    andThen (standingVerdict task handle p) (sumVerdict small large place (getD (p .blocks) place freeBlock))
+    andThen (standingVerdict acts task handle p) (sumVerdict small large place (getD (p .blocks) place freeBlock))
+
+abbrev pub readVerdict : ℕ → ℕ → List ℕ → List ℕ → Tables → Verdict
+readVerdict task handle small large p = intactVerdict false task handle small large p
+
+-- V5: how many of an object's bytes a task reads, by its state: a viewer the prefix
+abbrev pub shownLength : State → BlockEntry → ℕ
+shownLength state b = cond (isViewing state) (b .prefix) (b .length)
 
 -- 13
 abbrev pub endVerdict : ℕ → ℕ → List BlockEntry → Verdict
@@ -159,19 +172,19 @@ endVerdict handle end blocks = refuseIf (ltb (getD blocks (placeOf handle blocks
 
 unfoldable pub writeVerdict : ℕ → ℕ → ℕ → ℕ → List ℕ → List ℕ → Tables → Verdict
 writeVerdict task handle offset count small large p =
-    andThen (readVerdict task handle small large p) (endVerdict handle (offset + count) (p .blocks))
+    andThen (intactVerdict true task handle small large p) (endVerdict handle (offset + count) (p .blocks))
 
 -- 22, by the block that was found; R48: the tests of a release
 abbrev pub pinVerdict : ℕ → List ExpirationEntry → Verdict
 pinVerdict block xs = refuseIf (not (any (isPinning block) xs)) NotPinned
 
 unfoldable pub releaseVerdict : ℕ → ℕ → Tables → Verdict
-releaseVerdict task handle p = andThen (standingVerdict task handle p) (pinVerdict (placeOf handle (p .blocks)) (p .expirations))
+releaseVerdict task handle p = andThen (standingVerdict true task handle p) (pinVerdict (placeOf handle (p .blocks)) (p .expirations))
 
 -- R47: the tests of a batch, by the handles given, which objects are gone and how many expirations stand
 abbrev pub batchVerdictBy : Limits → ℕ → Kind → ℕ → List ℕ → List TaskEntry → ℕ → (ℕ → Bool) → ℕ → Verdict
 batchVerdictBy limits task kind extension handles tasks given isGone standing =
-    andThen (taskVerdict task tasks)
+    andThen (taskVerdict true task tasks)
     (andThen (refuseIf (eqb (length handles) 0 || ltb largestBatch (length handles)) BatchOutOfRange)
     (andThen (kindVerdict kind)
     (andThen (extensionVerdict limits kind extension)
@@ -208,23 +221,23 @@ withEntry slot e p =
     record { limits = p .limits; tasks = p .tasks; global = p .global; given = p .given; shares = p .shares; blocks = p .blocks; expirations = set (p .expirations) slot e }
 
 -- the next handle, in a block that was free
-abbrev pub withObject : ℕ → ℕ → ℕ → Tables → Tables
-withObject maker place size p =
+abbrev pub withObject : ℕ → ℕ → ℕ → ℕ → Tables → Tables
+withObject maker place size prefix p =
     record {
       limits = p .limits;
       tasks = p .tasks;
       global = p .global;
       given = p .given + 1;
       shares = p .shares;
-      blocks = set (p .blocks) place (record { handle = p .given + 1; length = size; sum = 0; maker = maker });
+      blocks = set (p .blocks) place (record { handle = p .given + 1; length = size; sum = 0; maker = maker; prefix = prefix });
       expirations = p .expirations;
     }
 
 -- the record after a make that is accepted, in the first free block and the first free entry
-unfoldable pub madePool : ℕ → Kind → ℕ → ℕ → Tables → Tables
-madePool task kind extension size p =
+unfoldable pub madePool : ℕ → Kind → ℕ → ℕ → ℕ → Tables → Tables
+madePool task kind extension size prefix p =
     let place = freePlace (p .limits) size (p .blocks) in
-    withEntry (freeSlot (p .expirations)) (entryFor kind task extension place p) (withObject task place size p)
+    withEntry (freeSlot (p .expirations)) (entryFor kind task extension place p) (withObject task place size prefix p)
 
 -- and after a refresh
 unfoldable pub refreshedPool : ℕ → Kind → ℕ → ℕ → Tables → Tables
@@ -239,7 +252,7 @@ batchedPool task kind extension (handle ∷ handles) p =
 
 -- O35: and after a write: the sum in its block's entry is that of the bytes which are there then
 abbrev pub summedBlock : ℕ → BlockEntry → BlockEntry
-summedBlock sum b = record { handle = b .handle; length = b .length; sum = sum; maker = b .maker }
+summedBlock sum b = record { handle = b .handle; length = b .length; sum = sum; maker = b .maker; prefix = b .prefix }
 
 abbrev pub withSum : ℕ → ℕ → Tables → Tables
 withSum place sum p =

@@ -1,11 +1,11 @@
 -- What an event decides, by the task entries and the global time alone.
 use Prim.Native.Nat.{ℕ}
-use mathlib.Core.Bool.{Bool, true, false, cond, _&&_}
+use mathlib.Core.Bool.{Bool, true, false, cond}
 use mathlib.Core.List.{List, map}
 use lib.ListN.{getD}
 use Rattle.ledger.specs.Tasks.{isTested, allTicked}
 use Rattle.ledger.specs.declared.Event.{Event}
-use Rattle.ledger.specs.declared.Event.the-variants.{Leave, Block, Resume, Tick}
+use Rattle.ledger.specs.declared.Event.the-variants.{Leave, Block, Resume, Tick, View}
 use Rattle.ledger.specs.declared.Answer.{Answer}
 use Rattle.ledger.specs.declared.Answer.the-variants.{Done, Advanced}
 use Rattle.ledger.specs.declared.Answer.the-variants.{Refused as RefusedAnswer}
@@ -22,14 +22,16 @@ abbrev pub isLeave : Event → Bool
 isLeave Leave = true
 isLeave Block = false
 isLeave Resume = false
+isLeave View = false
 isLeave Tick = false
 
--- whether an accepted event may end expirations of a well-formed record: a resume ends none, and a block, which moves no local time, only where the
--- global time advances
+-- whether an accepted event may end expirations of a well-formed record: a resume and a view end none, and a block, which moves no local
+-- time, only where the global time advances
 abbrev pub mayEnd : Event → Bool → Bool
 mayEnd Leave advanced = true
 mayEnd Block advanced = advanced
 mayEnd Resume advanced = false
+mayEnd View advanced = false
 mayEnd Tick advanced = true
 
 -- what ends nothing

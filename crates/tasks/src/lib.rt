@@ -1,7 +1,9 @@
-// What an event (leave, block, resume or tick of a task) and a join decide: the advance test, and whether expirations may end.
+// What an event (leave, block, resume, tick or view of a task) and a join decide: the advance test, and whether expirations may end.
 ghost use Prim.Native.Nat.{_<_};
+ghost use mathlib.Core.Bool.{false};
 ghost use mathlib.Core.Path.{_≡_};
 ghost use Rattle.ledger.specs.Limits.{taskCount};
+ghost use Rattle.ledger.specs.Tasks.{isTested};
 ghost use Rattle.tasks.specs.Steps.{unmoved, plannedAfter, planned};
 
 mod joining;
@@ -92,6 +94,31 @@ pub fn plan(tasks: [TaskEntry; TASK_COUNT], global: GlobalTime, event: Event, ta
     let e = tasks[at];
     match judge(event, state_of(e.state)) {
         Verdict::Accepted => accepted(tasks, global, event, task),
+        Verdict::Refused(r) => unmoved(Answer::Refused(r), tasks, global),
+    }
+}
+
+// A resume or a view alone, which no advance test follows. (Plan has one caller then, and stands there without a call.)
+pub fn plan_start(
+    tasks: [TaskEntry; TASK_COUNT],
+    global: GlobalTime,
+    event: Event,
+    task: u8,
+) -> Planned
+    requires { ⌜ isTested event ≡ false ⌝ }
+    ensures { λ r. ⌜ r ≡ planned event task tasks global ⌝ }
+{
+    let at = task as usize;
+    if TASK_COUNT <= at {
+        return unmoved(Answer::Refused(Refusal::NoSuchTask), tasks, global);
+    }
+    let e = tasks[at];
+    match judge(event, state_of(e.state)) {
+        Verdict::Accepted => {
+            let mut next = tasks;
+            next[at] = moved(event, e);
+            unmoved(Answer::Done, next, global)
+        }
         Verdict::Refused(r) => unmoved(Answer::Refused(r), tasks, global),
     }
 }

@@ -15,9 +15,10 @@ use record::GlobalTime;
 use record::LocalTime;
 use record::TaskEntry;
 use record::codes::RUNNING;
+use record::codes::VIEWING;
 use record::codes::WAITING;
 
-// R37 to R39, after 1: leave 3; block and tick 3, 4; resume 3, 5.
+// R37 to R39 and R49, after 1: leave 3; block and tick 3, 4, 27; resume 3, 5; view 2.
 pub fn judge(event: Event, state: State) -> Verdict
     ensures { λ r. ⌜ r ≡ verdictOf event state ⌝ }
 {
@@ -26,21 +27,31 @@ pub fn judge(event: Event, state: State) -> Verdict
             State::Absent => Verdict::Refused(Refusal::TaskAbsent),
             State::Running => Verdict::Accepted,
             State::Waiting => Verdict::Accepted,
+            State::Viewing => Verdict::Accepted,
         },
         Event::Block => match state {
             State::Absent => Verdict::Refused(Refusal::TaskAbsent),
             State::Running => Verdict::Accepted,
             State::Waiting => Verdict::Refused(Refusal::TaskWaiting),
+            State::Viewing => Verdict::Refused(Refusal::OnlyViews),
         },
         Event::Resume => match state {
             State::Absent => Verdict::Refused(Refusal::TaskAbsent),
             State::Running => Verdict::Refused(Refusal::TaskRunning),
             State::Waiting => Verdict::Accepted,
+            State::Viewing => Verdict::Refused(Refusal::TaskRunning),
         },
         Event::Tick => match state {
             State::Absent => Verdict::Refused(Refusal::TaskAbsent),
             State::Running => Verdict::Accepted,
             State::Waiting => Verdict::Refused(Refusal::TaskWaiting),
+            State::Viewing => Verdict::Refused(Refusal::OnlyViews),
+        },
+        Event::View => match state {
+            State::Absent => Verdict::Accepted,
+            State::Running => Verdict::Refused(Refusal::TaskPresent),
+            State::Waiting => Verdict::Refused(Refusal::TaskPresent),
+            State::Viewing => Verdict::Refused(Refusal::TaskPresent),
         },
     }
 }
@@ -64,7 +75,7 @@ fn ticked(mut e: TaskEntry) -> TaskEntry
     e
 }
 
-// T10 to T13: what each of the four makes of its task.
+// T10 to T13, V1: what each of the five makes of its task.
 pub fn moved(event: Event, e: TaskEntry) -> TaskEntry
     ensures { λ r. ⌜ r ≡ movedEntry event e ⌝ }
 {
@@ -73,6 +84,7 @@ pub fn moved(event: Event, e: TaskEntry) -> TaskEntry
         Event::Block => cleared(WAITING, e),
         Event::Resume => cleared(RUNNING, e),
         Event::Tick => ticked(e),
+        Event::View => cleared(VIEWING, ABSENT_TASK),
     }
 }
 
@@ -85,6 +97,7 @@ pub fn is_tested(event: Event) -> bool
         Event::Block => true,
         Event::Resume => false,
         Event::Tick => true,
+        Event::View => false,
     }
 }
 
@@ -97,6 +110,7 @@ pub fn is_leave(event: Event) -> bool
         Event::Block => false,
         Event::Resume => false,
         Event::Tick => false,
+        Event::View => false,
     }
 }
 
@@ -109,6 +123,7 @@ pub fn may_end(event: Event, advanced: bool) -> bool
         Event::Block => advanced,
         Event::Resume => false,
         Event::Tick => true,
+        Event::View => false,
     }
 }
 

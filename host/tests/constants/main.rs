@@ -5,7 +5,7 @@ mod layout;
 mod source;
 
 use ramsummer::{Limits, Quota};
-use source::{arms, between, is_here, text_of, value};
+use source::{arms, is_here, value};
 use std::collections::BTreeMap;
 
 /// Names in capitals and without underscores, since the source has other letters for some.
@@ -57,25 +57,15 @@ fn proved() -> Numbers {
         let kind = kind.strip_prefix("KindByte::Known(Kind::")?.strip_suffix(')')?;
         Some((plain(kind), number.parse().ok()?))
     }));
-    numbers.extend(arms("ledger", "place_of").into_iter().filter_map(|(refusal, place)| {
-        Some((plain(refusal.strip_prefix("Refusal::")?), number_at(place.parse().ok()?)))
-    }));
+    numbers.extend(
+        arms("ledger", "number_of")
+            .into_iter()
+            .filter_map(|(refusal, number)| Some((plain(refusal.strip_prefix("Refusal::")?), number.parse().ok()?))),
+    );
     numbers.extend(arms("ledger", "answer_number").into_iter().filter_map(|(answer, number)| {
         Some((plain(answer.strip_prefix("Answer::").filter(|answer| *answer == "Done")?), number.parse().ok()?))
     }));
     numbers
-}
-
-/// The number of the refusal at this place of the proved list: `if place < 27 { place } else { 29 }`.
-fn number_at(place: u64) -> u64 {
-    let text = text_of("ledger");
-    let rule = between(&text, "if place < ", " }\n").unwrap();
-    let (first, last) = rule.split_once(" { place } else { ").unwrap();
-    if place < first.parse().unwrap() {
-        place
-    } else {
-        last.parse().unwrap()
-    }
 }
 
 /// `RAMSUMMER_ASSERT(offsetof(ramsummer_pool, given) == 132);`: the struct, the field and the place.
@@ -93,7 +83,7 @@ fn the_header_has_the_constants_of_the_proved_source() {
         assert_eq!(constants(), proved());
         assert_eq!(
             constants().len(),
-            4 + 3 + 1 + 5 + 3 + 4 + 1 + 1 + 27 + 1,
+            4 + 3 + 1 + 5 + 3 + 4 + 1 + 1 + 29 + 1,
             "limits, other counts, no limit, sizes, kinds, clocks, departed, done, refusals, buffer too short"
         );
     }

@@ -48,16 +48,18 @@ fn call(pool: &mut Pool, random: &mut Random) {
     let kind = if random.below(2) == 0 { Kind::Local } else { Kind::Global };
     let extension = random.below(u64::from(pool.record().limits.extension) + 1) as u8;
     let length = 1 + random.below(64) as u16;
+    let prefix = random.below(u64::from(length) + 1) as u16;
     let handle = Handle::from(pool.record().given.saturating_sub(random.below(90) as u32));
-    let _ = match random.below(18) {
+    let _ = match random.below(19) {
         0..=1 => pool.join(task, share(random)),
         2 => pool.leave(task).map(drop),
         3 => pool.block(task).map(drop),
         4 => pool.resume(task),
         5..=6 => pool.tick(task).map(drop),
-        7..=10 => pool.make(task, kind, extension, length).map(drop),
+        7..=10 => pool.make_with_prefix(task, kind, extension, length, prefix).map(drop),
         16 if random.below(4) == 0 => pool.make(task, Kind::Pinned, 0, length).map(drop),
         16..=17 => pool.release(task, handle),
+        18 => pool.view(task),
         11..=13 => pool.write(task, handle, 0, &task.to_le_bytes()),
         _ => pool.refresh(task, kind, extension, handle),
     };

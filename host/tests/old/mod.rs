@@ -1,6 +1,7 @@
-//! Images as earlier versions of the layout had them, of a fresh record alone. Both are shorter than those of today.
+//! Images as earlier versions of the layout had them, of a fresh record alone. Those before 5 are shorter than those of today.
 
 use ramsummer::image::{crc32, MAGIC};
+use ramsummer::Record;
 
 /// All zeros: it has no limits.
 pub fn version_3() -> Vec<u8> {
@@ -14,6 +15,11 @@ pub fn version_4() -> Vec<u8> {
         record[136 + 4 * place..][..4].copy_from_slice(&limit.to_le_bytes());
     }
     image(4, &record)
+}
+
+/// As a fresh one is today: it has no prefixes, and no viewers.
+pub fn version_5() -> Vec<u8> {
+    image(5, Record::fresh().as_bytes())
 }
 
 fn image(version: u32, record: &[u8]) -> Vec<u8> {

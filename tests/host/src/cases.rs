@@ -2,7 +2,7 @@
 //! handles make the fit test work most.
 
 use plain::limits::{Limits, EXPIRATIONS, LARGEST_BATCH, PINNING, SMALL_SIZE, TASKS};
-use plain::record::{is_global, Quota, Share, FREE, LOCAL, PINNED, RUNNING, WAITING};
+use plain::record::{is_global, Quota, Share, FREE, LOCAL, PINNED, RUNNING, VIEWING, WAITING};
 use plain::work;
 use reference::call::{packed, Call, Handles, Kind};
 use reference::frame::encode;
@@ -61,6 +61,7 @@ fn calls_on_tasks(expirations: usize) -> Vec<Case> {
     let mut cases = vec![
         case("join", Entry::Join, expirations, by(ABSENT)),
         case("join, with reserves", Entry::Join, expirations, asking),
+        case("view", Entry::View, expirations, by(ABSENT)),
         case("share", Entry::Share, expirations, by(0)),
         case("leave", Entry::Leave, expirations, by(0)),
         case("block", Entry::Block, expirations, by(1)),
@@ -139,6 +140,7 @@ fn calls_on_objects(expirations: usize) -> Vec<Case> {
             case("write 32", Entry::Write, expirations, with(small, 32)),
             case("write 256", Entry::Write, expirations, with(large, 256)),
             case("remaining", Entry::Remaining, expirations, with(small, 0)),
+            viewed(case("read 256, by a viewer", Entry::Read, expirations, with(large, 256))),
             all_on_one(case("remaining, all on the object", Entry::Remaining, expirations, with(1, 0))),
             all_on_one(case("read 32, all on the object", Entry::Read, expirations, with(1, 32))),
             case("batch of 1", Entry::Batch, expirations, naming(expirations, 1)),
@@ -167,6 +169,13 @@ fn all_on_one(case: Case) -> Case {
     Case { memory: standing(usize::from(RUN), (1, 0), case.expirations), ..case }
 }
 
+/// The absent task views, and makes the call.
+fn viewed(mut case: Case) -> Case {
+    case.memory.pool.tasks[usize::from(ABSENT)].state = VIEWING;
+    case.arguments.task = ABSENT;
+    case
+}
+
 /// The last expiration pins its object, beside whatever else is on it.
 fn last_pins(mut case: Case) -> Case {
     let pool = &mut case.memory.pool;
@@ -188,8 +197,10 @@ fn pinned_alone(case: Case) -> Case {
 
 fn frames(expirations: usize) -> Vec<Case> {
     let frame = |name, call| case(name, Entry::Frame, expirations, line(&call));
-    let mut make =
-        frame("frame: make 32", Call::Make { task: 0, kind: Kind::Local, extension: 9, length: SMALL_SIZE as u16 });
+    let mut make = frame(
+        "frame: make 32",
+        Call::Make { task: 0, kind: Kind::Local, extension: 9, length: SMALL_SIZE as u16, prefix: 0 },
+    );
     make.memory = sample(expirations.min(255));
     let mut cases = vec![frame("frame: tick", Call::Tick { task: 1 }), make, frame("frame: report", Call::Report)];
     if expirations > 0 {
@@ -206,8 +217,8 @@ fn frames(expirations: usize) -> Vec<Case> {
     cases
 }
 
-/// Refused with 1 after the test of well-formedness, with 26 and 9 by shares, with 15 where the fault is found last or first,
-/// and with 23.
+/// Refused with 1 after the test of well-formedness, with 26 and 9 by shares, with 27 and 28, with 15 where the fault is found
+/// last or first, and with 23.
 fn refusals(expirations: usize) -> Vec<Case> {
     let by = |task| Arguments { task, size: 32, handle: 1, ..Arguments::default() };
     let refused = |name, entry, task, answer| Case { answer, ..case(name, entry, expirations, by(task)) };
@@ -223,8 +234,12 @@ fn refusals(expirations: usize) -> Vec<Case> {
     let free = held_back.memory.pool.handles[..64].iter().filter(|&&handle| handle == 0).count() as u8;
     held_back.memory.pool.shares[usize::from(WAITS)].small = Quota { reserve: free, limit: free };
     cases.extend([limited, held_back]);
+    cases.push(viewed(refused("make, refused 27", Entry::Make, ABSENT, 27)));
+    let mut too_long = refused("make, refused 28", Entry::Make, 0, 28);
+    too_long.arguments.prefix = 33;
+    cases.push(too_long);
     let mut first = refused("tick, refused 15 at the first entry", Entry::Tick, 1, 15);
-    first.memory.pool.tasks[0].state = 3;
+    first.memory.pool.tasks[0].state = 4;
     cases.push(first);
     if expirations > 0 {
         let mut last = refused("tick, refused 15 at the last object", Entry::Tick, 1, 15);

@@ -40,6 +40,7 @@ pub struct Arguments {
     pub kind: u8,
     pub extension: u8,
     pub size: u16,
+    pub prefix: u16,
     pub handle: u32,
     pub handles: Vec<u32>,
     pub bytes: Vec<u8>,
@@ -50,7 +51,8 @@ pub struct Arguments {
 impl Default for Arguments {
     fn default() -> Arguments {
         let (handles, bytes, line) = (Vec::new(), Vec::new(), Vec::new());
-        Arguments { task: 0, share: Share::OPEN, kind: 0, extension: 0, size: 0, handle: 0, handles, bytes, line }
+        let share = Share::OPEN;
+        Arguments { task: 0, share, kind: 0, extension: 0, size: 0, prefix: 0, handle: 0, handles, bytes, line }
     }
 }
 
@@ -75,6 +77,7 @@ pub enum Entry {
     /// With the figures that the record has.
     FreshSized,
     Join,
+    View,
     Leave,
     Block,
     Resume,
@@ -97,10 +100,11 @@ pub enum Entry {
 
 impl Entry {
     /// The entries, and the fit test.
-    pub const ALL: [Entry; 18] = [
+    pub const ALL: [Entry; 19] = [
         Entry::Fresh,
         Entry::FreshSized,
         Entry::Join,
+        Entry::View,
         Entry::Leave,
         Entry::Block,
         Entry::Resume,
@@ -156,13 +160,15 @@ fn entry_of<E: Entries>(entry: Entry) -> Action {
             E::fresh_sized(&mut desk.memory.pool, limits)
         },
         Entry::Join => |desk, with| E::join(&mut desk.memory.pool, with.task, with.share),
+        Entry::View => |desk, with| E::view(&mut desk.memory.pool, with.task),
         Entry::Leave => |desk, with| E::leave(&mut desk.memory.pool, with.task, &mut desk.advanced),
         Entry::Block => |desk, with| E::block(&mut desk.memory.pool, with.task, &mut desk.advanced),
         Entry::Resume => |desk, with| E::resume(&mut desk.memory.pool, with.task),
         Entry::Tick => |desk, with| E::tick(&mut desk.memory.pool, with.task, &mut desk.advanced),
         Entry::Make => |desk, with| {
             let Memory { pool, small, large } = &mut desk.memory;
-            E::make(pool, small, large, with.task, with.kind, with.extension, with.size, &mut desk.handle)
+            let Arguments { task, kind, extension, size, prefix, .. } = *with;
+            E::make(pool, small, large, task, kind, extension, size, prefix, &mut desk.handle)
         },
         Entry::Refresh => |desk, with| E::refresh(&mut desk.memory.pool, with.task, 0, with.extension, with.handle),
         Entry::Read => |desk, with| {
@@ -199,13 +205,14 @@ fn entry_of<E: Entries>(entry: Entry) -> Action {
 fn work_of(entry: Entry) -> Option<Action> {
     Some(match entry {
         Entry::Join => |desk, with| number(work::join(&mut desk.memory.pool, with.task, with.share)),
+        Entry::View => |desk, with| number(work::view(&mut desk.memory.pool, with.task)),
         Entry::Leave => |desk, with| advanced(desk, |pool| work::leave(pool, with.task)),
         Entry::Block => |desk, with| advanced(desk, |pool| work::block(pool, with.task)),
         Entry::Resume => |desk, with| number(work::resume(&mut desk.memory.pool, with.task)),
         Entry::Tick => |desk, with| advanced(desk, |pool| work::tick(pool, with.task)),
         Entry::Make => |desk, with| {
             let Memory { pool, small, large } = &mut desk.memory;
-            let made = work::make(pool, small, large, (with.task, with.kind, with.extension, with.size));
+            let made = work::make(pool, small, large, (with.task, with.kind, with.extension), (with.size, with.prefix));
             number(made.map(|handle| desk.handle = handle))
         },
         Entry::Refresh => {

@@ -11,6 +11,7 @@ pub trait Entries {
     fn fresh(pool: &mut Pool) -> u8;
     fn fresh_sized(pool: &mut Pool, limits: Limits) -> u8;
     fn join(pool: &mut Pool, task: u8, share: Share) -> u8;
+    fn view(pool: &mut Pool, task: u8) -> u8;
     fn leave(pool: &mut Pool, task: u8, advanced: &mut u8) -> u8;
     fn block(pool: &mut Pool, task: u8, advanced: &mut u8) -> u8;
     fn resume(pool: &mut Pool, task: u8) -> u8;
@@ -23,6 +24,7 @@ pub trait Entries {
         kind: u8,
         extension: u8,
         length: u16,
+        prefix: u16,
         handle: &mut u32,
     ) -> u8;
     fn refresh(pool: &mut Pool, task: u8, kind: u8, extension: u8, handle: u32) -> u8;
@@ -75,6 +77,11 @@ impl Entries for Plain {
     }
 
     #[inline]
+    fn view(pool: &mut Pool, task: u8) -> u8 {
+        calls::view(pool, task)
+    }
+
+    #[inline]
     fn leave(pool: &mut Pool, task: u8, advanced: &mut u8) -> u8 {
         calls::leave(pool, task, advanced)
     }
@@ -103,9 +110,10 @@ impl Entries for Plain {
         kind: u8,
         extension: u8,
         length: u16,
+        prefix: u16,
         handle: &mut u32,
     ) -> u8 {
-        calls::make(pool, small, large, task, kind, extension, length, handle)
+        calls::make(pool, small, large, task, kind, extension, length, prefix, handle)
     }
 
     #[inline]

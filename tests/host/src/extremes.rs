@@ -55,6 +55,7 @@ fn on_tasks() -> Vec<Case> {
     let mut cases = vec![
         extreme("join", Entry::Join, full(EXPIRATIONS), by(ABSENT)),
         extreme("join, with reserves", Entry::Join, room_for(FULL.0 - 1, FULL.1 - 1), asking),
+        extreme("view", Entry::View, full(EXPIRATIONS), by(ABSENT)),
         extreme("share", Entry::Share, full(EXPIRATIONS), by(0)),
         extreme("resume", Entry::Resume, after(full(EXPIRATIONS), &[Call::Block { task: 1 }]), by(1)),
     ];
@@ -103,7 +104,7 @@ fn frames() -> Vec<Case> {
     let frame = |name, memory, call: &dyn Fn(&Memory) -> Arguments| extreme(name, Entry::Frame, memory, call);
     let tick = |_: &Memory| line(&Call::Tick { task: 0 });
     let object = |memory: &Memory| memory.pool.handles[LAST_BLOCK];
-    let make = |_: &Memory| line(&Call::Make { task: 0, kind: Kind::Local, extension: 9, length: 256 });
+    let make = |_: &Memory| line(&Call::Make { task: 0, kind: Kind::Local, extension: 9, length: 256, prefix: 0 });
     let batch = |memory: &Memory| {
         let handles = packed(&last_handles(memory).handles);
         line(&Call::Batch { task: 0, kind: Kind::Local, extension: 9, handles: Handles(&handles) })

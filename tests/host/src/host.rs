@@ -5,9 +5,9 @@ use std::marker::PhantomData;
 
 use plain::calls::ANSWER_ROOM;
 use plain::limits::LARGE_SIZE;
-use plain::record::extent_of;
+use plain::record::{extent_of, with_prefix};
 use reference::call::{Accepted, Call, Figures, Kind, Lifetime};
-use reference::frame::encode;
+use reference::frame::{decode, encode};
 
 use crate::entries::Entries;
 use crate::memory::Memory;
@@ -72,6 +72,18 @@ impl<E: Entries> Host<E> {
         number
     }
 
+    /// The answer line to this line. Where it holds a call, that is made by its entry, and answered alike.
+    pub fn answer(&mut self, line: &str) -> String {
+        let mut room = vec![0; line.len()];
+        let call = decode(line.as_bytes(), &mut room).ok();
+        let mut framed = Host::<E>::new(self.memory.clone());
+        let (number, answer) = framed.line(line.as_bytes(), call.as_ref());
+        if let Some(call) = call {
+            assert_eq!(self.told(&call), number, "{line}");
+        }
+        String::from_utf8(answer.to_vec()).expect("digits")
+    }
+
     /// Makes the call by its own entry.
     pub fn call(&mut self, call: &Call) -> Told<'_> {
         self.prepare();
@@ -112,8 +124,8 @@ impl<E: Entries> Host<E> {
             Call::Block { task } => E::block(pool, task, &mut out.advanced),
             Call::Resume { task } => E::resume(pool, task),
             Call::Tick { task } => E::tick(pool, task, &mut out.advanced),
-            Call::Make { task, kind, extension, length } => {
-                E::make(pool, small, large, task, code(kind), extension, length, &mut out.handle)
+            Call::Make { task, kind, extension, length, prefix } => {
+                E::make(pool, small, large, task, code(kind), extension, length, prefix, &mut out.handle)
             }
             Call::Refresh { task, kind, extension, handle } => E::refresh(pool, task, code(kind), extension, handle),
             Call::Read { task, handle } => E::read(pool, small, large, task, handle, &mut out.bytes, &mut out.count),
@@ -125,20 +137,22 @@ impl<E: Entries> Host<E> {
                 E::refresh_all(pool, task, code(kind), extension, &handles)
             }
             Call::Release { task, handle } => E::release(pool, task, handle),
+            Call::View { task } => E::view(pool, task),
         }
     }
 
     /// An accepted call touches its own bytes alone: a make clears one block, a write replaces its bytes, and no
     /// other call touches a store. Of the record a write changes the sum of its block, read, report and remaining
-    /// nothing, and no call the figures of the site. A new object has the sum of zeros and the task for its maker.
+    /// nothing, and no call the figures of the site. A new object has the sum of zeros, the task for its maker and the
+    /// prefix that was asked for.
     fn check_memory(&mut self, call: &Call) {
         let Host { memory, before, .. } = self;
         assert_eq!(memory.pool.limits, before.pool.limits, "{call:?}");
         match *call {
-            Call::Make { task, length, .. } => {
+            Call::Make { task, length, prefix, .. } => {
                 let place = memory.place(memory.pool.given).expect("the new object has a block");
                 assert_eq!(before.pool.handles[place], 0, "{call:?} takes a free block");
-                assert_eq!(memory.pool.extents[place], extent_of(length, 0, task), "{call:?}");
+                assert_eq!(memory.pool.extents[place], with_prefix(extent_of(length, 0, task), prefix), "{call:?}");
                 before.block_mut(place).fill(0);
             }
             Call::Write { handle, offset, bytes, .. } => {
@@ -160,7 +174,7 @@ impl<E: Entries> Host<E> {
         let out = &self.out;
         match call {
             Call::Join { .. } | Call::Resume { .. } | Call::Refresh { .. } => Accepted::Done,
-            Call::Write { .. } | Call::Batch { .. } | Call::Release { .. } => Accepted::Done,
+            Call::Write { .. } | Call::Batch { .. } | Call::Release { .. } | Call::View { .. } => Accepted::Done,
             Call::Leave { .. } | Call::Block { .. } | Call::Tick { .. } => {
                 assert!(out.advanced <= 1, "{call:?} tells 0 or 1");
                 Accepted::Advanced(out.advanced == 1)

@@ -29,6 +29,7 @@ extern "C" {
         large_reserve: u8,
         large_limit: u8,
     ) -> u8;
+    fn ramsummer_view(pool: *mut Pool, task: u8) -> u8;
     fn ramsummer_leave(pool: *mut Pool, task: u8, advanced: *mut u8) -> u8;
     fn ramsummer_block(pool: *mut Pool, task: u8, advanced: *mut u8) -> u8;
     fn ramsummer_resume(pool: *mut Pool, task: u8) -> u8;
@@ -43,6 +44,7 @@ extern "C" {
         kind: u8,
         extension: u8,
         length: u16,
+        prefix: u16,
         handle: *mut u32,
     ) -> u8;
     fn ramsummer_refresh(pool: *mut Pool, task: u8, kind: u8, extension: u8, handle: u32) -> u8;
@@ -127,6 +129,11 @@ impl Entries for Library {
     }
 
     #[inline]
+    fn view(pool: &mut Pool, task: u8) -> u8 {
+        unsafe { ramsummer_view(pool, task) }
+    }
+
+    #[inline]
     fn leave(pool: &mut Pool, task: u8, advanced: &mut u8) -> u8 {
         unsafe { ramsummer_leave(pool, task, advanced) }
     }
@@ -155,11 +162,26 @@ impl Entries for Library {
         kind: u8,
         extension: u8,
         length: u16,
+        prefix: u16,
         handle: &mut u32,
     ) -> u8 {
         let (small, small_length) = (small.as_mut_ptr(), small.len());
         let (large, large_length) = (large.as_mut_ptr(), large.len());
-        unsafe { ramsummer_make(pool, small, small_length, large, large_length, task, kind, extension, length, handle) }
+        unsafe {
+            ramsummer_make(
+                pool,
+                small,
+                small_length,
+                large,
+                large_length,
+                task,
+                kind,
+                extension,
+                length,
+                prefix,
+                handle,
+            )
+        }
     }
 
     #[inline]

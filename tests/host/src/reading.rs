@@ -3,8 +3,8 @@
 //! order. Places are not compared.
 
 use plain::limits::{Limits, BLOCKS, SMALL_BLOCKS, TASKS};
-use plain::record::{length_in, maker_in, sum_in, Pool, Share};
-use plain::record::{ABSENT, DEPARTED, FREE, GLOBAL, LOCAL, NOBODY, PINNED, RUNNING};
+use plain::record::{length_in, maker_in, prefix_in, sum_in, Pool, Share};
+use plain::record::{ABSENT, DEPARTED, FREE, GLOBAL, LOCAL, NOBODY, PINNED, RUNNING, WAITING};
 use reference::block::Block;
 use reference::call::Figures;
 use reference::expiration::{Remaining, Setter};
@@ -39,7 +39,8 @@ pub fn of_record(memory: &Memory) -> Reading {
     let state = |state: u16| match state {
         ABSENT => State::Absent,
         RUNNING => State::Running,
-        _ => State::Waiting,
+        WAITING => State::Waiting,
+        _ => State::Viewing,
     };
     Reading {
         limits: *limits,
@@ -78,7 +79,8 @@ fn standing(memory: &Memory) -> Vec<Standing> {
                 NOBODY => Maker::Departed,
                 task => Maker::Task(task),
             };
-            let block = Block { length: length_in(extent), bytes: bytes_of(memory, place), sum: sum_in(extent) };
+            let (length, prefix, sum) = (length_in(extent), prefix_in(extent), sum_in(extent));
+            let block = Block { length, prefix, bytes: bytes_of(memory, place), sum };
             standing.push(Standing { handle, maker, block, expirations });
         }
     }

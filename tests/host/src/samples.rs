@@ -52,7 +52,8 @@ pub struct Setting {
     pub object: usize,
 }
 
-/// So many tasks run, so many small and large objects stand, each made with one of the first of these expirations.
+/// So many tasks run, so many small and large objects stand, each made with one of the first of these expirations, and with a
+/// prefix of its own.
 pub fn standing_by(
     limits: Limits,
     tasks: usize,
@@ -69,7 +70,8 @@ pub fn standing_by(
         let Setting { task, kind, extension, object } = setting(count);
         done(if count < small + large {
             let length = if count < small { SMALL_SIZE } else { LARGE_SIZE } as u16;
-            Call::Make { task, kind, extension, length }
+            let prefix = (count % (usize::from(length) + 1)) as u16;
+            Call::Make { task, kind, extension, length, prefix }
         } else {
             Call::Refresh { task, kind, extension, handle: 1 + object as u32 }
         });

@@ -69,7 +69,7 @@ fn over_lists_of_calls() {
 #[test]
 fn of_a_record_that_is_not_well_formed() {
     let mut memory = Memory::fresh(&mut Random::new(1));
-    memory.pool.tasks[5].state = 3;
+    memory.pool.tasks[5].state = 4;
     assert_eq!(told(&mut Host::<Library>::new(memory.clone())), (15, UNTOLD));
     assert_eq!(told(&mut Host::<Plain>::new(memory)), (15, UNTOLD));
 }

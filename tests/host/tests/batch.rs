@@ -124,7 +124,7 @@ fn where_the_counters_go_round() {
         }
         host.memory.pool.global = start;
         for (handle, length) in [(1, 4), (2, 40), (3, 4), (4, 256)] {
-            let make = Call::Make { task: 0, kind: Kind::Local, extension: 0, length };
+            let make = Call::Make { task: 0, kind: Kind::Local, extension: 0, length, prefix: 0 };
             assert_eq!(host.call(&make), Ok(Accepted::Handle(handle)));
         }
         assert_eq!(batch(&mut host, 0, (Kind::Local, 9), &[4, 1, 3, 2]), 0);
@@ -180,7 +180,7 @@ fn the_refusals_in_order() {
         assert_eq!(batch(&mut host, task, (Kind::Local, extension), named), number, "{task} {extension} {named:?}");
     }
     let mut damaged = Host::<Library>::new(host.memory.clone());
-    damaged.memory.pool.tasks[5].state = 3;
+    damaged.memory.pool.tasks[5].state = 4;
     for (task, extension, named, _) in rows {
         assert_eq!(batch(&mut damaged, task, (Kind::Global, extension), named), 15, "{task} {extension} {named:?}");
     }

@@ -12,8 +12,8 @@ use host_tests::samples::{after, after_of, full, full_of, standing_by, standing_
 use host_tests::sites::{with, CABLE, FIGURES};
 use plain::fit::is_well_formed;
 use plain::limits::{Limits, BLOCKS, EXPIRATIONS, LARGE_BLOCKS, SMALL_BLOCKS, TASKS};
-use plain::record::{extent_of, fresh, maker_in, sum_in, with_maker, Pool, Quota, Share, NOBODY};
-use plain::record::{ABSENT, DEPARTED, FREE, GLOBAL, LOCAL, PINNED, RECORD, RUNNING, WAITING};
+use plain::record::{extent_of, fresh, length_in, maker_in, with_maker, with_prefix, Pool, Quota, Share, NOBODY};
+use plain::record::{ABSENT, DEPARTED, FREE, GLOBAL, LOCAL, PINNED, RECORD, RUNNING, VIEWING, WAITING};
 use plain::work::{self, Holding, Holdings};
 use reference::call::{Accepted, Call, Figures, Kind, Lifetime};
 use reference::generate::Profile;
@@ -27,7 +27,7 @@ fn overwrite_each_byte(whole: Memory) {
     for offset in 0..RECORD {
         let held = bytes_mut(&mut pair.whole.pool)[offset];
         for value in 0..=255 {
-            let turn = 1 + (offset + usize::from(value)) % 7;
+            let turn = 1 + (offset + usize::from(value)) % (calls.len() - 1);
             pair.examine(&[calls[0], calls[turn]], |pool| bytes_mut(pool)[offset] = value);
         }
         bytes_mut(&mut pair.library.memory.pool)[offset] = held;
@@ -62,6 +62,11 @@ fn one_byte_of_a_record_with_shares() {
 }
 
 #[test]
+fn one_byte_of_a_record_with_viewers() {
+    overwrite_each_byte(with_viewers());
+}
+
+#[test]
 fn one_byte_of_a_late_record() {
     overwrite_each_byte(late());
 }
@@ -90,8 +95,8 @@ fn smallest() -> Memory {
 /// figures.
 fn mixed_site() -> Memory {
     let limits = limits::Limits { small_blocks: 40, large_blocks: 18, expirations: 130, extension: 23 };
-    let memory = after_of(limits, Profile::Everyday, 864, 900);
-    check_mixed(&memory.pool);
+    let memory = after_of(limits, Profile::Everyday, 632, 900);
+    assert!(is_mixed(&memory.pool));
     let Figures { small, large, expirations, .. } = figures(&memory.pool);
     assert!((1..40).contains(&small) && (1..18).contains(&large) && (40..130).contains(&expirations));
     memory
@@ -99,28 +104,31 @@ fn mixed_site() -> Memory {
 
 /// The same of 01's figures.
 fn mixed() -> Memory {
-    let memory = after(Profile::Everyday, 352, 900);
-    check_mixed(&memory.pool);
+    let memory = after(Profile::Everyday, 2781, 900);
+    assert!(is_mixed(&memory.pool));
     memory
 }
 
-/// Tasks of every state; global expirations of such that run, that wait and that departed, and pinned ones; objects of tasks
-/// that are there and that have left; and a reserve that is unmet.
-fn check_mixed(pool: &Pool) {
+/// Tasks of every state, viewers among them; global expirations of such that run, that wait and that departed, and pinned ones;
+/// objects of tasks that are there and that have left; and a reserve that is unmet.
+fn is_mixed(pool: &Pool) -> bool {
+    let has = |state: u16| pool.tasks.iter().any(|task| task.state == state);
     let has_set = |state: u16| {
         let setters = pool.clocks.iter().filter(|&&clock| (GLOBAL..DEPARTED).contains(&clock));
         setters.map(|&clock| pool.tasks[usize::from(clock - GLOBAL)]).any(|task| task.state == state)
     };
-    assert!(pool.tasks.iter().any(|task| task.state == ABSENT) && has_set(RUNNING) && has_set(WAITING));
-    assert!(pool.clocks.contains(&DEPARTED) && pool.clocks.contains(&PINNED));
     let objects = || pool.extents.iter().zip(pool.handles).filter(|(_, handle)| *handle != 0);
-    assert!(
-        objects().any(|(&extent, _)| maker_in(extent) == NOBODY)
-            && objects().any(|(&extent, _)| maker_in(extent) < NOBODY)
-    );
     let holdings = (0..TASKS as u8).map(|task| work::share(pool, task).expect("a task"));
     let mut holdings = holdings.flat_map(|Holdings { small, large }| [small, large]);
-    assert!(holdings.any(|Holding { made, reserve, .. }| made < reserve));
+    has(ABSENT)
+        && has(VIEWING)
+        && has_set(RUNNING)
+        && has_set(WAITING)
+        && pool.clocks.contains(&DEPARTED)
+        && pool.clocks.contains(&PINNED)
+        && objects().any(|(&extent, _)| maker_in(extent) == NOBODY)
+        && objects().any(|(&extent, _)| maker_in(extent) < NOBODY)
+        && holdings.any(|Holding { made, reserve, .. }| made < reserve)
 }
 
 /// Full, and every third object is pinned.
@@ -151,18 +159,37 @@ fn with_shares(left: usize) -> Memory {
     let made = [(0, 2, 1), (1, 3, 1), (2, 2, 0), (3, 2, 1), (5, 5 - left, 1 - left)];
     for (task, small, large) in made {
         let (kind, extension) = if task == 3 { (Kind::Pinned, 0) } else { (Kind::Local, 9) };
-        (0..small).for_each(|_| done(Call::Make { task, kind, extension, length: 7 }));
-        (0..large).for_each(|_| done(Call::Make { task, kind, extension, length: 70 }));
+        (0..small).for_each(|_| done(Call::Make { task, kind, extension, length: 7, prefix: 0 }));
+        (0..large).for_each(|_| done(Call::Make { task, kind, extension, length: 70, prefix: 0 }));
     }
     done(Call::Block { task: 2 });
     done(Call::Leave { task: 3 });
     host.memory
 }
 
+/// A small site: tasks 0 and 1 run, 2 waits, 3 and 4 view, and 5 has left what it pinned. Of each store there are objects of
+/// whose bytes a viewer sees none, some and all.
+fn with_viewers() -> Memory {
+    let mut host = Host::<Plain>::new(Memory::sized(CABLE, &mut Random::new(3)));
+    let mut done = |call: Call| assert!(host.call(&call).is_ok(), "{call:?}");
+    let makers = [0, 1, 2, 5];
+    makers.into_iter().for_each(|task| done(Call::Join { task, share: reference::share::Share::OPEN }));
+    [3, 4].into_iter().for_each(|task| done(Call::View { task }));
+    for (task, large) in makers.into_iter().zip([0, 1, 69, 70]) {
+        let (kind, extension) = if task == 5 { (Kind::Pinned, 0) } else { (Kind::Global, 9) };
+        for (length, prefix) in [(7, 0), (7, 3), (7, 7), (70, large)] {
+            done(Call::Make { task, kind, extension, length, prefix });
+        }
+    }
+    done(Call::Block { task: 2 });
+    done(Call::Leave { task: 5 });
+    host.memory
+}
+
 /// All clocks put forward to the end of 32 bits, and what goes by them.
 fn late() -> Memory {
-    let mut memory = after(Profile::Everyday, 1395, 900);
-    check_mixed(&memory.pool);
+    let mut memory = after(Profile::Everyday, 2922, 900);
+    assert!(is_mixed(&memory.pool));
     let ahead = (u32::MAX - 7).wrapping_sub(memory.pool.global);
     memory.pool.global = memory.pool.global.wrapping_add(ahead);
     for task in memory.pool.tasks.iter_mut().filter(|task| task.state != ABSENT) {
@@ -179,10 +206,10 @@ fn late() -> Memory {
 /// What stands in them, what remains to the object that is asked for, and what the calls are told.
 #[test]
 fn undamaged_records() {
-    let mixed = (mixed(), (29, 18, 121), (12, 2), [0; 8]);
-    let late = (late(), (23, 22, 115), (5, 26), [0; 8]);
-    let full = (full(256), (64, 32, 256), (0, 28), [0, 0, 0, 0, 9, 10, 22, 0]);
-    let pinned = (with_pinned(), (64, 32, 256), (0, 30), [0, 0, 0, 0, 9, 10, 0, 0]);
+    let mixed = (mixed(), (31, 18, 86), (1, 19), [0; 10]);
+    let late = (late(), (36, 8, 86), (15, 8), [0; 10]);
+    let full = (full(256), (64, 32, 256), (0, 28), [0, 0, 0, 0, 9, 10, 22, 0, 0, 2]);
+    let pinned = (with_pinned(), (64, 32, 256), (0, 30), [0, 0, 0, 0, 9, 10, 0, 0, 0, 2]);
     for (whole, standing, (local, global), expected) in [mixed, late, full, pinned] {
         let Figures { small, large, expirations, .. } = figures(&whole.pool);
         assert_eq!((small, large, expirations), standing);
@@ -195,8 +222,10 @@ fn undamaged_records() {
 /// Entries copied over others, flags and counters put to likely values, a few at a time. Here the rules' words judge.
 #[test]
 fn likely_damages() {
-    let sites = [full_of(CABLE, 64), full_of(CABLE, 40), mixed_site(), smallest(), with_shares(0), with_shares(1)];
-    let wholes = [full(256), full(96), with_pinned(), mixed(), late()].into_iter().chain(sites).map(Pair::of);
+    let sites = [full_of(CABLE, 64), full_of(CABLE, 40), mixed_site(), smallest()];
+    let shared = [with_shares(0), with_shares(1), with_viewers()];
+    let wholes = [full(256), full(96), with_pinned(), mixed(), late()];
+    let wholes = wholes.into_iter().chain(sites).chain(shared).map(Pair::of);
     let mut random = Random::new(11);
     for mut pair in wholes {
         let calls = pair.calls;
@@ -217,9 +246,9 @@ fn likely_damages() {
 fn damage(pool: &mut Pool, random: &mut Random) {
     let (from, to) = (random.below(256), random.below(256));
     let small = random.below(4) as u32;
-    match random.below(26) {
+    match random.below(27) {
         0 => pool.tasks[to % TASKS] = pool.tasks[from % TASKS],
-        1 => pool.tasks[to % TASKS].state = small as u16,
+        1 => pool.tasks[to % TASKS].state = random.below(5) as u16,
         2 => pool.tasks[to % TASKS].ticked = small as u16,
         3 => pool.tasks[to % TASKS].clock = pool.tasks[to % TASKS].clock.wrapping_add(small),
         4 => pool.global = pool.global.wrapping_add(small),
@@ -228,8 +257,8 @@ fn damage(pool: &mut Pool, random: &mut Random) {
         7 => pool.handles[to % 96] = small,
         8 => pool.extents[to % 96] = pool.extents[from % 96],
         9 => {
-            let (sum, maker) = (sum_in(pool.extents[to % 96]), maker_in(pool.extents[to % 96]));
-            pool.extents[to % 96] = extent_of(random.pick(&[0, 1, 32, 33, 256, 257, 289]), sum, maker);
+            let length = random.pick(&[0, 1, 32, 33, 256, 257, 289]);
+            pool.extents[to % 96] = pool.extents[to % 96] & !0xFFFF | length;
         }
         10 => {
             pool.clocks[to] = pool.clocks[from];
@@ -269,6 +298,11 @@ fn damage(pool: &mut Pool, random: &mut Random) {
         24 => {
             let maker = random.pick(&[0, 1, 5, 14, 15, NOBODY, NOBODY + 1, 32, 255]);
             pool.extents[to % 96] = with_maker(pool.extents[to % 96], maker);
+        }
+        25 => {
+            let extent = pool.extents[to % 96];
+            let prefix = random.pick(&[0, 1, length_in(extent), length_in(extent).wrapping_add(1), 32, 256, u16::MAX]);
+            pool.extents[to % 96] = with_prefix(extent, prefix);
         }
         _ => pool.dues[to] = pool.dues[to].wrapping_add(small),
     }
@@ -324,13 +358,14 @@ fn figures_of_full_records() {
     }
 }
 
-/// An absent task has none of the four, and a limit alone or a reserve with one are no better.
+/// An absent task and a viewer have none of the four, and a limit alone or a reserve with one are no better.
 #[test]
-fn the_share_of_an_absent_task() {
-    for whole in [Memory::fresh(&mut Random::new(5)), with_shares(0), with_shares(1)] {
-        let absent: Vec<_> = (0..TASKS).filter(|&task| whole.pool.tasks[task].state == ABSENT).collect();
+fn the_share_of_an_absent_task_and_of_a_viewer() {
+    for whole in [Memory::fresh(&mut Random::new(5)), with_shares(0), with_shares(1), with_viewers()] {
+        let has_none = |&task: &usize| [ABSENT, VIEWING].contains(&whole.pool.tasks[task].state);
+        let tasks: Vec<_> = (0..TASKS).filter(has_none).collect();
         let mut pair = Pair::of(whole);
-        for task in absent {
+        for task in tasks {
             for value in 0..=255 {
                 for (number, _) in NUMBERS {
                     expect(&mut pair, value == 0, |pool| *number(&mut pool.shares[task]) = value);
@@ -338,6 +373,65 @@ fn the_share_of_an_absent_task() {
                 let small = Quota { reserve: value.min(1), limit: value };
                 expect(&mut pair, value == 0, |pool| pool.shares[task] = Share { small, ..Share::NONE });
             }
+        }
+    }
+}
+
+/// Each state of each task: no number above 3 is one, and who is absent or views has a share of nothing.
+#[test]
+fn every_state_of_a_task() {
+    let whole = with_viewers();
+    let mut pair = Pair::of(whole.clone());
+    for task in 0..TASKS {
+        for state in (0..=17).chain([255, 256, 257, 258, 259, 515, 769, u16::MAX]) {
+            let fit = match state {
+                RUNNING | WAITING => true,
+                ABSENT | VIEWING => whole.pool.shares[task] == Share::NONE,
+                _ => false,
+            };
+            expect(&mut pair, fit, |pool| pool.tasks[task].state = state);
+        }
+    }
+}
+
+/// A viewer is not marked: it does not run.
+#[test]
+fn the_mark_of_a_viewer() {
+    let mut pair = Pair::of(with_viewers());
+    for (task, fit) in [(0, true), (1, true), (2, false), (3, false), (4, false), (5, false)] {
+        expect(&mut pair, fit, |pool| pool.tasks[task].ticked = 1);
+    }
+    expect(&mut pair, false, |pool| [0, 1].into_iter().for_each(|task| pool.tasks[task].ticked = 1));
+}
+
+/// A viewer's clock may read anything, and expirations may go by it: no more is asked of it than of one that is there.
+#[test]
+fn the_clock_of_a_viewer() {
+    let mut pair = Pair::of(with_viewers());
+    for clock in [0, 1, 31, u32::MAX] {
+        expect(&mut pair, true, |pool| pool.tasks[3].clock = clock);
+        expect(&mut pair, clock == 0, |pool| pool.tasks[6].clock = clock);
+        for (units, fit) in [(0, false), (1, true), (11, true), (12, false)] {
+            expect(&mut pair, fit, |pool| {
+                pool.tasks[3].clock = clock;
+                (pool.clocks[0], pool.dues[0]) = (LOCAL + 3, clock.wrapping_add(units));
+            });
+        }
+    }
+    expect(&mut pair, true, |pool| pool.clocks[0] = GLOBAL + 3);
+    expect(&mut pair, false, |pool| pool.clocks[0] = GLOBAL + 6);
+}
+
+/// Every prefix of every block: at most the length of its object. That of a free one has no meaning.
+#[test]
+fn every_prefix_of_a_block() {
+    let whole = with_viewers();
+    let mut pair = Pair::of(whole.clone());
+    for place in 0..BLOCKS {
+        let (extent, is_free) = (whole.pool.extents[place], whole.pool.handles[place] == 0);
+        for prefix in (0..=300).chain([511, 512, 519, 1 << 12, 1 << 15, u16::MAX]) {
+            let fit = is_free || prefix <= length_in(extent);
+            expect(&mut pair, fit, |pool| pool.extents[place] = with_prefix(extent, prefix));
         }
     }
 }
@@ -396,13 +490,13 @@ fn every_maker_of_a_block() {
     }
 }
 
-/// Nothing is asked of the bits between the maker and the sum, nor of anything that a free block has beside its handle.
+/// Nothing is asked of the bits between the maker and the prefix, nor of anything that a free block has beside its handle.
 #[test]
 fn the_spare_bits_of_a_block() {
     let whole = with_shares(0);
     let mut pair = Pair::of(whole.clone());
     for place in 0..BLOCKS {
-        for bit in 24..48 {
+        for bit in 24..32 {
             expect(&mut pair, true, |pool| pool.extents[place] ^= 1 << bit);
         }
         if whole.pool.handles[place] == 0 {

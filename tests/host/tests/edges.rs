@@ -46,7 +46,7 @@ fn five(limits: Limits) -> Memory {
 /// A full record but for the state of one task, which is none.
 fn damaged(limits: Limits) -> Memory {
     let mut memory = full_of(limits, (limits.small_blocks + limits.large_blocks) as usize);
-    memory.pool.tasks[3].state = 3;
+    memory.pool.tasks[3].state = 4;
     memory
 }
 
@@ -54,7 +54,7 @@ fn damaged(limits: Limits) -> Memory {
 fn make(memory: &mut Memory, (small, large): (usize, usize), task: u8, kind: u8) -> u8 {
     let (mut small, mut large, mut handle) = (vec![7; small], vec![7; large], UNTOLD);
     let before = memory.pool.clone();
-    let number = Library::make(&mut memory.pool, &mut small, &mut large, task, kind, 3, 4, &mut handle);
+    let number = Library::make(&mut memory.pool, &mut small, &mut large, task, kind, 3, 4, 4, &mut handle);
     assert!(number != 0 && memory.pool == before && handle == UNTOLD);
     assert!(small.iter().chain(&large).all(|&byte| byte == 7));
     number
@@ -105,7 +105,7 @@ fn a_store_of_wrong_length_is_14() {
             assert_eq!(read(&mut memory, stores, task), 14);
             assert_eq!(write(&mut memory, stores, task), 14);
         }
-        for line in [&b"060000030004"[..], b"080000000001", b"09000000000100AA"] {
+        for line in [&b"0600000300040000"[..], b"080000000001", b"09000000000100AA"] {
             let before = memory.pool.clone();
             assert_eq!(frame(&mut memory, stores, line, ANSWER_ROOM), (14, b"0E\n".to_vec()));
             assert_eq!(memory.pool, before);
@@ -121,13 +121,14 @@ fn a_record_that_is_not_well_formed_is_15_before_14() {
         assert_eq!(read(&mut memory, stores, 0), 15);
         assert_eq!(write(&mut memory, stores, 0), 15);
         for line in [
-            &b"060000030004"[..],
+            &b"0600000300040000"[..],
             b"080000000001",
             b"09000000000100AA",
             b"0A",
             b"0B0000000001",
             b"0C000000",
             b"0D0000000001",
+            b"0E10",
         ] {
             assert_eq!(frame(&mut memory, stores, line, ANSWER_ROOM), (15, b"0F\n".to_vec()));
         }
@@ -139,6 +140,8 @@ fn calls_that_touch_no_store_do_not_look() {
     for (limits, stores) in all_wrong() {
         let mut memory = five(limits);
         let mut told = |line: &[u8]| frame(&mut memory, stores, line, ANSWER_ROOM);
+        assert_eq!(told(b"0202"), (0, b"0000\n".to_vec()));
+        assert_eq!(told(b"0E02"), (0, b"00\n".to_vec()));
         assert_eq!(told(b"0202"), (0, b"0000\n".to_vec()));
         assert_eq!(told(b"010200FF00FF"), (0, b"00\n".to_vec()));
         assert_eq!(told(b"0300"), (0, b"0000\n".to_vec()));
@@ -172,7 +175,7 @@ fn an_unknown_kind_is_19_before_all_else() {
             }
         }
     }
-    for line in [&b"061003030004"[..], b"071003FF00000000", b"0C1003FF"] {
+    for line in [&b"061003030004FFFF"[..], b"071003FF00000000", b"0C1003FF"] {
         assert_eq!(frame(&mut damaged(CABLE), (1, 1), line, ANSWER_ROOM), (19, b"13\n".to_vec()));
     }
 }
@@ -264,12 +267,14 @@ fn lines_of_any_length() {
         let with = |operation: &[u8]| [operation, &digits[2..]].concat();
         // A write of 256 bytes to handle 0 is a call, a longer one is none.
         assert_eq!(told(&with(b"09")), if count == 263 { 11 } else { 18 });
+        assert_eq!(told(&with(b"06")), 18);
         assert_eq!(told(&with(b"0A")), 18);
         assert_eq!(told(&with(b"0B")), 18);
         // A batch may have as many objects as fill the line.
         assert_eq!(told(&with(b"0C")), if count % 4 == 0 { 20 } else { 18 });
         assert_eq!(told(&with(b"0D")), 18);
-        assert_eq!(told(&with(b"0E")), 17);
+        assert_eq!(told(&with(b"0E")), 18);
+        assert_eq!(told(&with(b"0F")), 17);
         assert_eq!(told(&digits), 17);
         assert_eq!(told(&digits[1..]), 16);
         for operation in [b"09", b"0C"] {
@@ -285,7 +290,7 @@ fn the_last_handle() {
     let mut memory = Memory::fresh(&mut Random::new(2));
     memory.pool.given = u32::MAX - 1;
     let mut host = Host::<Library>::new(memory);
-    let make = |length| Call::Make { task: 0, kind: Kind::Local, extension: 0, length };
+    let make = |length| Call::Make { task: 0, kind: Kind::Local, extension: 0, length, prefix: 0 };
     assert_eq!(host.call(&Call::Join { task: 0, share: Share::OPEN }), Ok(Accepted::Done));
     assert_eq!(host.call(&make(4)), Ok(Accepted::Handle(u32::MAX)));
     assert_eq!(host.call(&make(4)), Err(8));
@@ -303,7 +308,7 @@ fn a_local_expiration_set_at_the_last_clock() {
     let mut host = Host::<Library>::new(Memory::fresh(&mut Random::new(2)));
     assert_eq!(host.call(&Call::Join { task: 0, share: Share::OPEN }), Ok(Accepted::Done));
     host.memory.pool.tasks[0].clock = u32::MAX;
-    let make = Call::Make { task: 0, kind: Kind::Local, extension: 0, length: 4 };
+    let make = Call::Make { task: 0, kind: Kind::Local, extension: 0, length: 4, prefix: 0 };
     assert_eq!(host.call(&make), Ok(Accepted::Handle(1)));
     assert_eq!(host.call(&Call::Tick { task: 0 }), Ok(Accepted::Advanced(true)));
     assert_eq!(host.memory.pool.tasks[0].clock, 0);

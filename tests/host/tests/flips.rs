@@ -17,7 +17,7 @@ use reference::call::{Call, Kind};
 use reference::random::Random;
 use reference::share::{Quota, Share};
 use std::mem::offset_of;
-use std::ops::{Range, RangeInclusive};
+use std::ops::RangeInclusive;
 use std::path::Path;
 
 const RECORDS: u64 = 200;
@@ -26,6 +26,9 @@ const NO_FREE_EXPIRATION: u8 = 10;
 const AT_LIMIT: u8 = 26;
 const NOT_WELL_FORMED: u8 = 15;
 const SUM_DIFFERS: u8 = 23;
+
+/// So many tasks join, and the last one views.
+const RUN: usize = TASKS - 1;
 
 // Full records that calls lead to.
 
@@ -39,20 +42,21 @@ fn extension(random: &mut Random, pool: &Pool) -> u8 {
 
 /// One in twenty is pinned.
 fn make(random: &mut Random, pool: &Pool, length: u16) -> Call<'static> {
-    let (task, pinned) = (random.below(TASKS) as u8, random.one_in(20));
+    let (task, pinned) = (random.below(RUN) as u8, random.one_in(20));
     let (kind, extension) = if pinned { (Kind::Pinned, 0) } else { (kind(random), extension(random, pool)) };
-    Call::Make { task, kind, extension, length }
+    let prefix = random.below(usize::from(length) + 1) as u16;
+    Call::Make { task, kind, extension, length, prefix }
 }
 
 fn refresh(random: &mut Random, pool: &Pool) -> Call<'static> {
     let handle = random.pick(&pool.handles);
-    let (task, kind) = (random.below(TASKS) as u8, kind(random));
+    let (task, kind) = (random.below(RUN) as u8, kind(random));
     Call::Refresh { task, kind, extension: extension(random, pool), handle }
 }
 
 /// Any call that changes the record, but for leaves.
 fn any(random: &mut Random, pool: &Pool) -> Call<'static> {
-    let task = random.below(TASKS) as u8;
+    let task = random.below(RUN) as u8;
     match random.below(17) {
         0..=5 => Call::Tick { task },
         6 => Call::Block { task },
@@ -80,7 +84,8 @@ fn share(random: &mut Random) -> Share {
 fn full(limits: Limits, seed: u64) -> Memory {
     let mut random = Random::new(seed);
     let mut host = Host::<Library>::new(Memory::sized(limits, &mut random));
-    for task in 0..TASKS as u8 {
+    assert!(host.call(&Call::View { task: RUN as u8 }).is_ok());
+    for task in 0..RUN as u8 {
         let asked = Call::Join { task, share: share(&mut random) };
         if host.call(&asked).is_err() {
             host.call(&Call::Join { task, share: Share::OPEN }).unwrap();
@@ -89,7 +94,7 @@ fn full(limits: Limits, seed: u64) -> Memory {
     for _ in 0..500 + random.below(4_000) {
         let _ = host.call(&any(&mut random, &host.memory.pool));
     }
-    for task in 0..TASKS as u8 {
+    for task in 0..RUN as u8 {
         let _ = host.call(&Call::Resume { task });
     }
     while !is_full(&host.memory) {
@@ -115,7 +120,7 @@ fn fill(random: &mut Random, host: &mut Host<Library>, lengths: RangeInclusive<u
             Err(NO_FREE_BLOCK) => return,
             Err(number) => {
                 assert_eq!(number, NO_FREE_EXPIRATION);
-                (0..TASKS as u8).for_each(|task| assert!(host.call(&Call::Tick { task }).is_ok()));
+                (0..RUN as u8).for_each(|task| assert!(host.call(&Call::Tick { task }).is_ok()));
             }
         }
     }
@@ -123,9 +128,10 @@ fn fill(random: &mut Random, host: &mut Host<Library>, lengths: RangeInclusive<u
 
 // The flips.
 
-const FIELD_COUNT: usize = 12;
+const FIELD_COUNT: usize = 13;
 
-/// The fields of a record, and where each starts. An extent has a length, and after it a maker, spare bytes and a sum.
+/// The fields of a record, and where each starts. An extent has a length, and after it a maker, a spare byte, a prefix and a
+/// sum.
 const FIELDS: [(&str, usize); FIELD_COUNT] = [
     ("`tasks`", offset_of!(Pool, tasks)),
     ("`global`", offset_of!(Pool, global)),
@@ -135,6 +141,7 @@ const FIELDS: [(&str, usize); FIELD_COUNT] = [
     ("`handles`", offset_of!(Pool, handles)),
     ("`extents`, lengths", offset_of!(Pool, extents)),
     ("`extents`, makers", offset_of!(Pool, extents) + 2),
+    ("`extents`, prefixes", offset_of!(Pool, extents) + 4),
     ("`extents`, sums", offset_of!(Pool, extents) + 6),
     ("`clocks`", offset_of!(Pool, clocks)),
     ("`named`", offset_of!(Pool, named)),
@@ -143,19 +150,21 @@ const FIELDS: [(&str, usize); FIELD_COUNT] = [
 const LIMITS: usize = 3;
 const LENGTHS: usize = 6;
 const MAKERS: usize = 7;
-const SUMS: usize = 8;
-const NAMED: usize = 10;
-const DUES: usize = 11;
+const PREFIXES: usize = 8;
+const SUMS: usize = 9;
+const NAMED: usize = 11;
+const DUES: usize = 12;
 
-/// The bytes of an extent, and the spare ones of them.
+/// The bytes of an extent, and the spare one of them.
 const EXTENT: usize = size_of::<u64>();
-const SPARE: Range<usize> = 3..6;
+const SPARE: usize = 3;
 
 fn field_of(place: usize) -> usize {
     match FIELDS.iter().rposition(|&(_, start)| start <= place).unwrap() {
-        LENGTHS | MAKERS | SUMS => match place % EXTENT {
+        LENGTHS..=SUMS => match place % EXTENT {
             0..=1 => LENGTHS,
-            2..=5 => MAKERS,
+            2..=3 => MAKERS,
+            4..=5 => PREFIXES,
             _ => SUMS,
         },
         field => field,
@@ -171,9 +180,7 @@ fn is_idle(limits: Limits, place: usize) -> bool {
         Some(large) => large >= limits.large_blocks as usize,
     };
     match field_of(place) {
-        LENGTHS | MAKERS | SUMS => {
-            SPARE.contains(&(place % EXTENT)) || is_past_blocks(entry(offset_of!(Pool, extents), EXTENT))
-        }
+        LENGTHS..=SUMS => place % EXTENT == SPARE || is_past_blocks(entry(offset_of!(Pool, extents), EXTENT)),
         NAMED => is_past(entry(offset_of!(Pool, named), 1)),
         DUES => is_past(entry(offset_of!(Pool, dues), 4)),
         _ => false,

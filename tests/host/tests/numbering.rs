@@ -41,14 +41,14 @@ fn reached(numbering: Numbering) -> Memory {
         // So many objects go again. The last of them fill the blocks before this one.
         while pool.given + 1 + before < handle {
             for _ in 0..room.min(handle - before - 1 - pool.given) {
-                work::make(pool, small, large, (0, LOCAL, 0, length)).unwrap();
+                work::make(pool, small, large, (0, LOCAL, 0), (length, 0)).unwrap();
             }
             assert_eq!(work::tick(pool, 0), Ok(false));
         }
         for _ in pool.given + 1..handle {
-            work::make(pool, small, large, (0, LOCAL, 0, length)).unwrap();
+            work::make(pool, small, large, (0, LOCAL, 0), (length, 0)).unwrap();
         }
-        assert_eq!(work::make(pool, small, large, (1, GLOBAL, 30, length)), Ok(handle));
+        assert_eq!(work::make(pool, small, large, (1, GLOBAL, 30), (length, 0)), Ok(handle));
         assert_eq!(pool.handles[block], handle);
         assert_eq!(work::tick(pool, 0), Ok(false));
     }
@@ -84,7 +84,7 @@ fn the_library_and_the_plain_pool_agree() {
         };
         compare(&whole, &Call::Report, None);
         compare(&whole, &Call::Tick { task: 1 }, None);
-        compare(&whole, &Call::Make { task: 1, kind: Kind::Local, extension: 0, length: 9 }, Some(9));
+        compare(&whole, &Call::Make { task: 1, kind: Kind::Local, extension: 0, length: 9, prefix: 0 }, Some(9));
         // The objects of each third block, with room for an expiration on each of them.
         let mut room = full(224);
         renumber(&mut room, numbering);

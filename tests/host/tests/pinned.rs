@@ -47,7 +47,7 @@ fn each_is_released_once() {
         assert_eq!(release(&mut host, 0, handle), if others == 0 { 12 } else { 22 });
         // Its room is taken again, by one that is pinned too.
         let length = if handle <= 64 { 32 } else { 256 };
-        let make = Call::Make { task: 3, kind: Kind::Pinned, extension: 0, length };
+        let make = Call::Make { task: 3, kind: Kind::Pinned, extension: 0, length, prefix: 0 };
         assert_eq!(host.told(&make), if others == 0 { 0 } else { 9 });
     }
 }
@@ -80,7 +80,7 @@ fn no_time_ends_it() {
         }
         host.memory.pool.global = start;
         for (task, length) in [(0, 4), (1, 256), (2, 32)] {
-            assert_eq!(host.told(&Call::Make { task, kind: Kind::Pinned, extension: 0, length }), 0);
+            assert_eq!(host.told(&Call::Make { task, kind: Kind::Pinned, extension: 0, length, prefix: 0 }), 0);
         }
         assert_eq!(host.told(&Call::Refresh { task: 0, kind: Kind::Global, extension: 0, handle: 3 }), 0);
         for call in [Call::Block { task: 1 }, Call::Leave { task: 2 }, Call::Join { task: 2, share: Share::OPEN }] {
@@ -118,7 +118,7 @@ fn the_refusals_of_a_release_in_order() {
     for ((task, handle), number) in rows.into_iter().zip(numbers) {
         assert_eq!(release(&mut host, task, handle), number, "{task}, {handle}");
     }
-    host.memory.pool.tasks[5].state = 3;
+    host.memory.pool.tasks[5].state = 4;
     let before = host.memory.clone();
     for (task, handle) in rows {
         assert_eq!(Library::release(&mut host.memory.pool, task, handle), 15, "{task}, {handle}");
@@ -133,7 +133,7 @@ fn only_a_make_pins_and_with_no_extension() {
     host.memory.pool.given = 97;
     for extension in 1..=255 {
         for length in [0, 4, 257] {
-            let make = Call::Make { task: 0, kind: Kind::Pinned, extension, length };
+            let make = Call::Make { task: 0, kind: Kind::Pinned, extension, length, prefix: 0 };
             assert_eq!(host.told(&make), 6, "{extension}");
         }
     }

@@ -53,7 +53,7 @@ const SET: [(u8, Kind, u8); 9] = [
 fn with_all_set(global: u32) -> Host<Library> {
     let mut host = starting_at(global);
     let (task, kind, extension) = SET[0];
-    assert_eq!(host.call(&Call::Make { task, kind, extension, length: 4 }), Ok(Accepted::Handle(1)));
+    assert_eq!(host.call(&Call::Make { task, kind, extension, length: 4, prefix: 0 }), Ok(Accepted::Handle(1)));
     for (task, kind, extension) in SET.into_iter().skip(1) {
         assert_eq!(host.call(&Call::Refresh { task, kind, extension, handle: 1 }), Ok(Accepted::Done));
     }
@@ -101,7 +101,7 @@ fn tasks_that_wait_and_leave() {
 }
 
 const ROWS: [(&str, &str); 36] = [
-    ("060000060004", "0000000001"),
+    ("0600000600040000", "0000000001"),
     ("0701000200000001", "00"),
     ("0702010500000001", "00"),
     ("0B0000000001", "000707"),
@@ -148,7 +148,7 @@ const ROWS: [(&str, &str); 36] = [
 #[test]
 fn the_refusals_in_order() {
     let mut host = starting_at(u32::MAX);
-    let make = Call::Make { task: 0, kind: Kind::Local, extension: 0, length: 4 };
+    let make = Call::Make { task: 0, kind: Kind::Local, extension: 0, length: 4, prefix: 0 };
     assert_eq!(host.call(&make), Ok(Accepted::Handle(1)));
     assert_eq!(host.call(&Call::Tick { task: 0 }), Ok(Accepted::Advanced(false)));
     assert_eq!(host.call(&make), Ok(Accepted::Handle(2)));
@@ -158,7 +158,7 @@ fn the_refusals_in_order() {
     for ((task, handle), number) in asked.into_iter().zip(numbers) {
         assert_eq!(told(&mut host, task, handle).err().unwrap_or(0), number, "task {task}, handle {handle}");
     }
-    host.memory.pool.tasks[5].state = 3;
+    host.memory.pool.tasks[5].state = 4;
     for (task, handle) in asked {
         assert_eq!(told(&mut host, task, handle), Err(15), "task {task}, handle {handle}");
     }

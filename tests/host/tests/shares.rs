@@ -14,7 +14,7 @@ use host_tests::memory::Memory;
 use host_tests::reading::figures;
 use host_tests::sites::{self, CABLE};
 use plain::limits::{Limits, TASKS};
-use plain::record::Pool;
+use plain::record::{Pool, ABSENT, VIEWING};
 use plain::work::{Holding, Holdings};
 use reference::call::{Call, Kind, Model};
 use reference::frame::decode;
@@ -67,7 +67,7 @@ fn join(task: u8, share: Share) -> Call<'static> {
 
 /// Until the task's next tick.
 fn make(task: u8, store: Store) -> Call<'static> {
-    Call::Make { task, kind: Kind::Local, extension: 0, length: store.block_size() as u16 }
+    Call::Make { task, kind: Kind::Local, extension: 0, length: store.block_size() as u16, prefix: 0 }
 }
 
 /// Each call is answered with the number beside it.
@@ -82,14 +82,7 @@ fn check(host: &mut Host<Library>, rows: &[(Call, u8)]) {
 fn rows() {
     check_all(|limits, name, rows| {
         let mut host = host(sites::of(limits));
-        check_answers(name, rows, |line| {
-            let mut room = vec![0; line.len()];
-            let call = decode(line.as_bytes(), &mut room).expect("a call");
-            let mut framed = Host::<Library>::new(host.memory.clone());
-            let (number, answer) = framed.line(line.as_bytes(), Some(&call));
-            assert_eq!(host.told(&call), number, "{name}, {line}");
-            String::from_utf8(answer.to_vec()).expect("digits")
-        });
+        check_answers(name, rows, |line| host.answer(line));
     });
 }
 
@@ -140,7 +133,7 @@ fn the_tests_of_a_join_in_order() {
             assert_eq!(host.told(&join(task, share(numbers))), number, "{task}, {numbers:?}");
         }
     }
-    host.memory.pool.tasks[5].state = 3;
+    host.memory.pool.tasks[5].state = 4;
     assert_eq!(host.told(&join(16, share((1, 0, 5, 5)))), 15);
 }
 
@@ -175,11 +168,13 @@ fn a_limit_is_reached_exactly() {
     }
 }
 
-/// 8, 26, 9, 10: with one block and one expiration, each as long as those before it hold.
+/// 28, 8, 26, 9, 10: with one block and one expiration, each as long as those before it hold.
 #[test]
 fn the_tests_of_a_make_in_order() {
     for store in STORES {
         let other = if store == Store::Small { Store::Large } else { Store::Small };
+        let length = store.block_size() as u16;
+        let too_long = Call::Make { task: 2, kind: Kind::Local, extension: 0, length, prefix: length + 1 };
         let mut host = host(Limits::SMALLEST);
         check(
             &mut host,
@@ -193,12 +188,13 @@ fn the_tests_of_a_make_in_order() {
                 (make(1, store), 9),
                 (make(1, other), 10),
                 (make(2, other), 26),
-                (Call::Make { task: 2, kind: Kind::Local, extension: 1, length: 0 }, 6),
-                (Call::Make { task: 2, kind: Kind::Local, extension: 0, length: 0 }, 7),
+                (Call::Make { task: 2, kind: Kind::Local, extension: 1, length: 0, prefix: 1 }, 6),
+                (Call::Make { task: 2, kind: Kind::Local, extension: 0, length: 0, prefix: 1 }, 7),
+                (too_long, 28),
             ],
         );
         host.memory.pool.given = u32::MAX;
-        assert_eq!(host.told(&make(2, store)), 8);
+        assert_eq!((host.told(&make(2, store)), host.told(&too_long)), (8, 28));
     }
 }
 
@@ -320,7 +316,7 @@ impl Company {
     }
 
     /// By what the library tells of all tasks: there are blocks for all that is unmet, nobody is above a limit, no reserve is,
-    /// and a task that is absent has nothing.
+    /// and a task that is absent or views has nothing.
     fn check_promises(&mut self) {
         let all: Vec<Holdings> = (0..TASKS as u8).map(|task| self.ask(task)).collect();
         let pool = &self.library.memory.pool;
@@ -333,7 +329,7 @@ impl Company {
         for (task, Holdings { small, large }) in pool.tasks.iter().zip(all) {
             for Holding { made, reserve, limit } in [small, large] {
                 assert!(made <= limit && reserve <= limit);
-                assert!(task.state != plain::record::ABSENT || (made, reserve, limit) == (0, 0, 0));
+                assert!(![ABSENT, VIEWING].contains(&task.state) || (made, reserve, limit) == (0, 0, 0));
             }
         }
     }

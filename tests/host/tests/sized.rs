@@ -45,7 +45,7 @@ fn site(limits: Limits) -> Host<Library> {
 }
 
 fn make(kind: Kind, extension: u8, length: u16) -> Call<'static> {
-    Call::Make { task: 0, kind, extension, length }
+    Call::Make { task: 0, kind, extension, length, prefix: 0 }
 }
 
 fn refresh(extension: u8, handle: u32) -> Call<'static> {

@@ -44,7 +44,7 @@ fn full(limits: Limits) -> Memory {
         };
         let longest = limits.extension as u8;
         let (kind, extension) = if place % 3 == 0 { (Kind::Pinned, 0) } else { (Kind::Global, longest) };
-        let make = Call::Make { task: (place % 3) as u8, kind, extension, length: length as u16 };
+        let make = Call::Make { task: (place % 3) as u8, kind, extension, length: length as u16, prefix: 0 };
         assert_eq!(host.call(&make), Ok(Accepted::Handle(handle)));
         let mut bytes = vec![255; length];
         match place - first {
@@ -159,7 +159,7 @@ fn other_calls_do_not_look(limits: Limits) {
             Call::Refresh { task: 0, kind: Kind::Pinned, extension: 3, handle },
             Call::Batch { task: 1, kind: Kind::Global, extension: 1, handles: Handles(&handles) },
             Call::Remaining { task: 0, handle },
-            Call::Make { task: 0, kind: Kind::Local, extension: 0, length: 4 },
+            Call::Make { task: 0, kind: Kind::Local, extension: 0, length: 4, prefix: 0 },
         ];
         calls.extend(others.iter().flat_map(|&other| [read(other), write(other), read(other)]));
         calls.extend((0..TASKS).map(|task| Call::Tick { task }));
@@ -183,7 +183,7 @@ fn refused_until_it_goes() {
         for (length, place) in [(1, 0), (32, 31), (7, 31), (33, 0), (100, 255), (256, 128)] {
             let mut host = Host::<Library>::new(Memory::sized(CABLE, &mut Random::new(9)));
             (0..2).for_each(|task| assert_eq!(host.told(&Call::Join { task, share: Share::OPEN }), 0));
-            assert_eq!(host.told(&Call::Make { task: 0, kind, extension, length }), 0);
+            assert_eq!(host.told(&Call::Make { task: 0, kind, extension, length, prefix: 0 }), 0);
             assert_eq!(host.told(&write(1)), 0);
             let block = host.memory.place(1).expect("it stands");
             host.memory.block_mut(block)[place] ^= 0x40;
@@ -200,7 +200,7 @@ fn refused_until_it_goes() {
             let blocks = if length <= 32 { CABLE.small_blocks } else { CABLE.large_blocks };
             for count in 0..blocks {
                 assert_eq!((host.told(&read(1)), host.told(&write(1))), (12, 12), "{kind:?}, {length}");
-                assert_eq!(host.told(&Call::Make { task: 1, kind: Kind::Global, extension: 9, length }), 0);
+                assert_eq!(host.told(&Call::Make { task: 1, kind: Kind::Global, extension: 9, length, prefix: 0 }), 0);
                 assert_eq!(host.told(&read(2 + count)), 0);
             }
             assert_ne!(host.memory.pool.handles[block], 0);
@@ -270,7 +270,7 @@ fn sums_from_the_smallest_to_the_largest() {
     let mut host = Host::<Library>::new(Memory::fresh(&mut Random::new(11)));
     assert_eq!(host.told(&Call::Join { task: 0, share: Share::OPEN }), 0);
     for (handle, length, largest) in [(1, 32, 32 * 255), (2, 256, 65_280)] {
-        let make = Call::Make { task: 0, kind: Kind::Pinned, extension: 0, length };
+        let make = Call::Make { task: 0, kind: Kind::Pinned, extension: 0, length, prefix: 0 };
         assert_eq!(host.call(&make), Ok(Accepted::Handle(handle)));
         let place = host.memory.place(handle).expect("it stands");
         for (byte, sum) in [(255, largest), (0, 0)] {
@@ -329,7 +329,7 @@ fn the_refusals_in_order() {
                 assert_eq!(host.told(&write), or(13), "{write:?}");
             }
         }
-        host.memory.pool.tasks[5].state = 3;
+        host.memory.pool.tasks[5].state = 4;
         for (task, handle) in rows {
             assert_eq!(read_without_room(&mut host.memory, right - 1, task, handle), 15, "{task}, {handle}");
             assert_eq!(write_nothing(&mut host.memory, right - 1, task, handle), 15, "{task}, {handle}");

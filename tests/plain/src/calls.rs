@@ -34,6 +34,13 @@ pub fn join(pool: &mut Pool, task: u8, share: Share) -> u8 {
     number_of(work::join(pool, task, share))
 }
 
+pub fn view(pool: &mut Pool, task: u8) -> u8 {
+    if !is_well_formed(pool) {
+        return NOT_WELL_FORMED;
+    }
+    number_of(work::view(pool, task))
+}
+
 pub fn leave(pool: &mut Pool, task: u8, advanced: &mut u8) -> u8 {
     if !is_well_formed(pool) {
         return NOT_WELL_FORMED;
@@ -71,6 +78,7 @@ pub fn make(
     kind: u8,
     extension: u8,
     length: u16,
+    prefix: u16,
     handle: &mut u32,
 ) -> u8 {
     if kind > PINNING {
@@ -79,7 +87,7 @@ pub fn make(
     if !is_well_formed(pool) {
         return NOT_WELL_FORMED;
     }
-    told(work::make(pool, small, large, (task, kind, extension, length)), handle)
+    told(work::make(pool, small, large, (task, kind, extension), (length, prefix)), handle)
 }
 
 pub fn refresh(pool: &mut Pool, task: u8, kind: u8, extension: u8, handle: u32) -> u8 {
@@ -205,8 +213,8 @@ fn carry_out<'a>(pool: &mut Pool, small: &'a mut [u8], large: &'a mut [u8], requ
         Request::Block(task) => work::block(pool, task).map(Reply::Advanced),
         Request::Resume(task) => work::resume(pool, task).map(|()| Reply::Done),
         Request::Tick(task) => work::tick(pool, task).map(Reply::Advanced),
-        Request::Make(task, kind, extension, length) => {
-            work::make(pool, small, large, (task, kind, extension, length)).map(Reply::Handle)
+        Request::Make(task, kind, extension, length, prefix) => {
+            work::make(pool, small, large, (task, kind, extension), (length, prefix)).map(Reply::Handle)
         }
         Request::Refresh(task, kind, extension, handle) => {
             work::refresh(pool, (task, kind, extension), handle).map(|()| Reply::Done)
@@ -225,6 +233,7 @@ fn carry_out<'a>(pool: &mut Pool, small: &'a mut [u8], large: &'a mut [u8], requ
             work::refresh_all(pool, (task, kind, extension), &handles[..objects.len()]).map(|()| Reply::Done)
         }
         Request::Release(task, handle) => work::release(pool, task, handle).map(|()| Reply::Done),
+        Request::View(task) => work::view(pool, task).map(|()| Reply::Done),
     }
 }
 

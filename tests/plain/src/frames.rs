@@ -11,8 +11,8 @@ pub const LONGEST_FRAME: usize = 7 + 256;
 /// The objects of a batch that are read. They are more than it may have, so that one with too many shows as that.
 pub const MOST_NAMED: usize = (LONGEST_FRAME + 1 - 4) / 4;
 
-/// Task first, then kind, extension and length or handle; a write has handle, offset and bytes, and a batch the bytes of
-/// its first handles.
+/// Task first, then kind, extension and length or handle, and of a make the prefix; a write has handle, offset and bytes, and
+/// a batch the bytes of its first handles.
 #[derive(Clone, Copy, Debug, PartialEq, Eq)]
 pub enum Request<'a> {
     Join(u8, Share),
@@ -20,7 +20,7 @@ pub enum Request<'a> {
     Block(u8),
     Resume(u8),
     Tick(u8),
-    Make(u8, u8, u8, u16),
+    Make(u8, u8, u8, u16, u16),
     Refresh(u8, u8, u8, u32),
     Read(u8, u32),
     Write(u8, u32, u8, &'a [u8]),
@@ -28,6 +28,7 @@ pub enum Request<'a> {
     Remaining(u8, u32),
     Batch(u8, u8, u8, &'a [[u8; 4]]),
     Release(u8, u32),
+    View(u8),
 }
 
 /// What an accepted call gives back.
@@ -56,8 +57,9 @@ pub fn decode<'a>(line: &[u8], room: &'a mut [u8; LONGEST_FRAME + 1]) -> Result<
         (3, &[task]) => Ok(Request::Block(task)),
         (4, &[task]) => Ok(Request::Resume(task)),
         (5, &[task]) => Ok(Request::Tick(task)),
-        (6, &[task, kind, extension, l1, l0]) => {
-            Ok(Request::Make(task, known(kind)?, extension, u16::from_be_bytes([l1, l0])))
+        (6, &[task, kind, extension, l1, l0, p1, p0]) => {
+            let (length, prefix) = (u16::from_be_bytes([l1, l0]), u16::from_be_bytes([p1, p0]));
+            Ok(Request::Make(task, known(kind)?, extension, length, prefix))
         }
         (7, &[task, kind, extension, h3, h2, h1, h0]) => {
             Ok(Request::Refresh(task, known(kind)?, extension, u32::from_be_bytes([h3, h2, h1, h0])))
@@ -73,7 +75,8 @@ pub fn decode<'a>(line: &[u8], room: &'a mut [u8; LONGEST_FRAME + 1]) -> Result<
             Ok(Request::Batch(task, known(kind)?, extension, objects.as_chunks().0))
         }
         (13, &[task, h3, h2, h1, h0]) => Ok(Request::Release(task, u32::from_be_bytes([h3, h2, h1, h0]))),
-        (1..=13, _) => Err(WRONG_FRAME_LENGTH),
+        (14, &[task]) => Ok(Request::View(task)),
+        (1..=14, _) => Err(WRONG_FRAME_LENGTH),
         _ => Err(UNKNOWN_OPERATION),
     }
 }

@@ -7,6 +7,7 @@ use crate::limits::{Limits, BLOCKS, EXPIRATIONS, TASKS};
 pub const ABSENT: u16 = 0;
 pub const RUNNING: u16 = 1;
 pub const WAITING: u16 = 2;
+pub const VIEWING: u16 = 3;
 
 /// The clock that an expiration goes by, and who has set it: FREE for none; LOCAL and the number of the task that set it,
 /// whose clock it is; GLOBAL and the number of the task that set it; DEPARTED for a global one whose setter has left;
@@ -35,13 +36,24 @@ pub fn maker_in(extent: u64) -> u8 {
     (extent >> 16) as u8
 }
 
-/// The sum of all bytes of its block, in the last sixteen. The others are spare.
+/// How many of its bytes a viewer sees, in sixteen bits after eight that are spare.
+pub fn prefix_in(extent: u64) -> u16 {
+    (extent >> 32) as u16
+}
+
+/// The sum of all bytes of its block, in the last sixteen.
 pub fn sum_in(extent: u64) -> u16 {
     (extent >> 48) as u16
 }
 
+/// With no prefix.
 pub fn extent_of(length: u16, sum: u16, maker: u8) -> u64 {
     u64::from(sum) << 48 | u64::from(maker) << 16 | u64::from(length)
+}
+
+/// The extent with another prefix.
+pub fn with_prefix(extent: u64, prefix: u16) -> u64 {
+    extent & !(0xFFFF << 32) | u64::from(prefix) << 32
 }
 
 /// The extent with another sum.
@@ -79,7 +91,7 @@ impl Share {
     /// Neither a reserve nor a limit.
     pub const OPEN: Share = Share { small: Quota::OPEN, large: Quota::OPEN };
 
-    /// An absent task's.
+    /// That of a task that is absent or views.
     pub const NONE: Share = Share { small: Quota::NONE, large: Quota::NONE };
 }
 
@@ -91,8 +103,8 @@ pub struct TaskEntry {
     pub clock: u32,
 }
 
-/// Block i has the object `handles[i]`, 0 where it is free, with length, sum and maker in `extents[i]`. Blocks from 0 on
-/// are the small store's, from 64 on the large one's, as many as the limits say. Expiration i belongs to the object in the
+/// Block i has the object `handles[i]`, 0 where it is free, with length, maker, prefix and sum in `extents[i]`. Blocks from 0
+/// on are the small store's, from 64 on the large one's, as many as the limits say. Expiration i belongs to the object in the
 /// block `named[i]`, and is due when the clock `clocks[i]` reads `dues[i]`, which is 0 where it is pinned; those past the
 /// limits are free. The other fields of a free block or expiration have no meaning.
 #[derive(Clone, Debug, PartialEq, Eq)]

@@ -28,6 +28,8 @@ pub const SUM_DIFFERS: u8 = 23;
 pub const RESERVE_ABOVE_LIMIT: u8 = 24;
 pub const RESERVE_NOT_FREE: u8 = 25;
 pub const AT_LIMIT: u8 = 26;
+pub const ONLY_VIEWS: u8 = 27;
+pub const PREFIX_TOO_LONG: u8 = 28;
 pub const LIMITS_OUT_OF_RANGE: u8 = 29;
 
 /// Not a refusal of the rules: a buffer is too short.

@@ -130,7 +130,7 @@ fn where_the_counters_go_round() {
 #[test]
 fn a_kind_that_is_none_is_19_and_then_a_record_that_is_not_well_formed_15() {
     let mut pool = full(1..);
-    pool.tasks[3].state = 3;
+    pool.tasks[3].state = 4;
     let before = pool.clone();
     for handles in [&[][..], &[1], &[0], &[97; 33]] {
         for task in [0, 1, 16] {

@@ -121,7 +121,7 @@ fn where_the_counters_go_round() {
 #[test]
 fn a_record_that_is_not_well_formed_is_15_first() {
     let mut pool = pinned_from(0);
-    pool.tasks[3].state = 3;
+    pool.tasks[3].state = 4;
     let before = pool.clone();
     for (task, handle) in [(0, 1), (16, 1), (1, 1), (0, 0), (0, 97)] {
         assert_eq!(calls::release(&mut pool, task, handle), 15);

@@ -70,7 +70,7 @@ fn where_the_counters_go_round() {
 #[test]
 fn a_record_that_is_not_well_formed_is_15_first() {
     let mut pool = set_at(0);
-    pool.tasks[3].state = 3;
+    pool.tasks[3].state = 4;
     for (task, handle) in [(0, 1), (16, 1), (1, 1), (0, 0)] {
         assert_eq!(told(&pool, task, handle), (15, UNTOLD, UNTOLD));
     }

@@ -7,7 +7,7 @@ mod rows;
 #[path = "../../reference/tests/rows/shares.rs"]
 mod share_rows;
 
-use memory::{sites, Memory};
+use memory::{answering, sites, Memory};
 use plain::calls;
 use plain::fit::is_well_formed;
 use plain::limits::{Limits, BLOCKS, SMALL_BLOCKS, TASKS};
@@ -31,14 +31,7 @@ use share_rows::check_all;
 
 #[test]
 fn rows() {
-    check_all(|limits, name, rows| {
-        let mut memory = Memory::beside(limits);
-        check_answers(name, rows, |line| {
-            let answer = memory.frame(line.as_bytes()).1;
-            assert!(is_well_formed(&memory.pool), "{name}, {line}");
-            String::from_utf8(answer).expect("digits")
-        });
-    });
+    check_all(|limits, name, rows| check_answers(name, rows, answering(limits)));
 }
 
 // Scripts.
@@ -76,7 +69,7 @@ const UNTOLD: Holdings = Holdings { small: NOTHING, large: NOTHING };
 /// At 01's figures and at others: the ledger's answers, its shares and its makers, and what each task has.
 #[test]
 fn what_the_ledger_keeps() {
-    let mut joined = [0; 27];
+    let mut joined = [0; 29];
     for profile in [Profile::Shares, Profile::Everyday, Profile::Crowd, Profile::Edges] {
         sites(0..12).for_each(|(seed, limits)| check_kept(limits, profile, seed, &mut joined));
     }
@@ -84,7 +77,7 @@ fn what_the_ledger_keeps() {
     assert!([0, 1, 2, 24, 25].iter().all(|&number| joined[number] > 100), "{joined:?}");
 }
 
-fn check_kept(limits: limits::Limits, profile: Profile, seed: u64, joined: &mut [usize; 27]) {
+fn check_kept(limits: limits::Limits, profile: Profile, seed: u64, joined: &mut [usize; 29]) {
     let script = sized_script_of(limits, Some(profile), seed, 12_000);
     let (mut memory, mut ledger) = (Memory::beside(limits), Ledger::of(limits));
     let mut room = vec![0; script.len()];
@@ -123,7 +116,7 @@ fn what_a_task_has_is_refused_with_15_and_1() {
         told = UNTOLD;
         assert_eq!((calls::share(&pool, task, &mut told), told), (1, UNTOLD));
     }
-    pool.tasks[3].state = 3;
+    pool.tasks[3].state = 4;
     for task in [0, 3, 16] {
         assert_eq!((calls::share(&pool, task, &mut told), told), (15, UNTOLD));
         assert_eq!(calls::join(&mut pool, task, Share { small: Quota { reserve: 2, limit: 1 }, ..Share::OPEN }), 15);
@@ -143,7 +136,7 @@ fn when_all_handles_are_given() {
             let Memory { mut pool, mut small, mut large } = memory.clone();
             pool.given = given;
             assert_eq!(
-                calls::make(&mut pool, &mut small, &mut large, task, 0, 0, 4, &mut 0),
+                calls::make(&mut pool, &mut small, &mut large, task, 0, 0, 4, 0, &mut 0),
                 number,
                 "{given}, {task}"
             );
@@ -233,7 +226,7 @@ fn makers_of_blocks() {
                 pool.extents[block] = extent_of(0, u16::MAX, maker);
             }
             assert_eq!(is_well_formed(&pool), maker <= NOBODY);
-            pool.extents.iter_mut().for_each(|extent| *extent |= 0xA5_5A0F << 24);
+            pool.extents.iter_mut().for_each(|extent| *extent |= 0xA5 << 24);
             assert_eq!(is_well_formed(&pool), maker <= NOBODY);
         }
     }
@@ -314,14 +307,14 @@ fn the_word_of_a_block() {
     for task in [0, 5] {
         assert_eq!(calls::join(&mut memory.pool, task, Share::OPEN), 0);
         let Memory { pool, small, large } = &mut memory;
-        assert_eq!(calls::make(pool, small, large, task, 1, 9, 4, &mut 0), 0);
-        assert_eq!(calls::make(pool, small, large, task, 1, 9, 200, &mut 0), 0);
+        assert_eq!(calls::make(pool, small, large, task, 1, 9, 4, 0, &mut 0), 0);
+        assert_eq!(calls::make(pool, small, large, task, 1, 9, 200, 0, &mut 0), 0);
     }
     let words = [(0, 4, 0), (64, 200, 0), (1, 4, 5), (65, 200, 5)];
     for (block, length, maker) in words {
         assert_eq!(memory.pool.extents[block], extent_of(length, 0, maker));
     }
-    let spare = 0xF0_0F5A_u64 << 24;
+    let spare = 0x5A_u64 << 24;
     memory.pool.extents.iter_mut().for_each(|extent| *extent |= spare);
     let Memory { pool, small, large } = &mut memory;
     assert_eq!(calls::write(pool, small, large, 0, 3, 1, &[200, 100]), 0);

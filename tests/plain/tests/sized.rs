@@ -120,7 +120,7 @@ fn stores_of_other_lengths() {
         let (mut small, mut large, before) = (vec![0; small], vec![0; large], memory.pool.clone());
         // A task that there is, and one that there is not: 14 comes first.
         for task in [0, 16] {
-            assert_eq!(calls::make(&mut memory.pool, &mut small, &mut large, task, 0, 0, 4, &mut 0), 14);
+            assert_eq!(calls::make(&mut memory.pool, &mut small, &mut large, task, 0, 0, 4, 0, &mut 0), 14);
             assert_eq!(calls::read(&memory.pool, &small, &large, task, 1, &mut [0; LARGE_SIZE], &mut 0), 14);
             assert_eq!(calls::write(&mut memory.pool, &mut small, &mut large, task, 1, 0, &[]), 14);
         }

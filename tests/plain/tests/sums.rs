@@ -7,7 +7,7 @@ use memory::{sites, Memory};
 use plain::calls;
 use plain::fit::is_well_formed;
 use plain::limits::{BLOCKS, LARGE_SIZE, SMALL_BLOCKS, SMALL_SIZE};
-use plain::record::{extent_of, length_in, sum_in, with_sum, Share, FRESH};
+use plain::record::{extent_of, length_in, prefix_in, sum_in, with_sum, Share, FRESH};
 use reference::block::Block;
 use reference::call::{Accepted, Call, Model};
 use reference::frame::{decode, encode_answer};
@@ -53,7 +53,8 @@ impl Memory {
 
     fn shown(&mut self, block: usize) -> Block {
         let extent = self.pool.extents[block];
-        Block { length: length_in(extent), bytes: self.block(block).to_vec(), sum: sum_in(extent) }
+        let (length, prefix, sum) = (length_in(extent), prefix_in(extent), sum_in(extent));
+        Block { length, prefix, bytes: self.block(block).to_vec(), sum }
     }
 }
 
@@ -61,7 +62,7 @@ impl Memory {
 /// the ledger's objects say.
 #[test]
 fn the_answers_of_the_ledger() {
-    let (mut read, mut written) = ([0; 27], [0; 27]);
+    let (mut read, mut written) = ([0; 29], [0; 29]);
     for (seed, limits) in sites(0..150) {
         let script = sized_script(limits, seed);
         let mut room = vec![0; script.len()];
@@ -201,7 +202,7 @@ fn what_comes_before() {
     }
     assert_eq!(calls::write(pool, &mut small[1..], large, 0, 97, 0, &[]), 14);
     assert_eq!(calls::write(pool, small, large, 0, 97, 0, &[]), 23);
-    pool.tasks[3].state = 3;
+    pool.tasks[3].state = 4;
     assert_eq!(calls::read(pool, small, large, 0, 97, &mut [0; 256], &mut 0), 15);
     assert_eq!(calls::write(pool, small, large, 0, 97, 0, &[]), 15);
 }

@@ -109,8 +109,8 @@ fn where_global_time_goes_round() {
     for global in [0, u32::MAX - 40, u32::MAX - 2, u32::MAX] {
         let Memory { mut pool, mut small, mut large } = Memory::of(Pool { global, ..FRESH });
         (0..2).for_each(|task| assert_eq!(calls::join(&mut pool, task, Share::OPEN), 0));
-        assert_eq!(calls::make(&mut pool, &mut small, &mut large, 0, 1, 0, 4, &mut 0), 0);
-        assert_eq!(calls::make(&mut pool, &mut small, &mut large, 1, 1, 30, 4, &mut 0), 0);
+        assert_eq!(calls::make(&mut pool, &mut small, &mut large, 0, 1, 0, 4, 0, &mut 0), 0);
+        assert_eq!(calls::make(&mut pool, &mut small, &mut large, 1, 1, 30, 4, 0, &mut 0), 0);
         assert_eq!(calls::block(&mut pool, 0, &mut 0), 0);
         for advances in 1..=40 {
             let mut advanced = 0;

@@ -2,19 +2,22 @@
 
 use crate::call::Refusal;
 use crate::limits::Store;
+use crate::tasks::State;
 
 /// O33: the object's length, all bytes of the block, of which the first are the object's, and the sum that they are to have.
+/// Order 10: of the object's bytes a viewer reads the first, as many as the prefix.
 #[derive(Clone, Debug, PartialEq, Eq)]
 pub struct Block {
     pub length: u16,
+    pub prefix: u16,
     pub bytes: Vec<u8>,
     pub sum: u16,
 }
 
 impl Block {
     /// O12: all zeros.
-    pub fn zeroed(length: u16, store: Store) -> Block {
-        Block { length, bytes: vec![0; store.block_size()], sum: 0 }
+    pub fn zeroed(length: u16, prefix: u16, store: Store) -> Block {
+        Block { length, prefix, bytes: vec![0; store.block_size()], sum: 0 }
     }
 
     /// O34: whether the bytes have their sum.
@@ -22,10 +25,11 @@ impl Block {
         total(&self.bytes) == self.sum
     }
 
-    /// 23, then O18: the object's own bytes.
-    pub fn read(&self) -> Result<&[u8], Refusal> {
+    /// 23, of all bytes whoever reads, then O18: the object's own bytes, or its prefix.
+    pub fn read(&self, reader: State) -> Result<&[u8], Refusal> {
         self.check_sum()?;
-        Ok(&self.bytes[..usize::from(self.length)])
+        let count = if reader == State::Viewing { self.prefix } else { self.length };
+        Ok(&self.bytes[..usize::from(count)])
     }
 
     /// 23, 13, then O20, O21 and O35: these bytes and no others, and the sum of all.

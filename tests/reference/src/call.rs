@@ -41,7 +41,8 @@ pub fn packed(handles: &[u32]) -> Vec<[u8; 4]> {
 }
 
 /// One of the scope paper's ten calls; or `Remaining`, order 1, which asks how long an object has left; or `Batch`,
-/// order 2, which refreshes several objects, all or none; or `Release`, order 5, which ends what pins an object.
+/// order 2, which refreshes several objects, all or none; or `Release`, order 5, which ends what pins an object; or `View`,
+/// order 10, by which a task joins as a viewer.
 #[derive(Clone, Copy, Debug, PartialEq, Eq)]
 pub enum Call<'a> {
     Join { task: u8, share: Share },
@@ -49,7 +50,7 @@ pub enum Call<'a> {
     Block { task: u8 },
     Resume { task: u8 },
     Tick { task: u8 },
-    Make { task: u8, kind: Kind, extension: u8, length: u16 },
+    Make { task: u8, kind: Kind, extension: u8, length: u16, prefix: u16 },
     Refresh { task: u8, kind: Kind, extension: u8, handle: u32 },
     Read { task: u8, handle: u32 },
     Write { task: u8, handle: u32, offset: u8, bytes: &'a [u8] },
@@ -57,10 +58,11 @@ pub enum Call<'a> {
     Remaining { task: u8, handle: u32 },
     Batch { task: u8, kind: Kind, extension: u8, handles: Handles<'a> },
     Release { task: u8, handle: u32 },
+    View { task: u8 },
 }
 
 impl Call<'_> {
-    /// The call's place among the thirteen, in the order of their operations, from 0.
+    /// The call's place among the fourteen, in the order of their operations, from 0.
     pub fn place(&self) -> usize {
         match self {
             Call::Join { .. } => 0,
@@ -76,6 +78,7 @@ impl Call<'_> {
             Call::Remaining { .. } => 10,
             Call::Batch { .. } => 11,
             Call::Release { .. } => 12,
+            Call::View { .. } => 13,
         }
     }
 
@@ -84,7 +87,7 @@ impl Call<'_> {
         match *self {
             Call::Join { task, .. } | Call::Leave { task } | Call::Block { task } | Call::Resume { task } => Some(task),
             Call::Tick { task } | Call::Make { task, .. } | Call::Refresh { task, .. } => Some(task),
-            Call::Read { task, .. } | Call::Write { task, .. } => Some(task),
+            Call::Read { task, .. } | Call::Write { task, .. } | Call::View { task } => Some(task),
             Call::Remaining { task, .. } | Call::Batch { task, .. } | Call::Release { task, .. } => Some(task),
             Call::Report => None,
         }
@@ -134,6 +137,8 @@ pub enum Refusal {
     ReserveAboveLimit = 24,
     ReserveNotFree = 25,
     AtLimit = 26,
+    OnlyViews = 27,
+    PrefixTooLong = 28,
     LimitsOutOfRange = 29,
 }
 
@@ -171,7 +176,7 @@ pub trait Model: Sized {
     fn block(&mut self, task: u8) -> Answer<'static>;
     fn resume(&mut self, task: u8) -> Answer<'static>;
     fn tick(&mut self, task: u8) -> Answer<'static>;
-    fn make(&mut self, task: u8, kind: Kind, extension: u8, length: u16) -> Answer<'static>;
+    fn make(&mut self, task: u8, kind: Kind, extension: u8, length: u16, prefix: u16) -> Answer<'static>;
     fn refresh(&mut self, task: u8, kind: Kind, extension: u8, handle: u32) -> Answer<'static>;
     fn read(&self, task: u8, handle: u32) -> Answer<'_>;
     fn write(&mut self, task: u8, handle: u32, offset: u8, bytes: &[u8]) -> Answer<'static>;
@@ -179,6 +184,7 @@ pub trait Model: Sized {
     fn remaining(&self, task: u8, handle: u32) -> Answer<'static>;
     fn batch(&mut self, task: u8, kind: Kind, extension: u8, handles: Handles) -> Answer<'static>;
     fn release(&mut self, task: u8, handle: u32) -> Answer<'static>;
+    fn view(&mut self, task: u8) -> Answer<'static>;
 
     /// Does the call and answers it.
     fn call(&mut self, call: &Call) -> Answer<'_> {
@@ -188,7 +194,7 @@ pub trait Model: Sized {
             Call::Block { task } => self.block(task),
             Call::Resume { task } => self.resume(task),
             Call::Tick { task } => self.tick(task),
-            Call::Make { task, kind, extension, length } => self.make(task, kind, extension, length),
+            Call::Make { task, kind, extension, length, prefix } => self.make(task, kind, extension, length, prefix),
             Call::Refresh { task, kind, extension, handle } => self.refresh(task, kind, extension, handle),
             Call::Read { task, handle } => self.read(task, handle),
             Call::Write { task, handle, offset, bytes } => self.write(task, handle, offset, bytes),
@@ -196,6 +202,7 @@ pub trait Model: Sized {
             Call::Remaining { task, handle } => self.remaining(task, handle),
             Call::Batch { task, kind, extension, handles } => self.batch(task, kind, extension, handles),
             Call::Release { task, handle } => self.release(task, handle),
+            Call::View { task } => self.view(task),
         }
     }
 }

@@ -42,7 +42,7 @@ pub fn noise(random: &mut Random) -> Vec<u8> {
         return bytes;
     }
     let mut line = Vec::new();
-    hex(&[random.below(15) as u8], &mut line);
+    hex(&[random.below(16) as u8], &mut line);
     hex(&bytes, &mut line);
     line
 }
@@ -78,7 +78,7 @@ fn no_operation(line: &mut Vec<u8>, _: &mut Random) {
 }
 
 fn unknown_operation(line: &mut Vec<u8>, random: &mut Random) {
-    let operation = random.pick(&[0x00, 0x0E, 0x0F, 0x10, 0x60, 0x7F, 0x80, 0xA0, 0xFF]);
+    let operation = random.pick(&[0x00, 0x0F, 0x10, 0x60, 0x7F, 0x80, 0xA0, 0xFF]);
     put(line, 0, operation);
 }
 
@@ -97,7 +97,7 @@ fn add_byte(line: &mut Vec<u8>, random: &mut Random) {
 /// The third byte of a make, a refresh or a batch is its kind.
 fn bad_kind(line: &mut Vec<u8>, random: &mut Random) {
     if ![b"06", b"07", b"0C"].iter().any(|&operation| line.starts_with(operation)) {
-        *line = random.pick(&[&b"060000000004"[..], b"0700000000000001", b"0C00000000000001"]).to_vec();
+        *line = random.pick(&[b"0600000000040000", b"0700000000000001", b"0C00000000000001"]).to_vec();
     }
     let kind = random.pick(&[0x03, 0x04, 0x10, 0x80, 0xFF]);
     put(line, 4, kind);

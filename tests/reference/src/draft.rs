@@ -5,10 +5,10 @@ use crate::call::{packed, Call, Handles, Kind, Model, Refusal};
 use crate::damage::{damage, noise};
 use crate::frame::{decode, encode};
 use crate::ledger::Ledger;
-use crate::limits::{Limits, Store, LARGEST_BATCH, STORES, TASKS};
+use crate::limits::{Limits, Store, LARGEST_BATCH, LONGEST, LONGEST_SMALL, STORES, TASKS};
 use crate::random::Random;
 use crate::share::{Quota, Share};
-use crate::tasks::Tasks;
+use crate::tasks::{State, Tasks};
 
 /// At the ends of the stores' ranges, and beyond them.
 const EDGE_LENGTHS: [u16; 9] = [0, 1, 32, 33, 256, 257, 0x0120, 40_000, 65_535];
@@ -86,10 +86,11 @@ impl Draft {
         let handles = vec![handle.to_be_bytes(); self.random.below(4)];
         let extension = self.cut(3);
         let share = self.any_share(task);
+        let prefix = self.random.pick(&[0, 4, 10]);
         let call = self.random.pick(&[
             Call::Join { task, share },
             Call::Tick { task },
-            Call::Make { task, kind: Kind::Local, extension, length: 10 },
+            Call::Make { task, kind: Kind::Local, extension, length: 10, prefix },
             Call::Refresh { task, kind: Kind::Global, extension, handle },
             Call::Read { task, handle },
             Call::Write { task, handle, offset: 0, bytes: &bytes },
@@ -97,6 +98,7 @@ impl Draft {
             Call::Remaining { task, handle },
             Call::Batch { task, kind: Kind::Global, extension, handles: Handles(&handles) },
             Call::Release { task, handle },
+            Call::View { task },
         ]);
         let mut line = Vec::new();
         encode(&call, &mut line);
@@ -128,7 +130,8 @@ impl Draft {
             80..=83 => self.block(),
             84..=89 => self.resume(),
             90..=91 => self.leave(),
-            92..=97 => self.join(),
+            92..=96 => self.join(),
+            97 => self.view(),
             _ => self.call(&Call::Report),
         }
     }
@@ -153,6 +156,11 @@ impl Draft {
         self.join_of(task);
     }
 
+    fn view(&mut self) {
+        let task = self.random.pick(&[1, 2, 3, 4, 14, 15, 16]);
+        self.call(&Call::View { task });
+    }
+
     /// A waiting task if there is one.
     fn resume(&mut self) {
         let any = self.random.below(TASKS) as u8;
@@ -163,7 +171,8 @@ impl Draft {
     fn make(&mut self) {
         let (task, (kind, extension)) = (self.task(), self.lasting());
         let length = self.length();
-        self.call(&Call::Make { task, kind, extension, length });
+        let prefix = self.prefix(length);
+        self.call(&Call::Make { task, kind, extension, length, prefix });
     }
 
     fn refresh(&mut self) {
@@ -266,6 +275,7 @@ impl Draft {
         let kind = self.random.pick(&[Kind::Local, Kind::Global, Kind::Pinned]);
         let extension = self.edge_extension();
         let length = self.random.pick(&EDGE_LENGTHS);
+        let prefix = self.edge_prefix(length);
         let newest = self.ledger.figures().given;
         let strange = self.strange_handle();
         let handle = self.random.pick(&[1, newest, strange]);
@@ -273,19 +283,20 @@ impl Draft {
         let count = self.random.pick(&[0, 1, 31, 32, 33, 255, 256, 257]);
         let times = self.random.pick(&[0, 1, 2, LARGEST_BATCH, LARGEST_BATCH + 1]);
         let share = Share { small: self.edge_quota(Store::Small), large: self.edge_quota(Store::Large) };
-        match self.random.below(16) {
+        match self.random.below(17) {
             0 => self.call(&Call::Join { task, share }),
             1 => self.call(&Call::Leave { task }),
             2 => self.call(&Call::Block { task }),
             3 => self.call(&Call::Resume { task }),
             4 => self.call(&Call::Tick { task }),
-            5..=7 => self.call(&Call::Make { task, kind, extension, length }),
+            5..=7 => self.call(&Call::Make { task, kind, extension, length, prefix }),
             8 => self.call(&Call::Refresh { task, kind, extension, handle }),
             9 => self.call(&Call::Read { task, handle }),
             10 | 11 => self.write_at(task, handle, offset, count),
             12 => self.call(&Call::Remaining { task, handle }),
             13 => self.batch_by(task, kind, extension, &vec![handle; times]),
             14 => self.call(&Call::Release { task, handle }),
+            15 => self.call(&Call::View { task }),
             _ => self.call(&Call::Report),
         }
     }
@@ -295,12 +306,22 @@ impl Draft {
     /// Brings the first so many tasks to run.
     pub fn gather(&mut self, tasks: usize) {
         for task in 0..tasks as u8 {
-            if self.ledger.tasks().is_waiting(task) {
-                self.call(&Call::Resume { task });
-            } else if !self.ledger.tasks().is_running(task) {
-                self.call(&Call::Join { task, share: Share::OPEN });
+            match self.state(task) {
+                State::Running => {}
+                State::Waiting => self.call(&Call::Resume { task }),
+                State::Viewing | State::Absent => self.join_anew(task),
             }
         }
+    }
+
+    fn state(&self, task: u8) -> State {
+        self.ledger.tasks().entries()[usize::from(task)].state
+    }
+
+    /// The task leaves, if it is there, and joins with neither a reserve nor a limit.
+    pub fn join_anew(&mut self, task: u8) {
+        self.leave_if_there(task);
+        self.call(&Call::Join { task, share: Share::OPEN });
     }
 
     /// The task joins, with any share.
@@ -321,7 +342,7 @@ impl Draft {
     }
 
     pub fn is_there(&self, task: u8) -> bool {
-        self.ledger.tasks().is_running(task) || self.ledger.tasks().is_waiting(task)
+        self.state(task) != State::Absent
     }
 
     /// A task that waits resumes, and another one blocks.
@@ -359,11 +380,19 @@ impl Draft {
         self.make_by(task, kind, extension, length);
     }
 
-    /// With too long an extension or no length, whatever is left for the task.
+    /// With too long an extension, no length or too long a prefix, whatever is left for the task.
     pub fn make_in_vain(&mut self, task: u8, store: Store) {
         let (long, some) = (self.longest() + 1, self.length_in(store));
-        let (extension, length) = self.random.pick(&[(long, some), (long, some), (0, 0), (0, 257), (long, 257)]);
-        self.call(&Call::Make { task, kind: Kind::Global, extension, length });
+        let (extension, length, prefix) = self.random.pick(&[
+            (long, some, 0),
+            (long, some, some + 1),
+            (0, 0, 0),
+            (0, 257, 258),
+            (long, 257, 0),
+            (0, some, some + 1),
+            (0, some, u16::MAX),
+        ]);
+        self.call(&Call::Make { task, kind: Kind::Global, extension, length, prefix });
     }
 
     /// Every running task ticks, so that global time advances.
@@ -410,12 +439,12 @@ impl Draft {
         let (task, length) = (self.runner(), self.length());
         let longest = self.longest();
         let extension = self.random.pick(&[1, 2, longest.max(1), longest + 1, 255]);
-        self.call(&Call::Make { task, kind: Kind::Pinned, extension, length });
+        self.call(&Call::Make { task, kind: Kind::Pinned, extension, length, prefix: 0 });
     }
 
     fn make_by(&mut self, task: u8, kind: Kind, extension: u8, length: u16) -> Option<u32> {
-        let before = self.ledger.figures().given;
-        self.call(&Call::Make { task, kind, extension, length });
+        let (before, prefix) = (self.ledger.figures().given, self.prefix_within(length));
+        self.call(&Call::Make { task, kind, extension, length, prefix });
         let given = self.ledger.figures().given;
         (given > before).then_some(given)
     }
@@ -506,9 +535,14 @@ impl Draft {
         self.limits().expirations - usize::from(self.ledger.figures().expirations)
     }
 
-    /// A running task reads one of these objects, or asks what remains to it.
+    /// A running task asks for one of these objects.
     pub fn ask_for(&mut self, objects: &[u32]) {
         let (task, handle) = (self.runner(), if objects.is_empty() { 0 } else { self.random.pick(objects) });
+        self.ask_by(task, handle);
+    }
+
+    /// The task reads the object, or asks what remains to it.
+    fn ask_by(&mut self, task: u8, handle: u32) {
         let call = self.random.pick(&[Call::Read { task, handle }, Call::Remaining { task, handle }]);
         self.call(&call);
     }
@@ -529,6 +563,62 @@ impl Draft {
         let task = self.runner();
         let length = self.ledger.length(handle).unwrap_or(0);
         self.write_at(task, handle, 0, length);
+    }
+
+    // Viewers.
+
+    /// A viewer reads an object or asks what remains to it, as a rule one that stands.
+    pub fn view_any(&mut self, viewer: u8) {
+        let (newest, any, strange) = (self.newest(), self.handle(), self.strange_handle());
+        let handle = self.random.pick(&[newest, newest, newest, newest, any, any, any, strange]);
+        self.ask_by(viewer, handle);
+    }
+
+    /// A viewer tries what only a task may, with any arguments.
+    pub fn act_in_vain(&mut self, viewer: u8) {
+        let (task, (kind, extension)) = (viewer, self.lasting());
+        let (handle, length, offset) = (self.handle(), self.length(), self.random.pick(&[0, 0, 0, 255]));
+        let (within, beyond) = (self.prefix_within(length), self.prefix_beyond(length));
+        let (prefix, count) = (self.random.pick(&[within, beyond]), self.random.pick(&[0, 1, 3, LARGEST_BATCH + 1]));
+        let (newest, any) = (self.newest(), (0..count).map(|_| self.handle()).collect::<Vec<_>>());
+        let handles = packed(&any);
+        let call = self.random.pick(&[
+            Call::Block { task },
+            Call::Tick { task },
+            Call::Make { task, kind, extension, length, prefix },
+            Call::Refresh { task, kind, extension, handle },
+            Call::Batch { task, kind, extension, handles: Handles(&handles) },
+            Call::Write { task, handle, offset, bytes: &[7] },
+            Call::Write { task, handle, offset: 0, bytes: &[] },
+            Call::Write { task, handle: newest, offset, bytes: &[7, 7] },
+            Call::Release { task, handle },
+        ]);
+        self.call(&call);
+    }
+
+    /// A running task makes an object and writes it about the end of what a viewer sees, who reads it.
+    pub fn show(&mut self, viewer: u8, store: Store) {
+        let (any, longest) = (self.length_in(store), store.block_size() as u16);
+        let length = self.random.pick(&[any, longest]);
+        let Some(handle) = self.make_now(self.cut(4), length) else { return };
+        (0..2).for_each(|_| self.write_about_prefix(handle));
+        self.call(&Call::Read { task: viewer, handle });
+    }
+
+    /// Up to the prefix's end, across it or from it on.
+    fn write_about_prefix(&mut self, handle: u32) {
+        let (task, block) = (self.runner(), self.ledger.block_of(handle));
+        let (length, prefix) = block.map_or((0, 0), |block| (usize::from(block.length), usize::from(block.prefix)));
+        let across = (prefix.saturating_sub(1), (prefix + 1).min(length));
+        let (start, end) = self.random.pick(&[(0, length), (0, prefix), across, (prefix, length)]);
+        self.write_at(task, handle, start.min(255) as u8, end - start);
+    }
+
+    /// The task makes an object of which viewers would see more than there is.
+    pub fn show_too_much(&mut self, task: u8, store: Store) {
+        let length = self.length_in(store);
+        let prefix = self.prefix_beyond(length);
+        self.call(&Call::Make { task, kind: Kind::Global, extension: 0, length, prefix });
     }
 
     // Shares.
@@ -590,6 +680,7 @@ impl Draft {
         match self.random.below(40) {
             0 => self.random.pick(&[15, 16, 255]),
             1..=3 => self.random.below(TASKS) as u8,
+            4 => self.find_task(Tasks::is_viewing).unwrap_or(15),
             _ => self.runner(),
         }
     }
@@ -652,6 +743,32 @@ impl Draft {
             Store::Small => 1 + self.random.below(32) as u16,
             Store::Large => 33 + self.random.below(224) as u16,
         }
+    }
+
+    /// Too long now and then.
+    fn prefix(&mut self, length: u16) -> u16 {
+        if self.random.one_in(12) {
+            return self.prefix_beyond(length);
+        }
+        self.prefix_within(length)
+    }
+
+    /// None, all of the object, or a part.
+    fn prefix_within(&mut self, length: u16) -> u16 {
+        let part = self.random.below(usize::from(length) + 1) as u16;
+        self.random.pick(&[0, length, part, part])
+    }
+
+    /// Longer than the object, by one or more, within its block or not.
+    fn prefix_beyond(&mut self, length: u16) -> u16 {
+        let next = length.saturating_add(1);
+        let longer = self.random.pick(&[next, next, LONGEST_SMALL, LONGEST, u16::MAX]);
+        longer.max(next)
+    }
+
+    /// At an end of the object, or of the range.
+    fn edge_prefix(&mut self, length: u16) -> u16 {
+        self.random.pick(&[0, 1, length.saturating_sub(1), length, length, length.saturating_add(1), LONGEST, u16::MAX])
     }
 
     /// A standing handle as a rule, else one of the last, any that was given (most are gone), or none

@@ -16,6 +16,7 @@ const REPORT: u8 = 0x0A;
 const REMAINING: u8 = 0x0B;
 const BATCH: u8 = 0x0C;
 const RELEASE: u8 = 0x0D;
+const VIEW: u8 = 0x0E;
 
 /// The most bytes that one write brings.
 const MOST_WRITTEN: usize = 256;
@@ -44,6 +45,7 @@ pub fn decode<'a>(line: &[u8], room: &'a mut [u8]) -> Result<Call<'a>, Refusal> 
         REMAINING => remaining(fields),
         BATCH => batch(fields),
         RELEASE => release(fields),
+        VIEW => Ok(Call::View { task: task(fields)? }),
         _ => Err(Refusal::UnknownOperation),
     }
 }
@@ -61,8 +63,9 @@ fn join(fields: &[u8]) -> Result<Call<'_>, Refusal> {
 }
 
 fn make(fields: &[u8]) -> Result<Call<'_>, Refusal> {
-    let &[task, kind, extension, l1, l0] = fields else { return Err(Refusal::WrongFrameLength) };
-    Ok(Call::Make { task, kind: kind_of(kind)?, extension, length: u16::from_be_bytes([l1, l0]) })
+    let &[task, kind, extension, l1, l0, p1, p0] = fields else { return Err(Refusal::WrongFrameLength) };
+    let (length, prefix) = (u16::from_be_bytes([l1, l0]), u16::from_be_bytes([p1, p0]));
+    Ok(Call::Make { task, kind: kind_of(kind)?, extension, length, prefix })
 }
 
 fn refresh(fields: &[u8]) -> Result<Call<'_>, Refusal> {
@@ -144,9 +147,10 @@ pub fn encode(call: &Call, line: &mut Vec<u8>) {
         Call::Block { task } => hex(&[BLOCK, task], line),
         Call::Resume { task } => hex(&[RESUME, task], line),
         Call::Tick { task } => hex(&[TICK, task], line),
-        Call::Make { task, kind, extension, length } => {
+        Call::Make { task, kind, extension, length, prefix } => {
             hex(&[MAKE, task, kind as u8, extension], line);
             hex(&length.to_be_bytes(), line);
+            hex(&prefix.to_be_bytes(), line);
         }
         Call::Refresh { task, kind, extension, handle } => {
             hex(&[REFRESH, task, kind as u8, extension], line);
@@ -175,6 +179,7 @@ pub fn encode(call: &Call, line: &mut Vec<u8>) {
             hex(&[RELEASE, task], line);
             hex(&handle.to_be_bytes(), line);
         }
+        Call::View { task } => hex(&[VIEW, task], line),
     }
     line.push(b'\n');
 }

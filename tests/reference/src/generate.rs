@@ -40,6 +40,8 @@ pub enum Profile {
     Pinned,
     /// Reserves that fill a store and limits that are reached, by tasks that wait, leave and come again.
     Shares,
+    /// Viewers beside tasks: they see prefixes of all lengths, try in vain what tasks do, and hold up nobody.
+    Viewers,
     /// Arguments at the ends of their ranges.
     Edges,
     /// Damaged lines among good ones.
@@ -48,7 +50,7 @@ pub enum Profile {
     Noise,
 }
 
-pub const PROFILES: [Profile; 16] = [
+pub const PROFILES: [Profile; 17] = [
     Profile::Everyday,
     Profile::Crowd,
     Profile::SmallFlood,
@@ -62,6 +64,7 @@ pub const PROFILES: [Profile; 16] = [
     Profile::Waiting,
     Profile::Pinned,
     Profile::Shares,
+    Profile::Viewers,
     Profile::Edges,
     Profile::Damage,
     Profile::Noise,
@@ -156,6 +159,7 @@ fn phase(draft: &mut Draft, profile: Profile) {
         Profile::Waiting => waiting(draft),
         Profile::Pinned => pinned(draft),
         Profile::Shares => shares(draft),
+        Profile::Viewers => viewers(draft),
         Profile::Edges => edges(draft),
         Profile::Damage => damage(draft),
         Profile::Noise => noise(draft),
@@ -204,6 +208,7 @@ fn crowd_round(draft: &mut Draft) {
             0 => draft.call(&Call::Block { task }),
             1 => draft.call(&Call::Leave { task }),
             2 => draft.call(&Call::Resume { task }),
+            3 if draft.random.one_in(4) => draft.call(&Call::View { task }),
             3 => draft.join_of(task),
             4 => draft.any_call(),
             _ => draft.call(&Call::Tick { task }),
@@ -246,6 +251,7 @@ fn expiration_flood(draft: &mut Draft) {
     }
     draft.refresh_standing(0);
     draft.make_in(Store::Large, 0);
+    draft.show_too_much(0, Store::Large);
     draft.call(&Call::Report);
     for _ in 0..1 + draft.random.below(4) {
         draft.round();
@@ -415,8 +421,7 @@ fn wait_or_leave(draft: &mut Draft, setter: u8, extension: u8) {
             draft.call(&leave);
         }
         2 => {
-            draft.call(&leave);
-            draft.call(&Call::Join { task: setter, share: Share::OPEN });
+            draft.join_anew(setter);
             draft.make_global(setter, extension);
             draft.call(&block);
         }
@@ -547,8 +552,8 @@ fn shares(draft: &mut Draft) {
 fn begin_anew(draft: &mut Draft) {
     draft.gather(1);
     draft.release_all();
-    if draft.random.one_in(2) {
-        (0..draft.longest() / 4).for_each(|_| draft.round());
+    if !draft.random.one_in(3) {
+        (0..draft.longest() / 2).for_each(|_| draft.round());
     }
     draft.leave_all();
 }
@@ -583,21 +588,21 @@ fn join_with(draft: &mut Draft, task: u8, store: Store, quota: Quota) {
 
 fn share_step(draft: &mut Draft, tasks: usize, store: Store) {
     let task = draft.random.below(tasks) as u8;
-    match draft.random.below(30) {
+    match draft.random.below(36) {
         0..=8 => draft.make_of(task, store),
-        9..=11 => {
+        9..=14 => {
             let any = any_store(draft);
             draft.make_of(task, any);
         }
-        12 | 13 => draft.make_in_vain(task, store),
-        14 => draft.round(),
-        15 | 16 => meet_and_let_go(draft, task, store),
-        17..=19 => draft.block_or_resume(task),
-        20 | 21 => draft.join_in_vain(task),
-        22 | 23 => draft.join_in_vain(tasks as u8),
-        24 | 25 => come_again(draft, task, store),
-        26 | 27 => draft.release_pinned(),
-        28 => draft.refresh_by(tasks, 0, draft.newest()),
+        15..=17 => draft.make_in_vain(task, store),
+        18 => draft.round(),
+        19..=22 => meet_and_let_go(draft, task, store),
+        23..=25 => draft.block_or_resume(task),
+        26 | 27 => draft.join_in_vain(task),
+        28 | 29 => draft.join_in_vain(tasks as u8),
+        30 | 31 => come_again(draft, task, store),
+        32 | 33 => draft.release_pinned(),
+        34 => draft.refresh_by(tasks, 0, draft.newest()),
         _ => draft.any_use(),
     }
 }
@@ -610,8 +615,7 @@ fn meet_and_let_go(draft: &mut Draft, task: u8, store: Store) {
     }
     (0..lack).for_each(|_| draft.make_local(task, store));
     draft.call(&Call::Tick { task });
-    draft.make_in(store, 0);
-    draft.make_in(store, 0);
+    (0..4).for_each(|_| _ = draft.make_in(store, 0));
 }
 
 /// The task leaves, if it is there, and joins once more; now and then it tries for too much first.
@@ -625,6 +629,86 @@ fn come_again(draft: &mut Draft, task: u8, store: Store) {
     let reserve = draft.random.pick(&[0, few, left.saturating_sub(1), left]);
     let limit = draft.any_limit(reserve).max(reserve);
     join_with(draft, task, store, Quota { reserve, limit });
+}
+
+/// One or two view beside a few tasks, which show them objects and let time go on; then the viewers leave, as a rule.
+fn viewers(draft: &mut Draft) {
+    let tasks = 1 + draft.random.below(3);
+    draft.gather(tasks);
+    let viewers: Vec<_> = (tasks as u8..).take(1 + draft.random.below(2)).collect();
+    viewers.iter().for_each(|&viewer| begin_to_view(draft, viewer));
+    for _ in 0..20 + draft.random.below(40) {
+        let viewer = draft.random.pick(&viewers);
+        view_step(draft, tasks, viewer);
+    }
+    if draft.random.one_in(6) {
+        draft.gather(tasks);
+        show_at_the_brim(draft);
+    }
+    if draft.random.one_in(3) {
+        (0..TASKS as u8).filter(|task| !viewers.contains(task)).for_each(|task| draft.leave_if_there(task));
+        viewers.iter().for_each(|&viewer| draft.view_any(viewer));
+        draft.leave_if_there(viewers[0]);
+        draft.call(&Call::View { task: viewers[0] });
+    }
+    if !draft.random.one_in(3) {
+        viewers.iter().for_each(|&viewer| draft.leave_if_there(viewer));
+    }
+}
+
+/// It may have been a task of which objects stand.
+fn begin_to_view(draft: &mut Draft, viewer: u8) {
+    if draft.random.one_in(2) {
+        draft.join_anew(viewer);
+        let store = any_store(draft);
+        draft.make_of(viewer, store);
+        draft.make_of(viewer, store);
+    }
+    draft.leave_if_there(viewer);
+    draft.call(&Call::View { task: viewer });
+}
+
+fn view_step(draft: &mut Draft, tasks: usize, viewer: u8) {
+    let (task, store) = (draft.random.below(tasks) as u8, any_store(draft));
+    match draft.random.below(36) {
+        0..=5 => draft.show(viewer, store),
+        6..=13 => draft.view_any(viewer),
+        14..=21 => draft.act_in_vain(viewer),
+        22 => draft.show_too_much(task, store),
+        23 => draft.call(&Call::Resume { task: viewer }),
+        24 => draft.join_of(viewer),
+        25 => draft.call(&Call::View { task: viewer }),
+        26 => draft.call(&Call::View { task }),
+        27 => draft.call(&Call::Tick { task }),
+        28 => draft.block_or_resume(task),
+        29 => draft.round(),
+        30 => draft.any_call(),
+        31 => draft.call(&Call::Report),
+        32 => draft.make_in_vain(task, store),
+        33 | 34 => advance_without(draft, tasks, task),
+        _ => begin_to_view(draft, viewer),
+    }
+}
+
+/// All but one tick, and that one leaves or waits.
+fn advance_without(draft: &mut Draft, tasks: usize, task: u8) {
+    draft.round_but(task);
+    let call = draft.random.pick(&[Call::Leave { task }, Call::Block { task }]);
+    draft.call(&call);
+    draft.gather(tasks);
+}
+
+/// Too long a prefix is told before a limit, before blocks that are held back and before expirations that are all set.
+fn show_at_the_brim(draft: &mut Draft) {
+    let (rich, poor, store) = (14, 15, any_store(draft));
+    [rich, poor].iter().for_each(|&task| draft.leave_if_there(task));
+    let left = draft.left(rich, store);
+    join_with(draft, rich, store, Quota { reserve: left, limit: left });
+    draft.call(&Call::Join { task: poor, share: Share::NONE });
+    [0, poor].iter().for_each(|&task| draft.show_too_much(task, store));
+    batch_to_the_brim(draft);
+    [0, poor].iter().for_each(|&task| draft.show_too_much(task, store));
+    [rich, poor].iter().for_each(|&task| draft.leave_if_there(task));
 }
 
 fn edges(draft: &mut Draft) {

@@ -7,7 +7,7 @@ use crate::block::Block;
 use crate::call::{Accepted, Answer, Call, Handles, Kind, Model, Refusal};
 use crate::expiration::{remaining, Expiration};
 use crate::ledger::{Ledger, Standing};
-use crate::limits::{check_batch, check_refreshing, Limits, Store, STORES};
+use crate::limits::{check_batch, check_prefix, check_refreshing, Limits, Store, STORES};
 use crate::outside::{Change, Exposed};
 use crate::share::{Maker, Room, Share};
 use crate::tasks::Tasks;
@@ -60,14 +60,15 @@ impl Model for Heap {
         self.tasks.tick(task).map(Accepted::Advanced)
     }
 
-    fn make(&mut self, task: u8, kind: Kind, extension: u8, length: u16) -> Answer<'static> {
+    fn make(&mut self, task: u8, kind: Kind, extension: u8, length: u16, prefix: u16) -> Answer<'static> {
         self.tasks.check_running(task)?;
         self.limits.check_extension(kind, extension)?;
         let store = Store::holding(length)?;
+        check_prefix(prefix, length)?;
         if self.objects.len() == u32::MAX as usize {
             return Err(Refusal::AllHandlesGiven);
         }
-        self.objects.push(Object { maker: Maker::Task(task), block: Block::zeroed(length, store) });
+        self.objects.push(Object { maker: Maker::Task(task), block: Block::zeroed(length, prefix, store) });
         let handle = self.objects.len() as u32;
         if kind == Kind::Pinned {
             self.pinned.insert(handle);
@@ -84,9 +85,9 @@ impl Model for Heap {
     }
 
     fn read(&self, task: u8, handle: u32) -> Answer<'_> {
-        self.tasks.check_running(task)?;
+        let reader = self.tasks.check_awake(task)?;
         let place = self.check_given(handle)?;
-        self.objects[place].block.read().map(Accepted::Bytes)
+        self.objects[place].block.read(reader).map(Accepted::Bytes)
     }
 
     fn write(&mut self, task: u8, handle: u32, offset: u8, bytes: &[u8]) -> Answer<'static> {
@@ -106,7 +107,7 @@ impl Model for Heap {
         Ok(Accepted::Done)
     }
 
-    /// Order 2: 1, 3, 4, 20, 21, 6, 11, and like a refresh it changes nothing.
+    /// Order 2: 1, 3, 4, 27, 20, 21, 6, 11, and like a refresh it changes nothing.
     fn batch(&mut self, task: u8, kind: Kind, extension: u8, handles: Handles) -> Answer<'static> {
         self.tasks.check_running(task)?;
         check_batch(handles.count())?;
@@ -118,7 +119,7 @@ impl Model for Heap {
         Ok(Accepted::Done)
     }
 
-    /// Order 5: 1, 3, 4, 11, 22. The object stays, and is pinned no longer.
+    /// Order 5: 1, 3, 4, 27, 11, 22. The object stays, and is pinned no longer.
     fn release(&mut self, task: u8, handle: u32) -> Answer<'static> {
         self.tasks.check_running(task)?;
         self.check_given(handle)?;
@@ -126,6 +127,11 @@ impl Model for Heap {
             return Err(Refusal::NotPinned);
         }
         Ok(Accepted::Done)
+    }
+
+    /// Order 10: 1, 2.
+    fn view(&mut self, task: u8) -> Answer<'static> {
+        self.tasks.view(task).map(|()| Accepted::Done)
     }
 }
 
@@ -179,8 +185,8 @@ impl Book {
 
     /// H9 to H13, H23: whether a call that the heap does not refuse, or refuses with 13 or 22, is a use out of time
     /// or bounds. Asked before the book follows the call, with the tasks as they were before it. Order 2: all objects of a
-    /// batch stand, and there is room for an expiration on each. Order 9: 25, 26 and 9 by the ledger's rules. Order 12:
-    /// room and blocks go by the pool's figures.
+    /// batch stand, and there is room for an expiration on each. Order 9: 25, 26 and 9 by the ledger's rules. Order 10: a
+    /// viewer's read is a use like any other. Order 12: room and blocks go by the pool's figures.
     fn is_out(&self, call: &Call, tasks: &Tasks, heap: &[Object]) -> bool {
         let room = |store: Store| self.room(store, tasks, heap);
         match *call {
@@ -211,7 +217,7 @@ impl Book {
                 self.expire(tasks, advanced);
             }
             Call::Block { .. } | Call::Tick { .. } => self.expire(tasks, advanced),
-            Call::Make { task, kind, extension, length } => {
+            Call::Make { task, kind, extension, length, .. } => {
                 let expirations = vec![Expiration::set(tasks, task, kind, extension)];
                 self.objects.insert(handle, Entry { length, expirations });
             }

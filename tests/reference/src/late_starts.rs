@@ -6,7 +6,7 @@ use crate::limits::{Limits, Store};
 use crate::share::{Quota, Share};
 use crate::{indexed, ledger};
 
-const MAKE: Call = Call::Make { task: 0, kind: Kind::Local, extension: 0, length: 4 };
+const MAKE: Call = Call::Make { task: 0, kind: Kind::Local, extension: 0, length: 4, prefix: 0 };
 const TICK: Call = Call::Tick { task: 0 };
 const READ: Call = Call::Read { task: 0, handle: 1 };
 
@@ -41,7 +41,7 @@ fn a_setter_waits_across_the_highest_32_bit_global_time<L: LateStart>(limits: Li
     ledger.join(1, Share::OPEN).unwrap();
     *ledger.global_mut() = u64::from(u32::MAX) - 1;
     for task in [0, 1] {
-        ledger.make(task, Kind::Global, 0, 4).unwrap();
+        ledger.make(task, Kind::Global, 0, 4, 0).unwrap();
     }
     assert_eq!(ledger.block(0), Ok(Accepted::Advanced(false)));
     for expected in [Ok(Accepted::Remaining(Lifetime { local: 0, global: 1 })), Err(Refusal::ObjectGone)] {
@@ -56,7 +56,7 @@ fn a_setter_waits_across_the_highest_32_bit_global_time<L: LateStart>(limits: Li
 fn a_pinned_object_stands_across_the_highest_32_bit_clocks<L: LateStart>(limits: Limits) {
     let mut ledger: L = started(limits, u64::from(u32::MAX), 0);
     *ledger.global_mut() = u64::from(u32::MAX) - 1;
-    ledger.make(0, Kind::Pinned, 0, 4).unwrap();
+    ledger.make(0, Kind::Pinned, 0, 4, 0).unwrap();
     for _ in 0..40 {
         assert_eq!(ledger.call(&TICK), Ok(Accepted::Advanced(true)));
         assert_eq!(ledger.remaining(0, 1), Ok(Accepted::Remaining(Lifetime { local: 0, global: 0 })));
@@ -83,7 +83,7 @@ fn all_handles_given_is_told_after_a_bad_length_and_before_a_full_store<L: LateS
     }
     *ledger.clock_and_given().1 = u32::MAX;
     assert_eq!(ledger.call(&MAKE), Err(Refusal::AllHandlesGiven));
-    assert_eq!(ledger.make(0, Kind::Local, 0, 257), Err(Refusal::LengthOutOfRange));
+    assert_eq!(ledger.make(0, Kind::Local, 0, 257, 0), Err(Refusal::LengthOutOfRange));
 }
 
 /// Order 9: 8 before 26 and before 9, with a limit of 0 and with all blocks held back.
@@ -93,12 +93,20 @@ fn all_handles_given_is_told_before_what_shares_refuse<L: LateStart>(limits: Lim
     let all = Quota { reserve: limits.small_blocks as u8, limit: u8::MAX };
     ledger.join(2, Share { small: all, large: Quota::NONE }).unwrap();
     for task in 0..3 {
-        assert_eq!(ledger.make(task, Kind::Local, 0, 4), Err(Refusal::AllHandlesGiven));
+        assert_eq!(ledger.make(task, Kind::Local, 0, 4, 0), Err(Refusal::AllHandlesGiven));
     }
     *ledger.clock_and_given().1 = u32::MAX - 1;
     assert_eq!(ledger.call(&MAKE), Err(Refusal::NoFreeBlock));
-    assert_eq!(ledger.make(1, Kind::Local, 0, 4), Err(Refusal::AtLimit));
-    assert_eq!(ledger.make(2, Kind::Local, 0, 4), Ok(Accepted::Handle(u32::MAX)));
+    assert_eq!(ledger.make(1, Kind::Local, 0, 4, 0), Err(Refusal::AtLimit));
+    assert_eq!(ledger.make(2, Kind::Local, 0, 4, 0), Ok(Accepted::Handle(u32::MAX)));
+}
+
+/// Order 10: 28 before 8.
+fn too_long_a_prefix_is_told_before_all_handles_given<L: LateStart>(limits: Limits) {
+    let mut ledger: L = started(limits, 0, u32::MAX);
+    assert_eq!(ledger.make(0, Kind::Local, 0, 4, 5), Err(Refusal::PrefixTooLong));
+    assert_eq!(ledger.make(0, Kind::Local, 0, 4, 4), Err(Refusal::AllHandlesGiven));
+    assert_eq!(ledger.make(0, Kind::Local, 0, 257, 258), Err(Refusal::LengthOutOfRange));
 }
 
 fn all<L: LateStart>(limits: Limits) {
@@ -108,6 +116,7 @@ fn all<L: LateStart>(limits: Limits) {
     after_the_highest_handle_all_are_given::<L>(limits);
     all_handles_given_is_told_after_a_bad_length_and_before_a_full_store::<L>(limits);
     all_handles_given_is_told_before_what_shares_refuse::<L>(limits);
+    too_long_a_prefix_is_told_before_all_handles_given::<L>(limits);
 }
 
 /// As few as these tests need.

@@ -4,7 +4,7 @@
 use crate::block::Block;
 use crate::call::{Accepted, Answer, Figures, Handles, Kind, Lifetime, Model, Refusal};
 use crate::expiration::{remaining, Expiration, Remaining};
-use crate::limits::{check_batch, check_refreshing, Limits, Store, STORES};
+use crate::limits::{check_batch, check_prefix, check_refreshing, Limits, Store, STORES};
 use crate::outside::{Change, Exposed};
 use crate::share::{Maker, Room, Share};
 use crate::tasks::Tasks;
@@ -81,11 +81,12 @@ impl Model for Ledger {
         Ok(Accepted::Advanced(advanced))
     }
 
-    /// R40, with 26 before 9, then O12 to O14: a new object, all zeros, with one expiration.
-    fn make(&mut self, task: u8, kind: Kind, extension: u8, length: u16) -> Answer<'static> {
+    /// R40, with 28 before 8 and 26 before 9, then O12 to O14: a new object, all zeros, with one expiration.
+    fn make(&mut self, task: u8, kind: Kind, extension: u8, length: u16, prefix: u16) -> Answer<'static> {
         self.tasks.check_running(task)?;
         self.limits.check_extension(kind, extension)?;
         let store = Store::holding(length)?;
+        check_prefix(prefix, length)?;
         self.check_handles()?;
         let room = self.room(store);
         room.check_limit(task)?;
@@ -96,7 +97,7 @@ impl Model for Ledger {
         self.objects.push(Object {
             handle: self.given,
             maker: Maker::Task(task),
-            block: Block::zeroed(length, store),
+            block: Block::zeroed(length, prefix, store),
             expirations: vec![Expiration::set(&self.tasks, task, kind, extension)],
         });
         Ok(Accepted::Handle(self.given))
@@ -114,11 +115,11 @@ impl Model for Ledger {
         Ok(Accepted::Done)
     }
 
-    /// R42, and O18: all bytes of the object.
+    /// R42, and O18: all bytes of the object, or those that a viewer sees.
     fn read(&self, task: u8, handle: u32) -> Answer<'_> {
-        self.tasks.check_running(task)?;
+        let reader = self.tasks.check_awake(task)?;
         let place = self.check_standing(handle)?;
-        self.objects[place].block.read().map(Accepted::Bytes)
+        self.objects[place].block.read(reader).map(Accepted::Bytes)
     }
 
     /// R43, and what the block does.
@@ -135,7 +136,7 @@ impl Model for Ledger {
 
     /// Order 1: 1, 3, 4, 11, 12. Of the local expirations only the asking task's count, of the global ones all.
     fn remaining(&self, task: u8, handle: u32) -> Answer<'static> {
-        self.tasks.check_running(task)?;
+        self.tasks.check_awake(task)?;
         let place = self.check_standing(handle)?;
         let mut most = Lifetime { local: 0, global: 0 };
         for left in remaining(&self.objects[place].expirations, &self.tasks) {
@@ -148,7 +149,7 @@ impl Model for Ledger {
         Ok(Accepted::Remaining(most))
     }
 
-    /// Order 2: 1, 3, 4, 20, 21, 6, then 11 by any of the objects, 12 by any, and 10 by all together. Then one expiration
+    /// Order 2: 1, 3, 4, 27, 20, 21, 6, then 11 by any of the objects, 12 by any, and 10 by all together. Then one expiration
     /// more for each, so that an object named twice gets two.
     fn batch(&mut self, task: u8, kind: Kind, extension: u8, handles: Handles) -> Answer<'static> {
         self.tasks.check_running(task)?;
@@ -175,6 +176,12 @@ impl Model for Ledger {
         if expirations.is_empty() {
             self.objects.remove(place);
         }
+        Ok(Accepted::Done)
+    }
+
+    /// Order 10: 1, 2.
+    fn view(&mut self, task: u8) -> Answer<'static> {
+        self.tasks.view(task)?;
         Ok(Accepted::Done)
     }
 }

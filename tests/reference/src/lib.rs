@@ -5,7 +5,7 @@
 //!
 //! Names and the scope paper's words for them: local time, a task's own clock; global time, the common
 //! time; ticked, marked; expiration, a date; handle, an object's number; unbounded heap, the endless heap;
-//! expiration book, the date book.
+//! expiration book, the date book; prefix, an object's head (order 10).
 
 #![forbid(unsafe_code)]
 

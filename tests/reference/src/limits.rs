@@ -1,5 +1,5 @@
 //! The limits of a pool, those that are fixed and the four figures that a site chooses, and the refusals that need
-//! nothing else: 6, 7, 20, 21 and 29.
+//! nothing else: 6, 7, 20, 21, 28 and 29.
 
 use std::str::FromStr;
 
@@ -121,6 +121,14 @@ impl FromStr for Limits {
 fn figure(word: &str) -> Option<usize> {
     let figure: usize = word.parse().ok()?;
     (figure.to_string() == word).then_some(figure)
+}
+
+/// 28: a prefix is a part of its object, and may be all of it.
+pub fn check_prefix(prefix: u16, length: u16) -> Result<(), Refusal> {
+    if prefix > length {
+        return Err(Refusal::PrefixTooLong);
+    }
+    Ok(())
 }
 
 /// A refresh and a batch pin nothing.

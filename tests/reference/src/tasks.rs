@@ -4,13 +4,14 @@ use crate::call::Refusal;
 use crate::limits::{Store, TASKS};
 use crate::share::{Quota, Share};
 
-/// T2: the state of a task.
+/// T2: the state of a task. Order 10 adds the viewer's, who does not run.
 #[derive(Clone, Copy, Debug, Default, PartialEq, Eq)]
 pub enum State {
     #[default]
     Absent,
     Running,
     Waiting,
+    Viewing,
 }
 
 /// T3: a task's entry. The scope paper's mark is `ticked`. Order 9 adds the share, which only a join and a leave change.
@@ -56,6 +57,10 @@ impl Tasks {
         self.check_waiting(task).is_ok()
     }
 
+    pub fn is_viewing(&self, task: u8) -> bool {
+        self.check_awake(task) == Ok(State::Viewing)
+    }
+
     /// T9: it runs, from local time 0 on, with this share.
     pub fn join(&mut self, task: u8, share: Share) -> Result<(), Refusal> {
         let place = self.check_absent(task)?;
@@ -63,10 +68,17 @@ impl Tasks {
         Ok(())
     }
 
+    /// Order 10: it views, at local time 0, and has no share.
+    pub fn view(&mut self, task: u8) -> Result<(), Refusal> {
+        let place = self.check_absent(task)?;
+        self.entries[place] = Task { state: State::Viewing, ..Task::default() };
+        Ok(())
+    }
+
     /// T12: it is absent, and has no share. Leave, block and tick tell whether global time advanced.
     pub fn leave(&mut self, task: u8) -> Result<bool, Refusal> {
         let place = self.check_present(task)?;
-        self.entries[place] = Task { state: State::Absent, ticked: false, clock: 0, share: Share::NONE };
+        self.entries[place] = Task::default();
         Ok(self.advance())
     }
 
@@ -112,7 +124,7 @@ impl Tasks {
         let place = check_number(task)?;
         match self.entries[place].state {
             State::Absent => Ok(place),
-            State::Running | State::Waiting => Err(Refusal::TaskNotAbsent),
+            State::Running | State::Waiting | State::Viewing => Err(Refusal::TaskNotAbsent),
         }
     }
 
@@ -121,17 +133,24 @@ impl Tasks {
         let place = check_number(task)?;
         match self.entries[place].state {
             State::Absent => Err(Refusal::TaskAbsent),
-            State::Running | State::Waiting => Ok(place),
+            State::Running | State::Waiting | State::Viewing => Ok(place),
         }
     }
 
-    /// 1, 3, 4.
-    pub fn check_running(&self, task: u8) -> Result<usize, Refusal> {
-        let place = check_number(task)?;
-        match self.entries[place].state {
+    /// 1, 3, 4, else whether it runs or views.
+    pub fn check_awake(&self, task: u8) -> Result<State, Refusal> {
+        match self.entries[check_number(task)?].state {
             State::Absent => Err(Refusal::TaskAbsent),
             State::Waiting => Err(Refusal::TaskWaiting),
-            State::Running => Ok(place),
+            state => Ok(state),
+        }
+    }
+
+    /// 1, 3, 4, 27.
+    pub fn check_running(&self, task: u8) -> Result<usize, Refusal> {
+        match self.check_awake(task)? {
+            State::Viewing => Err(Refusal::OnlyViews),
+            _ => Ok(usize::from(task)),
         }
     }
 
@@ -140,7 +159,7 @@ impl Tasks {
         let place = check_number(task)?;
         match self.entries[place].state {
             State::Absent => Err(Refusal::TaskAbsent),
-            State::Running => Err(Refusal::TaskRunning),
+            State::Running | State::Viewing => Err(Refusal::TaskRunning),
             State::Waiting => Ok(place),
         }
     }

@@ -35,6 +35,7 @@ fn all_is_met() {
     assert!(census.waiting.least() >= 50);
     assert!(census.pinned.least() >= 50);
     assert!(census.shares.least() >= 50);
+    assert!(census.viewers.least() >= 50);
     assert_eq!((census.most_small, census.most_large, census.most_expirations), (64, 32, 256));
     assert_eq!(census.most_running, 16);
     assert!(census.longest_output > 500_000);
@@ -49,6 +50,7 @@ fn all_is_met_with_chosen_figures() {
     census.print();
     assert!(census.sized.least() >= 50);
     assert!(census.shares.least() >= 50);
+    assert!(census.viewers.least() >= 50);
     check_operations(&census);
 }
 
@@ -113,12 +115,13 @@ fn each_profile_meets_its_own() {
             Profile::Waiting => census.waiting.least() > 20,
             Profile::Pinned => census.pinned.least() > 20 && census.accepted[12] > 500,
             Profile::Shares => census.shares.least() > 20,
+            Profile::Viewers => census.viewers.least() > 20,
             Profile::Edges => least(&[1, 3, 6, 7, 11, 13]) > 100 && census.empty_writes.min(census.whole_writes) > 10,
             Profile::Damage => least(&[16, 17, 18, 19]) > 100,
             Profile::Noise => least(&[16, 17, 18]) > 100,
         };
-        let Census { accepted, refused, waiting, pinned, shares, .. } = &census;
-        assert!(met, "{profile:?} {accepted:?} {refused:?} {waiting:?} {pinned:?} {shares:?}");
+        let Census { accepted, refused, waiting, pinned, shares, viewers, .. } = &census;
+        assert!(met, "{profile:?} {accepted:?} {refused:?} {waiting:?} {pinned:?} {shares:?} {viewers:?}");
     }
 }
 

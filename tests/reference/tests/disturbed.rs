@@ -34,7 +34,7 @@ fn both_ledgers_are_alike_with_chosen_figures() {
 
 fn check_alike(limits: fn(u64) -> Limits) {
     let mut met = [0; SITUATIONS.len()];
-    for seed in 0..300 {
+    for seed in 0..400 {
         let script = sized_script(limits(seed), seed);
         let mut room = vec![0; script.len() / 2];
         let calls = calls(&script[..script.len().min(20_000)], &mut room);
@@ -163,7 +163,8 @@ fn one(standing: &[Standing], random: &mut Random) -> Change {
 }
 
 fn check_answer(call: &Call, changed: u32, expected: Answer, told: Answer, met: &mut Met) {
-    let earlier = [Refusal::TaskAbove15, Refusal::TaskAbsent, Refusal::TaskWaiting, Refusal::ObjectGone];
+    let earlier =
+        [Refusal::TaskAbove15, Refusal::TaskAbsent, Refusal::TaskWaiting, Refusal::OnlyViews, Refusal::ObjectGone];
     let refused_earlier = expected.is_err_and(|refusal| earlier.contains(&refusal));
     match *call {
         Call::Read { handle, .. } | Call::Write { handle, .. } if handle == changed && !refused_earlier => {

@@ -66,23 +66,23 @@ fn words_of_each_call() {
         ("010300FF00FF 010400FF00FF 0503 0304", "block of task 4: it waits; global time advances to 1"),
         ("010300FF00FF 0303 0403", "resume of task 3: it runs again, after it waited since line 2"),
         ("010300FF00FF 0503", "tick of task 3: global time advances to 1"),
-        ("010300FF00FF 060301020004", "task 3, make of 4 bytes, global with extension 2: object 1 in the small store, until global time 4"),
-        ("010300FF00FF 060300000001", "task 3, make of 1 byte, local with extension 0: object 1 in the small store, until local time 1 of task 3"),
-        ("010300FF00FF 060300000021", "task 3, make of 33 bytes, local with extension 0: object 1 in the large store, until local time 1 of task 3"),
-        ("010300FF00FF 060300000004 0703010100000001", "task 3, refresh of object 1, global with extension 1: one expiration more, until global time 3; it has 2"),
-        ("010300FF00FF 060300000004 0903000000010107A5 080300000001", "task 3, read of object 1: 00 07 A5 00"),
-        ("010300FF00FF 060300000004 0903000000010107A5", "task 3, write of 2 bytes at offset 1 of object 1: done"),
-        ("010300FF00FF 060300000004 060300000040 0A", "report: 1 of 64 small objects, 1 of 32 large, 2 of 256 expirations, 2 handles given"),
-        ("010300FF00FF 060301010004 0B0300000001", "task 3, remaining life of object 1: 0 ticks of task 3 by its local expirations, 3 advances by global ones"),
-        ("010300FF00FF 060300000004 0C03000000000001", "task 3, refresh of object 1, local with extension 0: one expiration more for each, until local time 1 of task 3"),
+        ("010300FF00FF 0603010200040000", "task 3, make of 4 bytes, global with extension 2: object 1 in the small store, until global time 4"),
+        ("010300FF00FF 0603000000010000", "task 3, make of 1 byte, local with extension 0: object 1 in the small store, until local time 1 of task 3"),
+        ("010300FF00FF 0603000000210000", "task 3, make of 33 bytes, local with extension 0: object 1 in the large store, until local time 1 of task 3"),
+        ("010300FF00FF 0603000000040000 0703010100000001", "task 3, refresh of object 1, global with extension 1: one expiration more, until global time 3; it has 2"),
+        ("010300FF00FF 0603000000040000 0903000000010107A5 080300000001", "task 3, read of object 1: 00 07 A5 00"),
+        ("010300FF00FF 0603000000040000 0903000000010107A5", "task 3, write of 2 bytes at offset 1 of object 1: done"),
+        ("010300FF00FF 0603000000040000 0603000000400000 0A", "report: 1 of 64 small objects, 1 of 32 large, 2 of 256 expirations, 2 handles given"),
+        ("010300FF00FF 0603010100040000 0B0300000001", "task 3, remaining life of object 1: 0 ticks of task 3 by its local expirations, 3 advances by global ones"),
+        ("010300FF00FF 0603000000040000 0C03000000000001", "task 3, refresh of object 1, local with extension 0: one expiration more for each, until local time 1 of task 3"),
         (
-            "010300FF00FF 060300000004 060300000004 060300000004 0C030001000000010000000200000003",
+            "010300FF00FF 0603000000040000 0603000000040000 0603000000040000 0C030001000000010000000200000003",
             "task 3, refresh of objects 1 to 3, local with extension 1: one expiration more for each, until local time 2 of task 3",
         ),
-        ("010300FF00FF 060302000004", "task 3, make of 4 bytes, pinned: object 1 in the small store, until its release"),
-        ("010300FF00FF 060302000004 0D0300000001", "task 3, release of object 1: it is pinned no longer; object 1 is gone"),
+        ("010300FF00FF 0603020000040000", "task 3, make of 4 bytes, pinned: object 1 in the small store, until its release"),
+        ("010300FF00FF 0603020000040000 0D0300000001", "task 3, release of object 1: it is pinned no longer; object 1 is gone"),
         (
-            "010300FF00FF 060302000004 0703000000000001 0D0300000001",
+            "010300FF00FF 0603020000040000 0703000000000001 0D0300000001",
             "task 3, release of object 1: it is pinned no longer; it has 1 expiration",
         ),
     ] {
@@ -102,22 +102,22 @@ fn for_whom_global_time_waits() {
 #[test]
 fn what_goes() {
     assert_eq!(
-        last_words("010300FF00FF 010400FF00FF 060300000004 0503"),
+        last_words("010300FF00FF 010400FF00FF 0603000000040000 0503"),
         "tick of task 3: global time waits for task 4; object 1 is gone"
     );
     assert_eq!(
-        last_words("010300FF00FF 060300000004 060300000004 0503"),
+        last_words("010300FF00FF 0603000000040000 0603000000040000 0503"),
         "tick of task 3: global time advances to 1; objects 1 and 2 are gone"
     );
     assert_eq!(
-        last_words("010300FF00FF 010400FF00FF 060300050004 0203"),
+        last_words("010300FF00FF 010400FF00FF 0603000500040000 0203"),
         "leave of task 3: it is absent; global time waits for task 4; object 1 is gone"
     );
 }
 
 #[test]
 fn what_is_put_off_and_who_departed() {
-    let made = "010300FF00FF 010400FF00FF 060301000004 060301000004 060301000004 060401050004";
+    let made = "010300FF00FF 010400FF00FF 0603010000040000 0603010000040000 0603010000040000 0604010500040000";
     assert_eq!(
         last_words(&format!("{made} 0504 0303")),
         "block of task 3: it waits; global time advances to 1; expirations of objects 1 to 3 are put off"
@@ -150,55 +150,55 @@ fn since_when_an_object_is_gone_and_with_what() {
     let read = "080100000001";
     for (script, gone) in [
         // By its only one.
-        ("010100FF00FF 060100000004 0501", "gone at line 3 with its last expiration, set by task 1 at line 2"),
+        ("010100FF00FF 0601000000040000 0501", "gone at line 3 with its last expiration, set by task 1 at line 2"),
         // By another task's refresh, which was due later.
         (
-            "010100FF00FF 010200FF00FF 060100000004 0702000100000001 0501 0502 0502",
+            "010100FF00FF 010200FF00FF 0601000000040000 0702000100000001 0501 0502 0502",
             "gone at line 7 with its last expiration, set by task 2 at line 4",
         ),
         // The refresh was due before what the make had set.
         (
-            "010100FF00FF 010200FF00FF 060100010004 0702000000000001 0502 0501 0501",
+            "010100FF00FF 010200FF00FF 0601000100040000 0702000000000001 0502 0501 0501",
             "gone at line 7 with its last expiration, set by task 1 at line 3",
         ),
         // Both together: the one that was set last.
         (
-            "010100FF00FF 060100000004 0701000000000001 0501",
+            "010100FF00FF 0601000000040000 0701000000000001 0501",
             "gone at line 4 with its last expiration, set by task 1 at line 3",
         ),
         // With its setter's leave.
         (
-            "010100FF00FF 010200FF00FF 060200050004 0202",
+            "010100FF00FF 010200FF00FF 0602000500040000 0202",
             "gone at line 4 with its last expiration, set by task 2 at line 3",
         ),
         // By a batch.
         (
-            "010100FF00FF 060100000004 0C01000100000001 0501 0501",
+            "010100FF00FF 0601000000040000 0C01000100000001 0501 0501",
             "gone at line 5 with its last expiration, set by task 1 at line 3",
         ),
         // By a block that lets global time advance.
         (
-            "010100FF00FF 010200FF00FF 060101000004 0501 0502 0501 0302",
+            "010100FF00FF 010200FF00FF 0601010000040000 0501 0502 0501 0302",
             "gone at line 7 with its last expiration, set by task 1 at line 3",
         ),
         // By its release.
         (
-            "010100FF00FF 010200FF00FF 060202000004 0501 0202 0D0100000001",
+            "010100FF00FF 010200FF00FF 0602020000040000 0501 0202 0D0100000001",
             "gone at line 6 with its last expiration, pinned by task 2 at line 3",
         ),
         // By time, after its release.
         (
-            "010100FF00FF 060102000004 0701000000000001 0D0100000001 0501",
+            "010100FF00FF 0601020000040000 0701000000000001 0D0100000001 0501",
             "gone at line 5 with its last expiration, set by task 1 at line 3",
         ),
         // Put off while its setter waited.
         (
-            "010100FF00FF 010200FF00FF 060201000004 0302 0501 0501 0402 0501 0502 0501 0502",
+            "010100FF00FF 010200FF00FF 0602010000040000 0302 0501 0501 0402 0501 0502 0501 0502",
             "gone at line 11 with its last expiration, set by task 2 at line 3 and put off by 2 advances",
         ),
         // Put off, and on its way again when its setter left.
         (
-            "010100FF00FF 010200FF00FF 060201000004 0302 0501 0202 0501 0501",
+            "010100FF00FF 010200FF00FF 0602010000040000 0302 0501 0202 0501 0501",
             "gone at line 8 with its last expiration, set by task 2, departed, at line 3 and put off by 1 advance",
         ),
     ] {
@@ -208,11 +208,11 @@ fn since_when_an_object_is_gone_and_with_what() {
 
 #[test]
 fn words_of_each_refusal() {
-    let smalls = format!("010100FF00FF{}", times(65, "060101000004"));
-    let pinned = format!("010100FF00FF{}{}", times(3, "060102000004"), times(62, "060101000004"));
-    let larges = format!("010100FF00FF 0501{}", times(33, "060101000100"));
-    let dates = format!("010100FF00FF 060101000004{}", times(256, "0701010000000001"));
-    let batch = format!("010100FF00FF 060101000004{} 0C0101000000000100000001", times(254, "0701010000000001"));
+    let smalls = format!("010100FF00FF{}", times(65, "0601010000040000"));
+    let pinned = format!("010100FF00FF{}{}", times(3, "0601020000040000"), times(62, "0601010000040000"));
+    let larges = format!("010100FF00FF 0501{}", times(33, "0601010001000000"));
+    let dates = format!("010100FF00FF 0601010000040000{}", times(256, "0701010000000001"));
+    let batch = format!("010100FF00FF 0601010000040000{} 0C0101000000000100000001", times(254, "0701010000000001"));
     let crowd = format!("010100FF00FF 0C010000{}", "00000001".repeat(33));
     for (number, script, words) in [
         (1, "011000FF00FF", "join of task 16: tasks are 0 to 15"),
@@ -222,9 +222,9 @@ fn words_of_each_refusal() {
         (3, "010300FF00FF 0203 0303", "block of task 3: task 3 left at line 2; it has to join first"),
         (4, "010300FF00FF 0303 0503", "tick of task 3: task 3 waits since line 2; it has to resume first"),
         (5, "010300FF00FF 0403", "resume of task 3: task 3 runs since line 1; only a waiting task can resume"),
-        (6, "010100FF00FF 0601001F0004", "task 1, make of 4 bytes, local with extension 31: an extension is at most 30"),
-        (6, "010100FF00FF 060102010004", "task 1, make of 4 bytes, pinned with extension 1: what is pinned has extension 0"),
-        (7, "010100FF00FF 060100000101", "task 1, make of 257 bytes, local with extension 0: a length is 1 to 256"),
+        (6, "010100FF00FF 0601001F00040000", "task 1, make of 4 bytes, local with extension 31: an extension is at most 30"),
+        (6, "010100FF00FF 0601020100040000", "task 1, make of 4 bytes, pinned with extension 1: what is pinned has extension 0"),
+        (7, "010100FF00FF 0601000001010000", "task 1, make of 257 bytes, local with extension 0: a length is 1 to 256"),
         (
             9,
             &smalls,
@@ -258,48 +258,90 @@ fn words_of_each_refusal() {
         (11, "010100FF00FF 080100000001", "task 1, read of object 1: handle 1 was not given; none was so far"),
         (
             11,
-            "010100FF00FF 060100000004 0C0100000000000100000009",
+            "010100FF00FF 0601000000040000 0C0100000000000100000009",
             "task 1, refresh of objects 1 and 9, local with extension 0: handle 9 was not given; the last was 1",
         ),
         (
             12,
-            "010100FF00FF 060100000004 060100010004 0501 0C0100000000000100000002",
+            "010100FF00FF 0601000000040000 0601000100040000 0501 0C0100000000000100000002",
             "task 1, refresh of objects 1 and 2, local with extension 0: object 1 is gone at line 4 with its last \
              expiration, set by task 1 at line 2",
         ),
         (
             12,
-            "010100FF00FF 060100000004 060100000004 0501 0C0100000000000100000002",
+            "010100FF00FF 0601000000040000 0601000000040000 0501 0C0100000000000100000002",
             "task 1, refresh of objects 1 and 2, local with extension 0: object 1 is gone at line 4 with its last \
              expiration, set by task 1 at line 2; 1 object more gone",
         ),
         (
             13,
-            "010100FF00FF 060100000004 09010000000103A5A5",
+            "010100FF00FF 0601000000040000 09010000000103A5A5",
             "task 1, write of 2 bytes at offset 3 of object 1: it would end at 5, and the object has 4 bytes",
         ),
         (16, "01x0", "frame \"01x0\": character 3 is no digit, 0 to 9 or A to F"),
         (16, "010", "frame \"010\": 3 digits, and a byte has two"),
-        (17, "0E01", "frame \"0E01\": operations are 01 to 0D"),
+        (17, "0F01", "frame \"0F01\": operations are 01 to 0E"),
         (17, "010100FF00FF  ", "frame \"\": an empty line has no operation"),
         (18, "010101", "frame \"010101\": a join has 6 bytes, and not 3"),
         (3, "0C000000", "task 0, refresh of no object, local with extension 0: task 0 has not joined; it has to join first"),
         (18, "0C00000001", "frame \"0C00000001\": a batch has 4 bytes and 4 for each object, and not 5"),
         (18, "0D01", "frame \"0D01\": a release has 6 bytes, and not 2"),
-        (19, "060103000004", "frame \"060103000004\": kind 03 is none of 00, local, 01, global, and 02, pinned"),
+        (18, "060100000004", "frame \"060100000004\": a make has 8 bytes, and not 6"),
+        (18, "0E", "frame \"0E\": a view has 2 bytes, and not 1"),
+        (19, "0601030000040000", "frame \"0601030000040000\": kind 03 is none of 00, local, 01, global, and 02, pinned"),
         (20, "010100FF00FF 0C010000", "task 1, refresh of no object, local with extension 0: a batch has 1 to 32 objects"),
         (20, &crowd, "task 1, refresh of 33 objects, local with extension 0: a batch has 1 to 32 objects"),
         (21, "010100FF00FF 0701020000000001", "task 1, refresh of object 1, pinned: only a make pins an object"),
         (21, "010100FF00FF 0C01020100000001", "task 1, refresh of object 1, pinned with extension 1: only a make pins an object"),
-        (22, "010100FF00FF 060100000004 0D0100000001", "task 1, release of object 1: it was never pinned"),
+        (22, "010100FF00FF 0601000000040000 0D0100000001", "task 1, release of object 1: it was never pinned"),
         (
             22,
-            "010100FF00FF 060102000004 0701000000000001 0D0100000001 0D0100000001",
+            "010100FF00FF 0601020000040000 0701000000000001 0D0100000001 0D0100000001",
             "task 1, release of object 1: it was released at line 4",
         ),
     ] {
         let line = explained(&script_of(script)).pop().unwrap();
         assert_eq!((line.words.as_str(), line.number()), (words, number), "{script}");
+    }
+}
+
+/// What a viewer is told and refused, and of a prefix nothing where it is 0.
+#[test]
+fn words_of_viewers() {
+    let shown = "010300FF00FF 0603020000040002 0903000000010007A5 0E04";
+    let may = "a viewer may leave, read, and ask for a remaining life or a report";
+    let only_views = |asked: &str| format!("{asked}: task 4 views since line 4; {may}");
+    for (number, frames, words) in [
+        (0, "", "join of task 4 as a viewer: it sees prefixes, and global time does not wait for it".to_string()),
+        (0, " 080400000001", "task 4, read of object 1: its prefix, 07 A5".into()),
+        (0, " 0603020000040000 080400000002", "task 4, read of object 2: its prefix has no byte".into()),
+        (0, " 0204", "leave of task 4: it is absent; global time waits for task 3".into()),
+        (0, " 0503", "tick of task 3: global time advances to 1".into()),
+        (
+            0,
+            " 0603020000040004",
+            "task 3, make of 4 bytes with a prefix of 4, pinned: object 2 in the small store, until its release".into(),
+        ),
+        (2, " 0E04", "join of task 4 as a viewer: task 4 views since line 4; only an absent task can join".into()),
+        (5, " 0404", "resume of task 4: task 4 views since line 4; only a waiting task can resume".into()),
+        (27, " 0504", only_views("tick of task 4")),
+        (27, " 0D0400000001", only_views("task 4, release of object 1")),
+        (27, " 0604020000040001", only_views("task 4, make of 4 bytes with a prefix of 1, pinned")),
+        (
+            28,
+            " 0603020000040005",
+            "task 3, make of 4 bytes with a prefix of 5, pinned: a prefix is no longer than its object".into(),
+        ),
+    ] {
+        let line = explained(&script_of(&format!("{shown}{frames}"))).pop().unwrap();
+        assert_eq!((line.words, line.refusal.map_or(0, |refusal| refusal as u8)), (words, number), "{frames}");
+    }
+    let summed_up = summary(Limits::STANDARD, &explained(&script_of("0E04 0504 0304 0204 0304")));
+    for line in [
+        "2 x refusal 27: task only views, at lines 2 to 3",
+        "global time: longest at 0, 5 lines from 1 to 5, at last no task ran",
+    ] {
+        assert!(summed_up.lines().any(|told| told == line), "{summed_up}");
     }
 }
 
@@ -330,7 +372,7 @@ fn words_of_reserves_and_limits() {
         (25, "010105FF00FF", "the small store has 4 of 4 blocks left, beside 0 objects"),
         (
             25,
-            "010002FF00FF 060002000004 010102FF00FF 010201FF01FF",
+            "010002FF00FF 0600020000040000 010102FF00FF 010201FF01FF",
             "the small store has 0 of 4 blocks left, beside 1 object and 3 blocks held back for tasks 0 and 1",
         ),
         (
@@ -338,24 +380,24 @@ fn words_of_reserves_and_limits() {
             "010000FF01FF 010100FF02FF",
             "the large store has 1 of 2 blocks left, beside 0 objects and 1 block held back for task 0",
         ),
-        (25, "010000FF00FF 060002000040 010100FF02FF", "the large store has 1 of 2 blocks left, beside 1 object"),
-        (26, "010100000000 060100000004", "task 1 has 0 small objects, and its limit is 0"),
-        (26, "010100010001 060102000040 060102000040", "task 1 has 1 large object, and its limit is 1"),
+        (25, "010000FF00FF 0600020000400000 010100FF02FF", "the large store has 1 of 2 blocks left, beside 1 object"),
+        (26, "010100000000 0601000000040000", "task 1 has 0 small objects, and its limit is 0"),
+        (26, "010100010001 0601020000400000 0601020000400000", "task 1 has 1 large object, and its limit is 1"),
         (
             9,
-            "010003FF00FF 010101FF00FF 010200FF00FF 060200000004",
+            "010003FF00FF 010101FF00FF 010200FF00FF 0602000000040000",
             "the small store has 4 free blocks, held back for tasks 0 and 1; \
              global time is 0 from the start on and waits for tasks 0 to 2",
         ),
         (
             9,
-            "010000FF01FF 0300 010100FF00FF 060102000040 060102000040",
+            "010000FF01FF 0300 010100FF00FF 0601020000400000 0601020000400000",
             "the large store has 1 free block, held back for task 0; \
              global time is 0 from the start on and waits for task 1",
         ),
         (
             9,
-            "010004FF00FF 060002000004 060002000004 060002000004 060002000004 060002000004",
+            "010004FF00FF 0600020000040000 0600020000040000 0600020000040000 0600020000040000 0600020000040000",
             "the small store is full with 4 objects, 4 of them pinned; \
              global time is 0 from the start on and waits for task 0",
         ),
@@ -367,46 +409,46 @@ fn words_of_reserves_and_limits() {
 #[test]
 fn words_go_by_the_figures() {
     for (figures, number, script, words) in [
-        ("1,2,4,5", 6, "010100FF00FF 060100060004", "an extension is at most 5"),
-        ("1,1,1,0", 6, "010100FF00FF 060101010004", "an extension is at most 0"),
-        ("1,1,1,0", 6, "010100FF00FF 060102010004", "what is pinned has extension 0"),
+        ("1,2,4,5", 6, "010100FF00FF 0601000600040000", "an extension is at most 5"),
+        ("1,1,1,0", 6, "010100FF00FF 0601010100040000", "an extension is at most 0"),
+        ("1,1,1,0", 6, "010100FF00FF 0601020100040000", "what is pinned has extension 0"),
         (
             "1,2,4,5",
             9,
-            "010100FF00FF 060101000004 060101000004",
+            "010100FF00FF 0601010000040000 0601010000040000",
             "the small store is full with 1 object; global time is 0 from the start on and waits for task 1",
         ),
         (
             "1,2,4,5",
             9,
-            "010100FF00FF 060102000100 060101000100 060101000100",
+            "010100FF00FF 0601020001000000 0601010001000000 0601010001000000",
             "the large store is full with 2 objects, 1 of them pinned; \
              global time is 0 from the start on and waits for task 1",
         ),
         (
             "1,1,1,0",
             10,
-            "010100FF00FF 060101000004 060101000100",
+            "010100FF00FF 0601010000040000 0601010001000000",
             "1 expiration stands, and with 1 more they are above 1; \
              global time is 0 from the start on and waits for task 1",
         ),
         (
             "1,2,4,5",
             10,
-            "010100FF00FF 060101000004 060101000100 0C0101000000000100000001 0701010000000002",
+            "010100FF00FF 0601010000040000 0601010001000000 0C0101000000000100000001 0701010000000002",
             "4 expirations stand, and with 1 more they are above 4; \
              global time is 0 from the start on and waits for task 1",
         ),
         (
             "1,1,1,0",
             0,
-            "010100FF00FF 060101000004 0A",
+            "010100FF00FF 0601010000040000 0A",
             "1 of 1 small object, 0 of 1 large, 1 of 1 expiration, 1 handle given",
         ),
         (
             "1,2,4,5",
             0,
-            "010100FF00FF 060102000100 0A",
+            "010100FF00FF 0601020001000000 0A",
             "0 of 1 small object, 1 of 2 large, 1 of 4 expirations, 1 handle given",
         ),
     ] {
@@ -444,7 +486,8 @@ fn every_line_has_its_number_and_what_became_of_it() {
 #[test]
 fn a_script_is_summed_up() {
     // Task 4 never ticks; of five objects of task 3 one is pinned, two go, and one is refused.
-    let frames = "010300FF00FF 010400FF00FF 060302000040 060300000004 060300000004 060101000004 0503 060401000004 0503 080300000009";
+    let frames = "010300FF00FF 010400FF00FF 0603020000400000 0603000000040000 0603000000040000 0601010000040000 0503 \
+                  0604010000040000 0503 080300000009";
     let lines = explained(&script_of(frames));
     let expected = [
         "A script of 10 lines, 2 refused",
@@ -467,14 +510,14 @@ fn what_a_summary_says_of_time_and_refusals() {
         assert!(summary.lines().any(|line| line == words), "{frames}: {summary}");
     };
     says(
-        "010300FF00FF 0503 0503 060300000004 0503",
+        "010300FF00FF 0503 0503 0603000000040000 0503",
         "global time: longest at 2, 2 lines from 3 to 4, at last for task 3",
     );
     says(
-        "010300010000 060302000004 060302000004 0203 010300010000 060302000004",
+        "010300010000 0603020000040000 0603020000040000 0203 010300010000 0603020000040000",
         "blocks of task 3: 2 made, at most 1 at a time, 1 at the end",
     );
-    says("010300010000 060302000004 060302000004", "1 x refusal 26: at its limit, at line 3");
+    says("010300010000 0603020000040000 0603020000040000", "1 x refusal 26: at its limit, at line 3");
     says("0A 0A", "global time: longest at 0, 2 lines from 1 to 2, at last no task ran");
     says("0203 0A 0403", "2 x refusal 3: task absent, at lines 1 to 3");
     says("0A", "small objects: none of 64");
@@ -484,7 +527,7 @@ fn what_a_summary_says_of_time_and_refusals() {
 
 #[test]
 fn a_script_as_a_table() {
-    let frames = "010300FF00FF x 060301000004 060300000040 0A 0503 080300000009";
+    let frames = "010300FF00FF x 0603010000040000 0603000000400000 0A 0503 080300000009";
     let expected = [
         "line,task,operation,answer,small,large,expirations,global",
         "1,3,join,0,0,0,0,0",
@@ -511,7 +554,7 @@ const GROUPS: [&str; 10] = [
     "lines",
 ];
 
-const LEGEND: [&str; 11] = [
+const LEGEND: [&str; 12] = [
     "small objects",
     "large objects",
     "expirations",
@@ -522,6 +565,7 @@ const LEGEND: [&str; 11] = [
     "running, its tick awaited",
     "running, ticked",
     "waiting",
+    "viewing",
     "tick",
 ];
 
@@ -595,7 +639,7 @@ fn pictures_go_by_the_figures() {
         ("30,3,40,5", 30, &["0", "8", "16", "24"], "at most 30 of 30"),
     ] {
         let limits = figures.parse().unwrap();
-        let script = format!("010000FF00FF\n{}", "060000000004\n".repeat(count));
+        let script = format!("010000FF00FF\n{}", "0600000000040000\n".repeat(count));
         let picture = plain_picture(limits, &explain(limits, script.as_bytes()));
         let panel = group(&picture, "small-objects");
         assert!(panel.contains(&format!("Small objects (count): {name}<")), "{figures}: {panel}");
@@ -642,12 +686,12 @@ fn pictures_have_a_mark_for_each_tick() {
 fn pictures_show_what_is_pinned() {
     let shows = |script: &[u8], id| group(&pictured(script), id).contains("#e3c9a8");
     assert!(
-        shows(b"010000FF00FF\n060002000004\n", "small-objects")
-            && shows(b"010000FF00FF\n060002000040\n", "large-objects")
+        shows(b"010000FF00FF\n0600020000040000\n", "small-objects")
+            && shows(b"010000FF00FF\n0600020000400000\n", "large-objects")
     );
     assert!(
-        !shows(b"010000FF00FF\n060002000004\n", "large-objects")
-            && !shows(b"010000FF00FF\n060000000004\n", "small-objects")
+        !shows(b"010000FF00FF\n0600020000040000\n", "large-objects")
+            && !shows(b"010000FF00FF\n0600000000040000\n", "small-objects")
     );
 }
 

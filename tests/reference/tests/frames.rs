@@ -11,7 +11,7 @@ const ROOM: usize = 4 + 4 * 100;
 fn random_call<'a>(random: &mut Random, bytes: &'a [u8; 256], objects: &'a [[u8; 4]; 100]) -> Call<'a> {
     let (task, extension, offset) = (random.byte(), random.byte(), random.byte());
     let kind = random.pick(&[Kind::Local, Kind::Global, Kind::Pinned]);
-    let (handle, length) = (random.number() as u32, random.number() as u16);
+    let (handle, length, prefix) = (random.number() as u32, random.number() as u16, random.number() as u16);
     let bytes = &bytes[random.below(257)..];
     let handles = Handles(&objects[random.below(101)..]);
     let share = Share::from_bytes(std::array::from_fn(|_| random.byte()));
@@ -21,7 +21,7 @@ fn random_call<'a>(random: &mut Random, bytes: &'a [u8; 256], objects: &'a [[u8;
         Call::Block { task },
         Call::Resume { task },
         Call::Tick { task },
-        Call::Make { task, kind, extension, length },
+        Call::Make { task, kind, extension, length, prefix },
         Call::Refresh { task, kind, extension, handle },
         Call::Read { task, handle },
         Call::Write { task, handle, offset, bytes },
@@ -29,6 +29,7 @@ fn random_call<'a>(random: &mut Random, bytes: &'a [u8; 256], objects: &'a [[u8;
         Call::Remaining { task, handle },
         Call::Batch { task, kind, extension, handles },
         Call::Release { task, handle },
+        Call::View { task },
     ])
 }
 
@@ -100,9 +101,9 @@ const REFUSED: &[(&[u8], u8)] = &[
     (b"060003000004G0", 16),
     (b"", 17),
     (b"00", 17),
-    (b"0E", 17),
+    (b"0F", 17),
     (b"FF", 17),
-    (b"0E00", 17),
+    (b"0F00", 17),
     (b"FF0000", 17),
     (b"01", 18),
     (b"0100", 18),
@@ -111,6 +112,12 @@ const REFUSED: &[(&[u8], u8)] = &[
     (b"010000FF00", 18),
     (b"010000FF00FF00", 18),
     (b"06", 18),
+    (b"0E", 18),
+    (b"0E0000", 18),
+    (b"0E0000FF00FF", 18),
+    (b"060000000004", 18),
+    (b"06000000000400", 18),
+    (b"060000000004000000", 18),
     (b"020000", 18),
     (b"0600000004", 18),
     (b"0600030004", 18),
@@ -136,8 +143,8 @@ const REFUSED: &[(&[u8], u8)] = &[
     (b"0D00000001", 18),
     (b"0D000000000100", 18),
     (b"0C000000000000010000000G", 16),
-    (b"060003000004", 19),
-    (b"06FF80FF9C40", 19),
+    (b"0600030000040000", 19),
+    (b"06FF80FF9C400000", 19),
     (b"0700FF0000000001", 19),
     (b"0C000300", 19),
     (b"0CFF03FF", 19),
@@ -152,8 +159,8 @@ fn arguments_out_of_range_are_calls() {
     assert_eq!(decode(b"01FF01020304", &mut room), Ok(Call::Join { task: 255, share }));
     let above = Share { small: Quota { reserve: 255, limit: 0 }, large: Quota { reserve: 65, limit: 64 } };
     assert_eq!(decode(b"0100FF004140", &mut room), Ok(Call::Join { task: 0, share: above }));
-    let make = Call::Make { task: 255, kind: Kind::Global, extension: 255, length: 40_000 };
-    assert_eq!(decode(b"06FF01FF9C40", &mut room), Ok(make));
+    let make = Call::Make { task: 255, kind: Kind::Global, extension: 255, length: 40_000, prefix: 0 };
+    assert_eq!(decode(b"06FF01FF9C400000", &mut room), Ok(make));
     assert_eq!(decode(b"080000000000", &mut room), Ok(Call::Read { task: 0, handle: 0 }));
     assert_eq!(decode(b"0BFFFFFFFFFE", &mut room), Ok(Call::Remaining { task: 255, handle: u32::MAX - 1 }));
     assert_eq!(decode(b"0DFFFFFFFFFE", &mut room), Ok(Call::Release { task: 255, handle: u32::MAX - 1 }));

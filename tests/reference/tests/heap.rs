@@ -47,15 +47,19 @@ fn random_call(random: &mut Random, limits: Limits, given: usize, haste: usize) 
         _ => random.pick(&[0, 1, 2, 5, longest.saturating_sub(1), longest, longest, longest + 1]),
     };
     let handle = random.below(given + 2) as u32;
-    match random.below(24) {
+    match random.below(25) {
         0 | 1 => Call::Join { task, share: random_share(random, limits) },
         2 => Call::Leave { task },
         3 => Call::Block { task },
         4 | 5 => Call::Resume { task },
-        6..=8 => Call::Make { task, kind, extension, length: random.pick(&[0, 1, 8, 32, 33, 256, 257]) },
+        6..=8 => {
+            let (length, prefix) = (random.pick(&[0, 1, 8, 32, 33, 256, 257]), random.pick(&[0, 0, 0, 1, 1, 2, 256]));
+            Call::Make { task, kind, extension, length, prefix }
+        }
         9..=11 => Call::Refresh { task, kind, extension, handle },
         12..=15 => Call::Read { task, handle },
         16 | 17 => Call::Release { task, handle },
+        24 => Call::View { task },
         18 | 19 => {
             let count = random.pick(&[0, 1, 2, 3, 32, 33]);
             let handles: Vec<_> = (0..count).map(|_| random.below(given + 2) as u32).collect();
@@ -107,8 +111,8 @@ fn lists_of_chance_with_chosen_figures() {
     check_chance(limits);
 }
 
-/// The refusals are 1 to 26, and these the pool's alone.
-const NUMBERS: usize = 27;
+/// The refusals are 1 to 28, and these the pool's alone.
+const NUMBERS: usize = 29;
 const OUT: [usize; 5] = [9, 10, 12, 25, 26];
 
 fn check_chance(limits: fn(u64) -> Limits) {
@@ -180,7 +184,7 @@ fn number_of(limits: Limits, list: &[Call]) -> usize {
 #[test]
 fn the_last_of_each_figure() {
     let (task, kind) = (0, Kind::Local);
-    let make = |extension, length| Call::Make { task, kind, extension, length };
+    let make = |extension, length| Call::Make { task, kind, extension, length, prefix: 0 };
     let refresh = Call::Refresh { task, kind, extension: 0, handle: 1 };
     let (small, large) = (make(2, 32), make(2, 33));
     let list = [join(task), small, small, large, large, large, refresh];
@@ -221,7 +225,7 @@ fn keep_the_same(limits: Limits, list: &[Call]) {
 fn the_heap_keeps_for_ever() {
     let mut heap = Heap::fresh();
     let (task, handle) = (0, 1);
-    let make = Call::Make { task, kind: Kind::Local, extension: 0, length: 3 };
+    let make = Call::Make { task, kind: Kind::Local, extension: 0, length: 3, prefix: 0 };
     assert_eq!(heap.call(&make), Err(Refusal::TaskAbsent));
     assert_eq!(heap.call(&join(task)), Ok(Accepted::Done));
     for count in 1..=300 {
@@ -239,7 +243,7 @@ fn the_heap_keeps_for_ever() {
     assert_eq!(heap.call(&batch(kept(&[1; 33]))), Err(Refusal::BatchOutOfRange));
     let release = Call::Release { task, handle: 301 };
     assert_eq!(heap.call(&release), Err(Refusal::HandleNotGiven));
-    let pinned = Call::Make { task, kind: Kind::Pinned, extension: 0, length: 3 };
+    let pinned = Call::Make { task, kind: Kind::Pinned, extension: 0, length: 3, prefix: 0 };
     assert_eq!(heap.call(&pinned), Ok(Accepted::Handle(301)));
     assert_eq!(heap.call(&release), Ok(Accepted::Done));
     assert_eq!(heap.call(&Call::Read { task, handle: 301 }), Ok(Accepted::Bytes(&[0; 3])));
@@ -251,7 +255,7 @@ fn the_heap_keeps_for_ever() {
 #[test]
 fn what_is_not_compared_may_ask_for_a_gone_object() {
     let (task, handle) = (0, 1);
-    let make = Call::Make { task, kind: Kind::Local, extension: 0, length: 4 };
+    let make = Call::Make { task, kind: Kind::Local, extension: 0, length: 4, prefix: 0 };
     let (ask, read) = (Call::Remaining { task, handle }, Call::Read { task, handle });
     let list = [join(task), ask, make, ask, Call::Tick { task }, ask, Call::Report, read];
     assert_eq!(check(&list), Some(list.len() - 1));
@@ -262,7 +266,7 @@ fn what_is_not_compared_may_ask_for_a_gone_object() {
 #[test]
 fn a_batch_is_a_use() {
     let task = 0;
-    let make = |extension| Call::Make { task, kind: Kind::Local, extension, length: 4 };
+    let make = |extension| Call::Make { task, kind: Kind::Local, extension, length: 4, prefix: 0 };
     let batch = |handles: &[u32]| Call::Batch { task, kind: Kind::Local, extension: 30, handles: kept(handles) };
     // Object 1 is gone, object 2 stands.
     let list = |last: Call<'static>| [join(task), make(0), Call::Tick { task }, make(30), last];
@@ -285,7 +289,7 @@ fn a_batch_is_a_use() {
 #[test]
 fn a_setter_that_waits_comes_back_in_time() {
     let (task, handle) = (0, 1);
-    let make = Call::Make { task, kind: Kind::Global, extension: 0, length: 4 };
+    let make = Call::Make { task, kind: Kind::Global, extension: 0, length: 4, prefix: 0 };
     let (join, other) = (join(task), join(1));
     let (block, resume, leave) = (Call::Block { task }, Call::Resume { task }, Call::Leave { task });
     let (tick, read) = (Call::Tick { task: 1 }, Call::Read { task, handle });
@@ -302,7 +306,7 @@ fn a_setter_that_waits_comes_back_in_time() {
 #[test]
 fn a_release_is_a_use() {
     let (task, handle) = (0, 1);
-    let make = |kind| Call::Make { task, kind, extension: 0, length: 4 };
+    let make = |kind| Call::Make { task, kind, extension: 0, length: 4, prefix: 0 };
     let (join, tick, release) = (join(task), Call::Tick { task }, Call::Release { task, handle });
     let refresh = |kind| Call::Refresh { task, kind, extension: 0, handle };
     let list = |kind, then: &[Call<'static>]| [&[join, make(kind)][..], then].concat();
@@ -320,7 +324,7 @@ fn a_release_is_a_use() {
 #[test]
 fn a_refused_range_of_a_gone_object_is_a_use_out_of_time() {
     let (task, handle) = (0, 1);
-    let make = Call::Make { task, kind: Kind::Local, extension: 0, length: 4 };
+    let make = Call::Make { task, kind: Kind::Local, extension: 0, length: 4, prefix: 0 };
     let write = Call::Write { task, handle, offset: 4, bytes: &[1] };
     assert_eq!(check(&[join(task), make, write]), None);
     assert_eq!(check(&[join(task), make, Call::Tick { task }, write]), Some(3));
@@ -342,8 +346,8 @@ fn shares_are_bounds() {
         let share = Share { large: quota(reserve, limit), ..Share::OPEN };
         Call::Join { task, share }
     };
-    let make = |task| Call::Make { task, kind: Kind::Local, extension: 0, length: 4 };
-    let make_large = |task| Call::Make { task, kind: Kind::Local, extension: 0, length: 33 };
+    let make = |task| Call::Make { task, kind: Kind::Local, extension: 0, length: 4, prefix: 0 };
+    let make_large = |task| Call::Make { task, kind: Kind::Local, extension: 0, length: 33, prefix: 0 };
     let tick = |task| Call::Tick { task };
     let leave = |task| Call::Leave { task };
     let both = |task| Call::Join { task, share: Share { small: quota(3, 255), large: quota(2, 1) } };
@@ -375,9 +379,9 @@ fn shares_are_bounds() {
 fn a_leaver_is_no_maker() {
     let limits = Limits { small_blocks: 2, ..Limits::STANDARD };
     let share = Share { small: quota(1, 1), large: Quota::NONE };
-    let (task, pinned) = (0, Call::Make { task: 0, kind: Kind::Pinned, extension: 0, length: 4 });
+    let (task, pinned) = (0, Call::Make { task: 0, kind: Kind::Pinned, extension: 0, length: 4, prefix: 0 });
     let (join, leave) = (Call::Join { task, share }, Call::Leave { task });
-    let short = Call::Make { task, kind: Kind::Local, extension: 0, length: 4 };
+    let short = Call::Make { task, kind: Kind::Local, extension: 0, length: 4, prefix: 0 };
     assert_eq!(check_in(limits, &[join, pinned, leave, join, pinned]), None);
     assert_eq!(check_in(limits, &[join, pinned, leave, join, pinned, leave, join]), Some(6));
     assert_eq!(check_in(limits, &[join, short, leave, join, short, leave, join, short]), None);
@@ -403,8 +407,46 @@ fn the_heap_has_no_bounds_of_shares() {
     assert_eq!(heap.call(&Call::Leave { task: 0 }), Ok(Accepted::Advanced(false)));
     assert_eq!(heap.call(&Call::Join { task: 0, share: above }), Err(Refusal::ReserveAboveLimit));
     assert_eq!(heap.call(&Call::Join { task: 0, share: Share::NONE }), Ok(Accepted::Done));
-    let make = Call::Make { task: 0, kind: Kind::Local, extension: 0, length: 4 };
+    let make = Call::Make { task: 0, kind: Kind::Local, extension: 0, length: 4, prefix: 0 };
     for count in 1..=300 {
         assert_eq!(heap.call(&make), Ok(Accepted::Handle(count)));
     }
+}
+
+/// Order 10: a viewer's read is a use, and what it may not do is left aside, whatever it names; 28 is left aside too. No list
+/// waits for a viewer.
+#[test]
+fn a_viewers_read_is_a_use() {
+    let (task, viewer, handle, kind) = (0, 1, 1, Kind::Local);
+    let make = |task, prefix| Call::Make { task, kind, extension: 0, length: 4, prefix };
+    let (view, tick, read) = (Call::View { task: viewer }, Call::Tick { task }, Call::Read { task: viewer, handle });
+    let list = |then: &[Call<'static>]| [&[join(task), view, make(task, 2)][..], then].concat();
+    assert_eq!(check(&list(&[read, view, make(task, 5)])), None);
+    assert_eq!(check(&list(&[tick, make(task, 5), Call::Resume { task: viewer }, read])), Some(6));
+    for in_vain in [
+        make(viewer, 0),
+        Call::Refresh { task: viewer, kind, extension: 0, handle },
+        Call::Batch { task: viewer, kind, extension: 0, handles: kept(&[handle]) },
+        Call::Write { task: viewer, handle, offset: 4, bytes: &[1] },
+        Call::Release { task: viewer, handle },
+    ] {
+        assert_eq!(check(&list(&[tick, in_vain])), None, "{in_vain:?}");
+    }
+    assert_eq!(check(&list(&[tick, Call::Read { task: viewer, handle: 2 }])), None);
+}
+
+/// The heap shows a viewer the prefix for ever, and a task all.
+#[test]
+fn the_heap_keeps_prefixes() {
+    let mut heap = Heap::fresh();
+    heap.join(0, Share::OPEN).unwrap();
+    heap.view(1).unwrap();
+    heap.make(0, Kind::Local, 0, 4, 3).unwrap();
+    heap.write(0, 1, 0, &[1, 2, 3, 4]).unwrap();
+    for _ in 0..2 {
+        assert_eq!(heap.read(1, 1), Ok(Accepted::Bytes(&[1, 2, 3])));
+        assert_eq!(heap.read(0, 1), Ok(Accepted::Bytes(&[1, 2, 3, 4])));
+        assert_eq!(heap.tick(0), Ok(Accepted::Advanced(true)));
+    }
+    assert_eq!(heap.make(0, Kind::Local, 0, 4, 5), Err(Refusal::PrefixTooLong));
 }

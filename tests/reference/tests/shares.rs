@@ -22,8 +22,8 @@ fn rows() {
 
 // What is claimed.
 
-/// In both stores: all unmet reserves have blocks, no task and no reserve is above its limit, and an absent task has no
-/// share, and so no object.
+/// In both stores: all unmet reserves have blocks, no task and no reserve is above its limit, and a task that is absent or
+/// views has no share, and so no object.
 fn check_kept(ledger: &Ledger, call: &Call) {
     for store in STORES {
         let room = ledger.room(store);
@@ -34,8 +34,9 @@ fn check_kept(ledger: &Ledger, call: &Call) {
             assert!(room.reserve(task) <= room.limit(task), "{call:?}, {store:?}, {task}");
         }
     }
-    let absent = ledger.tasks().entries().iter().filter(|task| task.state == State::Absent);
-    absent.for_each(|task| assert_eq!(task.share, Share::NONE, "{call:?}"));
+    let has_none = |state: State| matches!(state, State::Absent | State::Viewing);
+    let tasks = ledger.tasks().entries().iter().filter(|task| has_none(task.state));
+    tasks.for_each(|task| assert_eq!(task.share, Share::NONE, "{call:?}"));
 }
 
 /// Whether the call is a make of a task that is below its reserve in the store of its length.
@@ -44,10 +45,13 @@ fn is_below_reserve(ledger: &Ledger, call: &Call) -> bool {
     usize::from(task) < TASKS && Store::holding(length).is_ok_and(|store| ledger.room(store).unmet(task) > 0)
 }
 
+/// The refusals are 1 to 28.
+const NUMBERS: usize = 29;
+
 /// After every call all that is kept is as claimed, and no make below a reserve gets 9 or 26.
 #[test]
 fn what_is_claimed() {
-    let mut below = [0; 27];
+    let mut below = [0; NUMBERS];
     for seed in 0..120 {
         let (site, script) = (limits(seed), sized_script(limits(seed), seed));
         check_claims(site, &script[..script.len().min(10_000)], &mut below);
@@ -59,7 +63,7 @@ fn what_is_claimed() {
     assert!(below[0] > 2_000 && below[10] > 200, "{below:?}");
 }
 
-fn check_claims(limits: Limits, script: &[u8], below: &mut [usize; 27]) {
+fn check_claims(limits: Limits, script: &[u8], below: &mut [usize; NUMBERS]) {
     let (mut ledger, mut room) = (Ledger::of(limits), vec![0; script.len() / 2]);
     for call in calls(script, &mut room) {
         let is_below = is_below_reserve(&ledger, &call);
@@ -80,7 +84,7 @@ fn makers() {
     let (mut ledger, first, second) = (Ledger::fresh(), Maker::Task(0), Maker::Task(1));
     for task in [0, 1] {
         ledger.join(task, Share::OPEN).unwrap();
-        ledger.make(task, Kind::Pinned, 0, 4).unwrap();
+        ledger.make(task, Kind::Pinned, 0, 4, 0).unwrap();
     }
     ledger.refresh(1, Kind::Global, 5, 1).unwrap();
     ledger.batch(0, Kind::Local, 5, Handles(&packed(&[1, 2]))).unwrap();
@@ -91,7 +95,7 @@ fn makers() {
     ledger.leave(0).unwrap();
     assert_eq!(makers(&ledger), [Maker::Departed, second]);
     ledger.join(0, Share::OPEN).unwrap();
-    ledger.make(0, Kind::Pinned, 0, 4).unwrap();
+    ledger.make(0, Kind::Pinned, 0, 4, 0).unwrap();
     assert_eq!(makers(&ledger), [Maker::Departed, second, first]);
     ledger.leave(1).unwrap();
     assert_eq!(makers(&ledger), [Maker::Departed, Maker::Departed, first]);

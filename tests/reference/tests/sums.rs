@@ -13,7 +13,7 @@ const LOCAL: Kind = Kind::Local;
 fn started<M: Exposed>(length: u16) -> M {
     let mut model = M::fresh();
     (0..2).for_each(|task| assert_eq!(model.join(task, Share::OPEN), Ok(Accepted::Done)));
-    assert_eq!(model.make(0, LOCAL, 2, length), Ok(Accepted::Handle(1)));
+    assert_eq!(model.make(0, LOCAL, 2, length, 0), Ok(Accepted::Handle(1)));
     assert_eq!(model.write(0, 1, 0, &own(length)), Ok(Accepted::Done));
     model
 }
@@ -142,7 +142,7 @@ fn the_other_calls_and_the_end<M: Exposed>() {
     all_refused(&mut model, Refusal::ObjectGone);
     report(&model, 0, 0, 1);
     // The next object, in the same block or another, has zeros and their sum.
-    assert_eq!(model.make(0, Kind::Pinned, 0, 32), Ok(Accepted::Handle(2)));
+    assert_eq!(model.make(0, Kind::Pinned, 0, 32, 0), Ok(Accepted::Handle(2)));
     assert_eq!(model.read(0, 2), Ok(Accepted::Bytes(&[0; 32])));
     assert_eq!(model.write(0, 2, 31, &[5]), Ok(Accepted::Done));
     model.disturb(Change { handle: 2, place: 31, byte: 4 });
@@ -155,8 +155,8 @@ fn the_other_calls_and_the_end<M: Exposed>() {
 /// A change in one block is nothing to another.
 fn the_other_objects<M: Exposed>() {
     let mut model: M = started(4);
-    assert_eq!(model.make(1, LOCAL, 0, 4), Ok(Accepted::Handle(2)));
-    assert_eq!(model.make(1, LOCAL, 0, 256), Ok(Accepted::Handle(3)));
+    assert_eq!(model.make(1, LOCAL, 0, 4, 0), Ok(Accepted::Handle(2)));
+    assert_eq!(model.make(1, LOCAL, 0, 256, 0), Ok(Accepted::Handle(3)));
     model.disturb(change(0, 200));
     assert_eq!(model.write(0, 2, 0, &[200]), Ok(Accepted::Done));
     assert_eq!(model.read(0, 2), Ok(Accepted::Bytes(&[200, 0, 0, 0])));

@@ -17,7 +17,7 @@ use Rattle.calls.proofs.make.Tie as tie
 -- the plan, by what stands
 planned : (p : tie.After-plan-make)
     → let a = p .before .before .before .before .before .before .args in
-    p .plan-make .result ≡ makePlan (a .task) (a .kind) (a .extension) (a .size) (a .h) (freePlaceIn (a .h .limits) (a .size) (a .handles .now)) (a .holding) (standingOf (a .clocks .now))
+    p .plan-make .result ≡ makePlan (a .task) (a .kind) (a .extension) (a .size) (a .prefix) (a .h) (freePlaceIn (a .h .limits) (a .size) (a .handles .now)) (a .holding) (standingOf (a .clocks .now))
 planned p = rw (← p .before .standing .ensures) (p .plan-make .ensures)
 
 returns : tie.Need-returns

@@ -23,7 +23,7 @@ make-requires c κs =
     let told = whole .before .before .before .before .fitness-of .ensures in
     let left = whole .before .before .if1 .left in (
       start .pre,
-      ready-lent (start .pre) (told .fit) left (whole .before .are-whole .ensures) (Use (Make _ _ _ _)) refl (whole .if2 .left),
+      ready-lent (start .pre) (told .fit) left (whole .before .are-whole .ensures) (Use (Make _ _ _ _ _)) refl (whole .if2 .left),
       rw (held .holding-in .ensures) (held-in (held-lent told left) (isSmall (start .args .size))),
     )
 

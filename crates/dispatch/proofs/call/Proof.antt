@@ -1,8 +1,5 @@
--- One of the eleven, report, or remaining life.
-use mathlib.Core.Path.{ap, _∙_}
+-- One of the twelve, report, or remaining life.
 use borrow.Author.Needs.{needs}
-use Rattle.ledger.specs.declared.Answer.the-variants.{Counted}
-use Rattle.dispatch.specs.Done.{withoutBytes}
 use Rattle.dispatch.proofs.Arms.{ready-for, report-arm, life-arm, use-arm}
 use Rattle.dispatch.proofs.call.Statement.{statement}
 use Rattle.dispatch.proofs.call.Tie as tie

@@ -6,15 +6,16 @@ use Rattle.numbered_tasks.proofs.Events.{event-silent}
 use Rattle.numbered_tasks.proofs.resume.Statement.{statement}
 use Rattle.numbered_tasks.proofs.resume.Tie as tie
 
-resume-requires : tie.Need-resume-requires
-resume-requires c κs = let start = c .before .before .before .before .before .before .before in out-sized (start .args .t1) refl refl _ (start .good .0)
+start-requires : tie.Need-start-requires
+start-requires c κs =
+    let start = c .before .before .before .before .before .before .before in (out-sized (start .args .t1) refl refl _ (start .good .0), refl)
 
 returns : tie.Need-returns
 returns c =
     let called = c .before .before .before in
     let made = called .before .before .before .before .before .before .before in
     let start = made .before in
-    event-silent (start .good .0) (out-whole (start .args .t1) refl refl (made .head-of .ensures)) (c .before .answer-number .ensures, c .with-head .ensures) (called .resume .ensures) refl
+    event-silent (start .good .0) (out-whole (start .args .t1) refl refl (made .head-of .ensures)) (c .before .answer-number .ensures, c .with-head .ensures) (called .start .ensures) refl
 
 pub resume-spec : {M : Type 1} → statement M
-resume-spec = tie.close (tie.spec (λ c κs. search needs) resume-requires (λ c κs. search needs) (λ c κs. search needs) returns)
+resume-spec = tie.close (tie.spec (λ c κs. search needs) start-requires (λ c κs. search needs) (λ c κs. search needs) returns)

@@ -47,7 +47,7 @@ use Rattle.record.proofs.Pool.Laws as P′
 use Rattle.numbered.specs.declared.Numbered.{Numbered}
 use mathlib.Core.List.{[], _∷_}
 use Rattle.ledger.specs.declared.Call.the-variants.{Join, Schedule, Release}
-use Rattle.ledger.specs.declared.Event.the-variants.{Leave, Block, Resume, Tick}
+use Rattle.ledger.specs.declared.Event.the-variants.{Leave, Block, Resume, Tick, View}
 use Rattle.ledger.specs.declared.Request.the-variants.{Use, Report, Remaining}
 use Rattle.ledger.specs.Limits.{chosen, standard}
 use Rattle.frames.specs.Frames.{kindOf, shareOf}
@@ -65,13 +65,13 @@ use Rattle.ramsummer.proofs.ramsummer_make.Statement as stated
 use Rattle.ramsummer.proofs.ramsummer_make.Code as code
 
 abbrev Arg : Type 0
-Arg = (RefT Pool × (RefT (List ℕ) × (RefT (List ℕ) × (ℕ × (ℕ × (ℕ × (ℕ × (RefT ℕ × Unit {0}))))))))
+Arg = (RefT Pool × (RefT (List ℕ) × (RefT (List ℕ) × (ℕ × (ℕ × (ℕ × (ℕ × (ℕ × (RefT ℕ × Unit {0})))))))))
 
 abbrev Vs : Type 0
-Vs = (List Val × (List Val × (List Val × (List Val × (List Val × (List Val × (List Val × (List Val × Unit {0}))))))))
+Vs = (List Val × (List Val × (List Val × (List Val × (List Val × (List Val × (List Val × (List Val × (List Val × Unit {0})))))))))
 
 abbrev stayed : Stays (f.ended .signature .params) (f.ended .kept)
-stayed = (stay-ref (0 ∷ []) tt (plain (λ _. P.the-row)), (gave-slice (1 ∷ []) tt (plain (λ _. u8)), (gave-slice (2 ∷ []) tt (plain (λ _. u8)), (stay-none (λ _. u8) yes, (stay-none (λ _. u8) yes, (stay-none (λ _. u8) yes, (stay-none (λ _. u16) yes, (gave-ref (3 ∷ []) tt (plain (λ _. u32)), tt))))))))
+stayed = (stay-ref (0 ∷ []) tt (plain (λ _. P.the-row)), (gave-slice (1 ∷ []) tt (plain (λ _. u8)), (gave-slice (2 ∷ []) tt (plain (λ _. u8)), (stay-none (λ _. u8) yes, (stay-none (λ _. u8) yes, (stay-none (λ _. u8) yes, (stay-none (λ _. u16) yes, (stay-none (λ _. u16) yes, (gave-ref (3 ∷ []) tt (plain (λ _. u32)), tt)))))))))
 
 -- the machine values of a record, and of what the call gives back
 abbrev pv : Pool → List Val
@@ -84,9 +84,9 @@ module _ {M : Type 1} (𝓤 : URA M) (H : Heap 𝓤) (A : Atoms 𝓤) (mem′ : 
   abbrev Called : Contract 𝓤
   Called = tripleOf 𝓤 H A call.signature (call.spec 𝓤 H A mem′ run)
 
-module _ {M : Type 1} (𝓤 : URA M) (H : Heap 𝓤) (A : Atoms 𝓤) (W : Given 𝓤 H A) (at-mem : Memory → SProp 𝓤) (run : Routine → Fun 𝓤) (κ κ1 κ2 κ3 : Lft) (q q1 q2 q3 : Share) (b o : ℕ) (γ : GName) (h : Pool) (s0 : RefT (List ℕ)) (s1 : RefT (List ℕ)) (n2 : ℕ) (n3 : ℕ) (n4 : ℕ) (n5 : ℕ) (s6 : RefT ℕ) (n2-fits : n2 < 2 ^ 8) (n3-fits : n3 < 2 ^ 8) (n4-fits : n4 < 2 ^ 8) (n5-fits : n5 < 2 ^ 16) (room0 : Room u8 (length (s0 .now))) (room1 : Room u8 (length (s1 .now))) where
+module _ {M : Type 1} (𝓤 : URA M) (H : Heap 𝓤) (A : Atoms 𝓤) (W : Given 𝓤 H A) (at-mem : Memory → SProp 𝓤) (run : Routine → Fun 𝓤) (κ κ1 κ2 κ3 : Lft) (q q1 q2 q3 : Share) (b o : ℕ) (γ : GName) (h : Pool) (s0 : RefT (List ℕ)) (s1 : RefT (List ℕ)) (n2 : ℕ) (n3 : ℕ) (n4 : ℕ) (n5 : ℕ) (n6 : ℕ) (s7 : RefT ℕ) (n2-fits : n2 < 2 ^ 8) (n3-fits : n3 < 2 ^ 8) (n4-fits : n4 < 2 ^ 8) (n5-fits : n5 < 2 ^ 16) (n6-fits : n6 < 2 ^ 16) (room0 : Room u8 (length (s0 .now))) (room1 : Room u8 (length (s1 .now))) where
   abbrev x : Arg
-  x = (record { ptr = (b, o); name = γ; now = h }, (s0, (s1, (n2, (n3, (n4, (n5, (s6, tt))))))))
+  x = (record { ptr = (b, o); name = γ; now = h }, (s0, (s1, (n2, (n3, (n4, (n5, (n6, (s7, tt)))))))))
 
   abbrev v0 : Val
   v0 = sliceVal (s0 .ptr) (length (s0 .now))
@@ -94,11 +94,11 @@ module _ {M : Type 1} (𝓤 : URA M) (H : Heap 𝓤) (A : Atoms 𝓤) (W : Given
   abbrev v1 : Val
   v1 = sliceVal (s1 .ptr) (length (s1 .now))
 
-  abbrev v6 : Val
-  v6 = vptr (s6 .ptr .0) (s6 .ptr .1)
+  abbrev v7 : Val
+  v7 = vptr (s7 .ptr .0) (s7 .ptr .1)
 
   abbrev at : Vs
-  at = (vptr b o ∷ [], (v0 ∷ [], (v1 ∷ [], (vint w8 n2 ∷ [], (vint w8 n3 ∷ [], (vint w8 n4 ∷ [], (vint w16 n5 ∷ [], (v6 ∷ [], tt))))))))
+  at = (vptr b o ∷ [], (v0 ∷ [], (v1 ∷ [], (vint w8 n2 ∷ [], (vint w8 n3 ∷ [], (vint w8 n4 ∷ [], (vint w16 n5 ∷ [], (vint w16 n6 ∷ [], (v7 ∷ [], tt)))))))))
 
   abbrev Post : Val → SProp 𝓤
   Post = walkOf 𝓤 H A f.ended stayed (f.clauses 𝓤 H A at-mem run) .post (((κ, (κ1, (κ2, (κ3, tt)))), (q, (q1, (q2, (q3, tt)))), tt, x, at), tt)
@@ -114,63 +114,63 @@ module _ {M : Type 1} (𝓤 : URA M) (H : Heap 𝓤) (A : Atoms 𝓤) (W : Given
 
   -- what the call says of what it gives back and leaves
   abbrev Did : Numbered → List ℕ → List ℕ → ℕ → Type 0
-  Did r y0 y1 y6 = MakesBy (kindOf n3) n2 n4 n5 (h) ((s0 .now)) ((s1 .now)) ((s6 .now) ∷ []) (r .number) (r .pool) (y0) (y1) (y6 ∷ [])
+  Did r y0 y1 y7 = MakesBy (kindOf n3) n2 n4 n5 n6 (h) ((s0 .now)) ((s1 .now)) ((s7 .now) ∷ []) (r .number) (r .pool) (y0) (y1) (y7 ∷ [])
 
   abbrev Left : Numbered → List ℕ → List ℕ → ℕ → List (Item 𝓤)
-  Left r y0 y1 y6 = ‵ (fobs γ (P.the-row .coded .code (r .pool))) ∷ ‵ (fbor κ (Body (mem P.the-row) b o γ)) ∷ ‵ (flft κ q) ∷ (‵ (flft κ1 q1) ⊛ ‵ (flft κ2 q2) ⊛ ‵ (flft κ3 q3) ⊛ ‵ ftrue) ∷ ‵ (finally u8 (s0 .name) y0) ∷ ‵ (finally u8 (s1 .name) y1) ∷ ‵ (fres (s6 .name) (u32 .coded .code y6)) ∷ ‵ (u8 .own (r .number) ((vint w8 (r .number)) ∷ [])) ∷ []
+  Left r y0 y1 y7 = ‵ (fobs γ (P.the-row .coded .code (r .pool))) ∷ ‵ (fbor κ (Body (mem P.the-row) b o γ)) ∷ ‵ (flft κ q) ∷ (‵ (flft κ1 q1) ⊛ ‵ (flft κ2 q2) ⊛ ‵ (flft κ3 q3) ⊛ ‵ ftrue) ∷ ‵ (finally u8 (s0 .name) y0) ∷ ‵ (finally u8 (s1 .name) y1) ∷ ‵ (fres (s7 .name) (u32 .coded .code y7)) ∷ ‵ (u8 .own (r .number) ((vint w8 (r .number)) ∷ [])) ∷ []
 
-  exits : (r : Numbered) (y0 : List ℕ) (y1 : List ℕ) (y6 : ℕ) → Did r y0 y1 y6 → length y0 ≡ length (s0 .now) → length y1 ≡ length (s1 .now) → ent 𝓤 (⋆ 𝓤 H A (Left r y0 y1 y6)) (Post (vint w8 (r .number)))
-  exits r y0 y1 y6 did k0 k1 =
-      qed W (Left r y0 y1 y6) ∵
-      suffices ! _ (ends-at 𝓤 H A f.ended stayed (f.clauses 𝓤 H A at-mem run) W (((κ, (κ1, (κ2, (κ3, tt)))), (q, (q1, (q2, (q3, tt)))), tt, x, at), tt) (vint w8 (r .number)) (r .number) ((r .pool), (y0, (y1, (tt, (tt, (tt, (tt, (y6, tt)))))))) (tt, (k0, (k1, (tt, (tt, (tt, (tt, (tt, tt))))))))) $ says ! did $
-      move ! (2 ∷ 3 ∷ []) $ join ! $ frame ! $ feqI ! (List Val) (vptr b o ∷ []) (vptr b o ∷ []) refl $ fjoin3 ! $ nothing ! $ move ! (4 ∷ 0 ∷ []) $ fjoin ! $ owned ! u16 (Is u16) (uint-makes 𝓤 H A W w16) n5 _ (refl, n5-fits) $ fjoin ! $ owned ! u8 (Is u8) (uint-makes 𝓤 H A W w8) n4 _ (refl, n4-fits) $ fjoin ! $ owned ! u8 (Is u8) (uint-makes 𝓤 H A W w8) n3 _ (refl, n3-fits) $ fjoin ! $ owned ! u8 (Is u8) (uint-makes 𝓤 H A W w8) n2 _ (refl, n2-fits) $ fjoin ! $ move ! (3 ∷ 0 ∷ []) $ fjoin ! $ move ! (2 ∷ 0 ∷ []) $ fjoin ! $ move ! (1 ∷ 0 ∷ []) $ fjoin ! $ done !
+  exits : (r : Numbered) (y0 : List ℕ) (y1 : List ℕ) (y7 : ℕ) → Did r y0 y1 y7 → length y0 ≡ length (s0 .now) → length y1 ≡ length (s1 .now) → ent 𝓤 (⋆ 𝓤 H A (Left r y0 y1 y7)) (Post (vint w8 (r .number)))
+  exits r y0 y1 y7 did k0 k1 =
+      qed W (Left r y0 y1 y7) ∵
+      suffices ! _ (ends-at 𝓤 H A f.ended stayed (f.clauses 𝓤 H A at-mem run) W (((κ, (κ1, (κ2, (κ3, tt)))), (q, (q1, (q2, (q3, tt)))), tt, x, at), tt) (vint w8 (r .number)) (r .number) ((r .pool), (y0, (y1, (tt, (tt, (tt, (tt, (tt, (y7, tt))))))))) (tt, (k0, (k1, (tt, (tt, (tt, (tt, (tt, (tt, tt)))))))))) $ says ! did $
+      move ! (2 ∷ 3 ∷ []) $ join ! $ frame ! $ feqI ! (List Val) (vptr b o ∷ []) (vptr b o ∷ []) refl $ fjoin3 ! $ nothing ! $ move ! (4 ∷ 0 ∷ []) $ fjoin ! $ owned ! u16 (Is u16) (uint-makes 𝓤 H A W w16) n6 _ (refl, n6-fits) $ fjoin ! $ owned ! u16 (Is u16) (uint-makes 𝓤 H A W w16) n5 _ (refl, n5-fits) $ fjoin ! $ owned ! u8 (Is u8) (uint-makes 𝓤 H A W w8) n4 _ (refl, n4-fits) $ fjoin ! $ owned ! u8 (Is u8) (uint-makes 𝓤 H A W w8) n3 _ (refl, n3-fits) $ fjoin ! $ owned ! u8 (Is u8) (uint-makes 𝓤 H A W w8) n2 _ (refl, n2-fits) $ fjoin ! $ move ! (3 ∷ 0 ∷ []) $ fjoin ! $ move ! (2 ∷ 0 ∷ []) $ fjoin ! $ move ! (1 ∷ 0 ∷ []) $ fjoin ! $ done !
 
   abbrev to : Called 𝓤 H A at-mem run .Ghost
-  to = (((κ1, (κ2, (κ3, tt))), (q1, (q2, (q3, tt))), tt, (h, (s0, (s1, (n2, (n3, (n4, (n5, (s6, tt)))))))), (pv h, (v0 ∷ [], (v1 ∷ [], (vint w8 n2 ∷ [], (vint w8 n3 ∷ [], (vint w8 n4 ∷ [], (vint w16 n5 ∷ [], (v6 ∷ [], tt))))))))), tt)
+  to = (((κ1, (κ2, (κ3, tt))), (q1, (q2, (q3, tt))), tt, (h, (s0, (s1, (n2, (n3, (n4, (n5, (n6, (s7, tt))))))))), (pv h, (v0 ∷ [], (v1 ∷ [], (vint w8 n2 ∷ [], (vint w8 n3 ∷ [], (vint w8 n4 ∷ [], (vint w16 n5 ∷ [], (vint w16 n6 ∷ [], (v7 ∷ [], tt)))))))))), tt)
 
-  asks : Is P.the-row h (pv h) → ent 𝓤 (mean 𝓤 H A (((((‵ (MutSlice (named 1) κ1 u8 .own s0 (v0 ∷ [])) ⊛ ‵ (MutSlice (named 2) κ2 u8 .own s1 (v1 ∷ []))) ⊛ ‵ (MutRef (named 3) κ3 u32 .own s6 (v6 ∷ []))) ⊛ ‵ (flft κ1 q1)) ⊛ ‵ (flft κ2 q2)) ⊛ ‵ (flft κ3 q3))) (Called 𝓤 H A at-mem run .pre to)
-  asks is = qed W ((((((‵ (MutSlice (named 1) κ1 u8 .own s0 (v0 ∷ [])) ⊛ ‵ (MutSlice (named 2) κ2 u8 .own s1 (v1 ∷ []))) ⊛ ‵ (MutRef (named 3) κ3 u32 .own s6 (v6 ∷ []))) ⊛ ‵ (flft κ1 q1)) ⊛ ‵ (flft κ2 q2)) ⊛ ‵ (flft κ3 q3)) ∷ []) ∵
-      split ! $ split ! $ split ! $ split ! $ split ! $ nothing ! $ move ! (3 ∷ 0 ∷ []) $ fjoin ! $ owned ! u16 (Is u16) (uint-makes 𝓤 H A W w16) n5 _ (refl, n5-fits) $ fjoin ! $ owned ! u8 (Is u8) (uint-makes 𝓤 H A W w8) n4 _ (refl, n4-fits) $ fjoin ! $ owned ! u8 (Is u8) (uint-makes 𝓤 H A W w8) n3 _ (refl, n3-fits) $ fjoin ! $ owned ! u8 (Is u8) (uint-makes 𝓤 H A W w8) n2 _ (refl, n2-fits) $ fjoin ! $ move ! (2 ∷ 0 ∷ []) $ fjoin ! $ move ! (1 ∷ 0 ∷ []) $ fjoin ! $ owned ! P.the-row (Is P.the-row) (LL.makes P.the-type P′.the-plain 𝓤 H A) h _ is $ fjoin ! $ nothing ! $ move ! (4 ∷ 0 ∷ []) $ join ! $ move ! (3 ∷ 0 ∷ []) $ join ! $ move ! (2 ∷ 0 ∷ []) $ join ! $ join ! $ frame ! $ done !
+  asks : Is P.the-row h (pv h) → ent 𝓤 (mean 𝓤 H A (((((‵ (MutSlice (named 1) κ1 u8 .own s0 (v0 ∷ [])) ⊛ ‵ (MutSlice (named 2) κ2 u8 .own s1 (v1 ∷ []))) ⊛ ‵ (MutRef (named 3) κ3 u32 .own s7 (v7 ∷ []))) ⊛ ‵ (flft κ1 q1)) ⊛ ‵ (flft κ2 q2)) ⊛ ‵ (flft κ3 q3))) (Called 𝓤 H A at-mem run .pre to)
+  asks is = qed W ((((((‵ (MutSlice (named 1) κ1 u8 .own s0 (v0 ∷ [])) ⊛ ‵ (MutSlice (named 2) κ2 u8 .own s1 (v1 ∷ []))) ⊛ ‵ (MutRef (named 3) κ3 u32 .own s7 (v7 ∷ []))) ⊛ ‵ (flft κ1 q1)) ⊛ ‵ (flft κ2 q2)) ⊛ ‵ (flft κ3 q3)) ∷ []) ∵
+      split ! $ split ! $ split ! $ split ! $ split ! $ nothing ! $ move ! (3 ∷ 0 ∷ []) $ fjoin ! $ owned ! u16 (Is u16) (uint-makes 𝓤 H A W w16) n6 _ (refl, n6-fits) $ fjoin ! $ owned ! u16 (Is u16) (uint-makes 𝓤 H A W w16) n5 _ (refl, n5-fits) $ fjoin ! $ owned ! u8 (Is u8) (uint-makes 𝓤 H A W w8) n4 _ (refl, n4-fits) $ fjoin ! $ owned ! u8 (Is u8) (uint-makes 𝓤 H A W w8) n3 _ (refl, n3-fits) $ fjoin ! $ owned ! u8 (Is u8) (uint-makes 𝓤 H A W w8) n2 _ (refl, n2-fits) $ fjoin ! $ move ! (2 ∷ 0 ∷ []) $ fjoin ! $ move ! (1 ∷ 0 ∷ []) $ fjoin ! $ owned ! P.the-row (Is P.the-row) (LL.makes P.the-type P′.the-plain 𝓤 H A) h _ is $ fjoin ! $ nothing ! $ move ! (4 ∷ 0 ∷ []) $ join ! $ move ! (3 ∷ 0 ∷ []) $ join ! $ move ! (2 ∷ 0 ∷ []) $ join ! $ join ! $ frame ! $ done !
 
   abbrev Lasts : Type 0
-  Lasts = (Unit {0} × (List ℕ × (List ℕ × (Unit {0} × (Unit {0} × (Unit {0} × (Unit {0} × (ℕ × Unit {0}))))))))
+  Lasts = (Unit {0} × (List ℕ × (List ℕ × (Unit {0} × (Unit {0} × (Unit {0} × (Unit {0} × (Unit {0} × (ℕ × Unit {0})))))))))
 
   module _ (C : Calls 𝓤 H) (Λ : Loops 𝓤 H) (fm : FmC 𝓤 H (W .laws) C) (known : Triple 𝓤 (C #call) (Called 𝓤 H A at-mem run)) where
-    walk : ent 𝓤 (onEntry 𝓤 H A f.signature (κ, (κ1, (κ2, (κ3, tt)))) (q, (q1, (q2, (q3, tt)))) x at) (WpFn 𝓤 H C Λ code.function (vptr b o ∷ v0 ∷ v1 ∷ vint w8 n2 ∷ vint w8 n3 ∷ vint w8 n4 ∷ vint w16 n5 ∷ v6 ∷ []) Post)
+    walk : ent 𝓤 (onEntry 𝓤 H A f.signature (κ, (κ1, (κ2, (κ3, tt)))) (q, (q1, (q2, (q3, tt)))) x at) (WpFn 𝓤 H C Λ code.function (vptr b o ∷ v0 ∷ v1 ∷ vint w8 n2 ∷ vint w8 n3 ∷ vint w8 n4 ∷ vint w16 n5 ∷ vint w16 n6 ∷ v7 ∷ []) Post)
     walk =
-        qed W ((‵ (flft κ q) ⊛ ‵ (flft κ1 q1) ⊛ ‵ (flft κ2 q2) ⊛ ‵ (flft κ3 q3) ⊛ ‵ ftrue) ∷ ‵ (owns (MutRef (named 0) κ P.the-row ∷ MutSlice (named 1) κ1 u8 ∷ MutSlice (named 2) κ2 u8 ∷ u8 ∷ u8 ∷ u8 ∷ u16 ∷ MutRef (named 3) κ3 u32 ∷ []) x at) ∷ []) ∵ split ! $ move ! (1 ∷ []) $ split ! $ move ! (1 ∷ []) $ split ! $ move ! (1 ∷ []) $ split ! $ move ! (5 ∷ []) $ fsplit ! $ fsplit3 ! $ drop ! $ move ! (2 ∷ []) $ fsplit ! $ move ! (1 ∷ []) $ fsplit ! $ move ! (1 ∷ []) $ fsplit ! $ drop ! $ fsplit ! $ drop ! $ fsplit ! $ drop ! $ fsplit ! $ drop ! $ fsplit ! $ move ! (4 ∷ 5 ∷ 10 ∷ []) $
-        enter ! C Λ code.function (vptr b o ∷ v0 ∷ v1 ∷ vint w8 n2 ∷ vint w8 n3 ∷ vint w8 n4 ∷ vint w16 n5 ∷ v6 ∷ []) _ $
-        alloc1 ! (λ l0. alloc1 ! (λ l1. alloc1 ! (λ l2. alloc1 ! (λ l3. alloc1 ! (λ l4. alloc1 ! (λ l5. alloc1 ! (λ l6. alloc1 ! (λ l7. alloc1 ! (λ l8. alloc1 ! (λ l9. alloc1 ! (λ l10. alloc1 ! (λ l11. alloc1 ! (λ l12. alloc1 ! (λ l13. alloc1 ! (λ l14. alloc1 ! (λ l15. alloc0 ! $ params1 ! $
-        pass1 ! (init ! 28 refl (tt, tt)) $ pass1 ! (init ! 26 refl (tt, (tt, (record { fits = room0 .0 }, tt)))) $ pass1 ! (init ! 24 refl (tt, (tt, (record { fits = room1 .0 }, tt)))) $ pass1 ! (init ! 22 refl (tt, record { fits = n2-fits })) $ pass1 ! (init ! 20 refl (tt, record { fits = n3-fits })) $ pass1 ! (init ! 18 refl (tt, record { fits = n4-fits })) $ pass1 ! (init ! 16 refl (tt, record { fits = n5-fits })) $ pass1 ! (init ! 14 refl (tt, tt)) $ pass0 ! $
-        move ! (32 ∷ 33 ∷ 34 ∷ []) $ opens ! tt P.the-row {h = h} b o (λ vs. spelt ! P.the-row (Is P.the-row) (shows 𝓤 H A P.the-row) pv (LL.tells P.the-type P′.the-laws) fullShare h vs b o $ move ! (1 ∷ []) $ facts ! P.the-row (Is P.the-row) (shows 𝓤 H A P.the-row) h (pv h) (λ was.
-        assigns ! (of-opd ! (load ! (from ! (hop ! (look ! 32 refl) (stop !))) (look-raw ! 0 refl))) (from ! (stop !)) (init ! 14 refl (LL.lawful P.the-type P′.the-laws 𝓤 H A W .typed h _ was .0)) $
-        assigns ! (addr ! (from ! (fld ! refl (hop ! (look-in ! 30 (sub ! 0 refl (whole !))) (stop !))))) (from ! (stop !)) (init ! 12 refl (tt, tt)) $
-        assigns ! (agg ! (and-then ! (load ! (from ! (stop !)) (look ! 12 refl)) (and-then ! (load ! (from ! (fld ! refl (stop !))) (look-in ! 30 (sub ! 1 refl (whole !)))) (no-more !)))) (from ! (stop !)) (init ! 10 refl (tt, (tt, (record { fits = room0 .0 }, tt)))) $
-        assigns ! (addr ! (from ! (fld ! refl (hop ! (look-in ! 28 (sub ! 0 refl (whole !))) (stop !))))) (from ! (stop !)) (init ! 8 refl (tt, tt)) $
-        assigns ! (agg ! (and-then ! (load ! (from ! (stop !)) (look ! 8 refl)) (and-then ! (load ! (from ! (fld ! refl (stop !))) (look-in ! 28 (sub ! 1 refl (whole !)))) (no-more !)))) (from ! (stop !)) (init ! 6 refl (tt, (tt, (record { fits = room1 .0 }, tt)))) $
+        qed W ((‵ (flft κ q) ⊛ ‵ (flft κ1 q1) ⊛ ‵ (flft κ2 q2) ⊛ ‵ (flft κ3 q3) ⊛ ‵ ftrue) ∷ ‵ (owns (MutRef (named 0) κ P.the-row ∷ MutSlice (named 1) κ1 u8 ∷ MutSlice (named 2) κ2 u8 ∷ u8 ∷ u8 ∷ u8 ∷ u16 ∷ u16 ∷ MutRef (named 3) κ3 u32 ∷ []) x at) ∷ []) ∵ split ! $ move ! (1 ∷ []) $ split ! $ move ! (1 ∷ []) $ split ! $ move ! (1 ∷ []) $ split ! $ move ! (5 ∷ []) $ fsplit ! $ fsplit3 ! $ drop ! $ move ! (2 ∷ []) $ fsplit ! $ move ! (1 ∷ []) $ fsplit ! $ move ! (1 ∷ []) $ fsplit ! $ drop ! $ fsplit ! $ drop ! $ fsplit ! $ drop ! $ fsplit ! $ drop ! $ fsplit ! $ drop ! $ fsplit ! $ move ! (4 ∷ 5 ∷ 10 ∷ []) $
+        enter ! C Λ code.function (vptr b o ∷ v0 ∷ v1 ∷ vint w8 n2 ∷ vint w8 n3 ∷ vint w8 n4 ∷ vint w16 n5 ∷ vint w16 n6 ∷ v7 ∷ []) _ $
+        alloc1 ! (λ l0. alloc1 ! (λ l1. alloc1 ! (λ l2. alloc1 ! (λ l3. alloc1 ! (λ l4. alloc1 ! (λ l5. alloc1 ! (λ l6. alloc1 ! (λ l7. alloc1 ! (λ l8. alloc1 ! (λ l9. alloc1 ! (λ l10. alloc1 ! (λ l11. alloc1 ! (λ l12. alloc1 ! (λ l13. alloc1 ! (λ l14. alloc1 ! (λ l15. alloc1 ! (λ l16. alloc0 ! $ params1 ! $
+        pass1 ! (init ! 30 refl (tt, tt)) $ pass1 ! (init ! 28 refl (tt, (tt, (record { fits = room0 .0 }, tt)))) $ pass1 ! (init ! 26 refl (tt, (tt, (record { fits = room1 .0 }, tt)))) $ pass1 ! (init ! 24 refl (tt, record { fits = n2-fits })) $ pass1 ! (init ! 22 refl (tt, record { fits = n3-fits })) $ pass1 ! (init ! 20 refl (tt, record { fits = n4-fits })) $ pass1 ! (init ! 18 refl (tt, record { fits = n5-fits })) $ pass1 ! (init ! 16 refl (tt, record { fits = n6-fits })) $ pass1 ! (init ! 14 refl (tt, tt)) $ pass0 ! $
+        move ! (34 ∷ 35 ∷ 36 ∷ []) $ opens ! tt P.the-row {h = h} b o (λ vs. spelt ! P.the-row (Is P.the-row) (shows 𝓤 H A P.the-row) pv (LL.tells P.the-type P′.the-laws) fullShare h vs b o $ move ! (1 ∷ []) $ facts ! P.the-row (Is P.the-row) (shows 𝓤 H A P.the-row) h (pv h) (λ was.
+        assigns ! (of-opd ! (load ! (from ! (hop ! (look ! 34 refl) (stop !))) (look-raw ! 0 refl))) (from ! (stop !)) (init ! 14 refl (LL.lawful P.the-type P′.the-laws 𝓤 H A W .typed h _ was .0)) $
+        assigns ! (addr ! (from ! (fld ! refl (hop ! (look-in ! 32 (sub ! 0 refl (whole !))) (stop !))))) (from ! (stop !)) (init ! 12 refl (tt, tt)) $
+        assigns ! (agg ! (and-then ! (load ! (from ! (stop !)) (look ! 12 refl)) (and-then ! (load ! (from ! (fld ! refl (stop !))) (look-in ! 32 (sub ! 1 refl (whole !)))) (no-more !)))) (from ! (stop !)) (init ! 10 refl (tt, (tt, (record { fits = room0 .0 }, tt)))) $
+        assigns ! (addr ! (from ! (fld ! refl (hop ! (look-in ! 30 (sub ! 0 refl (whole !))) (stop !))))) (from ! (stop !)) (init ! 8 refl (tt, tt)) $
+        assigns ! (agg ! (and-then ! (load ! (from ! (stop !)) (look ! 8 refl)) (and-then ! (load ! (from ! (fld ! refl (stop !))) (look-in ! 30 (sub ! 1 refl (whole !)))) (no-more !)))) (from ! (stop !)) (init ! 6 refl (tt, (tt, (record { fits = room1 .0 }, tt)))) $
         assigns ! (addr ! (from ! (hop ! (look ! 18 refl) (stop !)))) (from ! (stop !)) (init ! 4 refl (tt, tt)) $
-        move ! (39 ∷ 38 ∷ 36 ∷ 43 ∷ 42 ∷ 40 ∷ []) $ join ! $ join ! $ join ! $ join ! $ join ! $ use1 W (raw (Called 𝓤 H A at-mem run .pre to)) (asks was) $
-        calls-at ! fm (Called 𝓤 H A at-mem run) known to (and-then ! (load ! (from ! (stop !)) (look ! 15 refl)) (and-then ! (load ! (from ! (stop !)) (look ! 11 refl)) (and-then ! (load ! (from ! (stop !)) (look ! 7 refl)) (and-then ! (load ! (from ! (stop !)) (look ! 27 refl)) (and-then ! (load ! (from ! (stop !)) (look ! 25 refl)) (and-then ! (load ! (from ! (stop !)) (look ! 23 refl)) (and-then ! (load ! (from ! (stop !)) (look ! 21 refl)) (and-then ! (load ! (from ! (stop !)) (look ! 5 refl)) (no-more !))))))))) (λ v.
-        use1 W (later (some (λ (r : Numbered). ((‵ (flft κ1 q1) ⊛ ‵ (flft κ2 q2) ⊛ ‵ (flft κ3 q3) ⊛ ‵ ftrue) ⊛ ‵ (J.the-row .own r (v ∷ []))) ⊛ raw (ensured 𝓤 H A call.ended (call.clauses 𝓤 H A at-mem run) (κ1, (κ2, (κ3, tt))) (h, (s0, (s1, (n2, (n3, (n4, (n5, (s6, tt)))))))) tt r)))) (id⊢ 𝓤 _) $ await ! tt $ pick ! (λ r. split ! $ move ! (1 ∷ []) $
-        use1 W (some (λ (ys : Lasts). ‵ (lasts call.ended (κ1, (κ2, (κ3, tt))) (h, (s0, (s1, (n2, (n3, (n4, (n5, (s6, tt)))))))) ys) ⊛ raw (fact 𝓤 (Did r (ys .1 .0) (ys .1 .1 .0) (ys .1 .1 .1 .1 .1 .1 .1 .0))))) (id⊢ 𝓤 _) $ pick ! (λ ys. split ! $ move ! (1 ∷ []) $ heard ! (Did r (ys .1 .0) (ys .1 .1 .0) (ys .1 .1 .1 .1 .1 .1 .1 .0)) (λ did. fsplit ! $ drop ! $ fsplit ! $ fsplit ! $ move ! (1 ∷ []) $ feqL ! (λ k0. move ! (1 ∷ []) $ fsplit ! $ fsplit ! $ move ! (1 ∷ []) $ feqL ! (λ k1. move ! (1 ∷ []) $ fsplit ! $ drop ! $ fsplit ! $ drop ! $ fsplit ! $ drop ! $ fsplit ! $ drop ! $ fsplit ! $ move ! (1 ∷ []) $ drop ! $
+        move ! (41 ∷ 40 ∷ 38 ∷ 45 ∷ 44 ∷ 42 ∷ []) $ join ! $ join ! $ join ! $ join ! $ join ! $ use1 W (raw (Called 𝓤 H A at-mem run .pre to)) (asks was) $
+        calls-at ! fm (Called 𝓤 H A at-mem run) known to (and-then ! (load ! (from ! (stop !)) (look ! 15 refl)) (and-then ! (load ! (from ! (stop !)) (look ! 11 refl)) (and-then ! (load ! (from ! (stop !)) (look ! 7 refl)) (and-then ! (load ! (from ! (stop !)) (look ! 29 refl)) (and-then ! (load ! (from ! (stop !)) (look ! 27 refl)) (and-then ! (load ! (from ! (stop !)) (look ! 25 refl)) (and-then ! (load ! (from ! (stop !)) (look ! 23 refl)) (and-then ! (load ! (from ! (stop !)) (look ! 21 refl)) (and-then ! (load ! (from ! (stop !)) (look ! 5 refl)) (no-more !)))))))))) (λ v.
+        use1 W (later (some (λ (r : Numbered). ((‵ (flft κ1 q1) ⊛ ‵ (flft κ2 q2) ⊛ ‵ (flft κ3 q3) ⊛ ‵ ftrue) ⊛ ‵ (J.the-row .own r (v ∷ []))) ⊛ raw (ensured 𝓤 H A call.ended (call.clauses 𝓤 H A at-mem run) (κ1, (κ2, (κ3, tt))) (h, (s0, (s1, (n2, (n3, (n4, (n5, (n6, (s7, tt))))))))) tt r)))) (id⊢ 𝓤 _) $ await ! tt $ pick ! (λ r. split ! $ move ! (1 ∷ []) $
+        use1 W (some (λ (ys : Lasts). ‵ (lasts call.ended (κ1, (κ2, (κ3, tt))) (h, (s0, (s1, (n2, (n3, (n4, (n5, (n6, (s7, tt))))))))) ys) ⊛ raw (fact 𝓤 (Did r (ys .1 .0) (ys .1 .1 .0) (ys .1 .1 .1 .1 .1 .1 .1 .1 .0))))) (id⊢ 𝓤 _) $ pick ! (λ ys. split ! $ move ! (1 ∷ []) $ heard ! (Did r (ys .1 .0) (ys .1 .1 .0) (ys .1 .1 .1 .1 .1 .1 .1 .1 .0)) (λ did. fsplit ! $ drop ! $ fsplit ! $ fsplit ! $ move ! (1 ∷ []) $ feqL ! (λ k0. move ! (1 ∷ []) $ fsplit ! $ fsplit ! $ move ! (1 ∷ []) $ feqL ! (λ k1. move ! (1 ∷ []) $ fsplit ! $ drop ! $ fsplit ! $ drop ! $ fsplit ! $ drop ! $ fsplit ! $ drop ! $ fsplit ! $ drop ! $ fsplit ! $ move ! (1 ∷ []) $ drop ! $
         move ! (3 ∷ []) $ split ! $ move ! (1 ∷ []) $ facts ! J.the-row (Is J.the-row) (shows 𝓤 H A J.the-row) r (v ∷ []) (λ is₀.
         land ! (from ! (stop !)) (init ! 20 refl (LL.lawful J.the-type J′.the-laws 𝓤 H A W .typed r _ is₀ .0)) $
-        rewrite ! 20 (λ (u : Val). ‵ (fat fullShare J′.mir l9 0 u)) (ap only (LL.tells J.the-type J′.the-laws r (v ∷ []) is₀)) refl $
-        assigns ! (of-opd ! (load ! (from ! (fld ! refl (stop !))) (look-in ! 20 (sub ! 0 refl (whole !))))) (from ! (hop ! (look ! 36 refl) (stop !))) (store-raw ! 4 refl (LL.lawful P.the-type P′.the-laws 𝓤 H A W .typed (r .pool) _ (pool-is r (spells-as r v is₀)) .0)) $
+        rewrite ! 20 (λ (u : Val). ‵ (fat fullShare J′.mir l10 0 u)) (ap only (LL.tells J.the-type J′.the-laws r (v ∷ []) is₀)) refl $
+        assigns ! (of-opd ! (load ! (from ! (fld ! refl (stop !))) (look-in ! 20 (sub ! 0 refl (whole !))))) (from ! (hop ! (look ! 38 refl) (stop !))) (store-raw ! 4 refl (LL.lawful P.the-type P′.the-laws 𝓤 H A W .typed (r .pool) _ (pool-is r (spells-as r v is₀)) .0)) $
         owned ! P.the-row (Is P.the-row) (LL.makes P.the-type P′.the-plain 𝓤 H A) (r .pool) _ (pool-is r (spells-as r v is₀)) $ move ! (5 ∷ 0 ∷ 6 ∷ 7 ∷ 8 ∷ []) $ closes ! tt P.the-row (r .pool) (pv (r .pool)) b o $
-        assigns ! (of-opd ! (load ! (from ! (fld ! refl (stop !))) (look-in ! 19 (sub ! 1 refl (whole !))))) (from ! (stop !)) (init ! 37 refl (uint-lawful 𝓤 H A W w8 .typed (r .number) _ (number-is r (spells-as r v is₀)) .0)) $
-        owned ! u8 (Is u8) (uint-makes 𝓤 H A W w8) (r .number) _ (number-is r (spells-as r v is₀)) $ returns ! (look ! 38 refl) $ forget ! 8 refl $ forget ! 10 refl $ forget ! 12 refl $ forget ! 14 refl $ forget ! 16 refl $ forget ! 18 refl $ forget ! 20 refl $ forget ! 22 refl $ forget ! 24 refl $ forget ! 26 refl $ forget ! 28 refl $ forget ! 30 refl $ forget ! 32 refl $ forget ! 34 refl $ forget ! 36 refl $ forget ! 38 refl $
-        move ! (38 ∷ 39 ∷ []) $ free1 ! $ move ! (36 ∷ 37 ∷ []) $ free1 ! $ move ! (34 ∷ 35 ∷ []) $ free1 ! $ move ! (32 ∷ 33 ∷ []) $ free1 ! $ move ! (30 ∷ 31 ∷ []) $ free1 ! $ move ! (28 ∷ 29 ∷ []) $ free1 ! $ move ! (26 ∷ 27 ∷ []) $ free1 ! $ move ! (24 ∷ 25 ∷ []) $ free1 ! $ move ! (22 ∷ 23 ∷ []) $ free1 ! $ move ! (20 ∷ 21 ∷ []) $ free1 ! $ move ! (18 ∷ 19 ∷ []) $ free1 ! $ move ! (16 ∷ 17 ∷ []) $ free1 ! $ move ! (14 ∷ 15 ∷ []) $ free1 ! $ move ! (12 ∷ 13 ∷ []) $ free1 ! $ move ! (10 ∷ 11 ∷ []) $ free1 ! $ move ! (8 ∷ 9 ∷ []) $ free1 ! $ free0 ! $
-        keep ! (1 ∷ 2 ∷ 3 ∷ 4 ∷ 7 ∷ 6 ∷ 5 ∷ 0 ∷ []) $ by ! (exits r (ys .1 .0) (ys .1 .1 .0) (ys .1 .1 .1 .1 .1 .1 .1 .0) did k0 k1))))))))))))))))))))))))))
+        assigns ! (of-opd ! (load ! (from ! (fld ! refl (stop !))) (look-in ! 19 (sub ! 1 refl (whole !))))) (from ! (stop !)) (init ! 39 refl (uint-lawful 𝓤 H A W w8 .typed (r .number) _ (number-is r (spells-as r v is₀)) .0)) $
+        owned ! u8 (Is u8) (uint-makes 𝓤 H A W w8) (r .number) _ (number-is r (spells-as r v is₀)) $ returns ! (look ! 40 refl) $ forget ! 8 refl $ forget ! 10 refl $ forget ! 12 refl $ forget ! 14 refl $ forget ! 16 refl $ forget ! 18 refl $ forget ! 20 refl $ forget ! 22 refl $ forget ! 24 refl $ forget ! 26 refl $ forget ! 28 refl $ forget ! 30 refl $ forget ! 32 refl $ forget ! 34 refl $ forget ! 36 refl $ forget ! 38 refl $ forget ! 40 refl $
+        move ! (40 ∷ 41 ∷ []) $ free1 ! $ move ! (38 ∷ 39 ∷ []) $ free1 ! $ move ! (36 ∷ 37 ∷ []) $ free1 ! $ move ! (34 ∷ 35 ∷ []) $ free1 ! $ move ! (32 ∷ 33 ∷ []) $ free1 ! $ move ! (30 ∷ 31 ∷ []) $ free1 ! $ move ! (28 ∷ 29 ∷ []) $ free1 ! $ move ! (26 ∷ 27 ∷ []) $ free1 ! $ move ! (24 ∷ 25 ∷ []) $ free1 ! $ move ! (22 ∷ 23 ∷ []) $ free1 ! $ move ! (20 ∷ 21 ∷ []) $ free1 ! $ move ! (18 ∷ 19 ∷ []) $ free1 ! $ move ! (16 ∷ 17 ∷ []) $ free1 ! $ move ! (14 ∷ 15 ∷ []) $ free1 ! $ move ! (12 ∷ 13 ∷ []) $ free1 ! $ move ! (10 ∷ 11 ∷ []) $ free1 ! $ move ! (8 ∷ 9 ∷ []) $ free1 ! $ free0 ! $
+        keep ! (1 ∷ 2 ∷ 3 ∷ 4 ∷ 7 ∷ 6 ∷ 5 ∷ 0 ∷ []) $ by ! (exits r (ys .1 .0) (ys .1 .1 .0) (ys .1 .1 .1 .1 .1 .1 .1 .1 .0) did k0 k1)))))))))))))))))))))))))))
 
 module _ {M : Type 1} (𝓤 : URA M) (H : Heap 𝓤) (A : Atoms 𝓤) (W : Given 𝓤 H A) (at-mem : Memory → SProp 𝓤) (run : Routine → Fun 𝓤) where
   walks : (C : Calls 𝓤 H) (Λ : Loops 𝓤 H) → FmC 𝓤 H (W .laws) C → Triple 𝓤 (C #call) (Called 𝓤 H A at-mem run)
       → Walks 𝓤 H A f.ended stayed (WpFn 𝓤 H C Λ code.function) (f.clauses 𝓤 H A at-mem run)
-  walks C Λ fm known = walked 𝓤 H A f.ended stayed (f.clauses 𝓤 H A at-mem run) (WpFn 𝓤 H C Λ code.function) (λ κs. (ptr-vals, (slice-vals, (slice-vals, (uint-vals w8, (uint-vals w8, (uint-vals w8, (uint-vals w16, (ptr-vals, tt))))))))) (λ κs. (mut-tells (named 0) (κs .0) P.the-row, (mut-slice-tells (named 1) (κs .1 .0) u8, (mut-slice-tells (named 2) (κs .1 .1 .0) u8, (uint-tells w8, (uint-tells w8, (uint-tells w8, (uint-tells w16, (mut-tells (named 3) (κs .1 .1 .1 .0) u32, tt)))))))))
-      (λ κs qs bounds a _ are. via 𝓤 _ (fst∗ 𝓤 _ (emp 𝓤)) (walk 𝓤 H A W at-mem run (κs .0) (κs .1 .0) (κs .1 .1 .0) (κs .1 .1 .1 .0) (qs .0) (qs .1 .0) (qs .1 .1 .0) (qs .1 .1 .1 .0) (a .0 .ptr .0) (a .0 .ptr .1) (a .0 .name) (a .0 .now) (a .1 .0) (a .1 .1 .0) (a .1 .1 .1 .0) (a .1 .1 .1 .1 .0) (a .1 .1 .1 .1 .1 .0) (a .1 .1 .1 .1 .1 .1 .0) (a .1 .1 .1 .1 .1 .1 .1 .0) (are .1 .1 .1 .0 .1) (are .1 .1 .1 .1 .0 .1) (are .1 .1 .1 .1 .1 .0 .1) (are .1 .1 .1 .1 .1 .1 .0 .1) (are .1 .0 .0 .1) (are .1 .1 .0 .0 .1) C Λ fm known))
+  walks C Λ fm known = walked 𝓤 H A f.ended stayed (f.clauses 𝓤 H A at-mem run) (WpFn 𝓤 H C Λ code.function) (λ κs. (ptr-vals, (slice-vals, (slice-vals, (uint-vals w8, (uint-vals w8, (uint-vals w8, (uint-vals w16, (uint-vals w16, (ptr-vals, tt)))))))))) (λ κs. (mut-tells (named 0) (κs .0) P.the-row, (mut-slice-tells (named 1) (κs .1 .0) u8, (mut-slice-tells (named 2) (κs .1 .1 .0) u8, (uint-tells w8, (uint-tells w8, (uint-tells w8, (uint-tells w16, (uint-tells w16, (mut-tells (named 3) (κs .1 .1 .1 .0) u32, tt))))))))))
+      (λ κs qs bounds a _ are. via 𝓤 _ (fst∗ 𝓤 _ (emp 𝓤)) (walk 𝓤 H A W at-mem run (κs .0) (κs .1 .0) (κs .1 .1 .0) (κs .1 .1 .1 .0) (qs .0) (qs .1 .0) (qs .1 .1 .0) (qs .1 .1 .1 .0) (a .0 .ptr .0) (a .0 .ptr .1) (a .0 .name) (a .0 .now) (a .1 .0) (a .1 .1 .0) (a .1 .1 .1 .0) (a .1 .1 .1 .1 .0) (a .1 .1 .1 .1 .1 .0) (a .1 .1 .1 .1 .1 .1 .0) (a .1 .1 .1 .1 .1 .1 .1 .0) (a .1 .1 .1 .1 .1 .1 .1 .1 .0) (are .1 .1 .1 .0 .1) (are .1 .1 .1 .1 .0 .1) (are .1 .1 .1 .1 .1 .0 .1) (are .1 .1 .1 .1 .1 .1 .0 .1) (are .1 .1 .1 .1 .1 .1 .1 .0 .1) (are .1 .0 .0 .1) (are .1 .1 .0 .0 .1) C Λ fm known))
 
   goes : AllGo 𝓤 H A W 4 (f.signature .params) (f.ended .kept) stayed
-  goes = (goes-ref 𝓤 H A W 4 0 tt (plain (λ _. P.the-row)), (goes-gave-slice 𝓤 H A W 4 1 tt (plain (λ _. u8)), (goes-gave-slice 𝓤 H A W 4 2 tt (plain (λ _. u8)), (goes-none 𝓤 H A W 4 (λ _. u8) yes (λ κs x f. refl), (goes-none 𝓤 H A W 4 (λ _. u8) yes (λ κs x f. refl), (goes-none 𝓤 H A W 4 (λ _. u8) yes (λ κs x f. refl), (goes-none 𝓤 H A W 4 (λ _. u16) yes (λ κs x f. refl), (goes-gave-ref 𝓤 H A W 4 3 tt (plain (λ _. u32)), tt))))))))
+  goes = (goes-ref 𝓤 H A W 4 0 tt (plain (λ _. P.the-row)), (goes-gave-slice 𝓤 H A W 4 1 tt (plain (λ _. u8)), (goes-gave-slice 𝓤 H A W 4 2 tt (plain (λ _. u8)), (goes-none 𝓤 H A W 4 (λ _. u8) yes (λ κs x f. refl), (goes-none 𝓤 H A W 4 (λ _. u8) yes (λ κs x f. refl), (goes-none 𝓤 H A W 4 (λ _. u8) yes (λ κs x f. refl), (goes-none 𝓤 H A W 4 (λ _. u16) yes (λ κs x f. refl), (goes-none 𝓤 H A W 4 (λ _. u16) yes (λ κs x f. refl), (goes-gave-ref 𝓤 H A W 4 3 tt (plain (λ _. u32)), tt)))))))))
 
 meets : {M : Type 1} (𝓤 : URA M) (H : Heap 𝓤) (A : Atoms 𝓤) (W : Given 𝓤 H A) (at-mem : Memory → SProp 𝓤) (run : Routine → Fun 𝓤) (𝓣 : Tables 𝓤 H)
     → Triple 𝓤 (𝓣 .C #call) (Called 𝓤 H A at-mem run) → Meets 𝓤 H A f.signature (WpFn 𝓤 H (𝓣 .C) (𝓣 .Λ) code.function) (f.spec 𝓤 H A at-mem run)

@@ -16,4 +16,8 @@ make-call-verdict-spec =
     (λ c κs. search needs)
     (λ c κs. search needs)
     (λ c κs. search needs)
-    (λ c. rw (c .and-then3 .ensures, c .before .and-then2 .ensures, c .before .before .and-then .ensures, c .before .before .before .refuse-if2 .ensures, c .before .before .before .before .refuse-if .ensures, c .before .before .before .before .before .extension-verdict .ensures, c .before .before .before .before .before .before .task-verdict .ensures)))
+    (λ c κs. search needs)
+    (λ c κs. search needs)
+    (λ c.
+    let three = c .before .before .before .before in
+    rw (c .and-then4 .ensures, c .before .and-then3 .ensures, c .before .before .and-then2 .ensures, c .before .before .before .and-then .ensures, three .refuse-if3 .ensures, three .before .refuse-if2 .ensures, three .before .before .refuse-if .ensures, three .before .before .before .extension-verdict .ensures, three .before .before .before .before .task-verdict .ensures)))

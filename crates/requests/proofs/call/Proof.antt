@@ -1,6 +1,6 @@
 -- 15, 14, or the call itself.
 use borrow.Author.Needs.{needs}
-use Rattle.requests.proofs.Called.{unfit-served, wrong-served, lent-ready, lent-holds}
+use Rattle.requests.proofs.Called.{unfit-served, bare-ready, wrong-served, lent-ready, lent-holds}
 use Rattle.requests.proofs.call.Statement.{statement}
 use Rattle.requests.proofs.call.Tie as tie
 
@@ -13,22 +13,36 @@ returns c =
     let tested = c .before .before .before in
     rw (c .refused .ensures) (unfit-served (start tested .pre) (tested .fitness-of .ensures) (c .before .if1 .taken))
 
-returns-2 : tie.Need-returns-2
-returns-2 c =
-    let whole = c .before .before in
-    let passed = whole .before .before in
-    let tested = passed .before .before in
-    rw (c .refused2 .ensures)
-    (wrong-served (start tested .pre) (tested .fitness-of .ensures) (passed .if1 .left) (whole .before .is-stored .ensures) (whole .are-whole .ensures) (c .before .if2 .taken))
-
+-- no store is touched
 call-requires : tie.Need-call-requires
 call-requires c κs =
-    let stored = c .before .before .before .before .before .before .before .before in
-    let whole = stored .before in
-    let passed = whole .before .before in
+    let bare = c .before .before .before .before .before .before .before in
+    let passed = bare .before .before .before in
     let tested = passed .before .before in (
       start tested .pre,
-      lent-ready (start tested .pre) (tested .fitness-of .ensures) (passed .if1 .left) (whole .before .is-stored .ensures) (whole .are-whole .ensures) (stored .if2 .left),
+      bare-ready (start tested .pre) (tested .fitness-of .ensures) (passed .if1 .left) (bare .before .is-stored .ensures) (bare .if2 .taken),
+      lent-holds (tested .fitness-of .ensures) (passed .if1 .left) (start tested .args .request),
+    )
+
+-- one is
+returns-3 : tie.Need-returns-3
+returns-3 c =
+    let whole = c .before .before in
+    let stored = whole .before in
+    let passed = stored .before .before .before in
+    let tested = passed .before .before in
+    rw (c .refused2 .ensures)
+    (wrong-served (start tested .pre) (tested .fitness-of .ensures) (passed .if1 .left) (stored .before .is-stored .ensures) (stored .if2 .left) (whole .are-whole .ensures) (c .before .if3 .taken))
+
+call-requires-2 : tie.Need-call-requires-2
+call-requires-2 c κs =
+    let right = c .before .before .before .before .before .before .before in
+    let whole = right .before in
+    let stored = whole .before in
+    let passed = stored .before .before .before in
+    let tested = passed .before .before in (
+      start tested .pre,
+      lent-ready (start tested .pre) (tested .fitness-of .ensures) (passed .if1 .left) (stored .before .is-stored .ensures) (stored .if2 .left) (whole .are-whole .ensures) (right .if3 .left),
       lent-holds (tested .fitness-of .ensures) (passed .if1 .left) (start tested .args .request),
     )
 
@@ -40,10 +54,14 @@ call-spec =
     (λ c κs. search needs)
     returns
     (λ c κs. search needs)
-    (λ c κs. search needs)
-    (λ c κs. search needs)
-    returns-2
     call-requires
     (λ c. search needs)
     (λ c. search needs)
-    (λ c. c .before .before .before .before .call .ensures))
+    (λ c. c .before .before .before .before .call .ensures)
+    (λ c κs. search needs)
+    (λ c κs. search needs)
+    returns-3
+    call-requires-2
+    (λ c. search needs)
+    (λ c. search needs)
+    (λ c. c .before .before .before .before .call2 .ensures))

@@ -22,7 +22,7 @@ held-by c handles u placed =
     let both = firsts .before .before .before .before in
     let tallied = both .tally-both .ensures in
     let s = both .before .before .before .before in
-    let told = told-by u (s .pre .of-extents) in
+    let told = told-by u (s .pre .0 .of-extents) in
     record {
       small = holds told placed true (tallied .small) (firsts .before .first .ensures) (counts .before .count .ensures) (s .args .h .shares) (c .before .holding-by .ensures);
       large = holds told placed false (tallied .large) (firsts .first2 .ensures) (counts .count2 .ensures) (s .args .h .shares) (c .holding-by2 .ensures);
@@ -42,7 +42,7 @@ returns c =
     let h = s .args .h in
     record {
       shared = λ handles u placed.
-          let told = told-by u (s .pre .of-extents) in
+          let told = told-by u (s .pre .0 .of-extents) in
           let holds = held-by held handles u placed in
           rw (clear .all-clear .ensures, known .before .is-known .ensures, known .is-known2 .ensures, shared .is-shared-in .ensures, c .is-shared-in2 .ensures, known-so told placed true (tallied .small) (firsts .before .first .ensures) (counts .before .count .ensures), known-so told placed false (tallied .large) (firsts .first2 .ensures) (counts .count2 .ensures))
           (shared-so (h .limits) (h .tasks) (h .shares) (blocksOf handles (s .args .extents .now)) (head-typed h _ (s .good .0) .shares) (holds .small) (holds .large));

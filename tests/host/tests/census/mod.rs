@@ -3,12 +3,12 @@
 use host_tests::reading::figures;
 use plain::limits::EXPIRATIONS;
 use plain::limits::TASKS;
-use plain::record::{Pool, DEPARTED, FREE, GLOBAL, LOCAL, PINNED, WAITING};
+use plain::record::{length_in, prefix_in, Pool, DEPARTED, FREE, GLOBAL, LOCAL, PINNED, VIEWING, WAITING};
 use reference::call::{Accepted, Answer, Call};
 
-/// The operations, and the refusals by number, 0 to 26.
-const OPERATIONS: usize = 13;
-pub const NUMBERS: usize = 27;
+/// The operations, and the refusals by number, 0 to 28.
+const OPERATIONS: usize = 14;
+pub const NUMBERS: usize = 29;
 
 #[derive(Default)]
 pub struct Census {
@@ -33,6 +33,8 @@ pub struct Census {
     pub most_pinned: usize,
     pub pinned_wraps: usize,
     pub most: (u8, u8, u16),
+    /// Accepted reads of a viewer: of no byte, of some and of all.
+    pub viewed: [usize; 3],
 }
 
 impl Census {
@@ -60,6 +62,15 @@ impl Census {
         let count = |code: u8| pool.clocks.iter().filter(|&&clock| clock == code).count();
         self.most_departed = self.most_departed.max(count(DEPARTED));
         self.most_pinned = self.most_pinned.max(count(PINNED));
+    }
+
+    /// An accepted read, by the record.
+    pub fn note_read(&mut self, pool: &Pool, task: u8, handle: u32) {
+        let block = pool.handles.iter().position(|&other| other == handle).expect("the object has a block");
+        let (length, prefix) = (length_in(pool.extents[block]), prefix_in(pool.extents[block]));
+        if pool.tasks[usize::from(task)].state == VIEWING {
+            self.viewed[usize::from(prefix > 0) + usize::from(prefix == length)] += 1;
+        }
     }
 
     /// From the record after an advance.
@@ -90,6 +101,7 @@ impl Census {
         self.most_departed = self.most_departed.max(other.most_departed);
         self.most_pinned = self.most_pinned.max(other.most_pinned);
         self.pinned_wraps += other.pinned_wraps;
+        self.viewed.iter_mut().zip(other.viewed).for_each(|(sum, count)| *sum += count);
         let (small, large, expirations) = self.most;
         self.most = (small.max(other.most.0), large.max(other.most.1), expirations.max(other.most.2));
     }
@@ -101,6 +113,8 @@ impl Census {
         println!("of remaining {:?}", self.refused_by[10]);
         println!("of batches {:?}", self.refused_by[11]);
         println!("of releases {:?}", self.refused_by[12]);
+        println!("of views {:?}", self.refused_by[13]);
+        println!("viewers read no byte, some, all {:?}", self.viewed);
         println!("most pinned {}, wraps of global time meanwhile {}", self.most_pinned, self.pinned_wraps);
         println!("wraps of clocks {}, of global time {}", self.clock_wraps, self.global_wraps);
         println!("remaining asked across them {}, batches {}", self.remaining_across, self.batches_across);

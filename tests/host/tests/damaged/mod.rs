@@ -11,7 +11,7 @@ use host_tests::memory::Memory;
 use host_tests::reading::of_record;
 use plain::fit::is_well_formed;
 use plain::limits::BLOCKS;
-use plain::record::{is_global, Pool, LOCAL, PINNED, RUNNING};
+use plain::record::{is_global, Pool, ABSENT, LOCAL, PINNED, RUNNING, VIEWING};
 use reference::call::{packed, Call, Handles, Kind};
 
 const NOT_WELL_FORMED: u8 = 15;
@@ -21,15 +21,15 @@ pub struct Pair {
     pub library: Host<Library>,
     plain: Host<Plain>,
     pub whole: Memory,
-    pub calls: [Call<'static>; 8],
+    pub calls: [Call<'static>; 10],
     pub fit: usize,
     pub unfit: usize,
 }
 
 impl Pair {
     pub fn of(whole: Memory) -> Pair {
-        let running = whole.pool.tasks.iter().position(|task| task.state == RUNNING);
-        let task = running.unwrap_or(0) as u8;
+        let of = |state: u16| whole.pool.tasks.iter().position(|task| task.state == state).map(|task| task as u8);
+        let task = of(RUNNING).unwrap_or(0);
         let handle = whole.pool.handles.into_iter().max().unwrap_or(0);
         let busiest = busiest(&whole.pool, task);
         let extension = whole.pool.limits.extension as u8;
@@ -43,10 +43,12 @@ impl Pair {
                 Call::Tick { task },
                 Call::Read { task, handle },
                 Call::Remaining { task, handle: busiest },
-                Call::Make { task, kind: Kind::Local, extension, length: 40 },
+                Call::Make { task, kind: Kind::Local, extension, length: 40, prefix: 0 },
                 Call::Batch { task, kind: Kind::Global, extension, handles },
                 Call::Release { task, handle: pinned(&whole.pool) },
                 Call::Write { task, handle, offset: 0, bytes: &[7] },
+                Call::Read { task: of(VIEWING).unwrap_or(task), handle },
+                Call::View { task: of(ABSENT).unwrap_or(task) },
             ],
             whole,
             fit: 0,

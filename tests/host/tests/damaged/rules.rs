@@ -3,7 +3,8 @@
 use std::ops::Range;
 
 use plain::limits::{Limits, EXPIRATIONS, TASKS};
-use plain::record::{length_in, maker_in, Pool, Quota, Share, ABSENT, DEPARTED, FREE, GLOBAL, LOCAL, PINNED, RUNNING};
+use plain::record::{length_in, maker_in, prefix_in, Pool, Quota, Share};
+use plain::record::{ABSENT, DEPARTED, FREE, GLOBAL, LOCAL, PINNED, RUNNING, VIEWING};
 
 /// All of them, W18 and W19 as `past`.
 pub fn is_fit(pool: &Pool) -> bool {
@@ -12,18 +13,19 @@ pub fn is_fit(pool: &Pool) -> bool {
     let used = |place: usize| pool.handles.get(place).is_some_and(|&handle| handle != 0);
     let running = || pool.tasks.iter().filter(|task| task.state == RUNNING);
     let named = dates().all(|date| used(block_of(date)));
-    // W16 among them: no two pinned ones of one object.
+    // W16 and W25 among them: no two pinned ones of one object, and no prefix longer than it.
     let blocks = (0..96).filter(|&place| used(place)).all(|place| {
-        let (handle, length) = (pool.handles[place], length_in(pool.extents[place]));
+        let (handle, extent) = (pool.handles[place], pool.extents[place]);
         let range = if place < 64 { 1..=32 } else { 33..=256 };
         dates().any(|date| block_of(date) == place)
-            && range.contains(&length)
-            && maker_in(pool.extents[place]) <= 16
+            && range.contains(&length_in(extent))
+            && maker_in(extent) <= 16
+            && prefix_in(extent) <= length_in(extent)
             && handle <= pool.given
             && pool.handles.iter().filter(|&&other| other == handle).count() == 1
             && dates().filter(|&date| block_of(date) == place && pool.clocks[date] == PINNED).count() <= 1
     });
-    let known = pool.tasks.iter().all(|task| task.state <= 2 && task.ticked <= 1);
+    let known = pool.tasks.iter().all(|task| task.state <= 3 && task.ticked <= 1);
     let marks = pool.tasks.iter().all(|task| task.ticked == 0 || task.state == RUNNING);
     let pending = running().count() == 0 || running().any(|task| task.ticked == 0);
     let absent = pool.tasks.iter().all(|task| task.state != ABSENT || task.clock == 0);
@@ -41,17 +43,18 @@ pub fn is_fit(pool: &Pool) -> bool {
         && is_shared(pool)
 }
 
-/// Order 9's: an absent task has asked for nothing, and both stores are shared as the tasks have asked.
+/// W20 to W24: an absent task and a viewer have asked for nothing, and both stores are shared as the tasks have asked.
 fn is_shared(pool: &Pool) -> bool {
-    let nothing = pool.tasks.iter().zip(pool.shares).all(|(task, share)| task.state != ABSENT || share == Share::NONE);
+    let asks = |state: u16| state != ABSENT && state != VIEWING;
+    let nothing = pool.tasks.iter().zip(pool.shares).all(|(task, share)| asks(task.state) || share == Share::NONE);
     let Limits { small_blocks, large_blocks, .. } = pool.limits;
     nothing
         && is_shared_in(pool, 0..64, small_blocks, |share| share.small)
         && is_shared_in(pool, 64..96, large_blocks, |share| share.large)
 }
 
-/// No reserve is above its limit, no task has made more than its limit, so that an absent one has made nothing, and there are
-/// blocks for what is in use and for all that is unmet.
+/// No reserve is above its limit, no task has made more than its limit, so that an absent one and a viewer have made nothing,
+/// and there are blocks for what is in use and for all that is unmet.
 fn is_shared_in(pool: &Pool, places: Range<usize>, blocks: u32, of: fn(Share) -> Quota) -> bool {
     let used = || places.clone().filter(|&place| pool.handles[place] != 0);
     let made = |task: usize| used().filter(|&place| usize::from(maker_in(pool.extents[place])) == task).count();

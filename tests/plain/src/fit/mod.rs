@@ -8,8 +8,8 @@ use core::mem::replace;
 
 use crate::limits::{BLOCKS, GLOBAL_EXTRA, LARGE_SIZE, LOCAL_EXTRA, SMALL_BLOCKS, SMALL_SIZE, TASKS};
 use crate::record::{
-    length_in, maker_in, Pool, Share, TaskEntry, ABSENT, DEPARTED, FREE, GLOBAL, GROUP, LOCAL, NOBODY, PINNED, RUNNING,
-    WAITING,
+    length_in, maker_in, prefix_in, Pool, Share, TaskEntry, ABSENT, DEPARTED, FREE, GLOBAL, GROUP, LOCAL, NOBODY,
+    PINNED, RUNNING, VIEWING, WAITING,
 };
 use crate::shares::Room;
 
@@ -45,6 +45,7 @@ fn fit_tasks(tasks: &[TaskEntry; TASKS], shares: &[Share; TASKS]) -> bool {
             (RUNNING, 0) => pending = true,
             (RUNNING, 1) => ticked = true,
             (WAITING, 0) => {}
+            (VIEWING, 0) if *share == Share::NONE => {}
             _ => return false,
         }
     }
@@ -114,8 +115,9 @@ impl Spans {
     }
 }
 
-/// The blocks in use are those that are named, with a length of their store's range, whatever their sum, a maker that there
-/// may be, and a handle that was given. The loops have no way out before the end, so that several blocks are tested at once.
+/// The blocks in use are those that are named, with a length of their store's range, whatever their sum, a prefix that is no
+/// longer, a maker that there may be, and a handle that was given. The loops have no way out before the end, so that several
+/// blocks are tested at once.
 fn fit_blocks(pool: &Pool, named: &Named) -> bool {
     let (named, beyond) = named.split_at(BLOCKS);
     let (mut used, mut sized) = ([false; BLOCKS], [false; BLOCKS]);
@@ -125,8 +127,12 @@ fn fit_blocks(pool: &Pool, named: &Named) -> bool {
         fit &= handle <= pool.given;
     }
     let (lengths, makers) = (pool.extents.map(length_in), pool.extents.map(maker_in));
+    let prefixes = pool.extents.map(prefix_in);
     for i in 0..BLOCKS {
         sized[i] = lengths[i].wrapping_sub(SHORTEST[i]) <= REST[i];
+    }
+    for i in 0..BLOCKS {
+        sized[i] &= prefixes[i] <= lengths[i];
     }
     for i in 0..BLOCKS {
         sized[i] &= makers[i] <= NOBODY;

@@ -5,4 +5,4 @@ mod objects;
 mod tasks;
 
 pub use objects::{make, read, refresh, refresh_all, release, remaining, report, write, Figures, Lifetime};
-pub use tasks::{awaited, block, join, leave, resume, share, tick, Holding, Holdings};
+pub use tasks::{awaited, block, join, leave, resume, share, tick, view, Holding, Holdings};

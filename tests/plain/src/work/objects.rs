@@ -7,12 +7,13 @@ use crate::limits::{
     SMALL_SIZE,
 };
 use crate::record::{
-    extent_of, is_global, length_in, sum_in, with_sum, Pool, ABSENT, FREE, GLOBAL, GROUP, LOCAL, PINNED, WAITING,
+    extent_of, is_global, length_in, prefix_in, sum_in, with_prefix, with_sum, Pool, TaskEntry, ABSENT, FREE, GLOBAL,
+    GROUP, LOCAL, PINNED, VIEWING, WAITING,
 };
 use crate::refusals::{
     AT_LIMIT, BATCH_OUT_OF_RANGE, EXTENSION_TOO_LONG, HANDLES_SPENT, HANDLE_NOT_GIVEN, LENGTH_OUT_OF_RANGE, NOT_PINNED,
-    NO_FREE_BLOCK, NO_FREE_EXPIRATION, NO_SUCH_TASK, OBJECT_GONE, ONLY_MAKE_PINS, OUTSIDE_OBJECT, SUM_DIFFERS,
-    TASK_ABSENT, TASK_WAITING, WRONG_STORE_LENGTH,
+    NO_FREE_BLOCK, NO_FREE_EXPIRATION, NO_SUCH_TASK, OBJECT_GONE, ONLY_MAKE_PINS, ONLY_VIEWS, OUTSIDE_OBJECT,
+    PREFIX_TOO_LONG, SUM_DIFFERS, TASK_ABSENT, TASK_WAITING, WRONG_STORE_LENGTH,
 };
 use crate::shares::Room;
 
@@ -32,7 +33,8 @@ pub fn make(
     pool: &mut Pool,
     small: &mut [u8],
     large: &mut [u8],
-    (task, kind, extension, length): (u8, u8, u8, u16),
+    (task, kind, extension): (u8, u8, u8),
+    (length, prefix): (u16, u16),
 ) -> Result<u32, u8> {
     check_stores(pool.limits, small, large)?;
     let clock = running(pool, task)?;
@@ -42,6 +44,9 @@ pub fn make(
         SHORTEST_LARGE..=LARGE_SIZE => (SMALL_BLOCKS, BLOCKS, pool.limits.large_blocks),
         _ => return Err(LENGTH_OUT_OF_RANGE),
     };
+    if prefix > length {
+        return Err(PREFIX_TOO_LONG);
+    }
     if pool.given == u32::MAX {
         return Err(HANDLES_SPENT);
     }
@@ -50,7 +55,7 @@ pub fn make(
     set(pool, clock, (task, kind, extension), free)?;
     pool.given += 1;
     pool.handles[free] = pool.given;
-    pool.extents[free] = extent_of(length, 0, task);
+    pool.extents[free] = with_prefix(extent_of(length, 0, task), prefix);
     block_mut(small, large, free).fill(0);
     Ok(pool.given)
 }
@@ -106,15 +111,16 @@ pub fn release(pool: &mut Pool, task: u8, handle: u32) -> Result<(), u8> {
     Ok(())
 }
 
-/// The object's bytes, where they lie, if all bytes of its block have their sum.
+/// The object's bytes, where they lie, if all bytes of its block have their sum; of these a viewer gets the prefix.
 pub fn read<'a>(pool: &Pool, small: &'a [u8], large: &'a [u8], task: u8, handle: u32) -> Result<&'a [u8], u8> {
     check_stores(pool.limits, small, large)?;
-    running(pool, task)?;
+    let views = awake(pool, task)?.state == VIEWING;
     let block = find(pool, handle)?;
     let (extent, range) = (pool.extents[block], range_of(block));
     let bytes = if block < SMALL_BLOCKS { &small[range] } else { &large[range] };
     check_sum(bytes, extent)?;
-    Ok(&bytes[..usize::from(length_in(extent))])
+    let count = if views { prefix_in(extent) } else { length_in(extent) };
+    Ok(&bytes[..usize::from(count)])
 }
 
 /// The sum changes by the bytes that are replaced.
@@ -162,7 +168,7 @@ pub struct Lifetime {
 /// One pass over the expirations. A group of them is asked at once whether one is on the object: most have none. At most 32
 /// units remain, so that the last bytes tell them.
 pub fn remaining(pool: &Pool, task: u8, handle: u32) -> Result<Lifetime, u8> {
-    let clock = running(pool, task)?;
+    let clock = awake(pool, task)?.clock;
     let block = find(pool, handle)? as u8;
     let mut most = Lifetime { local: 0, global: 0 };
     let groups = pool.clocks.as_chunks::<GROUP>().0.iter();
@@ -192,14 +198,23 @@ fn check_stores(limits: Limits, small: &[u8], large: &[u8]) -> Result<(), u8> {
     Ok(())
 }
 
-/// 1, 3, 4, else what the task's clock reads.
-fn running(pool: &Pool, task: u8) -> Result<u32, u8> {
+/// 1, 3, 4, else the entry of a task that runs or views.
+fn awake(pool: &Pool, task: u8) -> Result<&TaskEntry, u8> {
     let entry = pool.tasks.get(usize::from(task)).ok_or(NO_SUCH_TASK)?;
     match entry.state {
         ABSENT => Err(TASK_ABSENT),
         WAITING => Err(TASK_WAITING),
-        _ => Ok(entry.clock),
+        _ => Ok(entry),
     }
+}
+
+/// 1, 3, 4, 27, else what the task's clock reads.
+fn running(pool: &Pool, task: u8) -> Result<u32, u8> {
+    let entry = awake(pool, task)?;
+    if entry.state == VIEWING {
+        return Err(ONLY_VIEWS);
+    }
+    Ok(entry.clock)
 }
 
 /// 6: what is pinned has no extension.

@@ -3,17 +3,16 @@
 use crate::limits::TASKS;
 use crate::record::{
     is_global, maker_in, with_maker, Pool, Quota, Share, TaskEntry, ABSENT, ABSENT_TASK, DEPARTED, FREE, GLOBAL, GROUP,
-    LOCAL, NOBODY, RUNNING, WAITING,
+    LOCAL, NOBODY, RUNNING, VIEWING, WAITING,
 };
 use crate::refusals::{
-    NO_SUCH_TASK, RESERVE_ABOVE_LIMIT, RESERVE_NOT_FREE, TASK_ABSENT, TASK_PRESENT, TASK_RUNNING, TASK_WAITING,
+    NO_SUCH_TASK, ONLY_VIEWS, RESERVE_ABOVE_LIMIT, RESERVE_NOT_FREE, TASK_ABSENT, TASK_PRESENT, TASK_RUNNING,
+    TASK_WAITING,
 };
 use crate::shares::Room;
 
 pub fn join(pool: &mut Pool, task: u8, share: Share) -> Result<(), u8> {
-    if entry_of(&mut pool.tasks, task)?.state != ABSENT {
-        return Err(TASK_PRESENT);
-    }
+    absent(&mut pool.tasks, task)?;
     let Share { small, large } = share;
     if small.reserve > small.limit || large.reserve > large.limit {
         return Err(RESERVE_ABOVE_LIMIT);
@@ -26,6 +25,12 @@ pub fn join(pool: &mut Pool, task: u8, share: Share) -> Result<(), u8> {
     }
     pool.tasks[usize::from(task)] = TaskEntry { state: RUNNING, ..ABSENT_TASK };
     pool.shares[usize::from(task)] = share;
+    Ok(())
+}
+
+/// As a viewer, who has no share.
+pub fn view(pool: &mut Pool, task: u8) -> Result<(), u8> {
+    *absent(&mut pool.tasks, task)? = TaskEntry { state: VIEWING, ..ABSENT_TASK };
     Ok(())
 }
 
@@ -52,11 +57,11 @@ pub fn resume(pool: &mut Pool, task: u8) -> Result<(), u8> {
     let entry = entry_of(&mut pool.tasks, task)?;
     match entry.state {
         ABSENT => Err(TASK_ABSENT),
-        RUNNING => Err(TASK_RUNNING),
-        _ => {
+        WAITING => {
             entry.state = RUNNING;
             Ok(())
         }
+        _ => Err(TASK_RUNNING),
     }
 }
 
@@ -74,12 +79,22 @@ fn entry_of(tasks: &mut [TaskEntry; TASKS], task: u8) -> Result<&mut TaskEntry, 
     tasks.get_mut(usize::from(task)).ok_or(NO_SUCH_TASK)
 }
 
-/// 1, 3, 4, else the task's entry.
+/// 1, 2, else the task's entry.
+fn absent(tasks: &mut [TaskEntry; TASKS], task: u8) -> Result<&mut TaskEntry, u8> {
+    let entry = entry_of(tasks, task)?;
+    if entry.state != ABSENT {
+        return Err(TASK_PRESENT);
+    }
+    Ok(entry)
+}
+
+/// 1, 3, 4, 27, else the task's entry.
 fn running(tasks: &mut [TaskEntry; TASKS], task: u8) -> Result<&mut TaskEntry, u8> {
     let entry = entry_of(tasks, task)?;
     match entry.state {
         ABSENT => Err(TASK_ABSENT),
         WAITING => Err(TASK_WAITING),
+        VIEWING => Err(ONLY_VIEWS),
         _ => Ok(entry),
     }
 }

@@ -1,10 +1,11 @@
-//! A record, and stores as long as its figures say; and the figures that are tried.
+//! A record, and stores as long as its figures say; the figures that are tried; and a pool that answers rows.
 
 #![allow(dead_code)] // Not every test uses all of it.
 
 use std::ops::Range;
 
 use plain::calls::{self, ANSWER_ROOM};
+use plain::fit::is_well_formed;
 use plain::limits::Limits;
 use plain::record::{fresh, Pool};
 use reference::{generate, limits};
@@ -12,6 +13,16 @@ use reference::{generate, limits};
 /// Each seed twice: with 01's figures and with others.
 pub fn sites(seeds: Range<u64>) -> impl Iterator<Item = (u64, limits::Limits)> {
     seeds.flat_map(|seed| [limits::Limits::STANDARD, generate::limits(seed)].map(|limits| (seed, limits)))
+}
+
+/// What answers the lines of rows: a fresh pool of these figures, which stays well-formed.
+pub fn answering(limits: limits::Limits) -> impl FnMut(&str) -> String {
+    let mut memory = Memory::beside(limits);
+    move |line| {
+        let answer = memory.frame(line.as_bytes()).1;
+        assert!(is_well_formed(&memory.pool), "{line}");
+        String::from_utf8(answer).expect("digits")
+    }
 }
 
 #[derive(Clone, Debug, PartialEq, Eq)]
@@ -39,7 +50,7 @@ impl Memory {
 
     /// By task 0.
     pub fn make(&mut self, kind: u8, extension: u8, length: u16) -> u8 {
-        calls::make(&mut self.pool, &mut self.small, &mut self.large, 0, kind, extension, length, &mut 0)
+        calls::make(&mut self.pool, &mut self.small, &mut self.large, 0, kind, extension, length, 0, &mut 0)
     }
 
     /// The number of a line's answer, and the line that is answered.

@@ -5,6 +5,7 @@ use crate::explain::phrases::{counted, due, listed, shown_bytes};
 use crate::explain::watch::{Change, Watch};
 use crate::limits::{Limits, Store, LARGEST_BATCH, STORES};
 use crate::share::{Quota, Share};
+use crate::tasks::State;
 
 /// What the call asks.
 pub fn asked(call: &Call) -> String {
@@ -14,8 +15,9 @@ pub fn asked(call: &Call) -> String {
         Call::Block { task } => format!("block of task {task}"),
         Call::Resume { task } => format!("resume of task {task}"),
         Call::Tick { task } => format!("tick of task {task}"),
-        Call::Make { task, kind, extension, length } => {
-            format!("task {task}, make of {}, {}", counted(length.into(), "byte"), kind_words(kind, extension))
+        Call::Make { task, kind, extension, length, prefix } => {
+            let bytes = counted(length.into(), "byte");
+            format!("task {task}, make of {bytes}{}, {}", prefix_words(prefix), kind_words(kind, extension))
         }
         Call::Refresh { task, kind, extension, handle } => {
             format!("task {task}, refresh of object {handle}, {}", kind_words(kind, extension))
@@ -34,6 +36,15 @@ pub fn asked(call: &Call) -> String {
             format!("task {task}, refresh of {objects}, {}", kind_words(kind, extension))
         }
         Call::Release { task, handle } => format!("task {task}, release of object {handle}"),
+        Call::View { task } => format!("join of task {task} as a viewer"),
+    }
+}
+
+/// Nothing where viewers see nothing.
+fn prefix_words(prefix: u16) -> String {
+    match prefix {
+        0 => String::new(),
+        _ => format!(" with a prefix of {prefix}"),
     }
 }
 
@@ -74,7 +85,7 @@ pub fn told(watch: &Watch, call: &Call, change: &Change) -> String {
         Call::Block { .. } => format!("it waits; {}", time(watch, change)),
         Call::Resume { .. } => format!("it runs again, after it waited since line {}", change.before),
         Call::Tick { .. } => time(watch, change),
-        Call::Make { task, kind, extension, length } => {
+        Call::Make { task, kind, extension, length, .. } => {
             let (handle, store) = (watch.ledger.figures().given, store_of(length).name());
             format!("object {handle} in the {store} store, until {}", due(watch.expiration(task, kind, extension)))
         }
@@ -93,6 +104,7 @@ pub fn told(watch: &Watch, call: &Call, change: &Change) -> String {
             0 => format!("it is pinned no longer{}", gone(&change.gone)),
             count => format!("it is pinned no longer; it has {}", counted(count, "expiration")),
         },
+        Call::View { .. } => "it sees prefixes, and global time does not wait for it".into(),
     }
 }
 
@@ -144,6 +156,10 @@ pub fn store_of(length: u16) -> Store {
 
 fn bytes(watch: &Watch, task: u8, handle: u32) -> String {
     match watch.ledger.read(task, handle) {
+        Ok(Accepted::Bytes([])) => "its prefix has no byte".into(),
+        Ok(Accepted::Bytes(bytes)) if watch.task(task).state == State::Viewing => {
+            format!("its prefix, {}", shown_bytes(bytes))
+        }
         Ok(Accepted::Bytes(bytes)) => shown_bytes(bytes),
         other => unreachable!("a read was accepted, and now gives {other:?}"),
     }

@@ -4,13 +4,13 @@ use crate::call::{Call, Refusal};
 use crate::explain::phrases::{counted, shown_line};
 
 /// By operation, from 01 on: its name and its frame's size.
-const OPERATIONS: [(&str, &str); 13] = [
+const OPERATIONS: [(&str, &str); 14] = [
     ("join", "6 bytes"),
     ("leave", "2 bytes"),
     ("block", "2 bytes"),
     ("resume", "2 bytes"),
     ("tick", "2 bytes"),
-    ("make", "6 bytes"),
+    ("make", "8 bytes"),
     ("refresh", "8 bytes"),
     ("read", "6 bytes"),
     ("write", "7 to 263 bytes"),
@@ -18,6 +18,7 @@ const OPERATIONS: [(&str, &str); 13] = [
     ("remaining life", "6 bytes"),
     ("batch", "4 bytes and 4 for each object"),
     ("release", "6 bytes"),
+    ("view", "2 bytes"),
 ];
 
 /// The place of the kind in a frame that has one.

@@ -32,6 +32,10 @@ pub fn reason(watch: &Watch, call: &Call, refusal: Refusal) -> String {
         Refusal::ReserveAboveLimit => above_limit(call),
         Refusal::ReserveNotFree => not_free(watch, call),
         Refusal::AtLimit => at_limit(watch, call),
+        Refusal::OnlyViews => {
+            format!("{}; a viewer may leave, read, and ask for a remaining life or a report", state(watch, call))
+        }
+        Refusal::PrefixTooLong => "a prefix is no longer than its object".into(),
         Refusal::NotHexadecimal | Refusal::UnknownOperation | Refusal::WrongFrameLength | Refusal::KindAbove2 => {
             unreachable!("refusal {} is a frame's", refusal as u8)
         }
@@ -66,6 +70,8 @@ pub fn name(refusal: Refusal) -> &'static str {
         Refusal::ReserveAboveLimit => "reserve above its limit",
         Refusal::ReserveNotFree => "reserve not free",
         Refusal::AtLimit => "at its limit",
+        Refusal::OnlyViews => "task only views",
+        Refusal::PrefixTooLong => "prefix too long",
         Refusal::LimitsOutOfRange => "figures out of range",
     }
 }
@@ -79,6 +85,7 @@ fn state(watch: &Watch, call: &Call) -> String {
         State::Absent => format!("task {task} left at line {line}"),
         State::Running => format!("task {task} runs since line {line}"),
         State::Waiting => format!("task {task} waits since line {line}"),
+        State::Viewing => format!("task {task} views since line {line}"),
     }
 }
 

@@ -55,9 +55,11 @@ impl Watch {
     /// Gives the line since which the task had been in its state.
     fn note_state(&mut self, call: &Call) -> usize {
         match *call {
-            Call::Join { task, .. } | Call::Leave { task } | Call::Block { task } | Call::Resume { task } => {
-                std::mem::replace(&mut self.since[usize::from(task)], self.line)
-            }
+            Call::Join { task, .. }
+            | Call::View { task }
+            | Call::Leave { task }
+            | Call::Block { task }
+            | Call::Resume { task } => std::mem::replace(&mut self.since[usize::from(task)], self.line),
             _ => 0,
         }
     }

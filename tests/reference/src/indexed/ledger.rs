@@ -1,4 +1,4 @@
-//! The pool's rules and refusals 1 to 13, 20 to 26 and 29, by schedules, slots and accounts.
+//! The pool's rules and refusals 1 to 13 and 20 to 29, by schedules, slots and accounts.
 
 use super::globals::Globals;
 use super::objects::Objects;
@@ -8,7 +8,7 @@ use crate::block::Block;
 use crate::call::{Accepted, Answer, Figures, Handles, Kind, Lifetime, Model, Refusal};
 use crate::expiration::Remaining;
 use crate::ledger::Standing;
-use crate::limits::{check_batch, check_refreshing, Limits, Store, LARGEST_BATCH, TASKS};
+use crate::limits::{check_batch, check_prefix, check_refreshing, Limits, Store, LARGEST_BATCH, TASKS};
 use crate::outside::{Change, Exposed};
 use crate::share::Share;
 use crate::tasks::Task;
@@ -73,17 +73,18 @@ impl Model for Ledger {
         self.expire_global(advanced)
     }
 
-    fn make(&mut self, task: u8, kind: Kind, extension: u8, length: u16) -> Answer<'static> {
+    fn make(&mut self, task: u8, kind: Kind, extension: u8, length: u16, prefix: u16) -> Answer<'static> {
         self.tasks.check_running(task)?;
         self.limits.check_extension(kind, extension)?;
         let store = Store::holding(length)?;
+        check_prefix(prefix, length)?;
         if self.given == u32::MAX {
             return Err(Refusal::AllHandlesGiven);
         }
         self.objects.accounts.check_make(task, store)?;
         self.check_expirations()?;
         self.given += 1;
-        let slot = self.objects.make(task, self.given, length, store);
+        let slot = self.objects.make(task, self.given, (length, prefix), store);
         self.set_expiration(slot, task, kind, extension);
         Ok(Accepted::Handle(self.given))
     }
@@ -99,9 +100,10 @@ impl Model for Ledger {
     }
 
     fn read(&self, task: u8, handle: u32) -> Answer<'_> {
-        self.tasks.check_running(task)?;
+        let reader = self.tasks.check_awake(task)?;
         let slot = self.check_intact(handle)?;
-        Ok(Accepted::Bytes(self.objects.bytes(slot)))
+        let views = self.tasks.is_viewing(reader);
+        Ok(Accepted::Bytes(if views { self.objects.prefix(slot) } else { self.objects.bytes(slot) }))
     }
 
     fn write(&mut self, task: u8, handle: u32, offset: u8, bytes: &[u8]) -> Answer<'static> {
@@ -119,7 +121,7 @@ impl Model for Ledger {
     }
 
     fn remaining(&self, task: u8, handle: u32) -> Answer<'static> {
-        self.tasks.check_running(task)?;
+        self.tasks.check_awake(task)?;
         let slot = self.check_standing(handle)?;
         Ok(Accepted::Remaining(Lifetime {
             local: self.local[usize::from(task)].longest(slot, self.tasks.clock(task)),
@@ -163,6 +165,12 @@ impl Model for Ledger {
         self.objects.unpin(slot);
         Ok(Accepted::Done)
     }
+
+    fn view(&mut self, task: u8) -> Answer<'static> {
+        let absent = self.tasks.check_absent(task)?;
+        self.tasks.view(absent, task);
+        Ok(Accepted::Done)
+    }
 }
 
 impl Ledger {
@@ -195,6 +203,7 @@ impl Ledger {
             maker: self.objects.maker(slot),
             block: Block {
                 length: self.objects.bytes(slot).len() as u16,
+                prefix: self.objects.prefix(slot).len() as u16,
                 bytes: self.objects.block(slot).to_vec(),
                 sum: self.objects.sum(slot),
             },

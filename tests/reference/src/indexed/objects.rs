@@ -10,6 +10,7 @@ struct Object {
     handle: u32,
     life: Life,
     length: u16,
+    prefix: u16,
     store: Store,
     expirations: u16,
     pinned: bool,
@@ -29,6 +30,7 @@ const UNUSED: Object = Object {
     handle: 0,
     life: Life::NONE,
     length: 0,
+    prefix: 0,
     store: Store::Small,
     expirations: 0,
     pinned: false,
@@ -80,6 +82,12 @@ impl Objects {
         &object.bytes[..usize::from(object.length)]
     }
 
+    /// The bytes that a viewer sees.
+    pub fn prefix(&self, slot: u8) -> &[u8] {
+        let object = &self.slots[usize::from(slot)];
+        &object.bytes[..usize::from(object.prefix)]
+    }
+
     /// All bytes of the object's block.
     pub fn block(&self, slot: u8) -> &[u8] {
         self.slots[usize::from(slot)].block()
@@ -114,11 +122,12 @@ impl Objects {
 
     /// A new object of zero bytes. It stands from its first expiration on, which is set next. The
     /// store has a free block.
-    pub fn make(&mut self, maker: u8, handle: u32, length: u16, store: Store) -> u8 {
+    pub fn make(&mut self, maker: u8, handle: u32, (length, prefix): (u16, u16), store: Store) -> u8 {
         let slot = self.free.pop().expect("a free block has a slot");
         let object = &mut self.slots[usize::from(slot)];
         object.life = self.accounts.make(maker, store);
-        (object.handle, object.length, object.store, object.sum) = (handle, length, store, 0);
+        (object.handle, object.store, object.sum) = (handle, store, 0);
+        (object.length, object.prefix) = (length, prefix);
         object.bytes[..store.block_size()].fill(0);
         self.order.push((handle, slot));
         slot

@@ -6,11 +6,12 @@ use crate::share::Share;
 use crate::tasks::{State, Task};
 
 /// States and marks are sets with one bit for each task. A task that is neither running nor waiting
-/// is absent, and only running tasks have ticked.
+/// nor viewing is absent, and only running tasks have ticked.
 #[derive(Clone, Debug, Default, PartialEq, Eq)]
 pub struct Tasks {
     running: u16,
     waiting: u16,
+    viewing: u16,
     ticked: u16,
     clocks: [u64; TASKS],
     global: u64,
@@ -34,17 +35,23 @@ impl Tasks {
     pub fn entries(&self, shares: [Share; TASKS]) -> [Task; TASKS] {
         std::array::from_fn(|task| {
             let has = |set: u16| set >> task & 1 == 1;
-            let state = match (has(self.running), has(self.waiting)) {
-                (true, _) => State::Running,
-                (_, true) => State::Waiting,
+            let state = match (has(self.running), has(self.waiting), has(self.viewing)) {
+                (true, _, _) => State::Running,
+                (_, true, _) => State::Waiting,
+                (_, _, true) => State::Viewing,
                 _ => State::Absent,
             };
             Task { state, ticked: has(self.ticked), clock: self.clocks[task], share: shares[task] }
         })
     }
 
-    /// Refusals 1, 3 and 4, else the task's bit.
-    pub fn check_running(&self, task: u8) -> Result<u16, Refusal> {
+    /// Whether it is the bit of a viewer.
+    pub fn is_viewing(&self, bit: u16) -> bool {
+        self.viewing & bit != 0
+    }
+
+    /// Refusals 1, 3 and 4, else the bit of a task that runs or views.
+    pub fn check_awake(&self, task: u8) -> Result<u16, Refusal> {
         let bit = self.check_present(task)?;
         if self.waiting & bit != 0 {
             return Err(Refusal::TaskWaiting);
@@ -52,10 +59,19 @@ impl Tasks {
         Ok(bit)
     }
 
+    /// Refusals 1, 3, 4 and 27, else the task's bit.
+    pub fn check_running(&self, task: u8) -> Result<u16, Refusal> {
+        let bit = self.check_awake(task)?;
+        if self.is_viewing(bit) {
+            return Err(Refusal::OnlyViews);
+        }
+        Ok(bit)
+    }
+
     /// Refusals 1 and 2, else the task's bit.
     pub fn check_absent(&self, task: u8) -> Result<u16, Refusal> {
         let bit = bit_of(task)?;
-        if (self.running | self.waiting) & bit != 0 {
+        if self.present() & bit != 0 {
             return Err(Refusal::TaskNotAbsent);
         }
         Ok(bit)
@@ -68,11 +84,18 @@ impl Tasks {
         self.clocks[usize::from(task)] = 0;
     }
 
+    /// Of a task that is absent, with its bit.
+    pub fn view(&mut self, bit: u16, task: u8) {
+        self.viewing |= bit;
+        self.clocks[usize::from(task)] = 0;
+    }
+
     /// Leave, block and tick tell whether global time advanced.
     pub fn leave(&mut self, task: u8) -> Result<bool, Refusal> {
         let bit = self.check_present(task)?;
         self.running &= !bit;
         self.waiting &= !bit;
+        self.viewing &= !bit;
         self.ticked &= !bit;
         self.clocks[usize::from(task)] = 0;
         Ok(self.advance())
@@ -111,10 +134,15 @@ impl Tasks {
         due
     }
 
+    /// The tasks that are not absent, a bit for each.
+    fn present(&self) -> u16 {
+        self.running | self.waiting | self.viewing
+    }
+
     /// Refusals 1 and 3, else the task's bit.
     fn check_present(&self, task: u8) -> Result<u16, Refusal> {
         let bit = bit_of(task)?;
-        if (self.running | self.waiting) & bit == 0 {
+        if self.present() & bit == 0 {
             return Err(Refusal::TaskAbsent);
         }
         Ok(bit)
@@ -123,7 +151,7 @@ impl Tasks {
     /// Refusals 1, 3 and 5, else the task's bit.
     fn check_waiting(&self, task: u8) -> Result<u16, Refusal> {
         let bit = self.check_present(task)?;
-        if self.running & bit != 0 {
+        if self.waiting & bit == 0 {
             return Err(Refusal::TaskRunning);
         }
         Ok(bit)

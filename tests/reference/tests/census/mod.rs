@@ -5,6 +5,7 @@ pub mod pinned;
 pub mod remaining;
 pub mod shares;
 pub mod sized;
+pub mod viewers;
 pub mod waiting;
 
 use pinned::Pins;
@@ -14,28 +15,30 @@ use reference::ledger::Ledger;
 use reference::limits::Limits;
 use reference::script::{lines, run_from};
 use shares::Makers;
+use viewers::Viewers;
 use waiting::{Before, Setters};
 
 /// Each operation and the refusals that its frames and calls may give, in the order of the tests. The ledger gives neither
 /// 14 nor 15, and of a script not 23: no line changes a byte from outside.
-pub const OPERATIONS: [(&str, &[usize]); 13] = [
+pub const OPERATIONS: [(&str, &[usize]); 14] = [
     ("join", &[18, 1, 2, 24, 25]),
     ("leave", &[18, 1, 3]),
-    ("block", &[18, 1, 3, 4]),
+    ("block", &[18, 1, 3, 4, 27]),
     ("resume", &[18, 1, 3, 5]),
-    ("tick", &[18, 1, 3, 4]),
-    ("make", &[18, 19, 1, 3, 4, 6, 7, 8, 26, 9, 10]),
-    ("refresh", &[18, 19, 1, 3, 4, 21, 6, 11, 12, 10]),
+    ("tick", &[18, 1, 3, 4, 27]),
+    ("make", &[18, 19, 1, 3, 4, 27, 6, 7, 28, 8, 26, 9, 10]),
+    ("refresh", &[18, 19, 1, 3, 4, 27, 21, 6, 11, 12, 10]),
     ("read", &[18, 1, 3, 4, 11, 12, 23]),
-    ("write", &[18, 1, 3, 4, 11, 12, 23, 13]),
+    ("write", &[18, 1, 3, 4, 27, 11, 12, 23, 13]),
     ("report", &[18]),
     ("remaining", &[18, 1, 3, 4, 11, 12]),
-    ("batch", &[18, 19, 1, 3, 4, 20, 21, 6, 11, 12, 10]),
-    ("release", &[18, 1, 3, 4, 11, 12, 22]),
+    ("batch", &[18, 19, 1, 3, 4, 27, 20, 21, 6, 11, 12, 10]),
+    ("release", &[18, 1, 3, 4, 27, 11, 12, 22]),
+    ("view", &[18, 1, 2]),
 ];
 
-/// The refusals are 1 to 26.
-const NUMBERS: usize = 27;
+/// The refusals are 1 to 28.
+const NUMBERS: usize = 29;
 
 /// By its name, and whether what is seen is one.
 type Situation<S> = (&'static str, fn(&S) -> bool);
@@ -88,6 +91,7 @@ pub struct Census {
     pub waiting: waiting::Met,
     pub pinned: pinned::Met,
     pub shares: shares::Met,
+    pub viewers: viewers::Met,
     pub sized: sized::Met,
 }
 
@@ -107,23 +111,27 @@ impl Census {
     fn take(&mut self, limits: Limits, script: &[u8]) {
         self.longest_output = self.longest_output.max(run_from(Ledger::of(limits), script).len());
         let (mut ledger, mut room) = (Ledger::of(limits), vec![0; script.len()]);
-        let (mut setters, mut pins, mut makers) = (Setters::default(), Pins::default(), Makers::default());
+        let (mut setters, mut pins) = (Setters::default(), Pins::default());
+        let (mut makers, mut viewers) = (Makers::default(), Viewers::default());
         for line in lines(script) {
             match decode(line, &mut room) {
                 Err(refusal) => self.note_frame(line, refusal),
                 Ok(call) => {
                     batch::note(&mut self.batch, &call, &ledger);
                     let before = (Before::of(&call, &ledger), pins.before(&call, &ledger));
-                    let shared = makers.before(&call, &ledger);
+                    let (shared, viewed) = (makers.before(&call, &ledger), viewers.before(&call, &ledger));
                     let figures = ledger.figures();
                     let answer = ledger.call(&call);
                     self.note(&call, answer);
                     let number = answer.err().map_or(0, |refusal| refusal as usize);
+                    let advanced = answer == Ok(Accepted::Advanced(true));
                     if number == 0 {
                         setters.note(&mut self.waiting, &call, before.0, &ledger);
                     }
                     pins.note(&mut self.pinned, &call, number, before.1, &ledger);
                     makers.note(&mut self.shares, &call, number, shared, &ledger);
+                    let seen = viewers::Seen { call: &call, number, advanced, before: viewed };
+                    viewers.note(&mut self.viewers, &seen, &ledger);
                     sized::note(&mut self.sized, &sized::Seen { call: &call, number, limits, figures });
                     self.note_state(&ledger);
                     remaining::note(&mut self.remaining, &call, &ledger);
@@ -184,6 +192,7 @@ impl Census {
         self.waiting.print("waiting", &waiting::SITUATIONS);
         self.pinned.print("pinned", &pinned::SITUATIONS);
         self.shares.print("shares", &shares::SITUATIONS);
+        self.viewers.print("viewers", &viewers::SITUATIONS);
         self.sized.print("sized", &sized::SITUATIONS);
     }
 }

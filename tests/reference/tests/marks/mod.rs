@@ -12,6 +12,8 @@ pub struct Seen<'a> {
     call: &'a Call<'a>,
     /// 0 if it was accepted.
     number: usize,
+    /// Its task views.
+    views: bool,
     object: Option<Object>,
     /// The object is gone, and its sum differed when it went.
     went_changed: bool,
@@ -25,6 +27,7 @@ pub struct Seen<'a> {
 /// One that stands.
 struct Object {
     length: usize,
+    prefix: usize,
     store: Store,
     sum: usize,
     total: usize,
@@ -73,7 +76,7 @@ impl Seen<'_> {
 
 type Situation = (&'static str, fn(&Seen) -> bool);
 
-pub const SITUATIONS: [Situation; 24] = [
+pub const SITUATIONS: [Situation; 27] = [
     ("read, 23", |seen| seen.reads() && seen.noticed(|_| true)),
     ("write, 23", |seen| seen.writes() && seen.noticed(|_| true)),
     ("write of no byte, 23", |seen| seen.writes() && seen.range().is_empty() && seen.noticed(|_| true)),
@@ -92,6 +95,11 @@ pub const SITUATIONS: [Situation; 24] = [
     ("23 in a large block", |seen| seen.noticed(|object| object.store == Store::Large)),
     ("23 by one unit", |seen| seen.noticed(|object| object.sum.abs_diff(object.total) == 1)),
     ("3 or 4 before 23", |seen| seen.uses() && (3..=4).contains(&seen.number) && seen.differs()),
+    ("27 before 23", |seen| seen.writes() && seen.number == 27 && seen.differs()),
+    ("a viewer's read, 23", |seen| seen.views && seen.noticed(|_| true)),
+    ("a viewer's read, 23 for bytes that it does not see", |seen| {
+        seen.views && seen.noticed(|object| object.places.iter().all(|&place| place >= object.prefix))
+    }),
     ("12 before 23", |seen| seen.uses() && seen.number == 12 && seen.went_changed),
     ("remaining life", |seen| matches!(seen.call, Call::Remaining { .. }) && seen.number == 0 && seen.differs()),
     ("refreshed", |seen| matches!(seen.call, Call::Refresh { .. }) && seen.number == 0 && seen.differs()),
@@ -134,6 +142,7 @@ impl Marks {
         let handle = named.first().copied().unwrap_or(0);
         let object = ledger.block_of(handle).map(|block| Object {
             length: usize::from(block.length),
+            prefix: usize::from(block.prefix),
             store: Store::holding(block.length).expect("a length of some store"),
             sum: usize::from(block.sum),
             total: block.bytes.iter().copied().map(usize::from).sum(),
@@ -144,6 +153,7 @@ impl Marks {
         Seen {
             call,
             number: 0,
+            views: call.task().is_some_and(|task| ledger.tasks().is_viewing(task)),
             object,
             went_changed: self.went_changed.contains(&handle),
             follows: self.follow.contains(&handle),

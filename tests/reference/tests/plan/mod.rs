@@ -53,6 +53,9 @@ struct Lasting {
     last: usize,
 }
 
+/// The number that views where it is no task's.
+const VIEWER: u8 = 15;
+
 /// The last round of what is pinned.
 const FOR_EVER: usize = usize::MAX;
 
@@ -84,6 +87,8 @@ pub struct Plan {
     random: Random,
     pub list: List,
     tasks: u8,
+    /// Who views, if anybody does.
+    viewer: Option<u8>,
     /// What each of them has joined with.
     shares: Vec<Share>,
     round: usize,
@@ -97,9 +102,11 @@ impl Plan {
         let mut random = Random::new(seed);
         let tasks = 1 + random.below(16) as u8;
         let shares = shares(limits, tasks, &mut random);
-        let list = (0..).zip(&shares).map(|(task, &share)| Call::Join { task, share }).collect();
+        let viewer = (tasks < VIEWER && random.one_in(2)).then_some(VIEWER);
+        let joins = (0..).zip(&shares).map(|(task, &share)| Call::Join { task, share });
+        let list = joins.chain(viewer.map(|task| Call::View { task })).collect();
         let (objects, expirations) = (Vec::new(), Vec::new());
-        Plan { limits, random, list, tasks, shares, round: 0, given: 0, objects, expirations }
+        Plan { limits, random, list, tasks, viewer, shares, round: 0, given: 0, objects, expirations }
     }
 
     pub fn rounds(&mut self, count: usize) {
@@ -245,7 +252,8 @@ impl Plan {
     }
 
     fn make_now(&mut self, task: u8, kind: Kind, extension: u8, length: u16) {
-        self.list.push(Call::Make { task, kind, extension, length });
+        let prefix = self.random.below(usize::from(length) + 1) as u16;
+        self.list.push(Call::Make { task, kind, extension, length, prefix });
         self.given += 1;
         self.set(self.objects.len(), task, kind, extension);
         self.objects.push(Planned { handle: self.given, maker: task, length });
@@ -298,8 +306,14 @@ impl Plan {
         self.expirations.retain(|one| one.place != place || one.last != FOR_EVER);
     }
 
-    fn read(&mut self) {
+    /// By a task or by the viewer.
+    fn reader(&mut self) -> u8 {
         let task = self.task();
+        self.viewer.filter(|_| self.random.one_in(2)).unwrap_or(task)
+    }
+
+    fn read(&mut self) {
+        let task = self.reader();
         if let Some(place) = self.any_standing() {
             self.list.push(Call::Read { task, handle: self.objects[place].handle });
         }
@@ -332,15 +346,28 @@ impl Plan {
         let (first, later) = (kept(&[handle, any]), kept(&[any, any, handle]));
         // Of a task that is not there, or of none: 24 or 1.
         let above = Share { large: Quota { reserve: 3, limit: 2 }, ..Share::OPEN };
+        // Of a viewer, 27, 5 or 2; or of no task, 1.
+        let viewer = self.viewer.unwrap_or(16);
         let call = self.random.pick(&[
+            Call::View { task },
+            Call::View { task: viewer },
+            Call::Resume { task: viewer },
+            Call::Tick { task: viewer },
+            Call::Block { task: viewer },
+            Call::Make { task: viewer, kind, extension, length: 1, prefix: 0 },
+            Call::Refresh { task: viewer, kind, extension, handle: any },
+            Call::Batch { task: viewer, kind, extension, handles: kept(&[any]) },
+            Call::Write { task: viewer, handle: any, offset: 0, bytes: &BYTES[..1] },
+            Call::Release { task: viewer, handle: any },
+            Call::Make { task, kind, extension, length: 1, prefix: 2 },
             Call::Tick { task: 16 },
             Call::Join { task, share: Share::OPEN },
             Call::Join { task, share: above },
             Call::Join { task: self.tasks, share: above },
             Call::Resume { task },
-            Call::Make { task, kind, extension: extension + 1, length: 1 },
-            Call::Make { task, kind, extension, length: 257 },
-            Call::Make { task, kind: Kind::Pinned, extension: 1, length: 1 },
+            Call::Make { task, kind, extension: extension + 1, length: 1, prefix: 0 },
+            Call::Make { task, kind, extension, length: 257, prefix: 0 },
+            Call::Make { task, kind: Kind::Pinned, extension: 1, length: 1, prefix: 0 },
             Call::Refresh { task, kind: Kind::Pinned, extension: 0, handle: any },
             Call::Batch { task, kind: Kind::Pinned, extension: 0, handles: kept(&[any]) },
             Call::Release { task, handle },
@@ -365,7 +392,7 @@ impl Plan {
             2 if self.can_fill(Store::Large) => self.one_block_more(Store::Large, [33, 256]),
             1..=3 => self.one_expiration_more(),
             4 => self.batch_without_room(),
-            5 if self.tasks < 16 => self.reserve_too_much(store),
+            5 if self.tasks < VIEWER => self.reserve_too_much(store),
             _ => self.one_more_than_limit(store),
         }
         self.list.len() - 1
@@ -389,11 +416,12 @@ impl Plan {
         }
         let handle = self.objects[place].handle;
         self.make_now(task, kind, extension, 4);
+        let reader = self.reader();
         let call = self.random.pick(&[
             Call::Batch { task, kind, extension, handles: kept(&[handle]) },
             Call::Batch { task, kind, extension, handles: kept(&[handle, self.given]) },
             Call::Batch { task, kind, extension, handles: kept(&[self.given, self.given, handle]) },
-            Call::Read { task, handle },
+            Call::Read { task: reader, handle },
             Call::Release { task, handle },
             Call::Refresh { task, kind, extension, handle },
             Call::Write { task, handle, offset: 4, bytes: &[] },
@@ -413,7 +441,7 @@ impl Plan {
             let length = self.random.pick(&ends);
             self.make_now(0, Kind::Global, self.longest().min(3), length);
         }
-        self.list.push(Call::Make { task: 0, kind: Kind::Local, extension: 0, length: ends[0] });
+        self.list.push(Call::Make { task: 0, kind: Kind::Local, extension: 0, length: ends[0], prefix: 0 });
     }
 
     /// A task that is not there would have a block more than is left for it.
@@ -435,14 +463,14 @@ impl Plan {
         while self.may_make(task, store) && self.has_room(1) {
             self.make_now(task, Kind::Global, 0, length);
         }
-        self.list.push(Call::Make { task, kind: Kind::Pinned, extension: 0, length });
+        self.list.push(Call::Make { task, kind: Kind::Pinned, extension: 0, length, prefix: 0 });
     }
 
     fn one_expiration_more(&mut self) {
         let handle = self.fill_up_to(self.limits.expirations);
         let call = self.random.pick(&[
             Call::Refresh { task: 0, kind: Kind::Local, extension: 0, handle },
-            Call::Make { task: 0, kind: Kind::Local, extension: 0, length: 1 },
+            Call::Make { task: 0, kind: Kind::Local, extension: 0, length: 1, prefix: 0 },
             Call::Batch { task: 0, kind: Kind::Local, extension: 0, handles: kept(&[handle]) },
         ]);
         self.list.push(call);

@@ -1,4 +1,4 @@
--- Nothing changes without an advance, and where no task waits; else group by group.
+-- Nothing changes without an advance, and where no task waits; else two groups by two.
 use Prim.Native.Nat.{_*_, _≤_, _-_}
 use native.Mathlib.Omega.{arith}
 use mathlib.Core.Path.{_∙_}
@@ -13,10 +13,10 @@ use Rattle.endings.proofs.late.put_off.Statement.{statement}
 use Rattle.endings.proofs.late.put_off.Tie as tie
 
 abbrev Inv-loop : tie.InvT-loop
-Inv-loop clocks dues₀ flags g₀ dues g = (g ≤ groupCount) × Changed 0 (putOffBy flags clocks) 0 (g * groupSize) dues₀ dues
+Inv-loop clocks dues₀ flags g₀ dues g = (g * 2 ≤ groupCount) × Changed 0 (putOffBy flags clocks) 0 (g * 2 * groupSize) dues₀ dues
 
 abbrev μ-loop : tie.MeasureT-loop
-μ-loop clocks dues₀ flags g₀ dues g = groupCount - g
+μ-loop clocks dues₀ flags g₀ dues g = groupCount - g * 2
 
 returns-2 : tie.Need-returns-2 Inv-loop μ-loop
 returns-2 c =
@@ -29,6 +29,18 @@ put-off-in-requires c κs =
     let l = c .before .before .before in
     let pre = l .before .before .before .before .before .before .pre in
     (put-off-global (l .before .put-off-flags .ensures), pre .0, l .loop .inv .1 .size ∙ pre .1, omega arith)
+
+put-off-in-requires-2 : tie.Need-put-off-in-requires-2 Inv-loop μ-loop
+put-off-in-requires-2 c κs =
+    let l = c .before .before .before .before .before .before in
+    let pre = l .before .before .before .before .before .before .pre in
+    (put-off-global (l .before .put-off-flags .ensures), pre .0, c .before .before .put-off-in .ensures .size ∙ l .loop .inv .1 .size ∙ pre .1, omega arith)
+
+loop-again : tie.Need-loop-again Inv-loop μ-loop
+loop-again c =
+    let first = c .before .before .before in
+    let l = first .before .before .before .before in
+    (omega arith, changed-end (changed-join (changed-join (l .loop .inv .1) (first .put-off-in .ensures)) (c .put-off-in2 .ensures)) (omega arith) (omega arith))
 
 returns-3 : tie.Need-returns-3 Inv-loop μ-loop
 returns-3 c =
@@ -49,8 +61,13 @@ put-off-spec =
     (λ c κs. search needs)
     (λ c. (omega arith, changed-start _ _))
     (λ c. omega arith)
+    (λ c. omega arith)
     put-off-in-requires
     (λ c. omega arith)
     (λ c. omega arith)
-    (λ c. (omega arith, changed-end (changed-join (c .before .before .before .before .loop .inv .1) (c .put-off-in .ensures)) (omega arith) (omega arith)))
+    (λ c. omega arith)
+    put-off-in-requires-2
+    (λ c. omega arith)
+    (λ c. omega arith)
+    loop-again
     returns-3)

@@ -10,10 +10,11 @@ use Rattle.fitness.proofs.blocks.all_named.Statement.{statement}
 use Rattle.fitness.proofs.blocks.all_named.Tie as tie
 
 abbrev Inv-loop : tie.InvT-loop
-Inv-loop flags sized used fit₀ i₀ fit i = Scanned (allFrom 0 (isNamedIn flags sized) used) used 96 i (λ ys. fit && allFrom i (isNamedIn flags sized) ys)
+Inv-loop flags shaped used fit₀ i₀ fit i =
+    Scanned (allFrom 0 (isNamedIn flags shaped) used) used 96 i (λ ys. fit && allFrom i (isNamedIn flags shaped) ys)
 
 abbrev μ-loop : tie.MeasureT-loop
-μ-loop flags sized used fit₀ i₀ fit i = 96 - i
+μ-loop flags shaped used fit₀ i₀ fit i = 96 - i
 
 loop-again : tie.Need-loop-again Inv-loop μ-loop
 loop-again c =

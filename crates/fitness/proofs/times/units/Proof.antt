@@ -7,7 +7,8 @@ use borrow.Author.Needs.{needs}
 use Rattle.ledger.specs.Limits.{isAllowed}
 use Rattle.ledger.specs.declared.Limits.{Limits}
 use Rattle.ledger.proofs.Figures.{allowed}
-use Rattle.fitness.proofs.Within.{fit-state, UnitsTo, units-start, units-turn, units-end}
+use Rattle.shares.proofs.Clear.{fit-state}
+use Rattle.fitness.proofs.Within.{UnitsTo, units-start, units-turn, units-end}
 use Rattle.fitness.proofs.times.units.Statement.{statement}
 use Rattle.fitness.proofs.times.units.Tie as tie
 

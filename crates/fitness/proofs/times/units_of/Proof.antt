@@ -1,4 +1,4 @@
--- By the state: 0, 1 or 2.
+-- By the state: 0 to 3.
 use native.Mathlib.Omega.{arith}
 use borrow.Author.Needs.{needs}
 use Rattle.fitness.proofs.Within.{share, share-below}

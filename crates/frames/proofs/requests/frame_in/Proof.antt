@@ -6,11 +6,11 @@ use Rattle.frames.proofs.Frames.{by-number, unknown-operation, no-opera
 use Rattle.frames.proofs.requests.frame_in.Statement.{statement}
 use Rattle.frames.proofs.requests.frame_in.Tie as tie
 
-returns-15 : tie.Need-returns-15
-returns-15 c =
+returns-16 : tie.Need-returns-16
+returns-16 c =
     let r = c .match .rest in
     unknown-operation _ (c .before .byte-at .ensures)
-    (r .0 .0 .0 .0 .0 .0 .0 .0 .0 .0 .0 .0 .1, (r .0 .0 .0 .0 .0 .0 .0 .0 .0 .0 .0 .1, (r .0 .0 .0 .0 .0 .0 .0 .0 .0 .0 .1, (r .0 .0 .0 .0 .0 .0 .0 .0 .0 .1, (r .0 .0 .0 .0 .0 .0 .0 .0 .1, (r .0 .0 .0 .0 .0 .0 .0 .1, (r .0 .0 .0 .0 .0 .0 .1, (r .0 .0 .0 .0 .0 .1, (r .0 .0 .0 .0 .1, (r .0 .0 .0 .1, (r .0 .0 .1, (r .0 .1, (r .1, tt)))))))))))))
+    (r .0 .0 .0 .0 .0 .0 .0 .0 .0 .0 .0 .0 .0 .1, (r .0 .0 .0 .0 .0 .0 .0 .0 .0 .0 .0 .0 .1, (r .0 .0 .0 .0 .0 .0 .0 .0 .0 .0 .0 .1, (r .0 .0 .0 .0 .0 .0 .0 .0 .0 .0 .1, (r .0 .0 .0 .0 .0 .0 .0 .0 .0 .1, (r .0 .0 .0 .0 .0 .0 .0 .0 .1, (r .0 .0 .0 .0 .0 .0 .0 .1, (r .0 .0 .0 .0 .0 .0 .1, (r .0 .0 .0 .0 .0 .1, (r .0 .0 .0 .0 .1, (r .0 .0 .0 .1, (r .0 .0 .1, (r .0 .1, (r .1, tt))))))))))))))
 
 pub frame-in-spec : {M : Type 1} → statement M
 frame-in-spec =
@@ -18,6 +18,7 @@ frame-in-spec =
     (tie.spec
     (λ c. no-operation (c .before .before .args .line .now) (c .if1 .taken))
     (λ c κs. spells-one (c .before .before .args .line .now) (c .before .before .pre) (c .if1 .left))
+    (λ c κs. search needs)
     (λ c κs. search needs)
     (λ c κs. search needs)
     (λ c κs. search needs)
@@ -44,4 +45,5 @@ frame-in-spec =
     (λ c. c .remaining .ensures ∙ by-number _ 11 (c .before .before .byte-at .ensures) (c .before .match .keys11))
     (λ c. c .batch .ensures ∙ by-number _ 12 (c .before .before .byte-at .ensures) (c .before .match .keys12))
     (λ c. c .release .ensures ∙ by-number _ 13 (c .before .before .byte-at .ensures) (c .before .match .keys13))
-    returns-15)
+    (λ c. c .schedule5 .ensures ∙ by-number _ 14 (c .before .before .byte-at .ensures) (c .before .match .keys14))
+    returns-16)

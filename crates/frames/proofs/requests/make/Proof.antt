@@ -14,10 +14,10 @@ returns-2 c =
 
 returns-3 : tie.Need-returns-3
 returns-3 c =
-    let known = c .before .before .before .before in
+    let known = c .before .before .before .before .before in
     let byte = known .before .before .before in
     own-size make (byte .before .before .before .args .line .now) refl (byte .before .if1 .left)
-    (rw (← byte .byte-at .ensures, ← known .before .before .kind-of .ensures, known .kind .given .1, c .before .before .byte-at2 .ensures, c .before .byte-at3 .ensures, c .short-at .ensures))
+    (rw (← byte .byte-at .ensures, ← known .before .before .kind-of .ensures, known .kind .given .1, c .before .before .before .byte-at2 .ensures, c .before .before .byte-at3 .ensures, c .before .short-at .ensures, c .short-at2 .ensures))
 
 pub make-spec : {M : Type 1} → statement M
 make-spec =
@@ -29,6 +29,7 @@ make-spec =
     (λ c. search needs)
     (λ c. search needs)
     returns-2
+    (λ c κs. search needs)
     (λ c κs. search needs)
     (λ c κs. search needs)
     (λ c κs. search needs)

@@ -13,13 +13,13 @@ known c =
     let told = c .before in
     let call = told .before .before in
     let start = call .before .before .before .before in
-    call-known (start .args .h .limits) (start .args .task) (start .args .kind) (start .args .extension) (start .args .size) (start .args .h .tasks) (start .args .h .given)
+    call-known (start .args .h .limits) (start .args .task) (start .args .kind) (start .args .extension) (start .args .size) (start .args .prefix) (start .args .h .tasks) (start .args .h .given)
     (sym (call .make-call-verdict .ensures) ∙ told .enum-told .given .1)
 
 returns : tie.Need-returns
 returns c =
     let call = c .before .before .before in
-    planned-refused _ _ _ _ _ _ _ (call .make-call-verdict .ensures) (c .before .why .given .1) (call .before .before .free-place .ensures)
+    planned-refused _ _ _ _ _ _ _ _ (call .make-call-verdict .ensures) (c .before .why .given .1) (call .before .before .free-place .ensures)
 
 returns-2 : tie.Need-returns-2
 returns-2 c =
@@ -27,7 +27,7 @@ returns-2 c =
     let quota = filled .before .before .before in
     let told = quota .before .before .before in
     let call = told .before .before in
-    planned-taken _ _ _ _ _ _ _ (call .make-call-verdict .ensures) (told .enum-told .given .1)
+    planned-taken _ _ _ _ _ _ _ _ (call .make-call-verdict .ensures) (told .enum-told .given .1)
     (rw (c .taking-verdict .ensures, filled .is-filled .ensures, filled .before .blocks-in .ensures, quota .quota-in .ensures))
     (call .before .before .free-place .ensures)
 

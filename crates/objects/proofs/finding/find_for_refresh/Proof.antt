@@ -1,4 +1,5 @@
 -- By the tests before the finding, what is found, and the test after it.
+use mathlib.Core.Bool.{true}
 use mathlib.Core.Path.{_≡_, sym, _∙_}
 use borrow.Author.Needs.{needs}
 use Rattle.steps.specs.Objects.{taskVerdict}
@@ -15,8 +16,8 @@ find-requires : tie.Need-find-requires
 find-requires c κs =
     let tests = c .before .before in
     let start = tests .before .before .before .before in
-    let (task, kind) = both-accept (taskVerdict (start .args .task) (start .args .h .tasks)) _ (sym (first tests) ∙ c .enum-told .given .1) in
-    (start .pre .0, start .pre .1, task-known (start .args .task) (start .args .h .tasks) task)
+    let (task, kind) = both-accept (taskVerdict true (start .args .task) (start .args .h .tasks)) _ (sym (first tests) ∙ c .enum-told .given .1) in
+    (start .pre .0, start .pre .1, task-known true (start .args .task) (start .args .h .tasks) task)
 
 returns : tie.Need-returns
 returns c =

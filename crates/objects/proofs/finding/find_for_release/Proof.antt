@@ -1,5 +1,5 @@
 -- What stands, by one test more.
-use mathlib.Core.Bool.{false}
+use mathlib.Core.Bool.{true, false}
 use mathlib.Core.Path.{_≡_, sym, _∙_}
 use borrow.Author.Needs.{needs}
 use Rattle.lists.specs.Tests.{any}
@@ -24,12 +24,12 @@ found : (c : tie.After-find-standing)
 unfolding releaseVerdict
 found c =
     let a = c .before .args in
-    rw (c .find-standing .ensures) (sym (tested-after false (a .task) (a .handle) (tables (c .before)) (standingVerdict (a .task) (a .handle) (tables (c .before))) _))
+    rw (c .find-standing .ensures) (sym (tested-after false (a .task) (a .handle) (tables (c .before)) (standingVerdict true (a .task) (a .handle) (tables (c .before))) _))
 
 -- an object that stands is in its block
 accepted : (c : tie.After-known-told2)
     → let start = c .before .before .before .before in
-    (standingVerdict (start .args .task) (start .args .handle) (tables start) ≡ Accepted)
+    (standingVerdict true (start .args .task) (start .args .handle) (tables start) ≡ Accepted)
     × (placeOf (start .args .handle) (tables start .blocks) ≡ c .before .block .given .0 .0)
 accepted c =
     let read = c .before .before .before in
@@ -41,7 +41,7 @@ is-pinned-requires c κs =
     let start = c .before .before .before .before in
     let sized = start .pre .0 .entries in
     let (v, place) = accepted c in
-    (sized .of-clocks, sized .of-named, rw (← place) (standing-listed (start .args .task) (start .args .handle) (tables start) v))
+    (sized .of-clocks, sized .of-named, rw (← place) (standing-listed true (start .args .task) (start .args .handle) (tables start) v))
 
 -- whether it is pinned
 pinned : (c : tie.After-is-pinned)

@@ -1,6 +1,6 @@
--- What a read would find, by one test more.
+-- What has its bytes, by one test more.
 use Prim.Native.Nat.{ℕ, _+_}
-use mathlib.Core.Bool.{cond}
+use mathlib.Core.Bool.{true, cond}
 use mathlib.Core.Path.{_≡_, refl}
 use borrow.Author.Needs.{needs}
 use lib.Dec.{ltb}
@@ -9,7 +9,7 @@ use Rattle.ledger.specs.declared.Refusal.the-variants.{OutsideObject}
 use Rattle.ledger.specs.declared.Verdict.{Verdict}
 use Rattle.ledger.specs.declared.Verdict.the-variants.{Accepted, Refused}
 use Rattle.record.specs.Tables.{Tables, lent}
-use Rattle.steps.specs.Objects.{readVerdict, endVerdict, andThen, writeVerdict}
+use Rattle.steps.specs.Objects.{intactVerdict, endVerdict, andThen, writeVerdict}
 use Rattle.steps.proofs.Finding.{blockOf}
 use Rattle.objects.specs.Outcomes.{bytesBy}
 use Rattle.objects.specs.declared.FoundBytes.{FoundBytes}
@@ -28,17 +28,17 @@ by-read : (v : Verdict) (handle end : ℕ) (p : Tables)
 by-read Accepted handle end p = by-test (ltb (blockOf handle (p .blocks) .length) end) (λ e. rw e) (λ e. rw e)
 by-read (Refused r) handle end p = refl
 
--- the verdict's outcome, by what a read would find
-found : (c : tie.After-find-for-read)
+-- the verdict's outcome, by what has its bytes
+found : (c : tie.After-find-bytes)
     → let a = c .before .before .before .args in
     let p = lent (a .h) (a .handles .now) (a .extents .now) (a .clocks .now) (a .named .now) (a .dues .now) in
     bytesBy (writeVerdict (a .task) (a .handle) (a .offset) (a .count) (a .small .now) (a .large .now) p) (a .handle) p
-    ≡ reached (a .offset + a .count) (c .find-for-read .result)
+    ≡ reached (a .offset + a .count) (c .find-bytes .result)
 unfolding writeVerdict
 found c =
     let a = c .before .before .before .args in
     let p = lent (a .h) (a .handles .now) (a .extents .now) (a .clocks .now) (a .named .now) (a .dues .now) in
-    rw (c .find-for-read .ensures) (by-read (readVerdict (a .task) (a .handle) (a .small .now) (a .large .now) p) (a .handle) (a .offset + a .count) p)
+    rw (c .find-bytes .ensures) (by-read (intactVerdict true (a .task) (a .handle) (a .small .now) (a .large .now) p) (a .handle) (a .offset + a .count) p)
 
 pub find-for-write-spec : {M : Type 1} → statement M
 find-for-write-spec =

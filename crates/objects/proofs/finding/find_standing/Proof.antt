@@ -18,6 +18,6 @@ find-standing-spec =
     (λ c. search needs)
     (λ c κs.
     let start = c .before .before .before .before in
-    (start .pre .0, start .pre .1, task-known (start .args .task) (start .args .h .tasks) (sym (c .before .before .task-verdict .ensures) ∙ c .enum-told .given .1)))
+    (start .pre .0, start .pre .1, task-known (start .args .acts) (start .args .task) (start .args .h .tasks) (sym (c .before .before .task-verdict .ensures) ∙ c .enum-told .given .1)))
     (λ c. refused-before _ _ _ _ _ _ (sym (c .before .before .before .task-verdict .ensures) ∙ c .before .why .given .1))
     (λ c. c .find .ensures ∙ accepted-before _ _ _ _ _ _ (sym (c .before .before .before .task-verdict .ensures) ∙ c .before .enum-told .given .1)))

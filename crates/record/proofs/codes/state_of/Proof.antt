@@ -9,4 +9,5 @@ state-of-spec =
     (tie.spec
     (λ c. rw (c .if1 .taken))
     (λ c. rw (c .if2 .taken))
-    (λ c. rw (ne-eqb _ _ (c .before .if1 .left), ne-eqb _ _ (c .if2 .left))))
+    (λ c. rw (c .if3 .taken))
+    (λ c. rw (ne-eqb _ _ (c .before .before .if1 .left), ne-eqb _ _ (c .before .if2 .left), ne-eqb _ _ (c .if3 .left))))

@@ -1,4 +1,4 @@
--- Every code but 1 and 2 is an absent task's.
+-- Every code but 1, 2 and 3 is an absent task's.
 use Rattle.record.proofs.States.{absent-code}
 use Rattle.record.proofs.running.is_absent.Statement.{statement}
 use Rattle.record.proofs.running.is_absent.Tie as tie

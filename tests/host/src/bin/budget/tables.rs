@@ -22,10 +22,11 @@ const STACK: usize = 8 * 1024;
 const TYPICAL_STANDING: usize = 128;
 
 /// Each row: its call, and the case that is typical of it. The rows of a frame are by what it asks.
-const ROWS: [(&str, &str); 24] = [
+const ROWS: [(&str, &str); 25] = [
     ("fresh", "fresh"),
     ("fresh_sized", "fresh_sized"),
     ("join", "join"),
+    ("view", "view"),
     ("leave", "leave"),
     ("block", "block"),
     ("resume", "resume"),

@@ -16,9 +16,10 @@ pub enum Shown {
     Awaited,
     Ticked,
     Waiting,
+    Viewing,
 }
 
-pub const ALL: [Shown; 4] = [Shown::Absent, Shown::Awaited, Shown::Ticked, Shown::Waiting];
+pub const ALL: [Shown; 5] = [Shown::Absent, Shown::Awaited, Shown::Ticked, Shown::Waiting, Shown::Viewing];
 
 impl Shown {
     fn of(task: &Task) -> Shown {
@@ -27,6 +28,7 @@ impl Shown {
             State::Running if task.ticked => Shown::Ticked,
             State::Running => Shown::Awaited,
             State::Waiting => Shown::Waiting,
+            State::Viewing => Shown::Viewing,
         }
     }
 
@@ -36,6 +38,7 @@ impl Shown {
             Shown::Awaited => "running, its tick awaited",
             Shown::Ticked => "running, ticked",
             Shown::Waiting => "waiting",
+            Shown::Viewing => "viewing",
         }
     }
 
@@ -45,6 +48,7 @@ impl Shown {
             Shown::Awaited => "fill=\"#2a5f9e\"",
             Shown::Ticked => "fill=\"#c3daf0\"",
             Shown::Waiting => "fill=\"url(#hatched)\" stroke=\"#7a4a00\" stroke-width=\"0.6\"",
+            Shown::Viewing => "fill=\"none\" stroke=\"#2a5f9e\" stroke-width=\"1.2\"",
         }
     }
 

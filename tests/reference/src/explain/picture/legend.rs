@@ -70,8 +70,9 @@ mod tests {
         for (place, (style, name)) in CURVES.iter().enumerate() {
             assert!(CURVES[..place].iter().all(|(other, _)| differ(style, other)), "{name}");
         }
-        // An absent task has a thin bar, and a waiting one is hatched.
+        // An absent task has a thin bar, a waiting one is hatched, and a viewer's is empty.
         assert!(differ(Shown::Awaited.style(), Shown::Ticked.style()));
         assert!(Shown::Waiting.style().contains("hatched"));
+        assert!(Shown::Viewing.style().contains("none"));
     }
 }
