@@ -11,20 +11,19 @@
 #include <string.h>
 #include <unistd.h>
 
-#include "ramsummer.h"
+/* All the memory that the program has for readings. Four are in use at most; of large blocks, which it does not use, a pool
+ * has one at least. */
+#define RAMSUMMER_SITE_SMALL_BLOCKS 8
+#define RAMSUMMER_SITE_LARGE_BLOCKS 1
+#define RAMSUMMER_SITE_EXPIRATIONS 16
+#define RAMSUMMER_SITE_EXTENSION 3
+#include "ramsummer_site.h"
 #include "ramsummer_text.h"
 
 enum { LEVEL = 0, RAIN = 1, RADIO = 2, TASKS = 3, TURNS = 12, LENGTH = 2 };
 
-/* All the memory that the program has for readings, and the newest of each sensor. Four readings are in use at most; of
- * large blocks, which it does not use, a pool has one at least. */
-enum { SMALL_BLOCKS = 8, LARGE_BLOCKS = 1, EXPIRATIONS = 16, EXTENSION = 3 };
-static ramsummer_pool pool;
-static uint8_t small[RAMSUMMER_SMALL_FOR(SMALL_BLOCKS)], large[RAMSUMMER_LARGE_FOR(LARGE_BLOCKS)];
-static uint32_t newest[2];
-
-/* A pool's record and stores, as make, read and write take them. */
-#define POOL &pool, small, sizeof small, large, sizeof large
+static ramsummer_site site;
+static uint32_t newest[2]; /* the newest reading of each sensor */
 
 /* What a board gives: a serial line, which is the C library's write here. */
 static void put_bytes(const char *bytes, size_t count) {
@@ -46,37 +45,34 @@ static void put_number(unsigned number, size_t width) {
 /* Each third turn; but the third time it is three turns late. */
 static bool is_rain_ready(unsigned turn) { return turn == 3 || turn == 6 || turn == 12; }
 
-static uint8_t make(uint8_t task, uint8_t kind, unsigned value) {
+static uint8_t put_reading(uint8_t task, uint8_t kind, unsigned value) {
     const uint8_t reading[LENGTH] = {(uint8_t)(value >> 8), (uint8_t)value};
-    uint8_t refusal = ramsummer_make(POOL, task, kind, 0, LENGTH, 0, &newest[task]);
-    if (refusal) return refusal;
-    return ramsummer_write(POOL, task, newest[task], 0, reading, LENGTH);
+    return ramsummer_site_put(&site, task, kind, 0, reading, LENGTH, 0, &newest[task]);
 }
 
 /* For the radio in this turn: a global expiration, and no longer than need be. */
 static uint8_t measure_level(unsigned turn) {
     uint8_t advanced;
-    uint8_t refusal = make(LEVEL, RAMSUMMER_GLOBAL, 1000 + turn);
+    uint8_t refusal = put_reading(LEVEL, RAMSUMMER_GLOBAL, 1000 + turn);
     if (refusal) return refusal;
-    return ramsummer_tick(&pool, LEVEL, &advanced);
+    return ramsummer_tick(&site.pool, LEVEL, &advanced);
 }
 
 /* For four turns of the radio. Then the sensor begins again, and the others do not wait for this task. */
 static uint8_t measure_rain(unsigned turn) {
     uint8_t advanced;
-    uint8_t refusal = ramsummer_resume(&pool, RAIN);
-    if (!refusal) refusal = make(RAIN, RAMSUMMER_LOCAL, 2 * turn);
-    if (!refusal) refusal = ramsummer_refresh(&pool, RADIO, RAMSUMMER_LOCAL, 3, newest[RAIN]);
-    if (!refusal) refusal = ramsummer_tick(&pool, RAIN, &advanced);
-    if (!refusal) refusal = ramsummer_block(&pool, RAIN, &advanced);
+    uint8_t refusal = ramsummer_resume(&site.pool, RAIN);
+    if (!refusal) refusal = put_reading(RAIN, RAMSUMMER_LOCAL, 2 * turn);
+    if (!refusal) refusal = ramsummer_refresh(&site.pool, RADIO, RAMSUMMER_LOCAL, 3, newest[RAIN]);
+    if (!refusal) refusal = ramsummer_tick(&site.pool, RAIN, &advanced);
+    if (!refusal) refusal = ramsummer_block(&site.pool, RAIN, &advanced);
     return refusal;
 }
 
 /* What the radio knows of a sensor. */
 static uint8_t put_value(uint32_t handle) {
     uint8_t reading[LENGTH];
-    size_t count;
-    uint8_t refusal = ramsummer_read(POOL, RADIO, handle, reading, LENGTH, &count);
+    uint8_t refusal = ramsummer_site_get(&site, RADIO, handle, reading, LENGTH);
     switch (refusal) {
     case RAMSUMMER_DONE: put_number(((unsigned)reading[0] << 8) + reading[1], 0); return RAMSUMMER_DONE;
     case RAMSUMMER_HANDLE_NOT_GIVEN: put("none yet"); return RAMSUMMER_DONE;
@@ -89,7 +85,7 @@ static uint8_t put_usage(void) {
     uint8_t small_objects, large_objects;
     uint16_t expirations;
     uint32_t given;
-    uint8_t refusal = ramsummer_report(&pool, &small_objects, &large_objects, &expirations, &given);
+    uint8_t refusal = ramsummer_report(&site.pool, &small_objects, &large_objects, &expirations, &given);
     if (!refusal) put_number(small_objects, 0);
     return refusal;
 }
@@ -105,14 +101,14 @@ static uint8_t send(unsigned turn) {
     put(", ");
     if ((refusal = put_usage())) return refusal;
     put(" blocks in use\n");
-    return ramsummer_tick(&pool, RADIO, &advanced);
+    return ramsummer_tick(&site.pool, RADIO, &advanced);
 }
 
 /* All tasks join, and the rain's sensor begins. */
 static uint8_t start(void) {
-    uint8_t refusal = ramsummer_fresh_sized(&pool, SMALL_BLOCKS, LARGE_BLOCKS, EXPIRATIONS, EXTENSION), advanced, task;
-    for (task = 0; task < TASKS && !refusal; task++) refusal = ramsummer_join(&pool, task, RAMSUMMER_OPEN);
-    if (!refusal) refusal = ramsummer_block(&pool, RAIN, &advanced);
+    uint8_t refusal = ramsummer_site_fresh(&site), advanced, task;
+    for (task = 0; task < TASKS && !refusal; task++) refusal = ramsummer_join(&site.pool, task, RAMSUMMER_OPEN);
+    if (!refusal) refusal = ramsummer_block(&site.pool, RAIN, &advanced);
     return refusal;
 }
 

@@ -16,22 +16,19 @@
 #include <string.h>
 
 #include "ramsummer_peaks.h"
+#include "ramsummer_site.h"
 #include "ramsummer_text.h"
 
 /* The sensor of WAITER gives nothing in the cycles FIRST_DEAD to LAST_DEAD. */
 enum { READER = 0, CHATTY = 3, WAITER = 7, CYCLES = 10, FIRST_DEAD = 3, LAST_DEAD = 8, READINGS = 4 * 16 + 6 * 15, LENGTH = 4 };
 enum { ZERO = 250 }; /* where the gauge begins, in centimetres */
 
-static ramsummer_pool pool;
-static uint8_t small[RAMSUMMER_SMALL], large[RAMSUMMER_LARGE];
+static ramsummer_site site;
 static uint32_t newest[RAMSUMMER_TASKS]; /* the newest reading of each task */
 static uint32_t whole[RAMSUMMER_TASKS];  /* the last ones that are all of one cycle */
 static uint32_t request;                 /* what WAITER asks its sensor */
 static uint32_t calibration;             /* ZERO in two bytes, the high one first */
 static ramsummer_peaks peaks;            /* the most that stood at a time: what the pool has to have room for */
-
-/* A pool's record and stores, as make, read and write take them. */
-#define POOL &pool, small, sizeof small, large, sizeof large
 
 static bool at_work(uint8_t task, uint8_t cycle) { return task != WAITER || cycle < FIRST_DEAD || cycle > LAST_DEAD; }
 
@@ -44,28 +41,25 @@ static void sense(uint8_t task, uint8_t cycle, uint8_t reading[LENGTH]) {
     reading[3] = level & 0xFF;
 }
 
-/* A new object, and the peaks are kept. */
-static uint8_t make(uint8_t task, uint8_t kind, uint16_t length, uint32_t *handle) {
-    return ramsummer_peaks_after(&peaks, &pool, ramsummer_make(POOL, task, kind, 0, length, 0, handle));
+/* A new object of these bytes, and the peaks are kept. */
+static uint8_t put(uint8_t task, uint8_t kind, const uint8_t *bytes, size_t length, uint32_t *handle) {
+    return ramsummer_peaks_after(&peaks, &site.pool, ramsummer_site_put(&site, task, kind, 0, bytes, length, 0, handle));
 }
 
-/* The task makes a block and writes its reading to it. */
-static uint8_t write_reading(uint8_t task, uint8_t cycle) {
+/* The task makes a block of its reading. */
+static uint8_t put_reading(uint8_t task, uint8_t cycle) {
     uint8_t reading[LENGTH];
-    uint8_t refusal = make(task, RAMSUMMER_GLOBAL, LENGTH, &newest[task]);
-    if (refusal) return refusal;
     sense(task, cycle, reading);
-    return ramsummer_write(POOL, task, newest[task], 0, reading, LENGTH);
+    return put(task, RAMSUMMER_GLOBAL, reading, LENGTH, &newest[task]);
 }
 
 /* Task 0 reads it, and counts it where it is as it was written. */
 static uint8_t read_reading(uint8_t task, uint8_t cycle, unsigned *read) {
     uint8_t expected[LENGTH], found[LENGTH];
-    size_t count;
-    uint8_t refusal = ramsummer_read(POOL, READER, newest[task], found, sizeof found, &count);
+    uint8_t refusal = ramsummer_site_get(&site, READER, newest[task], found, LENGTH);
     if (refusal) return refusal;
     sense(task, cycle, expected);
-    *read += count == LENGTH && memcmp(found, expected, LENGTH) == 0;
+    *read += memcmp(found, expected, LENGTH) == 0;
     return RAMSUMMER_DONE;
 }
 
@@ -73,12 +67,12 @@ static uint8_t read_reading(uint8_t task, uint8_t cycle, unsigned *read) {
  * readings goes before that of task 0, which does not wait; so that one tells for all. */
 static uint8_t keep(bool *refreshed) {
     uint8_t local, global;
-    uint8_t refusal = ramsummer_remaining(&pool, READER, whole[0], &local, &global);
+    uint8_t refusal = ramsummer_remaining(&site.pool, READER, whole[0], &local, &global);
     if (refusal) return refusal;
     *refreshed = global <= 1;
     if (!*refreshed) return RAMSUMMER_DONE;
-    refusal = ramsummer_refresh_all(&pool, READER, RAMSUMMER_GLOBAL, 1, whole, RAMSUMMER_TASKS);
-    return ramsummer_peaks_after(&peaks, &pool, refusal);
+    refusal = ramsummer_refresh_all(&site.pool, READER, RAMSUMMER_GLOBAL, 1, whole, RAMSUMMER_TASKS);
+    return ramsummer_peaks_after(&peaks, &site.pool, refusal);
 }
 
 /* One cycle of the tasks at work. Read says how many readings task 0 has read as they were written, refreshed whether
@@ -86,30 +80,28 @@ static uint8_t keep(bool *refreshed) {
 static uint8_t run(uint8_t cycle, unsigned *read, bool *refreshed) {
     uint8_t refusal = RAMSUMMER_DONE, advanced, task;
     for (task = 0; task < RAMSUMMER_TASKS && !refusal; task++)
-        if (at_work(task, cycle)) refusal = write_reading(task, cycle);
+        if (at_work(task, cycle)) refusal = put_reading(task, cycle);
     for (task = 0; task < RAMSUMMER_TASKS && !refusal; task++)
         if (at_work(task, cycle)) refusal = read_reading(task, cycle, read);
     if (!refusal && *read == RAMSUMMER_TASKS) memcpy(whole, newest, sizeof whole);
     if (!refusal) refusal = keep(refreshed);
     for (task = 0; task < RAMSUMMER_TASKS && !refusal; task++)
-        if (at_work(task, cycle)) refusal = ramsummer_tick(&pool, task, &advanced);
+        if (at_work(task, cycle)) refusal = ramsummer_tick(&site.pool, task, &advanced);
     return refusal;
 }
 
 /* Its request would last two advances; while it waits it lasts. */
 static uint8_t ask_and_wait(uint8_t cycle) {
     uint8_t advanced;
-    uint8_t refusal = make(WAITER, RAMSUMMER_GLOBAL, 1, &request);
-    if (!refusal) refusal = ramsummer_write(POOL, WAITER, request, 0, &cycle, 1);
-    if (!refusal) refusal = ramsummer_block(&pool, WAITER, &advanced);
+    uint8_t refusal = put(WAITER, RAMSUMMER_GLOBAL, &cycle, 1, &request);
+    if (!refusal) refusal = ramsummer_block(&site.pool, WAITER, &advanced);
     return refusal;
 }
 
 static uint8_t go_on(void) {
     uint8_t asked;
-    size_t count;
-    uint8_t refusal = ramsummer_resume(&pool, WAITER);
-    if (!refusal) refusal = ramsummer_read(POOL, WAITER, request, &asked, 1, &count);
+    uint8_t refusal = ramsummer_resume(&site.pool, WAITER);
+    if (!refusal) refusal = ramsummer_site_get(&site, WAITER, request, &asked, 1);
     if (!refusal) printf("          task %d resumes and finds its request of cycle %d\n", WAITER, asked);
     return refusal;
 }
@@ -124,7 +116,7 @@ static uint8_t wait_or_go_on(uint8_t cycle) {
 /* The watchdog, once a cycle: task 0 has ticked, so that it is awaited again only where global time has advanced since. */
 static uint8_t watch(void) {
     uint16_t awaited;
-    uint8_t refusal = ramsummer_awaited(&pool, &awaited), task;
+    uint8_t refusal = ramsummer_awaited(&site.pool, &awaited), task;
     if (refusal || awaited >> READER & 1) return refusal;
     for (task = 0; task < RAMSUMMER_TASKS; task++)
         if (awaited >> task & 1) printf("          global time waits for task %d\n", task);
@@ -134,18 +126,16 @@ static uint8_t watch(void) {
 /* Nobody refreshes it, and no time ends it. */
 static uint8_t calibrate(void) {
     const uint8_t zero[2] = {ZERO >> 8, ZERO & 0xFF};
-    uint8_t refusal = make(READER, RAMSUMMER_PINNED, sizeof zero, &calibration);
-    if (refusal) return refusal;
-    return ramsummer_write(POOL, READER, calibration, 0, zero, sizeof zero);
+    return put(READER, RAMSUMMER_PINNED, zero, sizeof zero, &calibration);
 }
 
 static uint8_t print_cycle(uint8_t cycle, unsigned read, bool refreshed) {
     uint8_t small_objects, large_objects;
     uint16_t expirations;
     uint32_t given;
-    uint8_t refusal = ramsummer_report(&pool, &small_objects, &large_objects, &expirations, &given);
+    uint8_t refusal = ramsummer_report(&site.pool, &small_objects, &large_objects, &expirations, &given);
     if (!refusal)
-        printf("cycle %2d: %u readings, global time %2u, %d blocks in use%s\n", cycle, read, (unsigned)pool.global,
+        printf("cycle %2d: %u readings, global time %2u, %d blocks in use%s\n", cycle, read, (unsigned)site.pool.global,
                small_objects, refreshed ? ", the last whole scan refreshed" : "");
     return refusal ? refusal : watch();
 }
@@ -155,26 +145,25 @@ static uint8_t take_down(void) {
     uint8_t found[2], small_objects, large_objects;
     uint16_t expirations;
     uint32_t given;
-    size_t count;
-    uint8_t refusal = ramsummer_read(POOL, READER, calibration, found, sizeof found, &count);
+    uint8_t refusal = ramsummer_site_get(&site, READER, calibration, found, sizeof found);
     if (refusal) return refusal;
     printf("          the calibration stands: the gauge begins at %d cm\n", found[0] << 8 | found[1]);
-    refusal = ramsummer_release(&pool, READER, calibration);
-    if (!refusal) refusal = ramsummer_report(&pool, &small_objects, &large_objects, &expirations, &given);
+    refusal = ramsummer_release(&site.pool, READER, calibration);
+    if (!refusal) refusal = ramsummer_report(&site.pool, &small_objects, &large_objects, &expirations, &given);
     if (!refusal) printf("          it is released: %d blocks in use\n", small_objects);
     return refusal;
 }
 
 /* All cycles from a fresh pool, up to the first refusal. Total is the count of readings. */
 static uint8_t log_all(bool with_block, unsigned *total) {
-    uint8_t refusal = ramsummer_fresh(&pool), task, cycle;
+    uint8_t refusal = ramsummer_site_fresh(&site), task, cycle;
     *total = 0;
-    if (!refusal) refusal = ramsummer_peaks_reset(&peaks, &pool);
-    for (task = 0; task < RAMSUMMER_TASKS && !refusal; task++) refusal = ramsummer_join(&pool, task, RAMSUMMER_OPEN);
+    if (!refusal) refusal = ramsummer_peaks_reset(&peaks, &site.pool);
+    for (task = 0; task < RAMSUMMER_TASKS && !refusal; task++) refusal = ramsummer_join(&site.pool, task, RAMSUMMER_OPEN);
     if (!refusal) refusal = calibrate();
     for (cycle = 1; cycle <= CYCLES && !refusal; cycle++) {
         unsigned read = 0;
-        bool refreshed;
+        bool refreshed = false;
         if (with_block) refusal = wait_or_go_on(cycle);
         if (!refusal) refusal = run(cycle, &read, &refreshed);
         if (refusal) printf("cycle %2d: refused with %d, %s\n", cycle, refusal, ramsummer_text(refusal));
@@ -188,10 +177,10 @@ static uint8_t log_all(bool with_block, unsigned *total) {
 
 /* Small blocks: of each but CHATTY a reserve, and of CHATTY a limit. */
 static uint8_t join_all(uint8_t reserve, uint8_t limit) {
-    uint8_t refusal = ramsummer_fresh(&pool), task;
+    uint8_t refusal = ramsummer_site_fresh(&site), task;
     for (task = 0; task < RAMSUMMER_TASKS && !refusal; task++)
-        refusal = task == CHATTY ? ramsummer_join(&pool, task, 0, limit, 0, RAMSUMMER_NO_LIMIT)
-                                 : ramsummer_join(&pool, task, reserve, RAMSUMMER_NO_LIMIT, 0, RAMSUMMER_NO_LIMIT);
+        refusal = task == CHATTY ? ramsummer_join(&site.pool, task, 0, limit, 0, RAMSUMMER_NO_LIMIT)
+                                 : ramsummer_join(&site.pool, task, reserve, RAMSUMMER_NO_LIMIT, 0, RAMSUMMER_NO_LIMIT);
     return refusal;
 }
 
@@ -202,9 +191,9 @@ static bool chat(const char *shares, uint8_t reserve, uint8_t limit, uint8_t num
     uint8_t task, refusal = join_all(reserve, limit);
     unsigned others = 0;
     if (refusal) return false;
-    while (!refusal) refusal = write_reading(CHATTY, 1);
-    for (task = 0; task < RAMSUMMER_TASKS; task++) others += task != CHATTY && !write_reading(task, 1);
-    if (ramsummer_share(&pool, CHATTY, has, has + 1, has + 2, has + 3, has + 4, has + 5)) return false;
+    while (!refusal) refusal = put_reading(CHATTY, 1);
+    for (task = 0; task < RAMSUMMER_TASKS; task++) others += task != CHATTY && !put_reading(task, 1);
+    if (ramsummer_share(&site.pool, CHATTY, has, has + 1, has + 2, has + 3, has + 4, has + 5)) return false;
     printf("%s: task %d made %d, refused with %d; the others made %u\n", shares, CHATTY, has[0], refusal, others);
     return refusal == number && others == count;
 }

@@ -115,14 +115,14 @@ fn log_all(logger: &mut Logger, with_block: bool) -> Result<usize, Refusal> {
 
 /// Nobody refreshes it, and no time ends it.
 fn calibrate(Logger { pool, calibration, .. }: &mut Logger) -> Result<(), Refusal> {
-    *calibration = pool.make(READER, Kind::Pinned, 0, 2)?;
-    pool.write(READER, *calibration, 0, &ZERO.to_be_bytes())
+    *calibration = pool.put(READER, Kind::Pinned, 0, &ZERO.to_be_bytes())?;
+    Ok(())
 }
 
 /// The calibration is as on the first day, and its block comes back.
 fn take_down(Logger { pool, calibration, .. }: &mut Logger) -> Result<(), Refusal> {
-    let found = pool.read_to_vec(READER, *calibration)?;
-    println!("          the calibration stands: the gauge begins at {} cm", u16::from_be_bytes([found[0], found[1]]));
+    let zero = u16::from_be_bytes(pool.get(READER, *calibration)?);
+    println!("          the calibration stands: the gauge begins at {zero} cm");
     pool.release(READER, *calibration)?;
     println!("          it is released: {} blocks in use", pool.report()?.small);
     Ok(())
@@ -131,12 +131,11 @@ fn take_down(Logger { pool, calibration, .. }: &mut Logger) -> Result<(), Refusa
 /// The cure: global time goes on without a task that waits. Its request would last two advances; while it waits it lasts.
 fn wait_or_go_on(Logger { pool, request, .. }: &mut Logger, cycle: u8) -> Result<(), Refusal> {
     if cycle == *DEAD.start() {
-        *request = pool.make(WAITER, Kind::Global, 0, 1)?;
-        pool.write(WAITER, *request, 0, &[cycle])?;
+        *request = pool.put(WAITER, Kind::Global, 0, &[cycle])?;
         pool.block(WAITER)?;
     } else if cycle == DEAD.end() + 1 {
         pool.resume(WAITER)?;
-        let asked = pool.read_to_vec(WAITER, *request)?[0];
+        let [asked] = pool.get(WAITER, *request)?;
         println!("          task {WAITER} resumes and finds its request of cycle {asked}");
     }
     Ok(())
@@ -147,13 +146,11 @@ fn wait_or_go_on(Logger { pool, request, .. }: &mut Logger, cycle: u8) -> Result
 fn run(Logger { pool, newest, whole, .. }: &mut Logger, cycle: u8) -> Result<(usize, bool), Refusal> {
     let at_work = |task: &u8| *task != WAITER || !DEAD.contains(&cycle);
     for task in (0..TASKS).filter(at_work) {
-        let handle = pool.make(task, Kind::Global, 0, 4)?;
-        pool.write(task, handle, 0, &reading(task, cycle))?;
-        newest[usize::from(task)] = handle;
+        newest[usize::from(task)] = pool.put(task, Kind::Global, 0, &reading(task, cycle))?;
     }
     let mut read = 0;
     for task in (0..TASKS).filter(at_work) {
-        read += usize::from(pool.read_to_vec(READER, newest[usize::from(task)])? == reading(task, cycle));
+        read += usize::from(pool.get(READER, newest[usize::from(task)])? == reading(task, cycle));
     }
     if read == newest.len() {
         *whole = *newest;

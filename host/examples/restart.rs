@@ -28,10 +28,10 @@ fn run() -> Result<Kept, Refusal> {
     let mut pool = Pool::new();
     pool.join(0, Share::OPEN)?;
     pool.join(1, Share::OPEN)?;
-    let level = reading(&mut pool, 0, Kind::Local, 3, b"12.50 m")?;
-    let rain = reading(&mut pool, 1, Kind::Local, 3, b"0.40 mm")?;
-    let battery = reading(&mut pool, 1, Kind::Global, 3, b"13.20 V")?;
-    let calibration = reading(&mut pool, 0, Kind::Pinned, 0, b"+2.50 m")?;
+    let level = pool.put(0, Kind::Local, 3, b"12.50 m")?;
+    let rain = pool.put(1, Kind::Local, 3, b"0.40 mm")?;
+    let battery = pool.put(1, Kind::Global, 3, b"13.20 V")?;
+    let calibration = pool.put(0, Kind::Pinned, 0, b"+2.50 m")?;
     pool.tick(0)?;
     pool.tick(1)?;
     let mut images = [[0; image::WITH_STORES]; 2];
@@ -42,12 +42,6 @@ fn run() -> Result<Kept, Refusal> {
     image::save(pool.record(), &mut record).expect("there is room");
     println!("saved: {pool}");
     Ok(Kept { images, record, level, rain, battery, calibration })
-}
-
-fn reading(pool: &mut Pool, task: u8, kind: Kind, extension: u8, text: &[u8; 7]) -> Result<Handle, Refusal> {
-    let handle = pool.make(task, kind, extension, 7)?;
-    pool.write(task, handle, 0, text)?;
-    Ok(handle)
 }
 
 /// The pool of the first image that is whole, or a fresh one.

@@ -142,8 +142,8 @@ impl Logger {
     }
 
     fn make_reading(&mut self, task: u8) -> Handle {
-        let handle = done(self.pool.make(task, Kind::Global, 0, 2));
-        done(self.pool.write(task, handle, 0, &[task, self.time() as u8]));
+        let reading = [task, self.time() as u8];
+        let handle = done(self.pool.put(task, Kind::Global, 0, &reading));
         self.this_round()[usize::from(task)] = Some(handle);
         handle
     }
@@ -152,16 +152,15 @@ impl Logger {
     fn read_last_round(&mut self) {
         let (scan, time) = (*self.last_round(), self.time() as u8);
         let readings = (0..TASKS).zip(scan).filter_map(|(task, handle)| Some((task, handle?)));
-        let is_whole = |&(task, handle): &(u8, Handle)| {
-            done(self.pool.read_to_vec(READER, handle)) == [task, time.wrapping_sub(1)]
-        };
+        let is_whole =
+            |&(task, handle): &(u8, Handle)| done(self.pool.get(READER, handle)) == [task, time.wrapping_sub(1)];
         self.whole = readings.filter(is_whole).count();
     }
 
     /// A task's own last reading was put off at each advance, and is there.
     fn find(&mut self, task: u8, last: Option<Handle>) {
-        let found = done(self.pool.read_to_vec(task, last.expect("a reading of the rounds before")));
-        println!("         task {task} goes on, and finds its reading of round {}", found[1] + 1);
+        let [_, time] = done(self.pool.get(task, last.expect("a reading of the rounds before")));
+        println!("         task {task} goes on, and finds its reading of round {}", time + 1);
     }
 
     fn tick(&mut self, task: u8) {

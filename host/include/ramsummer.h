@@ -35,6 +35,9 @@
 extern "C" {
 #endif
 
+/* The version of these headers, which is that of the crate in Rust. */
+#define RAMSUMMER_VERSION "0.1.0"
+
 /* The largest limits that a pool may have (ramsummer_limits), and those of ramsummer_fresh. */
 #define RAMSUMMER_SMALL_BLOCKS 64  /* blocks of the small store */
 #define RAMSUMMER_LARGE_BLOCKS 32  /* blocks of the large store */
@@ -87,7 +90,7 @@ enum ramsummer_answer {
     RAMSUMMER_NO_FREE_EXPIRATION = 10,  /* as many stand as the pool's limit, or a batch would make them more */
     RAMSUMMER_HANDLE_NOT_GIVEN = 11,    /* handle 0, or above the count given */
     RAMSUMMER_OBJECT_GONE = 12,         /* the object's last expiration has ended */
-    RAMSUMMER_OUTSIDE_OBJECT = 13,      /* write: offset plus count above the object's length */
+    RAMSUMMER_OUTSIDE_OBJECT = 13,      /* write: offset plus count above the object's length; site_get: length above it */
     RAMSUMMER_WRONG_STORE_LENGTH = 14,  /* a store has not exactly the length that the pool's blocks need */
     RAMSUMMER_NOT_WELL_FORMED = 15,     /* the record is damaged; only 16 to 19 and a frame's 255 are tested before */
     RAMSUMMER_NOT_HEXADECIMAL = 16,     /* frame: not all pairs of digits 0-9, A-F */
@@ -205,18 +208,37 @@ RAMSUMMER_ASSERT(offsetof(ramsummer_pool, dues) == 1880);
 #undef RAMSUMMER_ASSERT
 #endif
 
-/* The compiler warns, where it can, of a call whose answer nobody looks at: it may have been refused. */
+/* The compiler warns, where it can, of a null pointer (NONNULL), and also of a call whose answer nobody looks at, since it
+ * may have been refused (CHECKED). */
 #if defined(__GNUC__)
-#define RAMSUMMER_CHECKED __attribute__((warn_unused_result))
+#define RAMSUMMER_NONNULL __attribute__((nonnull))
+#define RAMSUMMER_CHECKED __attribute__((nonnull, warn_unused_result))
 #elif defined(__cplusplus) && __cplusplus >= 201703L
+#define RAMSUMMER_NONNULL
 #define RAMSUMMER_CHECKED [[nodiscard]]
 #else
+#define RAMSUMMER_NONNULL
 #define RAMSUMMER_CHECKED
+#endif
+
+/* And gcc warns of memory that is shorter than the length that is passed with it. The numbers are the places of both among
+ * the arguments. */
+#if defined(__has_attribute)
+#if __has_attribute(access)
+#define RAMSUMMER_READS(pointer, length) __attribute__((access(read_only, pointer, length)))
+#define RAMSUMMER_WRITES(pointer, length) __attribute__((access(write_only, pointer, length)))
+#define RAMSUMMER_CHANGES(pointer, length) __attribute__((access(read_write, pointer, length)))
+#endif
+#endif
+#ifndef RAMSUMMER_READS
+#define RAMSUMMER_READS(pointer, length)
+#define RAMSUMMER_WRITES(pointer, length)
+#define RAMSUMMER_CHANGES(pointer, length)
 #endif
 
 /* Makes the record that of a fresh pool with the largest limits, whatever it held. Always 0. The stores may hold any
  * bytes. */
-uint8_t ramsummer_fresh(ramsummer_pool *pool);
+RAMSUMMER_NONNULL uint8_t ramsummer_fresh(ramsummer_pool *pool);
 
 /* The same with limits of the site's own; its stores are RAMSUMMER_SMALL_FOR(small_blocks) and
  * RAMSUMMER_LARGE_FOR(large_blocks) long. Where one is out of its range, what is left is a record that every call refuses
@@ -256,6 +278,7 @@ RAMSUMMER_CHECKED uint8_t ramsummer_tick(ramsummer_pool *pool, uint8_t task, uin
 /* A new object of zero bytes with one expiration, which pins it where the kind says so. A viewer sees its first prefix
  * bytes: none where that is 0, all where it is the length. Handle is set to its number.
  * Tests 19, 15, 14, 1, 3, 4, 27, 6, 7, 28, 8, 26, 9, 10. */
+RAMSUMMER_CHANGES(2, 3) RAMSUMMER_CHANGES(4, 5)
 RAMSUMMER_CHECKED uint8_t ramsummer_make(ramsummer_pool *pool, uint8_t *small_store, uint64_t small_length,
                                          uint8_t *large_store, uint64_t large_length, uint8_t task, uint8_t kind,
                                          uint8_t extension, uint16_t length, uint16_t prefix, uint32_t *handle);
@@ -267,6 +290,7 @@ RAMSUMMER_CHECKED uint8_t ramsummer_refresh(ramsummer_pool *pool, uint8_t task, 
 /* A batch: one more expiration for each of count objects, 1 to RAMSUMMER_LARGEST_BATCH, or for none of them where one
  * is refused. An object that is named twice gets two. Tests 19, 15, 1, 3, 4, 27, 20, 21, 6, then 11 for any of the
  * objects, 12 for any, 10 for all. */
+RAMSUMMER_READS(5, 6)
 RAMSUMMER_CHECKED uint8_t ramsummer_refresh_all(ramsummer_pool *pool, uint8_t task, uint8_t kind, uint8_t extension,
                                                 const uint32_t *handles, uint64_t count);
 
@@ -278,12 +302,14 @@ RAMSUMMER_CHECKED uint8_t ramsummer_release(ramsummer_pool *pool, uint8_t task, 
 /* The object's bytes, to a viewer those of its prefix alone, go to the start of out, and count says how many; the rest of
  * out stays. The sum that is tested is that of the whole block, for a viewer too.
  * Tests 15, 14, 1, 3, 4, 11, 12, 23, 255. */
+RAMSUMMER_READS(2, 3) RAMSUMMER_READS(4, 5) RAMSUMMER_WRITES(8, 9)
 RAMSUMMER_CHECKED uint8_t ramsummer_read(ramsummer_pool *pool, const uint8_t *small_store, uint64_t small_length,
                                          const uint8_t *large_store, uint64_t large_length, uint8_t task,
                                          uint32_t handle, uint8_t *out, uint64_t out_length, uint64_t *count);
 
 /* Replaces count bytes of the object from offset on; the record gets the block's new sum. An offset above 255 lies outside
  * every object, also where count is 0. Tests 15, 14, 1, 3, 4, 27, 11, 12, 23, 13. */
+RAMSUMMER_CHANGES(2, 3) RAMSUMMER_CHANGES(4, 5) RAMSUMMER_READS(9, 10)
 RAMSUMMER_CHECKED uint8_t ramsummer_write(ramsummer_pool *pool, uint8_t *small_store, uint64_t small_length,
                                           uint8_t *large_store, uint64_t large_length, uint8_t task, uint32_t handle,
                                           uint8_t offset, const uint8_t *bytes, uint64_t count);
@@ -312,6 +338,7 @@ RAMSUMMER_CHECKED uint8_t ramsummer_share(ramsummer_pool *pool, uint8_t task, ui
 /* Carries out one call frame. Line is without its LF; the answer line goes to the start of out with its LF, and count
  * says how many bytes. The number is the one that the answer line starts with. Tests 255, 16, 17, 18, 19, then as the
  * call does from 15 on. */
+RAMSUMMER_CHANGES(2, 3) RAMSUMMER_CHANGES(4, 5) RAMSUMMER_READS(6, 7) RAMSUMMER_WRITES(8, 9)
 RAMSUMMER_CHECKED uint8_t ramsummer_frame(ramsummer_pool *pool, uint8_t *small_store, uint64_t small_length,
                                           uint8_t *large_store, uint64_t large_length, const uint8_t *line,
                                           uint64_t line_length, uint8_t *out, uint64_t out_length, uint64_t *count);

@@ -68,6 +68,7 @@ RAMSUMMER_CHECKED static inline uint8_t ramsummer_tick_wide(ramsummer_pool *pool
     return ramsummer_tick(pool, ramsummer_to_byte(task), advanced);
 }
 
+RAMSUMMER_CHANGES(2, 3) RAMSUMMER_CHANGES(4, 5)
 RAMSUMMER_CHECKED static inline uint8_t ramsummer_make_wide(ramsummer_pool *pool, uint8_t *small_store,
                                                             size_t small_length, uint8_t *large_store,
                                                             size_t large_length, unsigned task, unsigned kind,
@@ -84,6 +85,7 @@ RAMSUMMER_CHECKED static inline uint8_t ramsummer_refresh_wide(ramsummer_pool *p
                              handle);
 }
 
+RAMSUMMER_READS(5, 6)
 RAMSUMMER_CHECKED static inline uint8_t ramsummer_refresh_all_wide(ramsummer_pool *pool, unsigned task, unsigned kind,
                                                                    unsigned extension, const uint32_t *handles,
                                                                    size_t count) {
@@ -95,6 +97,7 @@ RAMSUMMER_CHECKED static inline uint8_t ramsummer_release_wide(ramsummer_pool *p
     return ramsummer_release(pool, ramsummer_to_byte(task), handle);
 }
 
+RAMSUMMER_READS(2, 3) RAMSUMMER_READS(4, 5) RAMSUMMER_WRITES(8, 9)
 RAMSUMMER_CHECKED static inline uint8_t ramsummer_read_wide(ramsummer_pool *pool, const uint8_t *small_store,
                                                             size_t small_length, const uint8_t *large_store,
                                                             size_t large_length, unsigned task, uint32_t handle,
@@ -107,6 +110,7 @@ RAMSUMMER_CHECKED static inline uint8_t ramsummer_read_wide(ramsummer_pool *pool
 }
 
 /* 255 may be an offset, but two bytes from there on end past every object: 13 comes in its turn. Nothing is written. */
+RAMSUMMER_CHANGES(2, 3) RAMSUMMER_CHANGES(4, 5) RAMSUMMER_READS(9, 10)
 RAMSUMMER_CHECKED static inline uint8_t ramsummer_write_wide(ramsummer_pool *pool, uint8_t *small_store,
                                                              size_t small_length, uint8_t *large_store,
                                                              size_t large_length, unsigned task, uint32_t handle,
@@ -131,6 +135,7 @@ RAMSUMMER_CHECKED static inline uint8_t ramsummer_share_wide(ramsummer_pool *poo
 }
 
 /* A refusal has an answer line too, but where there is no room for one. */
+RAMSUMMER_CHANGES(2, 3) RAMSUMMER_CHANGES(4, 5) RAMSUMMER_READS(6, 7) RAMSUMMER_WRITES(8, 9)
 RAMSUMMER_CHECKED static inline uint8_t ramsummer_frame_wide(ramsummer_pool *pool, uint8_t *small_store,
                                                              size_t small_length, uint8_t *large_store,
                                                              size_t large_length, const uint8_t *line,

@@ -13,12 +13,11 @@
 //! pool.join(0, Share::OPEN)?;
 //!
 //! // A reading for task 0 alone, until its next tick.
-//! let handle = pool.make(0, Kind::Local, 0, 7)?;
-//! pool.write(0, handle, 0, b"12.50 m")?;
-//! assert_eq!(pool.read_to_vec(0, handle)?, b"12.50 m");
+//! let handle = pool.put(0, Kind::Local, 0, b"12.50 m")?;
+//! assert_eq!(&pool.get(0, handle)?, b"12.50 m");
 //!
 //! pool.tick(0)?;
-//! assert_eq!(pool.read_to_vec(0, handle), Err(Refusal::ObjectGone));
+//! assert_eq!(pool.get::<7>(0, handle), Err(Refusal::ObjectGone));
 //! println!("{pool}"); // global time 1, small 0, large 0, expirations 0, given 1
 //! # assert_eq!(pool.to_string(), "global time 1, small 0, large 0, expirations 0, given 1");
 //! # Ok::<(), Refusal>(())
@@ -197,7 +196,8 @@
 //! What the calls do is proved of the library, in the repository that this crate is part of. Of this crate nothing is
 //! proved: its calls pass arguments on and hand answers back, and `src/sys.rs` has all of its unsafe code. [`Record::fresh`],
 //! [`Record::sized`], `Pool::new`, `Pool::sized` and [`SitePool::in_place`] make the record and decide
-//! [`LimitsOutOfRange`](Refusal::LimitsOutOfRange) themselves; a test holds them to the library's entry.
+//! [`LimitsOutOfRange`](Refusal::LimitsOutOfRange) themselves; a test holds them to the library's entry. [`Pool::put`] is two
+//! calls, and [`Pool::get`] refuses what is too short itself.
 //!
 //! The build links `libramsummer.a` from the repository's `target/staticlib`, where `rt staticlib ramsummer` writes it,
 //! or from the folder that the environment variable `RAMSUMMER_LIB` names (README.md has the rule).
@@ -240,3 +240,6 @@ pub use share::{Holding, Holdings, Quota, Share};
 pub use site::SitePool;
 pub use store::{LargeStore, SmallStore, Store, LARGE, LARGE_SIZE, SMALL, SMALL_SIZE};
 pub use tasks::Tasks;
+
+/// The version of this crate and of the C headers.
+pub const VERSION: &str = env!("CARGO_PKG_VERSION");

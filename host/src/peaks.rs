@@ -64,7 +64,7 @@ impl fmt::Display for Peaks {
     }
 }
 
-/// A pool that keeps its high-water marks: each accepted make, refresh, batch and frame is followed by a report, and
+/// A pool that keeps its high-water marks: each accepted make, put, refresh, batch and frame is followed by a report, and
 /// costs that much more. All other calls are the pool's own; `fresh` and `fresh_sized` leave the marks: call
 /// [`reset_peaks`](Gauged::reset_peaks) after them.
 ///
@@ -129,6 +129,25 @@ where
         prefix: u16,
     ) -> Result<Handle, Refusal> {
         let handle = self.pool.make_with_prefix(task, kind, extension, length, prefix)?;
+        self.note();
+        Ok(handle)
+    }
+
+    /// As [`Pool::put`].
+    pub fn put(&mut self, task: u8, kind: Kind, extension: u8, bytes: &[u8]) -> Result<Handle, Refusal> {
+        self.put_with_prefix(task, kind, extension, bytes, 0)
+    }
+
+    /// As [`Pool::put_with_prefix`].
+    pub fn put_with_prefix(
+        &mut self,
+        task: u8,
+        kind: Kind,
+        extension: u8,
+        bytes: &[u8],
+        prefix: u16,
+    ) -> Result<Handle, Refusal> {
+        let handle = self.pool.put_with_prefix(task, kind, extension, bytes, prefix)?;
         self.note();
         Ok(handle)
     }

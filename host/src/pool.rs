@@ -310,6 +310,51 @@ where
         sys::make(record, small, large, task, kind, extension, length, prefix)
     }
 
+    /// A [`make`](Pool::make) and a [`write`](Pool::write) in one: a new object of these bytes, 1 to [`LONGEST`]. Refused as a
+    /// make is; the write after it never is. [`get`](Pool::get) gives them back.
+    ///
+    /// ```
+    /// # use ramsummer::*;
+    /// # let mut pool = Pool::over(Record::fresh(), [0; SMALL], [0; LARGE]);
+    /// pool.join(0, Share::OPEN)?;
+    /// let level = 1250_u16; // in centimetres
+    /// let handle = pool.put(0, Kind::Local, 0, &level.to_be_bytes())?;
+    /// assert_eq!(u16::from_be_bytes(pool.get(0, handle)?), level);
+    ///
+    /// assert_eq!(pool.put(0, Kind::Local, 0, &[]), Err(Refusal::LengthOutOfRange));
+    /// assert_eq!(pool.put(0, Kind::Local, 0, &[0; LONGEST + 1]), Err(Refusal::LengthOutOfRange));
+    /// # Ok::<(), Refusal>(())
+    /// ```
+    pub fn put(&mut self, task: u8, kind: Kind, extension: u8, bytes: &[u8]) -> Result<Handle, Refusal> {
+        self.put_with_prefix(task, kind, extension, bytes, 0)
+    }
+
+    /// The same, and a [viewer](Pool::view) sees the first `prefix` bytes, as of [`make_with_prefix`](Pool::make_with_prefix).
+    ///
+    /// ```
+    /// # use ramsummer::*;
+    /// # let mut pool = Pool::over(Record::fresh(), [0; SMALL], [0; LARGE]);
+    /// pool.join(0, Share::OPEN)?;
+    /// pool.view(1)?;
+    /// let handle = pool.put_with_prefix(0, Kind::Global, 0, b"12.50 m 8F3", 7)?;
+    /// assert_eq!(&pool.get(0, handle)?, b"12.50 m 8F3");
+    /// assert_eq!(&pool.get(1, handle)?, b"12.50 m");
+    /// # Ok::<(), Refusal>(())
+    /// ```
+    pub fn put_with_prefix(
+        &mut self,
+        task: u8,
+        kind: Kind,
+        extension: u8,
+        bytes: &[u8],
+        prefix: u16,
+    ) -> Result<Handle, Refusal> {
+        let length = u16::try_from(bytes.len()).unwrap_or(u16::MAX); // which no object has
+        let handle = self.make_with_prefix(task, kind, extension, length, prefix)?;
+        self.write(task, handle, 0, bytes)?;
+        Ok(handle)
+    }
+
     /// One more expiration for the object; those that it has stay. The extension is 0 to the pool's [limit](Limits). Kind
     /// [`Pinned`](Kind::Pinned) is refused with [`OnlyMakePins`](Refusal::OnlyMakePins).
     ///
@@ -398,6 +443,30 @@ where
         let (record, small, large) = self.parts();
         let length = sys::read(record, small, large, task, handle, out)?;
         Ok(&out[..length])
+    }
+
+    /// The bytes that a [`read`](Pool::read) tells, in an array of just as many. Where there are more it is refused with
+    /// [`BufferTooShort`](Refusal::BufferTooShort), and where there are fewer with [`OutsideObject`](Refusal::OutsideObject).
+    ///
+    /// ```
+    /// # use ramsummer::*;
+    /// # let mut pool = Pool::over(Record::fresh(), [0; SMALL], [0; LARGE]);
+    /// pool.join(0, Share::OPEN)?;
+    /// let handle = pool.put(0, Kind::Local, 0, &[7, 4, 226])?;
+    /// let [sensor, level @ ..] = pool.get::<3>(0, handle)?;
+    /// assert_eq!((sensor, u16::from_be_bytes(level)), (7, 1250));
+    ///
+    /// assert_eq!(pool.get::<2>(0, handle), Err(Refusal::BufferTooShort));
+    /// assert_eq!(pool.get::<4>(0, handle), Err(Refusal::OutsideObject));
+    /// # Ok::<(), Refusal>(())
+    /// ```
+    pub fn get<const LENGTH: usize>(&mut self, task: u8, handle: Handle) -> Result<[u8; LENGTH], Refusal> {
+        let mut bytes = [0; LENGTH];
+        let count = self.read(task, handle, &mut bytes)?.len();
+        if count < LENGTH {
+            return Err(Refusal::OutsideObject);
+        }
+        Ok(bytes)
     }
 
     /// The bytes that a [`read`](Pool::read) tells, in a vector.

@@ -48,6 +48,48 @@ fn an_object_lasts_until_its_last_expiration() {
     assert_eq!(figures(&pool), (0, 0, 0, 1));
 }
 
+#[test]
+fn a_put_is_a_make_and_a_write() {
+    for (length, prefix) in [(1, 0), (32, 32), (33, 7), (256, 255)] {
+        let (mut put, mut made) = (pool(), pool());
+        let bytes: Vec<u8> = (1..=length).map(|byte| byte as u8).collect();
+        let handle = put.put_with_prefix(0, Kind::Global, 3, &bytes, prefix).unwrap();
+        assert_eq!(made.make_with_prefix(0, Kind::Global, 3, length, prefix), Ok(handle));
+        made.write(0, handle, 0, &bytes).unwrap();
+        assert!(put == made);
+    }
+}
+
+#[test]
+fn a_put_is_refused_as_a_make_is() {
+    let mut pool = pool();
+    refused(&mut pool, Refusal::NoSuchTask, |pool| pool.put(16, Kind::Local, 0, &[1]));
+    refused(&mut pool, Refusal::TaskWaiting, |pool| pool.put(1, Kind::Local, 0, &[1]));
+    refused(&mut pool, Refusal::ExtensionTooLong, |pool| pool.put(0, Kind::Local, 31, &[1]));
+    for length in [0, LONGEST + 1, 65536, 65540] {
+        refused(&mut pool, Refusal::LengthOutOfRange, |pool| pool.put(0, Kind::Local, 0, &vec![1; length]));
+    }
+    refused(&mut pool, Refusal::PrefixTooLong, |pool| pool.put_with_prefix(0, Kind::Local, 0, &[1, 2], 3));
+    for byte in 0..64 {
+        pool.put(0, Kind::Local, 0, &[byte]).unwrap();
+    }
+    refused(&mut pool, Refusal::NoFreeBlock, |pool| pool.put(0, Kind::Local, 0, &[1]));
+}
+
+#[test]
+fn a_get_is_a_read_of_that_length() {
+    let mut pool = pool();
+    pool.view(2).unwrap();
+    let handle = pool.put_with_prefix(0, Kind::Local, 0, &[1, 2, 3, 4], 2).unwrap();
+    assert_eq!(pool.get(0, handle), Ok([1, 2, 3, 4]));
+    assert_eq!(pool.get(2, handle), Ok([1, 2]));
+    refused(&mut pool, Refusal::BufferTooShort, |pool| pool.get::<3>(0, handle));
+    refused(&mut pool, Refusal::OutsideObject, |pool| pool.get::<5>(0, handle));
+    refused(&mut pool, Refusal::OutsideObject, |pool| pool.get::<4>(2, handle));
+    pool.tick(0).unwrap();
+    refused(&mut pool, Refusal::ObjectGone, |pool| pool.get::<4>(0, handle));
+}
+
 /// Local expirations count for the task that set them, global ones for every task; the one that is due last tells.
 #[test]
 fn a_task_is_told_how_long_an_object_stands() {

@@ -1,20 +1,15 @@
 //! The C headers say the same as this crate, and docs/REFUSALS.md too: sizes, places, counts, names, numbers, sentences.
 
-use in_c::{host, is_without_cpp};
-use ramsummer::{Kind, Limits, Quota, Record, Refusal, Share, TaskEntry};
+use in_c::{compiled, host, is_without_cpp, written};
+use ramsummer::{Kind, Limits, Quota, Record, Refusal, Share, TaskEntry, VERSION};
 use std::mem::{offset_of, size_of};
-use std::path::{Path, PathBuf};
 use std::process::{Command, Output};
 
 mod in_c;
 
-/// The C compiler's answer, or none where there is no compiler for this.
+/// The C compiler's answer, or none where there is none.
 fn cc(arguments: &[&str]) -> Option<Output> {
-    let output = Command::new("cc").arg("-I").arg(host().join("include")).args(arguments).output();
-    if output.is_err() {
-        eprintln!("cc is not here: the test of the C headers was left out");
-    }
-    output.ok()
+    compiled("cc", arguments)
 }
 
 /// `TaskAbsent` as the header has it: `RAMSUMMER_TASK_ABSENT`.
@@ -101,18 +96,12 @@ fn claims() -> Vec<(String, usize)> {
     claims
 }
 
-/// A program in C that prints the value of each expression on a line, and then each refusal's sentence.
+/// A program in C that prints the value of each expression on a line, and then each refusal's sentence and the version.
 fn program(claims: &[(String, usize)]) -> String {
     let values = claims.iter().map(|(expression, _)| format!("printf(\"%zu\\n\", (size_t)({expression}));\n"));
     let sentences = Refusal::ALL.iter().map(|refusal| format!("puts(ramsummer_text({}));\n", refusal.number()));
-    let body: String = values.chain(sentences).collect();
+    let body: String = values.chain(sentences).chain(["puts(RAMSUMMER_VERSION);\n".into()]).collect();
     format!("#include <stdio.h>\n#include \"ramsummer_text.h\"\nint main(void) {{\n{body}return 0;\n}}\n")
-}
-
-fn written(name: &str, text: &str) -> PathBuf {
-    let path = Path::new(env!("CARGO_TARGET_TMPDIR")).join(name);
-    std::fs::write(&path, text).unwrap();
-    path
 }
 
 #[test]
@@ -129,12 +118,13 @@ fn the_headers_have_the_numbers_and_sentences_of_this_crate() {
     for ((expression, value), printed) in claims.iter().zip(values) {
         assert_eq!(printed, value.to_string(), "{expression}");
     }
-    assert_eq!(sentences, Refusal::ALL.iter().map(Refusal::to_string).collect::<Vec<_>>());
+    let of_crate = Refusal::ALL.iter().map(Refusal::to_string).chain([VERSION.into()]);
+    assert_eq!(sentences, of_crate.collect::<Vec<_>>());
 }
 
 #[test]
 fn the_headers_compile_as_c_and_as_cpp() {
-    let companions = ["image", "peaks", "text"].map(|name| format!("#include \"ramsummer_{name}.h\"\n"));
+    let companions = ["image", "peaks", "site", "text"].map(|name| format!("#include \"ramsummer_{name}.h\"\n"));
     let source = written("include.c", &companions.concat());
     for (language, standard) in [("c", "c99"), ("c", "c11"), ("c++", "c++98"), ("c++", "c++11"), ("c++", "c++17")] {
         let standard = format!("-std={standard}");
@@ -167,9 +157,10 @@ fn the_compiler_warns_of_an_answer_that_nobody_looks_at() {
     let headers = concat!(
         include_str!("../include/ramsummer.h"),
         include_str!("../include/ramsummer_wide.h"),
-        include_str!("../include/ramsummer_image.h")
+        include_str!("../include/ramsummer_image.h"),
+        include_str!("../include/ramsummer_site.h")
     );
-    let is_never_refused = |line: &str| line.contains("ramsummer_fresh(") || line.contains("ramsummer_to_byte(");
+    let is_never_refused = |line: &str| ["_fresh(", "ramsummer_to_byte("].iter().any(|name| line.contains(name));
     let calls = headers.lines().filter(|line| line.contains("uint8_t ramsummer_") && !is_never_refused(line));
     assert_eq!(calls.filter(|line| !line.starts_with("RAMSUMMER_CHECKED ")).count(), 0);
 }

@@ -32,6 +32,10 @@ fn each_call_that_raises_a_figure_is_noted() {
     assert_eq!(pool.peaks(), peaks(1, 1, 7));
     pool.make_with_prefix(0, Kind::Local, 0, 32, 8).unwrap();
     assert_eq!(pool.peaks(), peaks(2, 1, 8));
+    pool.put(0, Kind::Local, 0, &[1]).unwrap();
+    assert_eq!(pool.peaks(), peaks(3, 1, 9));
+    pool.put_with_prefix(0, Kind::Local, 0, &[1], 1).unwrap();
+    assert_eq!(pool.peaks(), peaks(4, 1, 10));
 }
 
 /// Nor does a refused call move them.

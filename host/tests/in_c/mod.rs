@@ -3,7 +3,7 @@
 #![allow(dead_code)] // Each test uses what it needs.
 
 use std::path::{Path, PathBuf};
-use std::process::Command;
+use std::process::{Command, Output};
 
 pub fn host() -> &'static Path {
     Path::new(env!("CARGO_MANIFEST_DIR"))
@@ -11,6 +11,21 @@ pub fn host() -> &'static Path {
 
 pub fn scratch(name: &str) -> PathBuf {
     Path::new(env!("CARGO_TARGET_TMPDIR")).join(name)
+}
+
+pub fn written(name: &str, text: &str) -> PathBuf {
+    let path = scratch(name);
+    std::fs::write(&path, text).unwrap();
+    path
+}
+
+/// What this compiler says of the headers in use, or none where it is not here.
+pub fn compiled(compiler: &str, arguments: &[&str]) -> Option<Output> {
+    let output = Command::new(compiler).arg("-I").arg(host().join("include")).args(arguments).output();
+    if output.is_err() {
+        eprintln!("{compiler} is not here: its test of the C headers was left out");
+    }
+    output.ok()
 }
 
 /// The program of this source by this standard, such as `c99` or `c++17`; or none where there is no compiler for it.
@@ -28,6 +43,16 @@ pub fn built(name: &str, source: &Path, standard: &str) -> Option<PathBuf> {
     }
     assert!(said.status.success(), "{name} by {standard}: {errors}");
     Some(binary)
+}
+
+/// The program tests/NAME.c prints nothing that was otherwise, by every standard that there is a compiler for.
+pub fn succeeds(name: &str) {
+    for standard in ["c99", "c11", "c++98", "c++17"] {
+        let source = host().join(format!("tests/{name}.c"));
+        let Some(binary) = built(&format!("{name}_{standard}"), &source, standard) else { return };
+        let output = Command::new(binary).output().unwrap();
+        assert!(output.status.success(), "{standard}: {}", String::from_utf8_lossy(&output.stdout));
+    }
 }
 
 /// Whether the compiler says that its part for C++ is missing, which it names in quotes.

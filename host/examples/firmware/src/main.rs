@@ -67,7 +67,7 @@ impl Station {
 
     /// For the radio in this turn: a global expiration, and no longer than need be.
     fn measure_level(&mut self, turn: u16) -> Result<(), Refusal> {
-        self.level = self.make(LEVEL, Kind::Global, 1000 + turn)?;
+        self.level = self.put(LEVEL, Kind::Global, 1000 + turn)?;
         self.pool.tick(LEVEL)?;
         Ok(())
     }
@@ -75,7 +75,7 @@ impl Station {
     /// For four turns of the radio. Then the sensor begins again, and the others do not wait for this task.
     fn measure_rain(&mut self, turn: u16) -> Result<(), Refusal> {
         self.pool.resume(RAIN)?;
-        self.rain = self.make(RAIN, Kind::Local, 2 * turn)?;
+        self.rain = self.put(RAIN, Kind::Local, 2 * turn)?;
         self.pool.refresh(RADIO, Kind::Local, 3, self.rain)?;
         self.pool.tick(RAIN)?;
         self.pool.block(RAIN)?;
@@ -90,16 +90,13 @@ impl Station {
         Ok(())
     }
 
-    fn make(&mut self, task: u8, kind: Kind, reading: u16) -> Result<Handle, Refusal> {
-        let handle = self.pool.make(task, kind, 0, 2)?;
-        self.pool.write(task, handle, 0, &reading.to_be_bytes())?;
-        Ok(handle)
+    fn put(&mut self, task: u8, kind: Kind, reading: u16) -> Result<Handle, Refusal> {
+        self.pool.put(task, kind, 0, &reading.to_be_bytes())
     }
 
     fn value(&mut self, handle: Handle) -> Result<Value, Refusal> {
-        let mut reading = [0; 2];
-        match self.pool.read(RADIO, handle, &mut reading) {
-            Ok(_) => Ok(Value::Known(u16::from_be_bytes(reading))),
+        match self.pool.get(RADIO, handle) {
+            Ok(reading) => Ok(Value::Known(u16::from_be_bytes(reading))),
             Err(Refusal::HandleNotGiven) => Ok(Value::NoneYet),
             Err(Refusal::ObjectGone) => Ok(Value::TooOld),
             Err(refusal) => Err(refusal),
