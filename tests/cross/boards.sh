@@ -73,6 +73,7 @@ test_on() {
         if [ "$example" != host/examples/threads.c ] || threads "$1"; then holds "$1" "$example" "${example%.c}.out"; fi
     done
     holds "$1" host/tests/wide.c
+    holds "$1" host/tests/site.c
     holds "$1" tests/cross/walk.c tests/cross/walk.out
-    echo "$1: the C examples, host/tests/wide.c and tests/cross/walk.c do as they should ($(head -n 1 tests/cross/walk.out))"
+    echo "$1: the C examples, wide.c and site.c of host/tests and tests/cross/walk.c do as they should ($(head -n 1 tests/cross/walk.out))"
 }

@@ -9,7 +9,7 @@
 
 #include "ramsummer.h"
 
-enum { CALLS = 300000, LOOKED_AT = 64, KNOWN = 32 };
+enum { CALLS = 300000, LOOKED_AT = 64, KNOWN = 32, COUNTS = 40 };
 
 static ramsummer_pool pool;
 static uint8_t small[RAMSUMMER_SMALL], large[RAMSUMMER_LARGE], bytes[RAMSUMMER_LONGEST];
@@ -29,7 +29,7 @@ static struct {
 } told;
 
 /* Handles that were given, old ones among them. */
-static uint32_t known[KNOWN];
+static uint32_t known[COUNTS];
 
 static uint32_t state = 1;
 
@@ -83,7 +83,7 @@ static void draw_arguments(void) {
     with.length = mostly(draw(2) ? 33 : 258, 40, 70000);
     with.prefix = draw(3) ? mostly(with.length + 1, 20, 70000) : 0;
     with.offset = mostly(16, 30, 300);
-    with.count = mostly(8, 20, 40);
+    with.count = mostly(8, 20, COUNTS);
     with.room = draw(9) ? sizeof told.out : draw(64);
     for (i = 0; i < with.count; i++) bytes[i] = (uint8_t)draw(256);
     draw_share();
