@@ -30,10 +30,11 @@ pub record ClocksKept (clocks : Clocks) : Type 0 where
 pub record ObjectKept (given : ℕ) (o : Object) : Type 0 where
   -- W4: a handle that was given
   pub numbered : (1 ≤ o .handle) × (o .handle ≤ given)
-  -- W3, O33: a length that goes to a store, and as many bytes as a block of it has
+  -- W3: a length that goes to a store
   pub sized : (1 ≤ o .size) × (o .size ≤ largeSize)
   -- W25: a prefix that is not longer than the object
   pub prefixed : o .prefix ≤ o .size
+  -- O33: as many bytes as a block of that store has
   pub filled : length (o .bytes) ≡ blockSize (o .size)
   -- O34: which add up to the sum
   pub intact : isIntact o ≡ true

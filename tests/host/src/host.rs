@@ -72,6 +72,13 @@ impl<E: Entries> Host<E> {
         number
     }
 
+    /// Each call is answered with the number beside it.
+    pub fn check(&mut self, rows: &[(Call, u8)]) {
+        for (row, (call, number)) in rows.iter().enumerate() {
+            assert_eq!(self.told(call), *number, "row {row}: {call:?}");
+        }
+    }
+
     /// The answer line to this line. Where it holds a call, that is made by its entry, and answered alike.
     pub fn answer(&mut self, line: &str) -> String {
         let mut room = vec![0; line.len()];

@@ -70,13 +70,6 @@ fn make(task: u8, store: Store) -> Call<'static> {
     Call::Make { task, kind: Kind::Local, extension: 0, length: store.block_size() as u16, prefix: 0 }
 }
 
-/// Each call is answered with the number beside it.
-fn check(host: &mut Host<Library>, rows: &[(Call, u8)]) {
-    for (row, (call, number)) in rows.iter().enumerate() {
-        assert_eq!(host.told(call), *number, "row {row}: {call:?}");
-    }
-}
-
 /// The rows of the reference.
 #[test]
 fn rows() {
@@ -97,18 +90,15 @@ fn reserves_that_fill_a_store_exactly() {
         let limits = Limits { expirations: 256, ..limits };
         let (all, some) = (blocks(limits, store), blocks(limits, store) / 2);
         let mut host = host(limits);
-        check(
-            &mut host,
-            &[
-                (join(0, only(store, all + 1, NO_LIMIT)), 25),
-                (join(0, only(store, some, NO_LIMIT)), 0),
-                (join(1, only(store, all - some + 1, NO_LIMIT)), 25),
-                (join(1, only(store, all - some, NO_LIMIT)), 0),
-                (join(2, only(store, 1, NO_LIMIT)), 25),
-                (join(2, only(store, 0, NO_LIMIT)), 0),
-                (make(2, store), 9),
-            ],
-        );
+        host.check(&[
+            (join(0, only(store, all + 1, NO_LIMIT)), 25),
+            (join(0, only(store, some, NO_LIMIT)), 0),
+            (join(1, only(store, all - some + 1, NO_LIMIT)), 25),
+            (join(1, only(store, all - some, NO_LIMIT)), 0),
+            (join(2, only(store, 1, NO_LIMIT)), 25),
+            (join(2, only(store, 0, NO_LIMIT)), 0),
+            (make(2, store), 9),
+        ]);
         for (task, count) in [(1, all - some), (0, some)] {
             (0..count).for_each(|_| assert_eq!(host.told(&make(task, store)), 0, "{limits:?}"));
             assert_eq!(host.told(&make(task, store)), 9);
@@ -125,7 +115,7 @@ fn the_tests_of_a_join_in_order() {
         Share::from_bytes([small_reserve, small_limit, large_reserve, large_limit])
     };
     let mut host = host(FOUR);
-    check(&mut host, &[(join(0, OPEN), 0), (join(1, OPEN), 0), (Call::Block { task: 1 }, 0)]);
+    host.check(&[(join(0, OPEN), 0), (join(1, OPEN), 0), (Call::Block { task: 1 }, 0)]);
     for (numbers, refusal) in
         above.map(|numbers| (numbers, 24)).into_iter().chain(too_much.map(|numbers| (numbers, 25)))
     {
@@ -176,23 +166,20 @@ fn the_tests_of_a_make_in_order() {
         let length = store.block_size() as u16;
         let too_long = Call::Make { task: 2, kind: Kind::Local, extension: 0, length, prefix: length + 1 };
         let mut host = host(Limits::SMALLEST);
-        check(
-            &mut host,
-            &[
-                (join(0, both(0, 1)), 0),
-                (join(1, OPEN), 0),
-                (join(2, Share::NONE), 0),
-                (make(2, store), 26),
-                (make(0, store), 0),
-                (make(0, store), 26),
-                (make(1, store), 9),
-                (make(1, other), 10),
-                (make(2, other), 26),
-                (Call::Make { task: 2, kind: Kind::Local, extension: 1, length: 0, prefix: 1 }, 6),
-                (Call::Make { task: 2, kind: Kind::Local, extension: 0, length: 0, prefix: 1 }, 7),
-                (too_long, 28),
-            ],
-        );
+        host.check(&[
+            (join(0, both(0, 1)), 0),
+            (join(1, OPEN), 0),
+            (join(2, Share::NONE), 0),
+            (make(2, store), 26),
+            (make(0, store), 0),
+            (make(0, store), 26),
+            (make(1, store), 9),
+            (make(1, other), 10),
+            (make(2, other), 26),
+            (Call::Make { task: 2, kind: Kind::Local, extension: 1, length: 0, prefix: 1 }, 6),
+            (Call::Make { task: 2, kind: Kind::Local, extension: 0, length: 0, prefix: 1 }, 7),
+            (too_long, 28),
+        ]);
         host.memory.pool.given = u32::MAX;
         assert_eq!((host.told(&make(2, store)), host.told(&too_long)), (8, 28));
     }

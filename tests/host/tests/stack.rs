@@ -15,7 +15,7 @@ const KB: usize = 1024;
 
 /// What a call may take: the goal of docs/BUDGET.md.
 const LIMIT: usize = 8 * KB;
-/// A tick as a frame misses it since order 9. The line and the answer of a frame are its caller's, and not in it.
+/// The five events as frames miss it since order 9. The line and the answer of a frame are its caller's, and not in it.
 const FRAME_LIMIT: usize = 9 * KB;
 
 fn limit(entry: Entry) -> usize {

@@ -36,30 +36,20 @@ const NEVER: u32 = 9;
 /// A task in each state, and an object of 4 bytes with a prefix of 2 after one that is gone.
 fn host(limits: Limits) -> Host<Library> {
     let mut host = Host::new(Memory::sized(limits, &mut Random::new(1)));
-    check(
-        &mut host,
-        &[
-            (Call::Join { task: RUNS, share: Share::OPEN }, 0),
-            (Call::Join { task: WAITS, share: Share::OPEN }, 0),
-            (Call::Block { task: WAITS }, 0),
-            (Call::View { task: VIEWS }, 0),
-            (make(RUNS, Kind::Local, 4, 2), 0),
-            (Call::Tick { task: RUNS }, 0),
-            (make(RUNS, Kind::Pinned, 4, 2), 0),
-        ],
-    );
+    host.check(&[
+        (Call::Join { task: RUNS, share: Share::OPEN }, 0),
+        (Call::Join { task: WAITS, share: Share::OPEN }, 0),
+        (Call::Block { task: WAITS }, 0),
+        (Call::View { task: VIEWS }, 0),
+        (make(RUNS, Kind::Local, 4, 2), 0),
+        (Call::Tick { task: RUNS }, 0),
+        (make(RUNS, Kind::Pinned, 4, 2), 0),
+    ]);
     host
 }
 
 fn make(task: u8, kind: Kind, length: u16, prefix: u16) -> Call<'static> {
     Call::Make { task, kind, extension: 0, length, prefix }
-}
-
-/// Each call is answered with the number beside it.
-fn check(host: &mut Host<Library>, rows: &[(Call, u8)]) {
-    for (row, (call, number)) in rows.iter().enumerate() {
-        assert_eq!(host.told(call), *number, "row {row}: {call:?}");
-    }
 }
 
 /// The rows of the reference.
@@ -133,17 +123,17 @@ fn a_prefix_longer_than_its_object() {
         for prefix in [length + 1, longest + 1, 257, 1 << 8 | length, 1 << 15, u16::MAX] {
             if prefix > length {
                 let of = |extension, length| with(extension, length, prefix);
-                check(&mut host, &[(of(1, 0), 6), (of(0, 0), 7), (of(0, 257), 7), (of(0, length), 28)]);
+                host.check(&[(of(1, 0), 6), (of(0, 0), 7), (of(0, 257), 7), (of(0, length), 28)]);
             }
         }
         // One expiration stands, and no more may.
-        check(&mut host, &[(with(0, length, length), 10), (with(0, length, 0), 10)]);
+        host.check(&[(with(0, length, length), 10), (with(0, length, 0), 10)]);
         // The task has made the small object, and may make no more.
         host.memory.pool.shares[usize::from(RUNS)] =
             plain::record::Share { small: Quota { reserve: 0, limit: 1 }, large: Quota::NONE };
-        check(&mut host, &[(with(0, length, length), 26), (with(0, length, length + 1), 28)]);
+        host.check(&[(with(0, length, length), 26), (with(0, length, length + 1), 28)]);
         host.memory.pool.given = u32::MAX;
-        check(&mut host, &[(with(0, length, length), 8), (with(0, length, length + 1), 28)]);
+        host.check(&[(with(0, length, length), 8), (with(0, length, length + 1), 28)]);
     }
 }
 
@@ -209,7 +199,7 @@ fn a_viewer_is_told_of_a_byte_that_it_does_not_see() {
         let read = Call::Read { task: VIEWS, handle };
         for at in 0..host.memory.block(place).len() {
             host.memory.block_mut(place)[at] ^= 0x10;
-            check(&mut host, &[(read, 23), (Call::Remaining { task: VIEWS, handle }, 0)]);
+            host.check(&[(read, 23), (Call::Remaining { task: VIEWS, handle }, 0)]);
             host.memory.block_mut(place)[at] ^= 0x10;
             assert_eq!(host.told(&read), 0);
         }
