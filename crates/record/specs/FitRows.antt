@@ -1,19 +1,19 @@
--- The rules W6 to W10, W12 and W18 to W25 at the figures 1, 1, 1 and 0: just what lies within them is fit. (Whole records are judged by
--- these clauses, one for each entry.)
-use Prim.Native.Nat.{ℕ}
+-- The rules W1 to W12, W14 to W16 and W18 to W25 at the figures 1, 1, 1 and 0: just what lies within them is fit. (Whole records are judged
+-- by these clauses, one for each entry.)
+use Prim.Native.Nat.{ℕ, _+_}
 use mathlib.Core.Bool.{Bool, true, false}
-use mathlib.Core.List.{[], _∷_, map}
+use mathlib.Core.List.{List, [], _∷_, map}
 use mathlib.Core.Path.{_≡_}
 use Rattle.ledger.specs.Limits.{chosen}
 use Rattle.ledger.specs.Tasks.{allTicked}
 use Rattle.ledger.specs.declared.Limits.{Limits}
 use Rattle.ledger.specs.declared.Share.{Share}
-use Rattle.record.specs.Codes.{taskOf, localCode}
+use Rattle.record.specs.Codes.{taskOf, localCode, pinnedCode, absentEntry}
 use Rattle.record.specs.Shares.{isFitShare, isKnown, isSharedIn, isWithinLimit}
 use Rattle.record.specs.Tables.{BlockEntry, ExpirationEntry}
-use Rattle.record.specs.WellFormed.{isFitTask, isFitDue, isPrefixed, isBlockAt, isEntryAt}
+use Rattle.record.specs.WellFormed.{isFitTask, isFitDue, isFitEntry, isSizedFor, isPrefixed, isFitBlock, isDistinct, isPinnedOnce, isBlockAt, isEntryAt}
 use Rattle.record.specs.declared.Due.{Due}
-use Rattle.record.specs.declared.Due.the-variants.{Local, Global}
+use Rattle.record.specs.declared.Due.the-variants.{Local, Global, Pinned}
 use Rattle.record.specs.declared.TaskEntry.{TaskEntry}
 
 abbrev pub smallest : Limits
@@ -47,7 +47,49 @@ expiring = record { clock = localCode; block = 0; due = 6 }
 abbrev pub smallQuota : ℕ → ℕ → Share
 smallQuota reserve limit = record { small = record { reserve = reserve; limit = limit }; large = record { reserve = 0; limit = 0 } }
 
+-- two pinned expirations, of these blocks
+abbrev pub twoPins : ℕ → ℕ → List ExpirationEntry
+twoPins one other = record { clock = pinnedCode; block = one; due = 0 } ∷ record { clock = pinnedCode; block = other; due = 0 } ∷ []
+
+abbrev pub isFitFor : ExpirationEntry → Bool
+isFitFor e = isFitEntry smallest (runner ∷ []) (record { 0 = 7 }) (object ∷ []) e
+
 pub record FitRows : Type 0 where
+  -- W1: an expiration of the block in use, and of no other; W12: nor one by a code above the last
+  pub namesTheBlock : isFitFor (record { clock = localCode; block = 0; due = 6 }) ≡ true
+  pub namesNoBlock : isFitFor (record { clock = localCode; block = 1; due = 6 }) ≡ false
+  pub unknownCode : isFitFor (record { clock = pinnedCode + 1; block = 0; due = 0 }) ≡ false
+  -- W2, W4: an object that is named and whose handle was given, and not one without either
+  pub namedAndGiven : isFitBlock 1 (expiring ∷ []) 0 object ≡ true
+  pub notNamed : isFitBlock 1 [] 0 object ≡ false
+  pub notGiven : isFitBlock 0 (expiring ∷ []) 0 object ≡ false
+  -- W3: 1 to 32 bytes in a small block, 33 to 256 in a large one
+  pub noBytes : isSizedFor 0 0 ≡ false
+  pub smallLength : isSizedFor 0 32 ≡ true
+  pub pastSmall : isSizedFor 0 33 ≡ false
+  pub belowLarge : isSizedFor 64 32 ≡ false
+  pub largeLength : isSizedFor 64 256 ≡ true
+  pub pastLarge : isSizedFor 64 257 ≡ false
+  -- W5: a handle once, and 0 as often as there are free blocks
+  pub handleOnce : isDistinct (0 ∷ 1 ∷ 0 ∷ 2 ∷ []) ≡ true
+  pub handleTwice : isDistinct (1 ∷ 0 ∷ 1 ∷ []) ≡ false
+  -- W6, W8: not what is due now
+  pub dueThisTick : isFit (Local 0 (record { 0 = 5 })) ≡ false
+  pub dueThisAdvance : isFit (Global 0 (record { 0 = 7 })) ≡ false
+  -- W7, W14: nothing is left of an absent setter but what one that departed set by the global time
+  pub absentSetLocal : isFitDue smallest absentEntry (record { 0 = 7 }) true (Local 0 (record { 0 = 1 })) ≡ false
+  pub absentSetGlobal : isFitDue smallest absentEntry (record { 0 = 7 }) true (Global 0 (record { 0 = 9 })) ≡ false
+  pub departedSetGlobal : isFitDue smallest absentEntry (record { 0 = 7 }) true (Global 16 (record { 0 = 9 })) ≡ true
+  -- W11: an absent task at local time 0, and not at 1; W9: one that waits is not ticked
+  pub absentFits : isFitTask absentEntry ≡ true
+  pub absentAtOne : isFitTask (record { state = 0; ticked = 0; clock = record { 0 = 1 } }) ≡ false
+  pub waitingTicked : isFitTask (record { state = 2; ticked = 1; clock = record { 0 = 5 } }) ≡ false
+  -- W15: a pinned one with due number 0, and not 1
+  pub pinnedAtNone : isFit (Pinned 0) ≡ true
+  pub pinnedAtOne : isFit (Pinned 1) ≡ false
+  -- W16: two pinned ones of two blocks, and not of one
+  pub pinnedEach : isPinnedOnce (twoPins 0 1) ≡ true
+  pub pinnedTwice : isPinnedOnce (twoPins 0 0) ≡ false
   -- W6: one tick ahead, and not two
   pub oneTick : isFit (Local 0 (record { 0 = 6 })) ≡ true
   pub twoTicks : isFit (Local 0 (record { 0 = 7 })) ≡ false
