@@ -10,7 +10,8 @@ use lib.ListN.{getD}
 use Rattle.lists.proofs.Cases.{by-test}
 use Rattle.ledger.specs.Limits.{taskCount}
 use Rattle.ledger.specs.Tasks.{isAbsent}
-use Rattle.ledger.specs.Objects.{plain, replyTo, noShare}
+use Rattle.ledger.specs.Objects.{plain, noShare}
+use Rattle.ledger.specs.Rules.{replyTo}
 use Rattle.ledger.specs.Refusals.{asRefusal}
 use Rattle.ledger.specs.Shares.{quotaIn, blocksIn}
 use Rattle.ledger.specs.declared.Answer.the-variants.{Done}

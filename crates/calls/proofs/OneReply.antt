@@ -1,7 +1,5 @@
 -- A call has one reply: by 15, by 14, or by the ledger that a fit record reads as.
-use Prim.Native.Nat.{ℕ}
 use mathlib.Core.Bool.{true, false, false≢true}
-use mathlib.Core.List.{List}
 use mathlib.Core.Path.{_≡_, sym, _∙_}
 use Rattle.lists.proofs.Cases.{by-test}
 use Rattle.record.specs.Pools.{isWellFormed}

@@ -4,7 +4,8 @@ use mathlib.Core.Bool.{true, false≢true, and-eq-true-iff}
 use mathlib.Core.List.{List, []}
 use mathlib.Core.Path.{_≡_, refl, ap, _∙_}
 use lib.ListN.{getD, length, replicate}
-use Rattle.ledger.specs.Objects.{plain, replyTo, memoryAfter, expirationsAfter, handlesOf}
+use Rattle.ledger.specs.Objects.{plain, handlesOf}
+use Rattle.ledger.specs.Rules.{replyTo, memoryAfter, expirationsAfter}
 use Rattle.ledger.specs.Ledger.{Ledger}
 use Rattle.ledger.specs.Refusals.{asRefusal}
 use Rattle.ledger.specs.declared.Kind.{Kind}

@@ -6,10 +6,11 @@ use mathlib.Core.Option.{none, some}
 use mathlib.Core.Path.{_≡_, refl, sym, ap, _∙_}
 use borrow.Author.Tests.{not-true, not-false}
 use lib.ListN.{length}
-use Rattle.ledger.specs.Objects.{Reply, plain, replyTo}
+use Rattle.ledger.specs.Objects.{Reply, plain}
+use Rattle.ledger.specs.Rules.{replyTo}
 use Rattle.ledger.specs.Ledger.{Ledger, verdictOn, reply, next, replyToRequest, afterRequest}
 use Rattle.ledger.specs.declared.Answer.{Answer}
-use Rattle.ledger.specs.declared.Answer.the-variants.{Refused, Done, Advanced, Handle, Bytes, Counted, Lasts}
+use Rattle.ledger.specs.declared.Answer.the-variants.{Refused}
 use Rattle.ledger.specs.Numbers.{isRefusal}
 use Rattle.ledger.specs.declared.Call.{Call}
 use Rattle.ledger.specs.declared.Refusal.{Refusal}

@@ -14,7 +14,8 @@ use Rattle.lists.proofs.Cases.{by-test}
 use Rattle.lists.specs.Tables.{allFrom, mapFrom}
 use Rattle.ledger.specs.Limits.{standard, taskCount}
 use Rattle.ledger.specs.Tasks.{isTested, allTicked}
-use Rattle.ledger.specs.Objects.{Memory, plain, replyTo}
+use Rattle.ledger.specs.Objects.{Memory, plain}
+use Rattle.ledger.specs.Rules.{replyTo}
 use Rattle.ledger.specs.Ledger.{verdictOn, replyBy, reply}
 use Rattle.ledger.specs.declared.Answer.{Answer}
 use Rattle.ledger.specs.declared.Answer.the-variants.{Refused as RefusedAnswer}

@@ -3,8 +3,8 @@ use Prim.Native.Nat.{ℕ}
 use native.Mathlib.Omega.{arith}
 use mathlib.Core.List.{List, []}
 use mathlib.Core.Path.{_≡_, refl, _∙_}
-use Rattle.ledger.specs.Objects.{Reply, plain, memoryAfter, expirationsAfter}
-use Rattle.ledger.specs.Refusals.{testsOf}
+use Rattle.ledger.specs.Objects.{Reply, plain}
+use Rattle.ledger.specs.Rules.{memoryAfter, expirationsAfter, testsOf}
 use Rattle.ledger.specs.Ledger.{Ledger, reply, next, replyToRequest, afterRequest}
 use Rattle.ledger.specs.declared.Answer.{Answer}
 use Rattle.ledger.specs.declared.Answer.the-variants.{Refused as RefusedAnswer}

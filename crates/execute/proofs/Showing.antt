@@ -2,7 +2,6 @@
 use Prim.Native.Nat.{ℕ, zero, suc, _+_, _-_, _*_, _≤_, _<_}
 use native.Mathlib.Nat.{zero-add}
 use native.Mathlib.Omega.{arith}
-use mathlib.Core.Bool.{Bool, true, false, cond}
 use mathlib.Core.List.{List, [], _∷_, _++_, append-assoc, append-nil}
 use mathlib.Core.Path.{_≡_, refl}
 use lib.ListN.{length, take, drop, length-take, length-drop, length-append, drop-of-length-le}
@@ -14,7 +13,7 @@ use Rattle.ledger.specs.declared.Answer.{Answer}
 use Rattle.ledger.specs.declared.Request.{Request}
 use Rattle.stores.specs.Places.{InBlock}
 use Rattle.stores.proofs.Places.{most-bytes}
-use Rattle.record.specs.Reading.{isSmallBlock, isWholeSmall, isWholeLarge, blockBytes}
+use Rattle.record.specs.Reading.{isSmallBlock, blockBytes}
 use Rattle.record.specs.declared.Pool.{Pool}
 use Rattle.calls.specs.Served.{Called, Serves}
 use Rattle.answers.specs.Answers.{answerLine, longestAnswer}

@@ -9,7 +9,8 @@ use Rattle.lists.specs.Tests.{all}
 use Rattle.lists.proofs.Bits.{no-bits}
 use Rattle.lists.proofs.Cases.{by-test, not-and-not}
 use Rattle.ledger.specs.Tasks.{Task, Clocks, isRunning, allTicked, tasksAfter, advances, clocksAfter, entered}
-use Rattle.ledger.specs.Objects.{Memory, memoryAfter, expirationsAfter}
+use Rattle.ledger.specs.Objects.{Memory}
+use Rattle.ledger.specs.Rules.{memoryAfter, expirationsAfter}
 use Rattle.ledger.specs.Ledger.{Ledger, Sent, settled, afterBy, verdictOn, next, afterRequest, afterAll}
 use Rattle.ledger.specs.Awaited.{isAwaited, isNobodyAwaited, isAccepted, isLastAwaited, bringsAdvance, advancesIn, globalOf, Awaited}
 use Rattle.ledger.specs.declared.Call.{Call}

@@ -12,8 +12,9 @@ use Rattle.lists.specs.Tests.{all}
 use Rattle.lists.proofs.Cases.{by-test}
 use Rattle.lists.proofs.Counts.{not-any-not}
 use Rattle.ledger.specs.Expirations.{Expiration}
-use Rattle.ledger.specs.Objects.{Object, Memory, Reply, plain, objectAt, isIntact, written, orphaned, makersAfter, stands, memoryAfter, expirationsAfter, handlesOf}
-use Rattle.ledger.specs.Refusals.{Test, shared, own, sumDiffers, standingTests, writingTests, testsOf, verdict}
+use Rattle.ledger.specs.Objects.{Object, Memory, Reply, plain, objectAt, isIntact, written, orphaned, makersAfter, stands, handlesOf}
+use Rattle.ledger.specs.Refusals.{Test, shared, own, sumDiffers, standingTests, writingTests, verdict}
+use Rattle.ledger.specs.Rules.{memoryAfter, expirationsAfter, testsOf}
 use Rattle.ledger.specs.Ledger.{Ledger, settled, replyBy, afterBy, verdictOn, reply, next, replyToRequest, afterRequest}
 use Rattle.ledger.specs.Noticed.{earlierTests}
 use Rattle.ledger.specs.declared.Answer.the-variants.{Refused}

@@ -11,9 +11,10 @@ use Rattle.lists.proofs.Tests.{all→All}
 use Rattle.ledger.specs.Limits.{counterRange, standard, isAllowed, lastHandle}
 use Rattle.ledger.specs.Tasks.{freshClocks, moved, allTicked, tasksAfter, advances, clocksAfter, entered}
 use Rattle.ledger.specs.Expirations.{dueAfter, remaining, putOff, lasting, released, setOnEach}
-use Rattle.ledger.specs.Objects.{Memory, freshMemory, objectAt, written, replyTo, makersAfter, sharesAfter, memoryAfter, expirationsAfter, handlesOf, usage}
+use Rattle.ledger.specs.Objects.{Memory, freshMemory, objectAt, written, makersAfter, sharesAfter, handlesOf, usage}
 use Rattle.ledger.specs.Shares.{made, unmet, isFull, isShort, isAtLimit}
-use Rattle.ledger.specs.Refusals.{testsOf, verdict}
+use Rattle.ledger.specs.Refusals.{verdict}
+use Rattle.ledger.specs.Rules.{replyTo, memoryAfter, expirationsAfter, testsOf}
 use Rattle.ledger.specs.Ledger.{Ledger, Sent, settled, fresh, afterBy, verdictOn, reply, next, replies, afterRequest, afterSent, afterAll}
 use Rattle.ledger.specs.Heap.{Used, heapVerdictOn, heapNext, heapAfterAll}
 use Rattle.ledger.specs.Chosen.{chosenEdges, ChosenClaim}

@@ -18,10 +18,10 @@ use Rattle.lists.proofs.Sums.{total-zeros}
 use Rattle.lists.proofs.Filters.{filter-map-filter, filter-filter, filter-filter-append}
 use Rattle.ledger.specs.Limits.{blockSize}
 use Rattle.ledger.specs.Expirations.{Expiration, released}
-use Rattle.ledger.specs.Objects.{Object, Memory, Reply, freshMemory, objectAt, isIntact, written, orphaned, makersAfter, stands, standing, replyTo, memoryAfter, expirationsAfter, handlesOf}
-use Rattle.ledger.specs.Refusals.{testsOf}
+use Rattle.ledger.specs.Objects.{Object, Memory, Reply, freshMemory, objectAt, isIntact, written, orphaned, makersAfter, stands, standing, handlesOf}
 use Rattle.ledger.specs.Ledger.{settled, fresh, verdictOn, replyBy, afterBy, reply, next, replies}
-use Rattle.ledger.specs.Heap.{heapVerdictOn, heapReply, heapNext, heapReplies, bookNext, isInTimeAndBounds, isLeftAside, allInTimeAndBounds, Used, sent, Demand3}
+use Rattle.ledger.specs.Heap.{heapVerdictOn, heapReply, heapNext, heapReplies, bookNext, isLeftAside, allInTimeAndBounds, Used, sent, Demand3}
+use Rattle.ledger.specs.Rules.{replyTo, memoryAfter, expirationsAfter, testsOf, isInTimeAndBounds}
 use Rattle.ledger.specs.declared.Limits.{Limits}
 use Rattle.ledger.specs.declared.Refusal.{Refusal}
 use Rattle.ledger.specs.declared.Call.{Call}

@@ -9,9 +9,10 @@ use Rattle.lists.proofs.Tests.{both, sameBy, sameBy→eq, all→All}
 use Rattle.ledger.specs.Limits.{counterRange, standard, lastHandle}
 use Rattle.ledger.specs.Tasks.{freshClocks, moved, allTicked, tasksAfter, advances, clocksAfter, entered}
 use Rattle.ledger.specs.Expirations.{dueAfter, remaining, putOff, deserted, lasting, released, setOnEach}
-use Rattle.ledger.specs.Objects.{freshMemory, objectAt, written, replyTo, makersAfter, sharesAfter, memoryAfter, expirationsAfter, handlesOf, usage}
+use Rattle.ledger.specs.Objects.{freshMemory, objectAt, written, makersAfter, sharesAfter, handlesOf, usage}
 use Rattle.ledger.specs.Shares.{made, unmet, isFull, isShort, isAtLimit}
-use Rattle.ledger.specs.Refusals.{testsOf, verdict}
+use Rattle.ledger.specs.Refusals.{verdict}
+use Rattle.ledger.specs.Rules.{replyTo, memoryAfter, expirationsAfter, testsOf}
 use Rattle.ledger.specs.Remaining.{remainingLife}
 use Rattle.ledger.specs.Ledger.{fresh, reply, next, replies, afterAll}
 use Rattle.ledger.specs.Rows.{Row, answered, expected, clockAfter, RowHolds}

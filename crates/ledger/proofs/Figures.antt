@@ -1,6 +1,5 @@
 -- What a proof may know of the figures: that they are in the ranges a site may choose from. 01's are.
 use Prim.Native.Nat.{_≤_}
-use native.Mathlib.Omega.{arith}
 use mathlib.Core.Bool.{true, and-eq-true-iff}
 use mathlib.Core.Path.{_≡_, refl}
 use borrow.Author.Tests.{leb-true}

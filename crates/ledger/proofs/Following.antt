@@ -9,8 +9,8 @@ use lib.ListN.{length, List·getD-eq-default}
 use Rattle.lists.proofs.Filters.{filter-append}
 use Rattle.ledger.specs.Tasks.{Clocks, taskAt, absentTask, advances, clocksAfter, entered, joined}
 use Rattle.ledger.specs.Expirations.{DueTime, departed, Expiration, stillLive, dueAfter, lasting, released, setOnEach}
-use Rattle.ledger.specs.Objects.{Memory, memoryAfter, expirationsAfter, handlesOf}
-use Rattle.ledger.specs.Refusals.{testsOf}
+use Rattle.ledger.specs.Objects.{Memory, handlesOf}
+use Rattle.ledger.specs.Rules.{memoryAfter, expirationsAfter, testsOf}
 use Rattle.ledger.specs.Ledger.{Ledger, Sent, fresh, settled, afterBy, verdictOn, next, afterRequest, afterSent, afterAll}
 use Rattle.ledger.specs.Outlives.{Move, neither, joins, happens, releases, moveOf, moveIn, setIn, leftBy, leftIn, followed, Following}
 use Rattle.ledger.specs.declared.Call.{Call}

@@ -13,8 +13,9 @@ use Rattle.lists.proofs.All.{all-every, all-map, map-same}
 use Rattle.lists.proofs.Filters.{filter-map, filter-all}
 use Rattle.ledger.specs.Limits.{isSmall}
 use Rattle.ledger.specs.Expirations.{Expiration}
-use Rattle.ledger.specs.Objects.{Object, Memory, objectAt, written, orphaned, makersAfter, replyTo, memoryAfter, expirationsAfter, usage}
-use Rattle.ledger.specs.Refusals.{Test, standingTests, writingTests, testsOf, verdict}
+use Rattle.ledger.specs.Objects.{Object, Memory, withObjects, objectAt, written, orphaned, makersAfter, usage}
+use Rattle.ledger.specs.Refusals.{Test, standingTests, writingTests, verdict}
+use Rattle.ledger.specs.Rules.{replyTo, memoryAfter, expirationsAfter, testsOf}
 use Rattle.ledger.specs.Ledger.{Ledger, settled, afterBy, verdictOn, reply, next, replyToRequest, afterRequest}
 use Rattle.ledger.specs.Noticed.{disturbed, earlierTests}
 use Rattle.ledger.specs.declared.Call.{Call}
@@ -41,7 +42,7 @@ hidden handle o =
 
 abbrev pub hiddenMemory : ℕ → Memory → Memory
 hiddenMemory handle m =
-    record { limits = m .limits; clocks = m .clocks; given = m .given; objects = map (hidden handle) (m .objects); shares = m .shares; pinned = m .pinned }
+    withObjects (map (hidden handle) (m .objects)) m
 
 abbrev pub hiddenIn : ℕ → Ledger → Ledger
 hiddenIn handle L = record { memory = hiddenMemory handle (L .memory); expirations = L .expirations }

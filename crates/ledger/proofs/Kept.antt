@@ -15,9 +15,9 @@ use Rattle.lists.proofs.Counts.{any-append, any-map, count-none}
 use Rattle.ledger.specs.Limits.{taskCount}
 use Rattle.ledger.specs.Tasks.{taskAt, isAbsent, freshClocks, allTicked}
 use Rattle.ledger.specs.Expirations.{Expiration, isOf, isPinOf}
-use Rattle.ledger.specs.Objects.{Object, Memory, noShare, freshMemory, stands, written, makersAfter, memoryAfter, expirationsAfter, handlesOf}
+use Rattle.ledger.specs.Objects.{Object, Memory, noShare, freshMemory, stands, written, makersAfter, handlesOf}
 use Rattle.ledger.specs.Shares.{made, unmet}
-use Rattle.ledger.specs.Refusals.{testsOf}
+use Rattle.ledger.specs.Rules.{memoryAfter, expirationsAfter, testsOf}
 use Rattle.ledger.specs.Ledger.{Ledger, Sent, fresh, settled, afterBy, verdictOn, next, afterRequest, afterAll}
 use Rattle.ledger.specs.Kept.{TaskKept, ClocksKept, isOwned, ObjectsKept, SharesKept, ExpirationKept, ExpirationsKept, PinsKept, PinnedOnceKept, Kept, EveryLedgerKeeps}
 use Rattle.ledger.specs.declared.Call.{Call}

@@ -16,7 +16,8 @@ use Rattle.ledger.specs.Limits.{taskCount}
 use Rattle.ledger.specs.Tasks.{Task, Clocks, taskAt, absentTask, isAbsent, isWaiting, isTested, moved, unticked, tasksAfter, advances, clocksAfter, entered, joined}
 use Rattle.ledger.specs.Expirations.{DueTime, byLocal, byGlobal, pinned, departed, Expiration, dueAfter, remaining, isPinned, isLive, isSetBy, isOf, isPinOf, putOff, deserted, eachDue, stillLive, lasting, released, setOnEach}
 use Rattle.ledger.specs.Objects.{Object, Memory, stands, standing}
-use Rattle.ledger.specs.Refusals.{mostExtension, testsOf}
+use Rattle.ledger.specs.Refusals.{mostExtension}
+use Rattle.ledger.specs.Rules.{testsOf}
 use Rattle.ledger.specs.Kept.{Within, isOwned, ExpirationKept, ExpirationsKept}
 use Rattle.ledger.specs.declared.Kind.{Kind}
 use Rattle.ledger.specs.declared.Kind.the-variants.{Local, Global, Pinned}

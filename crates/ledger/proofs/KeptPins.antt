@@ -12,7 +12,8 @@ use Rattle.lists.proofs.Cases.{by-test}
 use Rattle.lists.proofs.Counts.{any-left, any-map, any-same, count-map, count-same, count-filter}
 use Rattle.ledger.specs.Tasks.{Clocks}
 use Rattle.ledger.specs.Expirations.{DueTime, byLocal, byGlobal, pinned, Expiration, dueAfter, isLive, isSetBy, isPinned, isOf, isPinOf, putOff, deserted, eachDue, stillLive, lasting, released, setOnEach}
-use Rattle.ledger.specs.Objects.{Memory, pinnedBy, unpinned, memoryAfter, expirationsAfter, handlesOf}
+use Rattle.ledger.specs.Objects.{Memory, pinnedBy, unpinned, handlesOf}
+use Rattle.ledger.specs.Rules.{memoryAfter, expirationsAfter}
 use Rattle.ledger.specs.Refusals.{isPinning}
 use Rattle.ledger.specs.Kept.{PinsKept, PinnedOnceKept}
 use Rattle.ledger.specs.declared.Kind.{Kind}

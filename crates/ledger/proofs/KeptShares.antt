@@ -10,7 +10,7 @@ use borrow.Author.Tests.{leb-false, ltb-false, not-false, eqb-true, eqb-false, e
 use lib.Dec.{eqb}
 use lib.ListN.{length, length-set, getD, set, List·getD-map}
 use lib.Seq.{getD-set-same}
-use Rattle.lists.specs.Tests.{filter, All}
+use Rattle.lists.specs.Tests.{filter}
 use Rattle.lists.proofs.All.{at-set, all-imp, all-filter, all-map, all-append}
 use Rattle.lists.proofs.Cases.{by-test, or-false-parts}
 use Rattle.lists.proofs.Counts.{count-filter}
@@ -20,7 +20,8 @@ use Rattle.ledger.specs.Tasks.{Clocks, taskAt, absentTask, joined, moved
 use Rattle.ledger.specs.Expirations.{departed, Expiration}
 use Rattle.ledger.specs.Objects.{Object, Memory, noShare, zeroed, orphaned, makersAfter, sharesAfter}
 use Rattle.ledger.specs.Shares.{isIn, quotaIn, quotaOf, blocksIn, usedIn, made, unmet, allUnmet, takenFrom, isFull, isShort, isAtLimit}
-use Rattle.ledger.specs.Refusals.{isUpsideDown, testsOf}
+use Rattle.ledger.specs.Refusals.{isUpsideDown}
+use Rattle.ledger.specs.Rules.{testsOf}
 use Rattle.ledger.specs.Kept.{SharesKept}
 use Rattle.ledger.specs.declared.Event.{Event}
 use Rattle.ledger.specs.declared.Event.the-variants.{Leave, Block, Resume, Tick, View}

@@ -14,7 +14,7 @@ use Rattle.ledger.specs.Limits.{taskCount}
 use Rattle.ledger.specs.Tasks.{Task, Clocks, taskAt, absentTask, joined, isAbsent, isRunning, isWaiting, isViewing, isActive, moved, allTicked, unticked, tasksAfter, advances, clocksAfter, entered}
 use Rattle.ledger.specs.Expirations.{Expiration}
 use Rattle.ledger.specs.Objects.{Memory}
-use Rattle.ledger.specs.Refusals.{testsOf}
+use Rattle.ledger.specs.Rules.{testsOf}
 use Rattle.ledger.specs.Kept.{TaskKept, ClocksKept}
 use Rattle.ledger.specs.declared.State.{State}
 use Rattle.ledger.specs.declared.State.the-variants.{Absent, Running, Waiting, Viewing}

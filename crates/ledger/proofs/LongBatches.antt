@@ -10,7 +10,8 @@ use lib.ListN.{length}
 use Rattle.lists.proofs.Cases.{or-right}
 use Rattle.ledger.specs.Limits.{largestBatch}
 use Rattle.ledger.specs.Objects.{handlesOf}
-use Rattle.ledger.specs.Refusals.{testsOf, verdict}
+use Rattle.ledger.specs.Refusals.{verdict}
+use Rattle.ledger.specs.Rules.{testsOf}
 use Rattle.ledger.specs.Ledger.{Ledger, afterBy, verdictOn, reply, next}
 use Rattle.ledger.specs.declared.Call.{Call}
 use Rattle.ledger.specs.declared.Call.the-variants.{Batch}

@@ -12,7 +12,8 @@ use Rattle.lists.specs.Tests.{any}
 use Rattle.lists.proofs.All.{all-left, found}
 use Rattle.lists.proofs.Cases.{by-test}
 use Rattle.lists.proofs.Sums.{total-differs}
-use Rattle.ledger.specs.Objects.{Object, plain, objectAt, isIntact, memoryAfter, expirationsAfter, freshMemory}
+use Rattle.ledger.specs.Objects.{Object, plain, objectAt, isIntact, freshMemory}
+use Rattle.ledger.specs.Rules.{memoryAfter, expirationsAfter}
 use Rattle.ledger.specs.Refusals.{Test, standingTests, writingTests, verdict}
 use Rattle.ledger.specs.Ledger.{Ledger, Sent, fresh, settled, replyBy, afterBy, verdictOn, next, replyToRequest, afterRequest, afterSent, replies, afterAll}
 use Rattle.ledger.specs.Noticed.{disturbed, Change, changed, earlierTests, noticedBy, noticed, noticedIn, Notices}

@@ -13,7 +13,7 @@ use Rattle.lists.proofs.Tests.{passes-at}
 use Rattle.ledger.specs.Tasks.{Task, Clocks, taskAt, absentTask, isRunning, isWaiting, isActive, isTested, moved, allTicked, unticked, tasksAfter, advances, clocksAfter, entered, joined}
 use Rattle.ledger.specs.Expirations.{Expiration, remaining, putOff, deserted, lasting}
 use Rattle.ledger.specs.Objects.{Memory}
-use Rattle.ledger.specs.Refusals.{testsOf}
+use Rattle.ledger.specs.Rules.{testsOf}
 use Rattle.ledger.specs.Outlives.{happens, isTickOf, isLeaveOf}
 use Rattle.ledger.specs.PutOff.{globalOne}
 use Rattle.ledger.specs.declared.Event.{Event}

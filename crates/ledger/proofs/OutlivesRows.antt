@@ -11,9 +11,10 @@ use Rattle.lists.proofs.Tests.{both, sameBy, sameBy→eq, all→All}
 use Rattle.ledger.specs.Limits.{standard, lastHandle}
 use Rattle.ledger.specs.Tasks.{freshClocks, moved, allTicked, tasksAfter, advances, clocksAfter, entered}
 use Rattle.ledger.specs.Expirations.{byGlobal, dueAfter, remaining, putOff, deserted, lasting, released, setOnEach}
-use Rattle.ledger.specs.Objects.{freshMemory, objectAt, written, makersAfter, sharesAfter, memoryAfter, expirationsAfter, handlesOf}
+use Rattle.ledger.specs.Objects.{freshMemory, objectAt, written, makersAfter, sharesAfter, handlesOf}
 use Rattle.ledger.specs.Shares.{made, unmet, isFull, isShort, isAtLimit}
-use Rattle.ledger.specs.Refusals.{testsOf, verdict}
+use Rattle.ledger.specs.Refusals.{verdict}
+use Rattle.ledger.specs.Rules.{memoryAfter, expirationsAfter, testsOf}
 use Rattle.ledger.specs.Ledger.{fresh, next, afterAll}
 use Rattle.ledger.specs.Outlives.{moveOf, moveIn, setIn, followed, isTickOf, countOf, Setting, isRound, neverWaits, Stretch, areRounds}
 use Rattle.ledger.specs.OutlivesRows.{Part, Trial, trials, sorts, allCalls, setBy, ledgerOf, TrialHolds, TrialsHold, ClaimsApply}

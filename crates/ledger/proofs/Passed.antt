@@ -7,8 +7,9 @@ use mathlib.Core.Path.{_≡_, refl, subst}
 use Rattle.lists.proofs.Cases.{by-test}
 use Rattle.ledger.specs.Tasks.{isTested}
 use Rattle.ledger.specs.Expirations.{Expiration}
-use Rattle.ledger.specs.Objects.{Memory, Reply, replyTo}
-use Rattle.ledger.specs.Refusals.{Test, shared, own, testsOf, verdict}
+use Rattle.ledger.specs.Objects.{Memory, Reply}
+use Rattle.ledger.specs.Refusals.{Test, shared, own, verdict}
+use Rattle.ledger.specs.Rules.{replyTo, testsOf}
 use Rattle.ledger.specs.Ledger.{replyBy}
 use Rattle.ledger.specs.declared.Answer.{Answer}
 use Rattle.ledger.specs.declared.Answer.the-variants.{Refused, Done, Advanced, Handle, Bytes, Counted, Lasts}

@@ -15,9 +15,10 @@ use Rattle.lists.specs.Sums.{sumBelow}
 use Rattle.ledger.specs.Limits.{taskCount, standard, lastHandle}
 use Rattle.ledger.specs.Tasks.{taskAt, isAbsent, isWaiting, freshClocks, moved, allTicked, tasksAfter, advances, clocksAfter, entered}
 use Rattle.ledger.specs.Expirations.{isPinned, isOf, isPinOf, dueAfter, putOff, lasting, released}
-use Rattle.ledger.specs.Objects.{Memory, Reply, freshMemory, objectAt, isIntact, stands, replyTo, makersAfter, sharesAfter, memoryAfter, expirationsAfter}
+use Rattle.ledger.specs.Objects.{Memory, Reply, freshMemory, objectAt, isIntact, stands, makersAfter, sharesAfter}
 use Rattle.ledger.specs.Shares.{made as madeIn, unmet, isFull, isShort, isAtLimit}
-use Rattle.ledger.specs.Refusals.{isNotGiven, testsOf, verdict}
+use Rattle.ledger.specs.Refusals.{isNotGiven, verdict}
+use Rattle.ledger.specs.Rules.{replyTo, memoryAfter, expirationsAfter, testsOf}
 use Rattle.ledger.specs.Ledger.{Ledger, Sent, fresh, settled, replyBy, afterBy, verdictOn, reply, next, afterRequest, afterSent, afterAll}
 use Rattle.ledger.specs.Kept.{Kept}
 use Rattle.ledger.specs.Outlives.{neither, moveOf, moveIn}
@@ -26,7 +27,6 @@ use Rattle.ledger.specs.Rows.{join}
 use Rattle.ledger.specs.declared.Answer.the-variants.{Refused, Handle, Bytes}
 use Rattle.ledger.specs.declared.Call.{Call}
 use Rattle.ledger.specs.declared.Call.the-variants.{Join, Schedule, Make, Refresh, Read, Write, Batch, Release}
-use Rattle.ledger.specs.declared.Kind.{Kind}
 use Rattle.ledger.specs.declared.Kind.the-variants.{Local, Global, Pinned}
 use Rattle.ledger.specs.declared.Refusal.{Refusal}
 use Rattle.ledger.specs.declared.Refusal.the-variants.{NoSuchTask, TaskAbsent, TaskWaiting, HandleNotGiven, ObjectGone, SumDiffers}

@@ -1,7 +1,7 @@
 -- Order 9 over every list of calls: what `Kept` says of shares, and that it spares a task below its reserve 9 and 26.
 use Prim.Native.Nat.{ℕ, _+_, _-_, _≤_, _<_}
 use native.Mathlib.Omega.{arith}
-use mathlib.Core.Bool.{Bool, true, false, true≢false, not, _&&_, _||_}
+use mathlib.Core.Bool.{Bool, true, false, true≢false, _&&_, _||_}
 use mathlib.Core.List.{List, [], _∷_}
 use mathlib.Core.Logic.{_≢_}
 use mathlib.Core.Path.{_≡_, refl, sym, ap, subst, _∙_}
@@ -12,9 +12,10 @@ use Rattle.lists.specs.Sums.{sumBelow}
 use Rattle.lists.proofs.Cases.{by-test}
 use Rattle.lists.proofs.Sums.{sum-at}
 use Rattle.ledger.specs.Limits.{taskCount, standard, isSmall}
-use Rattle.ledger.specs.Objects.{freshMemory, noShare, memoryAfter, expirationsAfter}
+use Rattle.ledger.specs.Objects.{freshMemory, noShare}
 use Rattle.ledger.specs.Shares.{quotaIn, quotaOf, blocksIn, usedIn, made, unmet, allUnmet, takenFrom, isFull, isShort, isAtLimit}
-use Rattle.ledger.specs.Refusals.{testsOf, verdict}
+use Rattle.ledger.specs.Refusals.{verdict}
+use Rattle.ledger.specs.Rules.{memoryAfter, expirationsAfter, testsOf}
 use Rattle.ledger.specs.Ledger.{Ledger, Sent, fresh, verdictOn, reply, next, afterAll}
 use Rattle.ledger.specs.Tasks.{freshClocks, entered}
 use Rattle.ledger.specs.Rows.{joinWith, shareOf}

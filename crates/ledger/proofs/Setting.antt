@@ -9,8 +9,8 @@ use Rattle.lists.proofs.Cases.{or-right}
 use Rattle.lists.proofs.Counts.{any-append}
 use Rattle.ledger.specs.Tasks.{Clocks, taskAt, isActive}
 use Rattle.ledger.specs.Expirations.{DueTime, Expiration, isOf, dueAfter, released, setOnEach}
-use Rattle.ledger.specs.Objects.{Memory, stands, expirationsAfter, handlesOf}
-use Rattle.ledger.specs.Refusals.{testsOf}
+use Rattle.ledger.specs.Objects.{Memory, stands, handlesOf}
+use Rattle.ledger.specs.Rules.{expirationsAfter, testsOf}
 use Rattle.ledger.specs.Ledger.{Ledger, Sent, fresh, afterBy, verdictOn, afterSent, afterAll}
 use Rattle.ledger.specs.Kept.{Kept, isOwned}
 use Rattle.ledger.specs.Outlives.{Move, neither, moveOf, moveIn, setIn, leftIn, followed, Setting, whenSet}

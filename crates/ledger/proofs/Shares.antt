@@ -1,13 +1,13 @@
 -- What of a store is spoken for, by the objects alone: the same of objects that differ in neither size nor maker, no more of fewer objects, and no task's objects are another's.
 use Prim.Native.Nat.{ℕ, suc, max, _+_, _-_, _≤_, _<_}
 use native.Mathlib.Omega.{arith}
-use mathlib.Core.Bool.{Bool, true, false, true≢false, cond, not, _&&_, and-false}
+use mathlib.Core.Bool.{Bool, false, cond, not, _&&_, and-false}
 use mathlib.Core.List.{List, [], _∷_, _++_, map}
-use mathlib.Core.Path.{_≡_, refl, sym, ap, _∙_}
-use borrow.Author.Tests.{eqb-true, eqb-false, ne-eqb, eq-eqb}
+use mathlib.Core.Path.{_≡_, sym, ap, _∙_}
+use borrow.Author.Tests.{eqb-true, eqb-false, ne-eqb}
 use lib.Dec.{eqb}
 use Rattle.lists.specs.Sums.{sumBelow}
-use Rattle.lists.specs.Tests.{filter, count, All}
+use Rattle.lists.specs.Tests.{filter, All}
 use Rattle.lists.proofs.All.{all-every, all-imp}
 use Rattle.lists.proofs.Cases.{by-test}
 use Rattle.lists.proofs.Counts.{count-map, count-same, count-split, count-append}

@@ -13,8 +13,9 @@ use Rattle.lists.proofs.Cases.{by-test}
 use Rattle.ledger.specs.Numbers.{numberOf}
 use Rattle.ledger.specs.Expirations.{Expiration}
 use Rattle.ledger.specs.Objects.{Object, Memory, Reply, plain, isIntact}
-use Rattle.ledger.specs.Refusals.{Test, shared, own, standingTests, testsOf, verdict, heapVerdict}
-use Rattle.ledger.specs.Ledger.{Ledger, Sent, fresh, verdictOn, standingVerdictOn, reply, replyToRequest, afterSent, replies}
+use Rattle.ledger.specs.Refusals.{Test, shared, own, standingTests, verdict, heapVerdict}
+use Rattle.ledger.specs.Rules.{testsOf}
+use Rattle.ledger.specs.Ledger.{Ledger, Sent, verdictOn, standingVerdictOn, reply, replyToRequest, afterSent, replies}
 use Rattle.ledger.specs.Remaining.{remainingLife}
 use Rattle.ledger.specs.Kept.{Kept}
 use Rattle.ledger.specs.declared.Answer.{Answer}

@@ -13,7 +13,8 @@ use Rattle.lists.proofs.Counts.{any-map}
 use Rattle.lists.proofs.Filters.{any-filter}
 use Rattle.ledger.specs.Tasks.{Clocks}
 use Rattle.ledger.specs.Expirations.{DueTime, Expiration, isOf, isSetBy, putOff, deserted, eachDue, stillLive, dueAfter, lasting, released, setOnEach}
-use Rattle.ledger.specs.Objects.{Object, Memory, objectAt, stands, standing, expirationsAfter, handlesOf}
+use Rattle.ledger.specs.Objects.{Object, Memory, objectAt, stands, standing, handlesOf}
+use Rattle.ledger.specs.Rules.{expirationsAfter}
 use Rattle.ledger.specs.Ledger.{Ledger}
 use Rattle.ledger.specs.declared.Call.{Call}
 use Rattle.ledger.specs.declared.Call.the-variants.{Join, Schedule, Make, Refresh, Read, Write, Batch, Release}

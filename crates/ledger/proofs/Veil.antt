@@ -1,6 +1,5 @@
 -- The veil of what a call leaves is what the veiled call leaves of the veil: one simulation, and so two lists with one veil are seen alike.
 use Prim.Native.Nat.{ℕ, zero, suc, _+_, _-_, _≤_}
-use native.Mathlib.Numerals.{unary-clauses}
 use native.Mathlib.Omega.{arith}
 use mathlib.Core.Bool.{true, false}
 use mathlib.Core.List.{List, [], _∷_, _++_, map, map-map, map-append}
@@ -20,8 +19,9 @@ use Rattle.lists.proofs.Sums.{total-zeros}
 use Rattle.ledger.specs.Limits.{isSmall, blockSize}
 use Rattle.ledger.specs.Tasks.{taskAt, isViewing}
 use Rattle.ledger.specs.Expirations.{Expiration}
-use Rattle.ledger.specs.Objects.{Object, Memory, Reply, zeroed, isIntact, objectAt, written, orphaned, makersAfter, replyTo, memoryAfter, expirationsAfter, usage}
-use Rattle.ledger.specs.Refusals.{testsOf, verdict}
+use Rattle.ledger.specs.Objects.{Object, Memory, Reply, zeroed, isIntact, objectAt, written, orphaned, makersAfter, usage}
+use Rattle.ledger.specs.Refusals.{verdict}
+use Rattle.ledger.specs.Rules.{replyTo, memoryAfter, expirationsAfter, testsOf}
 use Rattle.ledger.specs.Ledger.{Ledger, Sent, fresh, settled, replyBy, afterBy, verdictOn, reply, next, replyToRequest, afterRequest, afterSent, replies, afterAll}
 use Rattle.ledger.specs.Kept.{ObjectsKept, Kept}
 use Rattle.ledger.specs.Veil.{veiled, veiledObject, veiledMemory, veiledIn, veiledBytes, veiledBy, veiledSent, veils, taskOf, isViewer, isViewers, toViewers, seenBytes, seen, seenIn, Discreet}

@@ -6,7 +6,7 @@ use mathlib.Core.Path.{_≡_}
 use Rattle.ledger.specs.Limits.{counterRange}
 use Rattle.ledger.specs.Tasks.{Task, Clocks}
 use Rattle.ledger.specs.Expirations.{DueTime, byLocal, byGlobal, pinned, Expiration, remaining}
-use Rattle.ledger.specs.Objects.{Object}
+use Rattle.ledger.specs.Objects.{Object, withBytes}
 use Rattle.ledger.specs.Ledger.{Ledger}
 use Rattle.ledger.specs.declared.Limits.{Limits}
 use Rattle.ledger.specs.declared.Share.{Share}
@@ -38,7 +38,7 @@ shown clocks x = record { handle = x .handle; left = leftOf clocks (x .due) }
 
 -- L7: bytes only where the store is whole; isWhole says of a size whether its store is as long as the blocks need
 abbrev pub shownObject : (ℕ → Bool) → Object → Object
-shownObject isWhole o = record { handle = o .handle; size = o .size; bytes = cond (isWhole (o .size)) (o .bytes) []; sum = o .sum; maker = o .maker; prefix = o .prefix }
+shownObject isWhole o = withBytes (cond (isWhole (o .size)) (o .bytes) []) (o .sum) o
 
 pub record View : Type 0 where
   pub limits : Limits

@@ -1,23 +1,19 @@
 -- The rules H: the unbounded heap (01: endless heap), the expiration book (01: date book), use in time and in bounds, and demand 3.
-use Prim.Native.Nat.{ℕ, _+_}
+use Prim.Native.Nat.{ℕ}
 use mathlib.Core.Bool.{Bool, true, false, not, _&&_, _||_}
 use mathlib.Core.List.{List, [], _∷_, map}
 use mathlib.Core.Logic.{_↔_}
 use mathlib.Core.Option.{Option, none, some}
 use mathlib.Core.Path.{_≡_}
-use lib.Dec.{eqb, leb, ltb}
-use lib.ListN.{length}
-use Rattle.lists.specs.Tests.{all}
+use lib.Dec.{eqb}
 use Rattle.ledger.specs.Numbers.{numberOf}
-use Rattle.ledger.specs.Limits.{isSmall}
 use Rattle.ledger.specs.Expirations.{Expiration}
-use Rattle.ledger.specs.Objects.{Memory, Reply, freshMemory, stands, standing, replyTo, memoryAfter, expirationsAfter, handlesOf}
-use Rattle.ledger.specs.Shares.{isFull, isShortOf, isAtLimit}
-use Rattle.ledger.specs.Refusals.{testsOf, heapVerdict}
+use Rattle.ledger.specs.Objects.{Memory, Reply, freshMemory}
+use Rattle.ledger.specs.Refusals.{heapVerdict}
+use Rattle.ledger.specs.Rules.{testsOf, replyTo, memoryAfter, expirationsAfter, isInTimeAndBounds}
 use Rattle.ledger.specs.Ledger.{Sent, fresh, replies, replyBy, afterBy}
 use Rattle.ledger.specs.declared.Request.the-variants.{Use}
 use Rattle.ledger.specs.declared.Call.{Call}
-use Rattle.ledger.specs.declared.Call.the-variants.{Join, Schedule, Make, Refresh, Read, Write, Batch, Release}
 use Rattle.ledger.specs.declared.Refusal.{Refusal}
 use Rattle.ledger.specs.declared.Limits.{Limits}
 
@@ -48,23 +44,6 @@ heapAfterAll m (u ∷ us) = heapAfterAll (heapNext m (u .call) (u .bytes)) us
 -- H6: what the heap refuses leaves the book as it is
 unfoldable pub bookNext : Memory → List Expiration → Call → List ℕ → List Expiration
 bookNext m book call new = afterBy (heapVerdictOn m call new) (expirationsAfter call new m book) book
-
--- H9 to H13, H22, H23, H25: what a use asks of the book when the call comes: its objects stand, its task is below its limit, and a block and expirations are free; of a
--- join, that its reserves are
-unfoldable pub isInTimeAndBounds : Memory → List Expiration → Call → List ℕ → Bool
-isInTimeAndBounds m book (Join task share) new = not (isShortOf (m .limits) (m .shares) (standing book (m .objects)) task share)
-isInTimeAndBounds m book (Schedule event task) new = true
-isInTimeAndBounds m book (Make task kind extension size prefix) new =
-    let os = standing book (m .objects) in
-    not (isAtLimit (isSmall size) (m .shares) os task) && (not (isFull (isSmall size) (m .shares) os (m .limits) task) && ltb (length book) (m .limits .expirations))
-isInTimeAndBounds m book (Refresh task kind extension handle) new =
-    stands book handle && ltb (length book) (m .limits .expirations)
-isInTimeAndBounds m book (Read task handle) new = stands book handle
-isInTimeAndBounds m book (Write task handle offset) new = stands book handle
-isInTimeAndBounds m book (Batch task kind extension) new =
-    let handles = handlesOf new in
-    all (stands book) handles && leb (length book + length handles) (m .limits .expirations)
-isInTimeAndBounds m book (Release task handle) new = stands book handle
 
 -- H14, H15, H24: a call that the heap refuses is left aside, but not a write that runs past its object nor a release of what is not pinned
 abbrev pub isLeftAside : Option Refusal → Bool

@@ -3,8 +3,9 @@ use Prim.Native.Nat.{ℕ}
 use mathlib.Core.List.{List, [], _∷_}
 use mathlib.Core.Option.{Option, none, some}
 use Rattle.ledger.specs.Expirations.{Expiration}
-use Rattle.ledger.specs.Objects.{Memory, Reply, freshMemory, plain, standing, replyTo, memoryAfter, expirationsAfter, usage}
-use Rattle.ledger.specs.Refusals.{testsOf, standingTests, verdict}
+use Rattle.ledger.specs.Objects.{Memory, Reply, freshMemory, plain, standing, withObjects, usage}
+use Rattle.ledger.specs.Refusals.{standingTests, verdict}
+use Rattle.ledger.specs.Rules.{replyTo, memoryAfter, expirationsAfter, testsOf}
 use Rattle.ledger.specs.Remaining.{remainingLife}
 use Rattle.ledger.specs.declared.Answer.the-variants.{Refused, Counted, Lasts}
 use Rattle.ledger.specs.declared.Call.{Call}
@@ -22,7 +23,7 @@ pub record Ledger : Type 0 where
 abbrev pub settled : Memory → List Expiration → Ledger
 settled m xs =
     record {
-      memory = record { limits = m .limits; clocks = m .clocks; given = m .given; objects = standing xs (m .objects); shares = m .shares; pinned = m .pinned };
+      memory = withObjects (standing xs (m .objects)) m;
       expirations = xs;
     }
 

@@ -5,6 +5,7 @@ pub mod Expirations
 pub mod Objects
 pub mod Shares
 pub mod Refusals
+pub mod Rules
 pub mod Ledger
 pub mod Remaining
 pub mod Awaited

@@ -1,7 +1,7 @@
 -- The claim of R23 (order 6 of document 02): where one byte of an object is changed from outside, each read and write of it is refused from then on, and all else is
 -- answered as if nothing had been changed.
 use Prim.Native.Nat.{ℕ, _≤_, _<_}
-use mathlib.Core.Bool.{Bool, true, false, cond}
+use mathlib.Core.Bool.{true, cond}
 use mathlib.Core.List.{List, [], _∷_, map}
 use mathlib.Core.Logic.{_≢_}
 use mathlib.Core.Option.{Option, none, some}
@@ -10,13 +10,12 @@ use lib.Dec.{eqb}
 use lib.ListN.{length, getD}
 use Rattle.lists.specs.Blocks.{overwritten}
 use Rattle.lists.specs.Tests.{any, All}
-use Rattle.ledger.specs.Objects.{Object, Reply, freshMemory, plain, objectAt, isIntact, stands}
+use Rattle.ledger.specs.Objects.{Object, withBytes, withObjects, Reply, freshMemory, plain, objectAt, isIntact, stands}
 use Rattle.ledger.specs.Refusals.{Test, standingTests, writingTests, verdict}
 use Rattle.ledger.specs.Ledger.{Ledger, Sent, fresh, replyBy, replyToRequest, afterSent, replies, afterAll}
 use Rattle.ledger.specs.Heap.{Used, heapReplies}
 use Rattle.ledger.specs.Numbers.{isRefusal}
-use Rattle.ledger.specs.declared.Answer.{Answer}
-use Rattle.ledger.specs.declared.Answer.the-variants.{Refused, Done, Advanced, Handle, Bytes, Counted, Lasts}
+use Rattle.ledger.specs.declared.Answer.the-variants.{Refused}
 use Rattle.ledger.specs.declared.Call.the-variants.{Join, Schedule, Make, Refresh, Read, Write, Batch, Release}
 use Rattle.ledger.specs.declared.Refusal.the-variants.{SumDiffers}
 use Rattle.ledger.specs.declared.Request.{Request}
@@ -26,20 +25,13 @@ use Rattle.ledger.specs.declared.Limits.{Limits}
 -- N1: the object with this handle, with another value at one place of its block; its sum stays, and so do all other objects
 unfoldable pub disturbed : ℕ → ℕ → ℕ → Object → Object
 disturbed handle at value o =
-    record {
-      handle = o .handle;
-      size = o .size;
-      bytes = cond (eqb (o .handle) handle) (overwritten at (value ∷ []) (o .bytes)) (o .bytes);
-      sum = o .sum;
-      maker = o .maker;
-      prefix = o .prefix;
-    }
+    withBytes (cond (eqb (o .handle) handle) (overwritten at (value ∷ []) (o .bytes)) (o .bytes)) (o .sum) o
 
 abbrev pub disturbedIn : ℕ → ℕ → ℕ → Ledger → Ledger
 disturbedIn handle at value L =
     let m = L .memory in
     record {
-      memory = record { limits = m .limits; clocks = m .clocks; given = m .given; objects = map (disturbed handle at value) (m .objects); shares = m .shares; pinned = m .pinned };
+      memory = withObjects (map (disturbed handle at value) (m .objects)) m;
       expirations = L .expirations;
     }
 

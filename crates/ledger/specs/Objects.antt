@@ -1,25 +1,22 @@
--- The rules O: objects, and what each call answers and changes once it is carried out.
+-- The rules O: objects, what is kept of them, and the parts from which Rules.antt makes what each call answers and changes.
 use Prim.Native.Nat.{ℕ, _+_, _*_}
 use mathlib.Core.Bool.{Bool, cond, not}
-use mathlib.Core.List.{List, [], _∷_, _++_, map}
+use mathlib.Core.List.{List, [], _∷_, map}
 use lib.Dec.{eqb}
 use lib.ListN.{length, set, take, replicate}
 use Rattle.lists.specs.Blocks.{overwritten}
 use Rattle.lists.specs.Sums.{total}
 use Rattle.lists.specs.Tests.{any, filter, count}
 use Rattle.ledger.specs.Limits.{taskCount, isSmall, blockSize}
-use Rattle.ledger.specs.Tasks.{Clocks, taskAt, freshClocks, isViewing, isTested, advances, clocksAfter, entered, joined}
-use Rattle.ledger.specs.Expirations.{departed, Expiration, isOf, dueAfter, lasting, released, setOnEach}
+use Rattle.ledger.specs.Tasks.{Clocks, freshClocks, isViewing}
+use Rattle.ledger.specs.Expirations.{departed, Expiration, isOf}
 use Rattle.ledger.specs.declared.State.{State}
 use Rattle.ledger.specs.declared.Kind.{Kind}
 use Rattle.ledger.specs.declared.Kind.the-variants.{Local, Global, Pinned}
 use Rattle.ledger.specs.declared.Usage.{Usage}
 use Rattle.ledger.specs.declared.Answer.{Answer}
-use Rattle.ledger.specs.declared.Answer.the-variants.{Done, Advanced, Handle, Bytes}
-use Rattle.ledger.specs.declared.Call.{Call}
 use Rattle.ledger.specs.declared.Event.{Event}
 use Rattle.ledger.specs.declared.Event.the-variants.{Leave, Block, Resume, Tick, View}
-use Rattle.ledger.specs.declared.Call.the-variants.{Join, Schedule, Make, Refresh, Read, Write, Batch, Release}
 use Rattle.ledger.specs.declared.Limits.{Limits}
 use Rattle.ledger.specs.declared.Share.{Share}
 
@@ -33,6 +30,13 @@ pub record Object : Type 0 where
   pub maker : ℕ
   pub prefix : ℕ
 
+-- the same object with other bytes and their sum, or of another maker
+abbrev pub withBytes : List ℕ → ℕ → Object → Object
+withBytes bytes sum o = record { handle = o .handle; size = o .size; bytes = bytes; sum = sum; maker = o .maker; prefix = o .prefix }
+
+abbrev pub withMaker : ℕ → Object → Object
+withMaker maker o = record { handle = o .handle; size = o .size; bytes = o .bytes; sum = o .sum; maker = maker; prefix = o .prefix }
+
 -- what the ledger and the unbounded heap both keep. C2: `limits` are the figures of the pool, which no call changes. Q1: `shares` are the reserves and limits of the tasks in their order. E23: `pinned` has the
 -- handles of the objects whose pinned expiration is left
 pub record Memory : Type 0 where
@@ -42,6 +46,23 @@ pub record Memory : Type 0 where
   pub objects : List Object
   pub shares : List Share
   pub pinned : List ℕ
+
+-- the same memory with another part of it
+abbrev pub withClocks : Clocks → Memory → Memory
+withClocks clocks m =
+    record { limits = m .limits; clocks = clocks; given = m .given; objects = m .objects; shares = m .shares; pinned = m .pinned }
+
+abbrev pub withObjects : List Object → Memory → Memory
+withObjects objects m =
+    record { limits = m .limits; clocks = m .clocks; given = m .given; objects = objects; shares = m .shares; pinned = m .pinned }
+
+abbrev pub withShares : List Share → Memory → Memory
+withShares shares m =
+    record { limits = m .limits; clocks = m .clocks; given = m .given; objects = m .objects; shares = shares; pinned = m .pinned }
+
+abbrev pub withPinned : List ℕ → Memory → Memory
+withPinned pinned m =
+    record { limits = m .limits; clocks = m .clocks; given = m .given; objects = m .objects; shares = m .shares; pinned = pinned }
 
 -- Q2: who is absent or views has nothing
 abbrev pub noShare : Share
@@ -85,26 +106,11 @@ objectAt handle (o ∷ os) = cond (eqb (o .handle) handle) o (objectAt handle os
 unfoldable pub written : ℕ → ℕ → List ℕ → Object → Object
 written handle offset new o =
     let bytes = overwritten offset new (o .bytes) in
-    record {
-      handle = o .handle;
-      size = o .size;
-      bytes = cond (eqb (o .handle) handle) bytes (o .bytes);
-      sum = cond (eqb (o .handle) handle) (total bytes) (o .sum);
-      maker = o .maker;
-      prefix = o .prefix;
-    }
+    withBytes (cond (eqb (o .handle) handle) bytes (o .bytes)) (cond (eqb (o .handle) handle) (total bytes) (o .sum)) o
 
 -- Q3: what a task made is nobody's once it has left, for good
 abbrev pub orphaned : ℕ → Object → Object
-orphaned task o =
-    record {
-      handle = o .handle;
-      size = o .size;
-      bytes = o .bytes;
-      sum = o .sum;
-      maker = cond (eqb (o .maker) task) departed (o .maker);
-      prefix = o .prefix;
-    }
+orphaned task o = withMaker (cond (eqb (o .maker) task) departed (o .maker)) o
 
 unfoldable pub makersAfter : Event → ℕ → List Object → List Object
 makersAfter Leave task os = map (orphaned task) os
@@ -143,17 +149,6 @@ smallOnes os = count (λ (o : Object). isSmall (o .size)) os
 abbrev pub largeOnes : List Object → ℕ
 largeOnes os = count (λ (o : Object). not (isSmall (o .size))) os
 
--- O26, O27: what each of the twelve calls answers when it is carried out
-unfoldable pub replyTo : Call → Memory → Reply
-replyTo (Join task share) m = plain Done
-replyTo (Schedule event task) m = plain (cond (isTested event) (Advanced (advances event task (m .clocks))) Done)
-replyTo (Make task kind extension size prefix) m = plain (Handle (m .given + 1))
-replyTo (Refresh task kind extension handle) m = plain Done
-replyTo (Read task handle) m = record { answer = Bytes; bytes = bytesFor (taskAt (m .clocks) task .state) (objectAt handle (m .objects)) }
-replyTo (Write task handle offset) m = plain Done
-replyTo (Batch task kind extension) m = plain Done
-replyTo (Release task handle) m = plain Done
-
 -- E23: a new object is pinned by an expiration of this kind
 abbrev pub pinnedBy : Kind → ℕ → List ℕ → List ℕ
 pinnedBy Local handle handles = handles
@@ -163,57 +158,6 @@ pinnedBy Pinned handle handles = handle ∷ handles
 -- E24: and no longer after a release
 abbrev pub unpinned : ℕ → List ℕ → List ℕ
 unpinned handle handles = filter (λ (h : ℕ). not (eqb handle h)) handles
-
--- O14, O20, O25, O35, E23, E24: what it makes of tasks, times, handles given, bytes, sums and of what is pinned; the list is that of a write or a batch
-unfoldable pub memoryAfter : Call → List ℕ → Memory → Memory
-memoryAfter (Join task share) new m =
-    record {
-      limits = m .limits;
-      clocks = entered task joined (m .clocks);
-      given = m .given;
-      objects = m .objects;
-      shares = set (m .shares) task share;
-      pinned = m .pinned;
-    }
-memoryAfter (Schedule event task) new m =
-    record {
-      limits = m .limits;
-      clocks = clocksAfter event task (m .clocks);
-      given = m .given;
-      objects = makersAfter event task (m .objects);
-      shares = sharesAfter event task (m .shares);
-      pinned = m .pinned;
-    }
-memoryAfter (Make task kind extension size prefix) new m =
-    record {
-      limits = m .limits;
-      clocks = m .clocks;
-      given = m .given + 1;
-      objects = m .objects ++ (zeroed task (m .given + 1) size prefix ∷ []);
-      shares = m .shares;
-      pinned = pinnedBy kind (m .given + 1) (m .pinned);
-    }
-memoryAfter (Refresh task kind extension handle) new m = m
-memoryAfter (Read task handle) new m = m
-memoryAfter (Write task handle offset) new m =
-    record { limits = m .limits; clocks = m .clocks; given = m .given; objects = map (written handle offset new) (m .objects); shares = m .shares; pinned = m .pinned }
-memoryAfter (Batch task kind extension) new m = m
-memoryAfter (Release task handle) new m =
-    record { limits = m .limits; clocks = m .clocks; given = m .given; objects = m .objects; shares = m .shares; pinned = unpinned handle (m .pinned) }
-
--- E12, O13, O17, O32, E24: and what it makes of the expirations: make and refresh set one, a batch one for each handle; only events and a release end any
-unfoldable pub expirationsAfter : Call → List ℕ → Memory → List Expiration → List Expiration
-expirationsAfter (Join task share) new m xs = xs
-expirationsAfter (Schedule event task) new m xs =
-    lasting event task (advances event task (m .clocks)) (clocksAfter event task (m .clocks)) xs
-expirationsAfter (Make task kind extension size prefix) new m xs =
-    record { handle = m .given + 1; due = dueAfter (m .clocks) task kind extension } ∷ xs
-expirationsAfter (Refresh task kind extension handle) new m xs =
-    record { handle = handle; due = dueAfter (m .clocks) task kind extension } ∷ xs
-expirationsAfter (Read task handle) new m xs = xs
-expirationsAfter (Write task handle offset) new m xs = xs
-expirationsAfter (Batch task kind extension) new m xs = setOnEach (dueAfter (m .clocks) task kind extension) (handlesOf new) xs
-expirationsAfter (Release task handle) new m xs = released handle xs
 
 -- O24: what report counts
 unfoldable pub usage : Memory → List Expiration → Usage

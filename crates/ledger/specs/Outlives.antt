@@ -9,7 +9,8 @@ use Rattle.lists.specs.Tests.{any, all}
 use Rattle.lists.specs.Tables.{allFrom}
 use Rattle.ledger.specs.Tasks.{Task, Clocks, taskAt, absentTask, isRunning, isWaiting, advances, clocksAfter}
 use Rattle.ledger.specs.Expirations.{DueTime, byLocal, byGlobal, pinned, departed, Expiration, dueAfter, lasting, released}
-use Rattle.ledger.specs.Objects.{stands, expirationsAfter}
+use Rattle.ledger.specs.Objects.{stands}
+use Rattle.ledger.specs.Rules.{expirationsAfter}
 use Rattle.ledger.specs.Ledger.{Ledger, Sent, fresh, afterBy, verdictOn, afterRequest, afterSent, afterAll}
 use Rattle.ledger.specs.Kept.{isOwned}
 use Rattle.ledger.specs.declared.Kind.the-variants.{Global}

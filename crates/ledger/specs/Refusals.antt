@@ -1,4 +1,5 @@
--- The rules R: each test once, and for each call its tests in their order. (14 and 15 come with stores and record, 16 to 19 with frames.)
+-- The rules R: each test once, and the first that holds. Rules.antt has the list of each call. (14 and 15 come with stores and record, 16 to 19
+-- with frames.)
 use Prim.Native.Nat.{ℕ, _+_}
 use mathlib.Core.Bool.{Bool, true, false, not, cond, _||_}
 use mathlib.Core.List.{List, [], _∷_}
@@ -9,13 +10,10 @@ use Rattle.lists.specs.Tests.{any}
 use Rattle.ledger.specs.Limits.{taskCount, largeSize, largestBatch, lastHandle, isSmall}
 use Rattle.ledger.specs.Tasks.{taskAt, isAbsent, isWaiting, isViewing}
 use Rattle.ledger.specs.Expirations.{Expiration}
-use Rattle.ledger.specs.Objects.{Memory, objectAt, isIntact, stands, handlesOf}
+use Rattle.ledger.specs.Objects.{Memory, objectAt, isIntact, stands}
 use Rattle.ledger.specs.Shares.{isFull, isShortOf, isAtLimit}
-use Rattle.ledger.specs.declared.Event.the-variants.{Leave, Block, Resume, Tick, View}
-use Rattle.ledger.specs.declared.Call.{Call}
 use Rattle.ledger.specs.declared.Quota.{Quota}
 use Rattle.ledger.specs.declared.Share.{Share}
-use Rattle.ledger.specs.declared.Call.the-variants.{Join, Schedule, Make, Refresh, Read, Write, Batch, Release}
 use Rattle.ledger.specs.declared.Kind.{Kind}
 use Rattle.ledger.specs.declared.Kind.the-variants.{Local, Global, Pinned}
 use Rattle.ledger.specs.declared.Verdict.{Verdict}
@@ -155,33 +153,6 @@ standingTests task handle =
 abbrev pub writingTests : ℕ → ℕ → List Test
 writingTests task handle =
     noSuchTask task ∷ taskAbsent task ∷ taskWaiting task ∷ onlyViews task ∷ handleNotGiven handle ∷ objectGone handle ∷ []
-
--- R36 to R43, R47 to R49: each call's tests in their order, written out as the papers have them; the list is the bytes of a write or a
--- batch
-unfoldable pub testsOf : Call → List ℕ → List Test
-testsOf (Join task share) new = noSuchTask task ∷ taskPresent task ∷ reserveAboveLimit share ∷ reserveNotFree task share ∷ []
-testsOf (Schedule Leave task) new = noSuchTask task ∷ taskAbsent task ∷ []
-testsOf (Schedule Block task) new = noSuchTask task ∷ taskAbsent task ∷ taskWaiting task ∷ onlyViews task ∷ []
-testsOf (Schedule Tick task) new = noSuchTask task ∷ taskAbsent task ∷ taskWaiting task ∷ onlyViews task ∷ []
-testsOf (Schedule Resume task) new = noSuchTask task ∷ taskAbsent task ∷ taskRunning task ∷ []
-testsOf (Schedule View task) new = noSuchTask task ∷ taskPresent task ∷ []
-testsOf (Make task kind extension size prefix) new =
-    noSuchTask task ∷ taskAbsent task ∷ taskWaiting task ∷ onlyViews task ∷ extensionTooLong kind extension ∷ lengthOutOfRange size
-    ∷ prefixTooLong size prefix ∷ handlesSpent ∷ atLimit task size ∷ noFreeBlock task size ∷ noFreeExpiration ∷ []
-testsOf (Refresh task kind extension handle) new =
-    noSuchTask task ∷ taskAbsent task ∷ taskWaiting task ∷ onlyViews task ∷ onlyMakePins kind ∷ extensionTooLong kind extension
-    ∷ handleNotGiven handle ∷ objectGone handle ∷ noFreeExpiration ∷ []
-testsOf (Read task handle) new =
-    noSuchTask task ∷ taskAbsent task ∷ taskWaiting task ∷ handleNotGiven handle ∷ objectGone handle ∷ sumDiffers handle ∷ []
-testsOf (Write task handle offset) new =
-    noSuchTask task ∷ taskAbsent task ∷ taskWaiting task ∷ onlyViews task ∷ handleNotGiven handle ∷ objectGone handle
-    ∷ sumDiffers handle ∷ outsideObject handle offset (length new) ∷ []
-testsOf (Batch task kind extension) new =
-    let handles = handlesOf new in
-    noSuchTask task ∷ taskAbsent task ∷ taskWaiting task ∷ onlyViews task ∷ batchOutOfRange (length handles) ∷ onlyMakePins kind
-    ∷ extensionTooLong kind extension ∷ someNotGiven handles ∷ someGone handles ∷ noRoomFor (length handles) ∷ []
-testsOf (Release task handle) new =
-    noSuchTask task ∷ taskAbsent task ∷ taskWaiting task ∷ onlyViews task ∷ handleNotGiven handle ∷ objectGone handle ∷ notPinned handle ∷ []
 
 -- R32: the pool's verdict, by the first test that holds
 unfoldable pub verdict : Memory → List Expiration → List Test → Option Refusal

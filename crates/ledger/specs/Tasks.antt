@@ -68,10 +68,17 @@ isActive Viewing = false
 abbrev pub joined : Task
 joined = record { state = Running; ticked = false; clock = 0 }
 
+-- T18: no longer ticked
+abbrev pub unticked : Task → Task
+unticked task = record { state = task .state; ticked = false; clock = task .clock }
+
+abbrev pub withState : State → Task → Task
+withState state task = record { state = state; ticked = task .ticked; clock = task .clock }
+
 -- T10 to T13, V1: what each of the five makes of its task
 unfoldable pub moved : Event → Task → Task
-moved Block task = record { state = Waiting; ticked = false; clock = task .clock }
-moved Resume task = record { state = Running; ticked = false; clock = task .clock }
+moved Block task = withState Waiting (unticked task)
+moved Resume task = withState Running (unticked task)
 moved Leave task = absentTask
 moved Tick task = record { state = task .state; ticked = true; clock = task .clock + 1 }
 moved View task = record { state = Viewing; ticked = false; clock = 0 }
@@ -88,10 +95,6 @@ isTested Tick = true
 unfoldable pub allTicked : List Task → Bool
 allTicked tasks =
     any (λ (t : Task). isRunning (t .state)) tasks && all (λ (t : Task). not (isRunning (t .state)) || t .ticked) tasks
-
--- T18: no longer ticked
-abbrev pub unticked : Task → Task
-unticked task = record { state = task .state; ticked = false; clock = task .clock }
 
 -- T9: the clocks after a join, which no advance test follows (T14)
 unfoldable pub entered : ℕ → Task → Clocks → Clocks

@@ -6,7 +6,7 @@ use mathlib.Core.List.{List, [], _∷_, map}
 use mathlib.Core.Path.{_≡_}
 use Rattle.lists.specs.Sums.{total}
 use Rattle.ledger.specs.Tasks.{Clocks, taskAt, isViewing}
-use Rattle.ledger.specs.Objects.{Object, Memory, Reply, objectAt}
+use Rattle.ledger.specs.Objects.{Object, withBytes, Memory, withObjects, Reply, objectAt}
 use Rattle.ledger.specs.Ledger.{Ledger, Sent, fresh, replies, afterSent, afterAll}
 use Rattle.ledger.specs.Kept.{Kept}
 use Rattle.ledger.specs.declared.Call.{Call}
@@ -25,11 +25,10 @@ veiled (suc count) (x ∷ xs) = x ∷ veiled count xs
 unfoldable pub veiledObject : Object → Object
 veiledObject o =
     let bytes = veiled (o .prefix) (o .bytes) in
-    record { handle = o .handle; size = o .size; bytes = bytes; sum = total bytes; maker = o .maker; prefix = o .prefix }
+    withBytes bytes (total bytes) o
 
 abbrev pub veiledMemory : Memory → Memory
-veiledMemory m =
-    record { limits = m .limits; clocks = m .clocks; given = m .given; objects = map veiledObject (m .objects); shares = m .shares; pinned = m .pinned }
+veiledMemory m = withObjects (map veiledObject (m .objects)) m
 
 abbrev pub veiledIn : Ledger → Ledger
 veiledIn L = record { memory = veiledMemory (L .memory); expirations = L .expirations }

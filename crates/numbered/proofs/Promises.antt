@@ -6,7 +6,8 @@ use denote.Laws.{Is}
 use mir.Val.{Val}
 use Rattle.lists.specs.Blocks.{overwritten}
 use Rattle.ledger.specs.Numbers.{answerNumber}
-use Rattle.ledger.specs.Objects.{Reply, plain, replyTo}
+use Rattle.ledger.specs.Objects.{Reply, plain}
+use Rattle.ledger.specs.Rules.{replyTo}
 use Rattle.ledger.specs.Ledger.{Ledger}
 use Rattle.ledger.specs.declared.Answer.{Answer}
 use Rattle.ledger.specs.declared.Answer.the-variants.{Done}

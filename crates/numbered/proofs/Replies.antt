@@ -1,14 +1,15 @@
 -- A reply that the contract of a call allows is a refusal, or what the call answers when it is carried out on some ledger.
 use Prim.Native.Nat.{ℕ}
 use mathlib.Core.Bool.{true, true≢false}
-use mathlib.Core.List.{List, []}
+use mathlib.Core.List.{List}
 use mathlib.Core.Option.{Option, none, some}
 use mathlib.Core.Path.{_≡_, refl, sym, _∙_}
 use mir.Val.{Val}
 use denote.Laws.{Is}
 use Rattle.lists.proofs.Cases.{by-test}
 use Rattle.ledger.specs.Numbers.{answerNumber}
-use Rattle.ledger.specs.Objects.{Reply, plain, replyTo, usage}
+use Rattle.ledger.specs.Objects.{Reply, plain, usage}
+use Rattle.ledger.specs.Rules.{replyTo}
 use Rattle.ledger.specs.Remaining.{remainingLife}
 use Rattle.ledger.specs.Ledger.{Ledger, verdictOn, standingVerdictOn, replyBy, reply}
 use Rattle.ledger.specs.declared.Answer.{Answer}

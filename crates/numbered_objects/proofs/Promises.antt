@@ -11,7 +11,7 @@ use mir.Val.{Val}
 use types.Run.{OneOf, miss}
 use Rattle.lists.specs.Blocks.{overwritten}
 use Rattle.ledger.specs.Numbers.{numberOf, answerNumber}
-use Rattle.ledger.specs.Objects.{replyTo}
+use Rattle.ledger.specs.Rules.{replyTo}
 use Rattle.ledger.specs.declared.Answer.{Answer}
 use Rattle.ledger.specs.declared.Answer.the-variants.{Refused, Bytes, Counted, Lasts}
 use Rattle.ledger.specs.declared.Call.the-variants.{Release}

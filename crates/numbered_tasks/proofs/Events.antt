@@ -8,7 +8,7 @@ use mir.Val.{Val, boolByte}
 use Rattle.lists.specs.Blocks.{overwritten}
 use Rattle.lists.proofs.Cases.{by-test}
 use Rattle.ledger.specs.Tasks.{isTested}
-use Rattle.ledger.specs.Objects.{replyTo}
+use Rattle.ledger.specs.Rules.{replyTo}
 use Rattle.ledger.specs.declared.Answer.{Answer}
 use Rattle.ledger.specs.declared.Call.the-variants.{Join, Schedule}
 use Rattle.ledger.specs.declared.Event.{Event}

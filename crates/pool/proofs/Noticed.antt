@@ -12,7 +12,7 @@ use lib.ListN.{getD}
 use Rattle.lists.specs.Tests.{All}
 use Rattle.lists.proofs.All.{all-imp, all-left}
 use Rattle.lists.proofs.Cases.{by-test}
-use Rattle.ledger.specs.Objects.{Object, Reply, objectAt, stands, freshMemory, makersAfter, sharesAfter, memoryAfter, expirationsAfter}
+use Rattle.ledger.specs.Objects.{Object, Reply, objectAt, stands, freshMemory, makersAfter, sharesAfter}
 use Rattle.ledger.specs.Ledger.{Ledger, Sent, fresh, next, replyToRequest, replies, afterAll}
 use Rattle.ledger.specs.Refusals.{Test}
 use Rattle.ledger.specs.Noticed.{Change, changed, earlierTests, noticedIn}
@@ -23,7 +23,8 @@ use Rattle.lists.specs.Sums.{sumBelow}
 use Rattle.ledger.specs.Shares.{made, unmet, isFull, isShort, isAtLimit}
 use Rattle.ledger.specs.Tasks.{freshClocks, moved, tasksAfter, advances, clocksAfter, entered}
 use Rattle.ledger.specs.Expirations.{dueAfter, lasting}
-use Rattle.ledger.specs.Refusals.{testsOf, verdict}
+use Rattle.ledger.specs.Refusals.{verdict}
+use Rattle.ledger.specs.Rules.{memoryAfter, expirationsAfter, testsOf}
 use Rattle.ledger.specs.Rows.{join, make}
 use Rattle.ledger.specs.declared.Kind.the-variants.{Local}
 use Rattle.ledger.proofs.Figures.{standard-allowed}

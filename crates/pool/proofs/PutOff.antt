@@ -1,6 +1,5 @@
 -- Order 4's claim of the pool: by demand 2 the record has the ledger's expirations, and of the ledger the claim is proved.
 use Prim.Native.Nat.{ℕ, _≤_}
-use native.Mathlib.Omega.{arith}
 use mathlib.Core.Bool.{true}
 use mathlib.Core.List.{List, [], _∷_, _++_, append-assoc, List·Permᴰ, List·Permᴰ·trans}
 use mathlib.Core.Path.{_≡_, refl, sym, ap, subst, _∙_}
@@ -12,8 +11,9 @@ use Rattle.lists.specs.Sums.{sumBelow}
 use Rattle.ledger.specs.Shares.{made, unmet, isFull, isShort, isAtLimit}
 use Rattle.ledger.specs.Tasks.{freshClocks, moved, allTicked, tasksAfter, advances, clocksAfter, entered}
 use Rattle.ledger.specs.Expirations.{Expiration, dueAfter, remaining, putOff, lasting}
-use Rattle.ledger.specs.Objects.{freshMemory, makersAfter, sharesAfter, memoryAfter, expirationsAfter}
-use Rattle.ledger.specs.Refusals.{testsOf, verdict}
+use Rattle.ledger.specs.Objects.{freshMemory, makersAfter, sharesAfter}
+use Rattle.ledger.specs.Refusals.{verdict}
+use Rattle.ledger.specs.Rules.{memoryAfter, expirationsAfter, testsOf}
 use Rattle.ledger.specs.Rows.{join, block, tick, make}
 use Rattle.ledger.specs.declared.Event.the-variants.{Tick}
 use Rattle.ledger.specs.declared.Kind.the-variants.{Global}

@@ -15,8 +15,9 @@ use Rattle.lists.proofs.Cases.{by-test}
 use Rattle.ledger.specs.Limits.{counterRange}
 use Rattle.ledger.specs.Tasks.{isTested}
 use Rattle.ledger.specs.Numbers.{isRefusal}
-use Rattle.ledger.specs.Objects.{Reply, plain, replyTo, memoryAfter, expirationsAfter, handlesOf}
-use Rattle.ledger.specs.Refusals.{asRefusal, testsOf}
+use Rattle.ledger.specs.Objects.{Reply, plain, handlesOf}
+use Rattle.ledger.specs.Refusals.{asRefusal}
+use Rattle.ledger.specs.Rules.{replyTo, memoryAfter, expirationsAfter, testsOf}
 use Rattle.ledger.specs.Ledger.{reply, next}
 use Rattle.ledger.specs.declared.Answer.{Answer}
 use Rattle.ledger.specs.declared.Answer.the-variants.{Done, Refused as RefusedAnswer}

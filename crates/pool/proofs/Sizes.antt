@@ -1,9 +1,9 @@
 -- What the record's type gives of every value: the lengths of its columns and the range of its counters.
 use native.Mathlib.Omega.{arith}
 use mathlib.Core.List.{List}
-use mathlib.Core.Path.{_≡_, sym, _∙_}
+use mathlib.Core.Path.{sym, _∙_}
 use denote.Laws.{Is}
-use lib.ListN.{length, length-map}
+use lib.ListN.{length-map}
 use mir.Val.{Val}
 use Rattle.ledger.specs.Limits.{counterRange}
 use Rattle.record.specs.Reading.{HeadTyped}

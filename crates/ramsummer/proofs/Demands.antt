@@ -14,7 +14,8 @@ use Rattle.lists.proofs.Cases.{by-test}
 use Rattle.ledger.specs.Limits.{taskCount, isAllowed}
 use Rattle.ledger.specs.Numbers.{answerNumber}
 use Rattle.ledger.specs.Tasks.{isTested}
-use Rattle.ledger.specs.Objects.{Memory, Reply, plain, replyTo, freshMemory}
+use Rattle.ledger.specs.Objects.{Memory, Reply, plain, freshMemory}
+use Rattle.ledger.specs.Rules.{replyTo}
 use Rattle.ledger.specs.Ledger.{Ledger, fresh, replyBy, next, replies}
 use Rattle.ledger.specs.Heap.{Used, sent, heapNext, heapReplies}
 use Rattle.ledger.specs.declared.Answer.the-variants.{Refused}

@@ -10,7 +10,8 @@ use borrow.Author.Tests.{ltb-true}
 use lib.Dec.{ltb}
 use lib.ListN.{length}
 use Rattle.lists.proofs.Cases.{by-test}
-use Rattle.ledger.specs.Objects.{Reply, replyTo}
+use Rattle.ledger.specs.Objects.{Reply}
+use Rattle.ledger.specs.Rules.{replyTo}
 use Rattle.ledger.specs.Ledger.{Ledger, Sent, fresh, replyBy, verdictOn, reply, replyToRequest, afterRequest, replies}
 use Rattle.ledger.specs.Numbers.{answerNumber}
 use Rattle.ledger.specs.Views.{calls}

@@ -2,7 +2,7 @@
 use Prim.Native.Nat.{ℕ, suc, _+_, _<_}
 use native.Mathlib.Nat.{add-sub-cancel-left, mod-eq-of-lt}
 use native.Mathlib.Omega.{arith}
-use mathlib.Core.Bool.{Bool, true, cond, _||_, and-eq-true-iff, and-true, and-false}
+use mathlib.Core.Bool.{Bool, true, _||_, and-eq-true-iff, and-true, and-false}
 use mathlib.Core.List.{List, [], _∷_, map, map-id, map-map, Permᴰ·refl}
 use mathlib.Core.Logic.{_≢_}
 use mathlib.Core.Path.{_≡_, refl, sym, _∙_}
@@ -10,11 +10,10 @@ use borrow.Author.Tests.{eqb-true, eqb-false, eq-eqb, ne-eqb, leb-true, lt-leb}
 use lib.Dec.{eqb, leb}
 use Rattle.lists.specs.Tests.{any, All}
 use Rattle.lists.specs.Tables.{readFrom}
-use Rattle.lists.proofs.Cases.{by-test, and₃, cond-twice}
+use Rattle.lists.proofs.Cases.{by-test, cond-twice}
 use Rattle.lists.proofs.All.{all-imp, all-map, map-same}
 use Rattle.lists.proofs.Pairwise.{Pairwise}
 use Rattle.lists.proofs.Permutations.{map-perm}
-use Rattle.lists.proofs.Tables.{all-readFrom}
 use Rattle.lists.proofs.Sorting.{sortBy, sort-perm, sort-ascending}
 use Rattle.ledger.specs.Limits.{smallSize, largeSize, counterRange, isSmall}
 use Rattle.ledger.specs.Tasks.{Clocks, taskAt}
@@ -24,10 +23,10 @@ use Rattle.ledger.specs.Compared.{wrapped, wrappedTask, Left, localLeft, global
 use Rattle.ledger.specs.Kept.{PinsKept}
 use Rattle.ledger.specs.Ledger.{Ledger}
 use Rattle.record.specs.Codes.{taskOf}
-use Rattle.record.specs.Reading.{isSmallBlock, isWholeSmall, isWholeLarge, isWhole, blockBytes, sizeOf, objectIn, recordView, Typed, Reads}
-use Rattle.record.specs.WellFormed.{isNaming, isSizedFor, isFitBlock, isWellFormed}
+use Rattle.record.specs.Reading.{isSmallBlock, isWhole, objectIn, recordView, Typed, Reads}
+use Rattle.record.specs.WellFormed.{isSizedFor}
 use Rattle.record.specs.declared.TaskEntry.{TaskEntry}
-use Rattle.record.specs.Tables.{BlockEntry, ExpirationEntry, Tables, tablesOf}
+use Rattle.record.specs.Tables.{BlockEntry, Tables, tablesOf}
 use Rattle.record.specs.Pools.{EveryFitRecordReads}
 use Rattle.record.proofs.Facts.{Fit, fit-parts}
 use Rattle.record.proofs.Distinct.{Apart, apart-blocks}

@@ -14,7 +14,7 @@ use Rattle.ledger.specs.Ledger.{fresh}
 use Rattle.ledger.specs.Compared.{viewOf}
 use Rattle.ledger.specs.declared.Limits.{Limits}
 use Rattle.record.specs.Tables.{blockEntries, blocksOf, entriesOf, tablesBy, tablesOf}
-use Rattle.record.specs.Codes.{dueBy, dueOf, absentEntry}
+use Rattle.record.specs.Codes.{dueBy, absentEntry}
 use Rattle.record.specs.Reading.{shownDue, objectIn, recordView, Reads, freshPool}
 use Rattle.record.specs.Shares.{isTaken, madeIn, allUnmetIn, isSharedIn, isShared}
 use Rattle.record.specs.WellFormed.{isFitTask, isFitDue, isFitBlock, isBounded, isConsistent, isWellFormed}

@@ -12,7 +12,8 @@ use Rattle.lists.proofs.All.{all-both, none→All}
 use Rattle.lists.proofs.Cases.{or-false-parts}
 use Rattle.ledger.specs.Limits.{largestBatch}
 use Rattle.ledger.specs.Expirations.{Expiration, dueAfter, setOnEach}
-use Rattle.ledger.specs.Objects.{Memory, memoryAfter, expirationsAfter, handlesOf}
+use Rattle.ledger.specs.Objects.{Memory, handlesOf}
+use Rattle.ledger.specs.Rules.{memoryAfter, expirationsAfter}
 use Rattle.ledger.specs.Ledger.{Ledger}
 use Rattle.ledger.specs.declared.Kind.{Kind}
 use Rattle.ledger.specs.declared.Call.the-variants.{Refresh, Batch}

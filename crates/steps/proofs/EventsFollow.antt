@@ -11,7 +11,8 @@ use Rattle.lists.specs.Tables.{readBy, readFrom, mapFrom}
 use Rattle.lists.proofs.Cases.{by-test}
 use Rattle.ledger.specs.Limits.{taskCount}
 use Rattle.ledger.specs.Tasks.{Clocks, taskAt, clocksAfter, isAbsent, isTested, allTicked}
-use Rattle.ledger.specs.Objects.{replyTo, memoryAfter, expirationsAfter}
+use Rattle.ledger.specs.Objects.{withClocks}
+use Rattle.ledger.specs.Rules.{replyTo, memoryAfter, expirationsAfter}
 use Rattle.ledger.specs.Refusals.{asRefusal}
 use Rattle.ledger.specs.Kept.{PinsKept}
 use Rattle.ledger.proofs.KeptPins.{pins-carried}
@@ -76,7 +77,7 @@ reads-with p small large L fit reads entries time blocks xs clocks ys handles he
 abbrev moving : Event → ℕ → Ledger → Ledger
 moving event task L =
     let m = L .memory in
-    settled (record { limits = m .limits; clocks = clocksAfter event task (m .clocks); given = m .given; objects = m .objects; shares = m .shares; pinned = m .pinned })
+    settled (withClocks (clocksAfter event task (m .clocks)) m)
     (expirationsAfter (Schedule event task) [] (L .memory) (L .expirations))
 
 -- the ledger after an event that it carries out

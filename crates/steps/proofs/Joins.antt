@@ -1,21 +1,19 @@
 -- A join on a well-formed record follows the ledger that it reads as.
 use Prim.Native.Nat.{ℕ, _<_}
-use native.Mathlib.Omega.{arith}
-use mathlib.Core.Bool.{Bool, true, false, true≢false, not, _||_}
-use mathlib.Core.List.{List, [], map}
+use mathlib.Core.Bool.{true, false, true≢false, not, _||_}
+use mathlib.Core.List.{List, []}
 use mathlib.Core.Option.{none}
 use mathlib.Core.Path.{_≡_, refl, sym, ap, _∙_}
-use borrow.Author.Tests.{not-true, not-false, ltb-false, le-leb, leb-false}
-use lib.Dec.{eqb, leb, ltb}
+use borrow.Author.Tests.{not-false, leb-false}
+use lib.Dec.{leb}
 use lib.ListN.{length, getD, set, length-map, length-set}
-use Rattle.lists.specs.Tables.{readFrom, mapFrom}
+use Rattle.lists.specs.Tables.{readFrom}
 use Rattle.lists.proofs.All.{at-set}
-use Rattle.lists.proofs.Cases.{by-test, or-false-parts}
 use Rattle.lists.proofs.Tables.{map-set}
 use Rattle.ledger.specs.Limits.{taskCount, counterRange}
 use Rattle.ledger.specs.Tasks.{Task, taskAt, absentTask, isAbsent, joined, entered}
-use Rattle.ledger.specs.Objects.{memoryAfter, expirationsAfter}
-use Rattle.ledger.specs.Refusals.{isUpsideDown, asRefusal, testsOf}
+use Rattle.ledger.specs.Refusals.{isUpsideDown, asRefusal}
+use Rattle.ledger.specs.Rules.{memoryAfter, expirationsAfter, testsOf}
 use Rattle.ledger.specs.Compared.{viewOf, wrappedTask}
 use Rattle.ledger.specs.Ledger.{Ledger, verdictOn}
 use Rattle.ledger.specs.declared.Call.the-variants.{Join}
@@ -30,7 +28,7 @@ use Rattle.record.specs.Reading.{objectIn, recordView, Typed, Reads}
 use Rattle.record.specs.Tables.{Tables}
 use Rattle.record.specs.WellFormed.{isFitTask, isWellFormed}
 use Rattle.record.proofs.Exists.{fit-tables-read}
-use Rattle.record.proofs.Facts.{Fit, Shared, fit-parts, shared-part, fit-whole}
+use Rattle.record.proofs.Facts.{Fit, fit-parts, shared-part, fit-whole}
 use Rattle.steps.specs.Joins.{joinVerdict, joinedEntry, joinedPool}
 use Rattle.steps.specs.Objects.{refuseIf}
 use Rattle.steps.specs.Staying.{Stays}

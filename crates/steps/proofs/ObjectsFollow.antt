@@ -10,7 +10,8 @@ use lib.Dec.{eqb}
 use lib.ListN.{length, getD, replicate}
 use Rattle.lists.proofs.Cases.{by-test}
 use Rattle.ledger.specs.Tasks.{taskAt, isViewing}
-use Rattle.ledger.specs.Objects.{bytesFor, replyTo, memoryAfter, expirationsAfter, objectAt, stands}
+use Rattle.ledger.specs.Objects.{bytesFor, objectAt, stands}
+use Rattle.ledger.specs.Rules.{replyTo, memoryAfter, expirationsAfter}
 use Rattle.ledger.specs.Refusals.{asRefusal}
 use Rattle.ledger.specs.Remaining.{remainingLife}
 use Rattle.ledger.specs.Ledger.{Ledger, settled, replyBy, afterBy, verdictOn, reply, next}

@@ -7,7 +7,7 @@ use mathlib.Core.Path.{_≡_, refl, sym, ap, fun-ext, _∙_}
 use borrow.Author.Tests.{eqb-true}
 use lib.Dec.{eqb}
 use lib.ListN.{length, getD, set, length-map, length-set, List·getD-map}
-use Rattle.lists.specs.Tests.{any, all, All}
+use Rattle.lists.specs.Tests.{any, all}
 use Rattle.lists.specs.Tables.{readFrom, mapFrom, allFrom}
 use Rattle.lists.proofs.All.{all-every, all-map, map-same}
 use Rattle.lists.proofs.Cases.{by-test}

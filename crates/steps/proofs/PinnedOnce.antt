@@ -1,6 +1,6 @@
 -- No two pinned expirations name one block: how that stays so when entries change and when one is set.
 use Prim.Native.Nat.{ℕ, zero, suc}
-use mathlib.Core.Bool.{Bool, true, false, false≢true, not, _||_, _&&_, and-eq-true-iff}
+use mathlib.Core.Bool.{true, false, false≢true, not, _||_, and-eq-true-iff}
 use mathlib.Core.List.{List, [], _∷_, map}
 use mathlib.Core.Path.{_≡_, refl, sym, _∙_}
 use borrow.Author.Tests.{eqb-true, eqb-false, ne-eqb, not-true}

@@ -1,13 +1,12 @@
 -- The pinned expiration of an object is the one that names its block, in the record as in the ledger.
 use Prim.Native.Nat.{ℕ}
-use mathlib.Core.Bool.{Bool, true, false, cond, not, _&&_, _||_, or-false, and-true, and-false}
+use mathlib.Core.Bool.{Bool, true, false, cond, _&&_, or-false, and-true, and-false}
 use mathlib.Core.List.{List, [], _∷_, map, append-nil}
 use mathlib.Core.Logic.{_≢_}
 use mathlib.Core.Path.{_≡_, refl, sym, ap, _∙_}
 use borrow.Author.Tests.{eqb-false}
 use lib.Dec.{eqb}
-use lib.ListN.{getD}
-use Rattle.lists.specs.Tests.{any, filter}
+use Rattle.lists.specs.Tests.{any}
 use Rattle.lists.specs.Tables.{readBy}
 use Rattle.lists.proofs.All.{all-every}
 use Rattle.lists.proofs.Cases.{by-test}
@@ -19,9 +18,9 @@ use Rattle.ledger.specs.Expirations.{DueTime, byLocal, byGlobal, pinned, Expira
 use Rattle.ledger.specs.Compared.{Left, localLeft, globalLeft, pinnedLeft, Shown, leftOf, shown, viewOf}
 use Rattle.ledger.specs.Objects.{stands}
 use Rattle.ledger.specs.Ledger.{Ledger}
-use Rattle.record.specs.Codes.{dueBy, dueOf, isPinnedDue, absentEntry, freeBlock}
+use Rattle.record.specs.Codes.{dueBy, dueOf, isPinnedDue}
 use Rattle.record.specs.Reading.{shownDue, shownEntry, recordView, Reads}
-use Rattle.record.specs.Tables.{BlockEntry, ExpirationEntry, Tables}
+use Rattle.record.specs.Tables.{ExpirationEntry, Tables}
 use Rattle.record.specs.WellFormed.{isPinning}
 use Rattle.record.specs.declared.TaskEntry.{TaskEntry}
 use Rattle.record.specs.declared.GlobalTime.{GlobalTime}

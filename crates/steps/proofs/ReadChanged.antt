@@ -16,7 +16,7 @@ use Rattle.lists.proofs.Cases.{by-test, cond-same}
 use Rattle.lists.proofs.Permutations.{map-perm}
 use Rattle.lists.proofs.Replacing.{readFrom-set-same}
 use Rattle.lists.proofs.Tables.{map-readFrom, entry-within}
-use Rattle.ledger.specs.Objects.{Object}
+use Rattle.ledger.specs.Objects.{Object, withObjects}
 use Rattle.ledger.specs.Ledger.{Ledger}
 use Rattle.ledger.specs.Compared.{shownObject, viewOf}
 use Rattle.ledger.specs.Kept.{Ascending}
@@ -54,13 +54,8 @@ ascending-after f same (o ∷ os) (l, a) = (
 )
 
 -- the ledger with a change of its objects
-abbrev pub withObjects : (Object → Object) → Ledger → Ledger
-withObjects f L =
-    let m = L .memory in
-    record {
-      memory = record { limits = m .limits; clocks = m .clocks; given = m .given; objects = map f (m .objects); shares = m .shares; pinned = m .pinned };
-      expirations = L .expirations;
-    }
+abbrev pub changedBy : (Object → Object) → Ledger → Ledger
+changedBy f L = record { memory = withObjects (map f (L .memory .objects)) (L .memory); expirations = L .expirations }
 
 -- the object in block j after new bytes in a block, and a new sum in that block's entry
 abbrev pub objectAfter : Tables → List ℕ → List ℕ → ℕ → ℕ → List ℕ → ℕ → ℕ → Object
@@ -137,7 +132,7 @@ module _ (p : Tables) (small large : List ℕ) (fit : Fit p) (small-whole : isWh
 
     -- the record with the new sum and the new stores reads as the ledger with the change
     pub changed-reads : {L : Ledger} → Reads p small large L
-        → Reads (withSum block sum′ p) (smallAfter block offset new small) (largeAfter block offset new large) (withObjects f L)
+        → Reads (withSum block sum′ p) (smallAfter block offset new small) (largeAfter block offset new large) (changedBy f L)
     unfolding recordView viewOf
     changed-reads {L} reads =
         let os = L .memory .objects in
@@ -176,7 +171,7 @@ pub disturbed-reads : {p : Tables} {small large : List ℕ} {L : Ledger} → Fit
 unfolding disturbed
 disturbed-reads {p} {small} {large} {L} fit types reads small-whole large-whole block at value used inside =
     let f = disturbed (handleAt (p .blocks) block) at value in
-    subst (λ (q : Tables). Reads q (smallAfter block at (value ∷ []) small) (largeAfter block at (value ∷ []) large) (withObjects f L)) (same-sum p block)
+    subst (λ (q : Tables). Reads q (smallAfter block at (value ∷ []) small) (largeAfter block at (value ∷ []) large) (changedBy f L)) (same-sum p block)
     (changed-reads p small large fit small-whole large-whole block at (value ∷ []) used (omega arith) _ f (λ o. refl)
     (λ j u. rw (same-handle (p .blocks) (fit .distinct) block j used)
     (by-test (eqb j block) (λ e. rw (e, eqb-true j block e)) (λ e. rw e)))

@@ -19,7 +19,8 @@ use Rattle.lists.proofs.Tables.{readBy-same, readFrom-same}
 use Rattle.ledger.specs.Limits.{isSmall, blockSize}
 use Rattle.ledger.specs.Tasks.{Clocks, taskAt}
 use Rattle.ledger.specs.Expirations.{Expiration, isOf, dueAfter, remaining}
-use Rattle.ledger.specs.Objects.{Object, zeroed, stands, standing, memoryAfter, expirationsAfter}
+use Rattle.ledger.specs.Objects.{Object, zeroed, stands, standing}
+use Rattle.ledger.specs.Rules.{memoryAfter, expirationsAfter}
 use Rattle.ledger.specs.Ledger.{Ledger, settled}
 use Rattle.ledger.specs.Compared.{leftOf, shown, shownObject, viewOf}
 use Rattle.ledger.specs.Refusals.{isPinning as isPinningKind}

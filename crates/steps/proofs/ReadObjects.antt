@@ -7,14 +7,14 @@ use mathlib.Core.Path.{_≡_, refl, sym, ap, fun-ext, _∙_}
 use borrow.Author.Tests.{eqb-false, eq-eqb}
 use lib.Dec.{eqb}
 use Rattle.lists.specs.Tests.{any, filter}
-use Rattle.lists.specs.Tables.{readBy, readFrom, mapFrom, allFrom}
-use Rattle.lists.proofs.Cases.{by-test, and₃}
+use Rattle.lists.specs.Tables.{readBy, readFrom, mapFrom}
+use Rattle.lists.proofs.Cases.{by-test}
 use Rattle.lists.proofs.All.{all-imp, all-members}
 use Rattle.lists.proofs.Counts.{any-map}
 use Rattle.lists.proofs.Pairwise.{pairwise-filter}
 use Rattle.lists.proofs.Filters.{filter-map}
 use Rattle.lists.proofs.Permutations.{any-perm, filter-perm}
-use Rattle.lists.proofs.Tables.{readBy-same, any-readBy, readFrom-same, readFrom-alike, readFrom-mapFrom, filter-readFrom}
+use Rattle.lists.proofs.Tables.{readBy-same, any-readBy, readFrom-same, readFrom-mapFrom, filter-readFrom}
 use Rattle.ledger.specs.Tasks.{Clocks}
 use Rattle.ledger.specs.Expirations.{Expiration}
 use Rattle.ledger.specs.Objects.{Object, stands, standing}
@@ -22,7 +22,7 @@ use Rattle.ledger.specs.Compared.{Shown, shown, shownObject}
 use Rattle.ledger.specs.Kept.{Ascending}
 use Rattle.record.specs.Codes.{dueOf, isDated, freeBlock, freedBlock}
 use Rattle.record.specs.Reading.{shownDue, shownEntry, objectIn}
-use Rattle.record.specs.WellFormed.{isNaming, isFitBlock, isDistinct, handleOf}
+use Rattle.record.specs.WellFormed.{isNaming, isDistinct, handleOf}
 use Rattle.record.specs.declared.TaskEntry.{TaskEntry}
 use Rattle.record.specs.Tables.{BlockEntry, ExpirationEntry}
 use Rattle.record.specs.declared.GlobalTime.{GlobalTime}

@@ -14,7 +14,8 @@ use Rattle.ledger.specs.Limits.{taskCount, counterRange}
 use Rattle.ledger.specs.Tasks.{Task, Clocks, absentTask, taskAt, moved, isTested, allTicked, unticked, tasksAfter, advances, clocksAfter}
 use Rattle.ledger.specs.Expirations.{Expiration}
 use Rattle.ledger.specs.Objects.{Memory}
-use Rattle.ledger.specs.Refusals.{asRefusal, testsOf, verdict}
+use Rattle.ledger.specs.Refusals.{asRefusal, verdict}
+use Rattle.ledger.specs.Rules.{testsOf}
 use Rattle.ledger.specs.Compared.{wrapped, wrappedTask}
 use Rattle.ledger.specs.declared.State.{State}
 use Rattle.ledger.specs.declared.State.the-variants.{Absent, Running, Waiting, Viewing}

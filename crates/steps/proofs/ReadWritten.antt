@@ -1,5 +1,5 @@
 -- What a write makes of the reading: the object of the block has the new bytes and their sum, and all else is as it was.
-use Prim.Native.Nat.{ℕ, _+_, _≤_, _<_}
+use Prim.Native.Nat.{ℕ, _+_, _≤_}
 use native.Mathlib.Nat.{le-trans}
 use mathlib.Core.Bool.{true}
 use mathlib.Core.List.{List, map}
@@ -10,15 +10,14 @@ use lib.Dec.{eqb}
 use lib.ListN.{length, getD}
 use Rattle.lists.proofs.Cases.{by-test}
 use Rattle.lists.proofs.Filters.{filter-map}
-use Rattle.lists.proofs.Tables.{entry-within}
 use Rattle.ledger.specs.Expirations.{Expiration}
-use Rattle.ledger.specs.Objects.{Object, written, stands, standing, memoryAfter, expirationsAfter}
+use Rattle.ledger.specs.Objects.{Object, withObjects, written, stands, standing}
+use Rattle.ledger.specs.Rules.{memoryAfter, expirationsAfter}
 use Rattle.ledger.specs.Ledger.{Ledger, settled}
 use Rattle.ledger.specs.declared.Call.the-variants.{Write}
 use Rattle.record.specs.Codes.{freeBlock}
 use Rattle.record.specs.Reading.{isWholeSmall, isWholeLarge, sizeOf, Typed, Reads}
-use Rattle.record.specs.WellFormed.{handleOf}
-use Rattle.record.specs.Tables.{Tables, blockEntries}
+use Rattle.record.specs.Tables.{Tables}
 use Rattle.record.proofs.Facts.{Fit}
 use Rattle.record.proofs.Distinct.{handleAt, same-handle}
 use Rattle.stores.specs.Places.{InBlock, smallAfter, largeAfter, sumAfter}
@@ -76,6 +75,6 @@ module _ (p : Tables) (small large : List ℕ) (L : Ledger) (fit : Fit p) (types
       subst
       (λ (os : List Object).
       Reads (withSum block sum′ p) (smallAfter block offset new small) (largeAfter block offset new large)
-      (record { memory = record { limits = m .limits; clocks = m .clocks; given = m .given; objects = os; shares = m .shares; pinned = m .pinned }; expirations = L .expirations }))
+      (record { memory = withObjects os m; expirations = L .expirations }))
       all-stand
       (changed-reads p small large fit small-whole large-whole block offset new used inside sum′ rewritten (λ o. refl) each-written reads)

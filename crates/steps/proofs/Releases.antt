@@ -9,7 +9,7 @@ use Rattle.lists.proofs.Cases.{by-test}
 use Rattle.lists.proofs.Tests.{passes-map}
 use Rattle.lists.proofs.Tables.{allFrom-mapFrom}
 use Rattle.lists.proofs.Permutations.{readBy-perm}
-use Rattle.ledger.specs.Objects.{memoryAfter, expirationsAfter}
+use Rattle.ledger.specs.Rules.{memoryAfter, expirationsAfter}
 use Rattle.ledger.specs.Ledger.{Ledger}
 use Rattle.ledger.specs.Compared.{viewOf}
 use Rattle.ledger.specs.declared.Call.the-variants.{Release}

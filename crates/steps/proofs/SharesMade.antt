@@ -6,7 +6,7 @@ use mathlib.Core.Path.{_≡_, _∙_}
 use borrow.Author.Tests.{eq-eqb}
 use lib.ListN.{replicate, length-replicate}
 use Rattle.ledger.specs.Limits.{isSmall}
-use Rattle.ledger.specs.Objects.{memoryAfter}
+use Rattle.ledger.specs.Rules.{memoryAfter}
 use Rattle.ledger.specs.declared.Kind.{Kind}
 use Rattle.ledger.proofs.KeptShares.{shares-filter, shares-made}
 use Rattle.record.specs.Reading.{wholeSmall, wholeLarge, isWholeSmall, isWholeLarge, Typed}

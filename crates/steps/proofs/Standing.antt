@@ -5,7 +5,7 @@ use mathlib.Core.List.{List, map}
 use mathlib.Core.Path.{_≡_}
 use borrow.Author.Tests.{eqb-true}
 use lib.Dec.{eqb}
-use Rattle.lists.specs.Tests.{any, All}
+use Rattle.lists.specs.Tests.{any}
 use Rattle.lists.specs.Tables.{mapFrom, allFrom}
 use Rattle.lists.proofs.Cases.{by-test}
 use Rattle.lists.proofs.Tables.{mapFrom-kept}

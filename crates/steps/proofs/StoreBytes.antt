@@ -1,5 +1,5 @@
 -- Where the blocks in use lie in the two stores, and what a make's clearing gives of the bytes of all blocks.
-use Prim.Native.Nat.{ℕ, _+_, _≤_, _<_}
+use Prim.Native.Nat.{ℕ, _+_, _≤_}
 use native.Mathlib.Omega.{arith}
 use mathlib.Core.Bool.{true, false, and-eq-true-iff}
 use mathlib.Core.List.{List}

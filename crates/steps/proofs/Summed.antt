@@ -1,10 +1,10 @@
 -- A new sum in the entry of a block: handles and lengths are as they were, and so is all that goes by them.
-use Prim.Native.Nat.{ℕ, _+_, _-_}
+use Prim.Native.Nat.{ℕ, _-_}
 use mathlib.Core.Bool.{Bool, true, false, _&&_, and-eq-true-iff}
 use lib.Dec.{leb}
 use mathlib.Core.List.{List, map}
 use mathlib.Core.Path.{_≡_, refl, sym, ap, fun-ext, _∙_}
-use lib.ListN.{length, getD, set}
+use lib.ListN.{length, getD}
 use Rattle.lists.specs.Tests.{all, count}
 use Rattle.lists.specs.Tables.{readBy, allFrom}
 use Rattle.lists.proofs.All.{all-every}

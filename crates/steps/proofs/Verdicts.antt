@@ -18,7 +18,8 @@ use Rattle.steps.proofs.Shares.{full-alike, limit-alike, scant-alike}
 use Rattle.ledger.specs.Tasks.{isAbsent, isWaiting, isViewing}
 use Rattle.ledger.specs.Expirations.{Expiration}
 use Rattle.ledger.specs.Objects.{Memory, objectAt, isIntact, stands, handlesOf}
-use Rattle.ledger.specs.Refusals.{mostExtension, Test, shared, own, noSuchTask, taskAbsent, taskWaiting, onlyViews, handleNotGiven, objectGone, testsOf, verdict, asRefusal}
+use Rattle.ledger.specs.Refusals.{mostExtension, Test, shared, own, noSuchTask, taskAbsent, taskWaiting, onlyViews, handleNotGiven, objectGone, verdict, asRefusal}
+use Rattle.ledger.specs.Rules.{testsOf}
 use Rattle.ledger.specs.Compared.{viewOf}
 use Rattle.ledger.specs.Ledger.{Ledger, verdictOn, standingVerdictOn}
 use Rattle.ledger.specs.declared.Call.the-variants.{Join, Make, Refresh, Read, Write, Batch, Release}

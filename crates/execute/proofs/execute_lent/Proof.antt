@@ -1,5 +1,4 @@
 -- By the frame: refused with nothing changed, or what the pool serves.
-use native.Mathlib.Omega.{arith}
 use mathlib.Core.Path.{sym}
 use borrow.Author.Needs.{needs}
 use lib.Seq.{length-take-le}

@@ -1,6 +1,5 @@
 -- 01's figures may be chosen.
 use borrow.Author.Needs.{needs}
-use mathlib.Core.Path.{_∙_, refl}
 use Rattle.ledger.specs.Limits.{standard}
 use Rattle.ledger.proofs.Figures.{standard-allowed}
 use Rattle.record.proofs.FreshReads.{fresh-fit}

@@ -1,6 +1,5 @@
 -- The line lies in the script, and is decoded.
 use native.Mathlib.Omega.{arith}
-use mathlib.Core.Path.{ap}
 use borrow.Author.Needs.{needs}
 use Rattle.text.proofs.Scripts.{end-within}
 use Rattle.script.proofs.next_frame.Statement.{statement}

@@ -2,7 +2,6 @@
 use Prim.Native.Nat.{_≤_, _-_}
 use native.Mathlib.Omega.{arith}
 use mathlib.Core.Path.{refl}
-use borrow.Author.Needs.{needs}
 use Rattle.expirations.specs.Places.{Asked}
 use Rattle.expirations.specs.Standing.{isByteAt}
 use Rattle.expirations.proofs.Places.{asked-start, asked-turn, asked-end}

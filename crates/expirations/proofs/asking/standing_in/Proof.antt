@@ -4,7 +4,6 @@ use native.Mathlib.Omega.{arith}
 use mathlib.Core.Path.{refl}
 use borrow.Author.Needs.{needs}
 use lib.ListN.{take, drop}
-use Rattle.lists.specs.Tests.{count}
 use Rattle.lists.proofs.Loops.{Scanned, count-from, count-turn, count-end}
 use Rattle.expirations.specs.Standing.{isUsedClock, standingOf, halfSize}
 use Rattle.expirations.proofs.Counting.{part-within}

@@ -1,6 +1,5 @@
 -- By the state: 0 to 3.
 use native.Mathlib.Omega.{arith}
-use borrow.Author.Needs.{needs}
 use Rattle.fitness.proofs.Within.{share, share-below}
 use Rattle.fitness.proofs.times.units_of.Statement.{statement}
 use Rattle.fitness.proofs.times.units_of.Tie as tie

@@ -1,5 +1,4 @@
 -- The pair at the byte's place spells it.
-use mathlib.Core.Path.{_∙_}
 use borrow.Author.Needs.{needs}
 use Rattle.text.proofs.Pairs.{pair-digits, pair-spelled}
 use Rattle.text.proofs.hex.byte_at.Statement.{statement}

@@ -1,6 +1,5 @@
 -- The pair at each place.
 use Prim.Native.Nat.{_-_}
-use native.Mathlib.Omega.{arith}
 use mathlib.Core.Path.{_≡_}
 use borrow.Author.Needs.{needs}
 use Rattle.lists.specs.Filled.{Filled}
