@@ -1,6 +1,7 @@
-//! Measures the library beside the plain pool and prints tables in Markdown: `cost`. Instructions are counted by
-//! callgrind, under which the program runs itself once more, as `cost count`; nanoseconds are the best of some rounds;
-//! stack is what is painted over. It fails where a call takes more of the plain pool's instructions than the limits allow.
+//! Measures the library beside the plain pool and prints tables in Markdown: `cost`; docs/BENCHMARKS.md has the first.
+//! Instructions are counted by callgrind, under which the program runs itself once more, as `cost count`; nanoseconds are
+//! the best of some rounds; stack is what is painted over. It fails where a call takes more of the plain pool's
+//! instructions than the limits allow.
 //!
 //! Before each call the record and the stores are put back from a copy, so that each call meets the same state; a record
 //! alone would have other sums than the bytes of a write. Callgrind counts inside `measured` alone, and so not this; of

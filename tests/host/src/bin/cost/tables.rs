@@ -13,9 +13,33 @@ use crate::limits::{self, GOAL};
 
 const MOST: usize = STANDING[STANDING.len() - 1];
 
+/// The cases that stand for their calls, a row each of docs/BENCHMARKS.md.
+const ROWS: [&str; 18] = [
+    "join",
+    "view",
+    "leave",
+    "block",
+    "resume",
+    "tick",
+    "make 32",
+    "refresh",
+    "batch of 32",
+    "release, gone",
+    "read 32",
+    "write 32",
+    "report",
+    "remaining",
+    "share",
+    "frame: tick",
+    "frame: make 32",
+    "frame: write 256",
+];
+
 /// Prints all, and says whether every call is within its limit.
 pub fn print(cases: &[Case], counts: &Measures<Count>, times: &Measures<f64>) -> bool {
-    println!("## Each call, {MOST} expirations standing (255 where the call sets one, 224 where it sets 32)\n");
+    println!("## A row a call, {MOST} expirations standing\n");
+    summary(cases, counts, times);
+    println!("\n## Each call, {MOST} expirations standing (255 where the call sets one, 224 where it sets 32)\n");
     calls(cases, counts, times);
     println!("\n## Growth: instructions with so many expirations standing\n");
     growth(cases, counts);
@@ -60,6 +84,23 @@ fn usual(cases: &[Case]) -> impl Iterator<Item = (usize, &Case)> {
 
 fn usual_place(cases: &[Case], of: impl Fn(&Case) -> bool) -> Option<usize> {
     usual(cases).find(|(_, case)| of(case)).map(|(place, _)| place)
+}
+
+fn summary(cases: &[Case], counts: &Measures<Count>, times: &Measures<f64>) {
+    println!("| call | instructions: library | plain | library/plain | ns: library | plain |");
+    println!("|---|---:|---:|---:|---:|---:|");
+    for name in ROWS {
+        let place = usual_place(cases, |case| case.name == name).expect("a case");
+        let ([library, plain, _], [library_ns, plain_ns, _]) = (totals(&counts.cases[place]), times.cases[place]);
+        println!(
+            "| {name} | {} | {} | {} | {} | {} |",
+            number(library),
+            number(plain),
+            ratio(library, plain),
+            number(library_ns),
+            number(plain_ns),
+        );
+    }
 }
 
 fn calls(cases: &[Case], counts: &Measures<Count>, times: &Measures<f64>) {
