@@ -51,8 +51,8 @@ ruleOf (Schedule event task) new =
       tests = eventTests event task;
       reply = λ m. plain (cond (isTested event) (Advanced (advances event task (m .clocks))) Done);
       memory = λ m.
-        withClocks (clocksAfter event task (m .clocks))
-        (withObjects (makersAfter event task (m .objects)) (withShares (sharesAfter event task (m .shares)) m));
+          withClocks (clocksAfter event task (m .clocks))
+          (withObjects (makersAfter event task (m .objects)) (withShares (sharesAfter event task (m .shares)) m));
       expirations = λ m xs. lasting event task (advances event task (m .clocks)) (clocksAfter event task (m .clocks)) xs;
       asks = λ m book. true;
     }
@@ -60,8 +60,8 @@ ruleOf (Schedule event task) new =
 ruleOf (Make task kind extension size prefix) new =
     record {
       tests =
-        noSuchTask task ∷ taskAbsent task ∷ taskWaiting task ∷ onlyViews task ∷ extensionTooLong kind extension ∷ lengthOutOfRange size
-        ∷ prefixTooLong size prefix ∷ handlesSpent ∷ atLimit task size ∷ noFreeBlock task size ∷ noFreeExpiration ∷ [];
+          noSuchTask task ∷ taskAbsent task ∷ taskWaiting task ∷ onlyViews task ∷ extensionTooLong kind extension ∷ lengthOutOfRange size
+          ∷ prefixTooLong size prefix ∷ handlesSpent ∷ atLimit task size ∷ noFreeBlock task size ∷ noFreeExpiration ∷ [];
       reply = λ m. plain (Handle (m .given + 1));
       memory = λ m. record {
         limits = m .limits;
@@ -73,16 +73,16 @@ ruleOf (Make task kind extension size prefix) new =
       };
       expirations = λ m xs. record { handle = m .given + 1; due = dueAfter (m .clocks) task kind extension } ∷ xs;
       asks = λ m book.
-        let os = standing book (m .objects) in
-        not (isAtLimit (isSmall size) (m .shares) os task)
-        && (not (isFull (isSmall size) (m .shares) os (m .limits) task) && ltb (length book) (m .limits .expirations));
+          let os = standing book (m .objects) in
+          not (isAtLimit (isSmall size) (m .shares) os task)
+          && (not (isFull (isSmall size) (m .shares) os (m .limits) task) && ltb (length book) (m .limits .expirations));
     }
 -- R41, O17, H11
 ruleOf (Refresh task kind extension handle) new =
     record {
       tests =
-        noSuchTask task ∷ taskAbsent task ∷ taskWaiting task ∷ onlyViews task ∷ onlyMakePins kind ∷ extensionTooLong kind extension
-        ∷ handleNotGiven handle ∷ objectGone handle ∷ noFreeExpiration ∷ [];
+          noSuchTask task ∷ taskAbsent task ∷ taskWaiting task ∷ onlyViews task ∷ onlyMakePins kind ∷ extensionTooLong kind extension
+          ∷ handleNotGiven handle ∷ objectGone handle ∷ noFreeExpiration ∷ [];
       reply = λ m. plain Done;
       memory = λ m. m;
       expirations = λ m xs. record { handle = handle; due = dueAfter (m .clocks) task kind extension } ∷ xs;
@@ -101,8 +101,8 @@ ruleOf (Read task handle) new =
 ruleOf (Write task handle offset) new =
     record {
       tests =
-        noSuchTask task ∷ taskAbsent task ∷ taskWaiting task ∷ onlyViews task ∷ handleNotGiven handle ∷ objectGone handle
-        ∷ sumDiffers handle ∷ outsideObject handle offset (length new) ∷ [];
+          noSuchTask task ∷ taskAbsent task ∷ taskWaiting task ∷ onlyViews task ∷ handleNotGiven handle ∷ objectGone handle
+          ∷ sumDiffers handle ∷ outsideObject handle offset (length new) ∷ [];
       reply = λ m. plain Done;
       memory = λ m. withObjects (map (written handle offset new) (m .objects)) m;
       expirations = λ m xs. xs;
@@ -113,8 +113,8 @@ ruleOf (Batch task kind extension) new =
     let handles = handlesOf new in
     record {
       tests =
-        noSuchTask task ∷ taskAbsent task ∷ taskWaiting task ∷ onlyViews task ∷ batchOutOfRange (length handles) ∷ onlyMakePins kind
-        ∷ extensionTooLong kind extension ∷ someNotGiven handles ∷ someGone handles ∷ noRoomFor (length handles) ∷ [];
+          noSuchTask task ∷ taskAbsent task ∷ taskWaiting task ∷ onlyViews task ∷ batchOutOfRange (length handles) ∷ onlyMakePins kind
+          ∷ extensionTooLong kind extension ∷ someNotGiven handles ∷ someGone handles ∷ noRoomFor (length handles) ∷ [];
       reply = λ m. plain Done;
       memory = λ m. m;
       expirations = λ m xs. setOnEach (dueAfter (m .clocks) task kind extension) handles xs;
