@@ -1,13 +1,14 @@
 -- Batch on lent tables, by what was planned: refused or carried out.
 use Prim.Native.Nat.{ℕ, _+_, _≤_, _<_}
 use native.Mathlib.Omega.{arith}
-use mathlib.Core.Bool.{Bool, true}
+use mathlib.Core.Bool.{true, false, false≢true, not}
 use mathlib.Core.List.{List, map}
-use mathlib.Core.Path.{_≡_, sym, ap, fun-ext, _∙_}
-use lib.Dec.{leb}
+use mathlib.Core.Path.{_≡_, refl, sym, ap, fun-ext, _∙_}
 use lib.ListN.{take}
-use Rattle.ledger.specs.Limits.{isAllowed, taskCount, largestBatch}
+use Rattle.ledger.specs.Limits.{taskCount, largestBatch}
 use Rattle.ledger.specs.Objects.{handlesOf}
+use Rattle.ledger.specs.Refusals.{verdict, asVerdict}
+use Rattle.ledger.specs.Rules.{testsOf}
 use Rattle.ledger.proofs.Figures.{allowed}
 use Rattle.ledger.specs.declared.Answer.the-variants.{Done}
 use Rattle.ledger.specs.declared.Answer.the-variants.{Refused as RefusedAnswer}
@@ -18,11 +19,13 @@ use Rattle.ledger.specs.declared.Request.the-variants.{Use}
 use Rattle.ledger.specs.declared.Verdict.the-variants.{Accepted, Refused}
 use Rattle.record.specs.Pools.{isWellFormed}
 use Rattle.record.specs.Reading.{HeadTyped, Typed}
-use Rattle.record.specs.Tables.{Sized, blocksOf, entriesOf, tablesBy, tablesOf, pooled, blockEntries, expirationEntries}
+use Rattle.record.specs.Tables.{Sized, blocksOf, entriesOf, tablesBy, tablesOf, pooled, expirationEntries}
 use Rattle.record.specs.declared.Head.{Head}
-use Rattle.steps.specs.Objects.{placeOf, placeIn, isMissing, isMissingIn, standingIn, batchVerdictBy, batchVerdict, batchedPool}
-use Rattle.steps.proofs.Batches.{Renewable, batch-takes}
-use Rattle.steps.proofs.Chosen.{task-known}
+use Rattle.record.proofs.Facts.{fit-parts}
+use Rattle.steps.specs.Facts.{isGone, verdictWith, verdictBy}
+use Rattle.steps.specs.Objects.{placeOf, placeIn, stateIn, standingIn, batchedPool}
+use Rattle.steps.specs.Parts.{partFacts}
+use Rattle.steps.proofs.Batches.{batch-takes}
 use Rattle.objects.specs.Batches.{PlansBatch}
 use Rattle.objects.specs.declared.BatchPlan.{BatchPlan}
 use Rattle.objects.proofs.Laws.{place-of}
@@ -32,10 +35,10 @@ use Rattle.expirations.proofs.Counting.{standing-of}
 use Rattle.expirations.proofs.Setting.{batched-set}
 use Rattle.calls.specs.Contract.{FollowsWith}
 use Rattle.calls.proofs.Lent.{lent-typed}
-use Rattle.calls.proofs.Outcomes.{batch-refused, batch-done}
+use Rattle.calls.proofs.Outcomes.{blind-refused, batch-done}
 
 module _ {h : Head} {hs ls cs ns ds : List ℕ} (types : HeadTyped h) (sized : Sized hs ls cs ns ds) (task : ℕ) (kind : Kind) (extension : ℕ) (new : List ℕ)
-    (plan : BatchPlan) (so : PlansBatch task kind extension (handlesOf new) h hs (standingOf cs) plan) where
+    (plan : BatchPlan) (so : PlansBatch task kind extension new h hs (standingOf cs) plan) where
   of-entries : Typed (tablesOf (pooled h hs ls cs ns ds))
   of-entries = lent-typed h hs ls cs ns ds types (sized .blocks) (sized .entries)
 
@@ -44,22 +47,32 @@ module _ {h : Head} {hs ls cs ns ds : List ℕ} (types : HeadTyped h) (sized : S
   places handle = sym (place-of hs ls (sized .blocks .of-handles) (sized .blocks .of-extents) handle)
 
   -- the plan's verdict is the record's
-  missing : isMissing (blocksOf hs ls) ≡ isMissingIn hs
-  missing = fun-ext (λ (handle : ℕ). ap (leb blockEntries) (places handle))
-
-  verdict-of : batchVerdict task kind extension (handlesOf new) (tablesOf (pooled h hs ls cs ns ds)) ≡ plan .verdict
-  unfolding batchVerdict tablesOf tablesBy
+  verdict-of : verdictBy (testsOf (Batch task kind extension) new) (tablesOf (pooled h hs ls cs ns ds)) ≡ plan .verdict
+  unfolding verdictWith verdict testsOf tablesOf tablesBy
   verdict-of =
-      ap (λ (gone : ℕ → Bool). batchVerdictBy (h .limits) task kind extension (handlesOf new) (h .tasks) (h .given) gone (standingIn (entriesOf cs ns ds))) missing
+      ap (λ (place : ℕ → ℕ). asVerdict
+      (verdict (partFacts (h .limits) (stateIn (h .tasks)) (h .given) (λ (handle : ℕ). not (isGone handle (place handle)))
+      (standingIn (entriesOf cs ns ds)) false false false) (testsOf (Batch task kind extension) new))) (fun-ext places)
       ∙ rw (so .verdict, standing-of (sized .entries))
 
   pub batch-kept : isWellFormed (pooled h hs ls cs ns ds) ≡ true → {why : Refusal} → plan .verdict ≡ Refused why
       → FollowsWith (Use (Batch task kind extension)) new (pooled h hs ls cs ns ds) (RefusedAnswer why) (pooled h hs ls cs ns ds)
-  batch-kept w e small large = batch-refused _ of-entries w small large task kind extension new _ (verdict-of ∙ e)
+  unfolding testsOf verdict
+  batch-kept w e small large =
+      blind-refused _ of-entries w small large (Batch task kind extension) new (λ i j. refl) (λ s. absurd (false≢true s)) (verdict-of ∙ e)
 
   module _ (v : plan .verdict ≡ Accepted) where
-    renewable : Renewable task kind extension (handlesOf new) (tablesOf (pooled h hs ls cs ns ds))
-    renewable = batch-takes task kind extension (handlesOf new) _ (verdict-of ∙ v)
+    -- what the setting asks
+    pub batch-may-set : isWellFormed (pooled h hs ls cs ns ds) ≡ true
+        → (plan .count ≤ largestBatch) × (standingOf cs + plan .count ≤ expirationEntries) × (task < taskCount)
+    unfolding tablesOf tablesBy
+    batch-may-set w =
+        let fit = fit-parts (tablesOf (pooled h hs ls cs ns ds)) w in
+        let renewable = batch-takes task kind extension new (tablesOf (pooled h hs ls cs ns ds)) fit (verdict-of ∙ v) in (
+          rw (so .count) (renewable .few),
+          omega (arith, so .count, renewable .room, standing-of (sized .entries), allowed (h .limits) (fit .allowed) .most-expirations),
+          renewable .may .known,
+        )
 
     -- the blocks of the plan are those of the objects
     blocks-of : take (plan .count) (plan .blocks) ≡ map (λ (handle : ℕ). placeOf handle (blocksOf hs ls)) (handlesOf new)
@@ -69,15 +82,6 @@ module _ {h : Head} {hs ls cs ns ds : List ℕ} (types : HeadTyped h) (sized : S
         → tablesOf (pooled h hs ls cs′ ns′ ds′) ≡ batchedPool task kind extension (handlesOf new) (tablesOf (pooled h hs ls cs ns ds))
     unfolding tablesOf tablesBy
     left sets = rw (batched-set task kind extension (handlesOf new), sets .entries, blocks-of)
-
-    -- what the setting asks
-    pub batch-may-set : isAllowed (h .limits) ≡ true → (plan .count ≤ largestBatch) × (standingOf cs + plan .count ≤ expirationEntries) × (task < taskCount)
-    unfolding tablesOf tablesBy
-    batch-may-set may = (
-      rw (so .count) (renewable .few),
-      omega (arith, so .count, renewable .room, standing-of (sized .entries), allowed (h .limits) may .most-expirations),
-      task-known true task (h .tasks) (renewable .task-ok),
-    )
 
     pub batch-set : isWellFormed (pooled h hs ls cs ns ds) ≡ true → {cs′ ns′ ds′ : List ℕ}
         → SetsEach (h .tasks) (h .global) kind task extension (take (plan .count) (plan .blocks)) cs ns ds cs′ ns′ ds′

@@ -5,20 +5,20 @@ use mathlib.Core.Bool.{Bool, true, false, false≢true, _||_}
 use mathlib.Core.List.{List, []}
 use mathlib.Core.Path.{_≡_, refl, sym, ap, _∙_}
 use borrow.Author.Tests.{leb-false}
-use lib.Dec.{leb, ltb}
+use lib.Dec.{ltb}
 use lib.ListN.{getD}
 use Rattle.lists.proofs.Cases.{by-test}
 use Rattle.ledger.specs.Limits.{taskCount}
 use Rattle.ledger.specs.Tasks.{isAbsent}
 use Rattle.ledger.specs.Objects.{plain, noShare}
-use Rattle.ledger.specs.Rules.{replyTo}
-use Rattle.ledger.specs.Refusals.{asRefusal}
+use Rattle.ledger.specs.Refusals.{verdict}
+use Rattle.ledger.specs.Rules.{replyTo, testsOf}
+use Rattle.ledger.proofs.Passed.{passed, accepted-none}
 use Rattle.ledger.specs.Shares.{quotaIn, blocksIn}
 use Rattle.ledger.specs.declared.Answer.the-variants.{Done}
 use Rattle.ledger.specs.declared.Answer.the-variants.{Refused as RefusedAnswer}
 use Rattle.ledger.specs.declared.Call.the-variants.{Join}
 use Rattle.ledger.specs.declared.Refusal.{Refusal}
-use Rattle.ledger.specs.declared.Refusal.the-variants.{NoSuchTask}
 use Rattle.ledger.specs.declared.Request.the-variants.{Use}
 use Rattle.ledger.specs.declared.Share.{Share}
 use Rattle.ledger.specs.declared.Verdict.{Verdict}
@@ -33,16 +33,16 @@ use Rattle.record.proofs.Facts.{fit-parts, shared-part}
 use Rattle.shares.specs.Holdings.{Holds, HoldsBoth}
 use Rattle.shares.specs.declared.Holding.{Holding}
 use Rattle.shares.specs.declared.Holdings.{Holdings}
-use Rattle.steps.specs.Joins.{isScant, joinVerdictBy, joinVerdict, joinedPool}
-use Rattle.steps.specs.Objects.{refuseIf}
-use Rattle.steps.proofs.Chosen.{both-accept, not-refused}
+use Rattle.steps.specs.Facts.{isScant, verdictWith, verdictBy}
+use Rattle.steps.specs.Joins.{joinedPool}
+use Rattle.tasks.specs.Joining.{joinVerdict}
 use Rattle.steps.proofs.Joins.{joining, join-stays, join-reads, join-fits}
 use Rattle.ledger.proofs.KeptTasks.{absent-inactive}
 use Rattle.steps.proofs.Shares.{inactive-nothing}
-use Rattle.steps.proofs.Verdicts.{join-verdict}
 use Rattle.calls.specs.Engine.{joinedHead, FollowsAlone}
 use Rattle.calls.proofs.Lent.{lent-typed}
-use Rattle.calls.proofs.Promises.{refused-obeys, carried-obeys}
+use Rattle.calls.proofs.Outcomes.{blind-alike, blind-refused}
+use Rattle.calls.proofs.Promises.{carried-obeys}
 
 -- 25, of one store of which so many blocks are spoken for
 abbrev pub isScantBy : ℕ → ℕ → ℕ → Bool
@@ -62,8 +62,8 @@ scant-by store h blocks holding holds task reserve none =
     (ap (λ (n : ℕ). ltb (blocksIn (h .limits) store) (n + reserve))
     (nothing-back store (madeIn store blocks task) (takenIn store blocks) (allUnmetIn store (h .shares) blocks)))
 
-module _ {h : Head} (types : HeadTyped h) (holdings : Holdings) (task : ℕ) (share : Share) {verdict : Verdict}
-    (so : verdict ≡ joinVerdictBy (h .tasks) task share
+module _ {h : Head} (types : HeadTyped h) (holdings : Holdings) (task : ℕ) (share : Share) {its : Verdict}
+    (so : its ≡ joinVerdict h task share
     (isScantBy (h .limits .small) (holdings .small .spoken) (share .small .reserve) || isScantBy (h .limits .large) (holdings .large .spoken) (share .large .reserve))) where
   module _ (hs ls cs ns ds : List ℕ) (z : Sized hs ls cs ns ds) (holds : HoldsBoth (h .shares) (blocksOf hs ls) holdings)
       (w : isWellFormed (pooled h hs ls cs ns ds) ≡ true) where
@@ -75,8 +75,8 @@ module _ {h : Head} (types : HeadTyped h) (holdings : Holdings) (task : ℕ) (sh
     nothing absent =
         inactive-nothing (tablesOf (pooled h hs ls cs ns ds)) (shared-part _ w) task (absent-inactive (stateOf (getD (h .tasks) task absentEntry .state)) absent)
 
-    its-verdict : joinVerdict task share (tablesOf (pooled h hs ls cs ns ds)) ≡ verdict
-    unfolding tablesOf tablesBy joinVerdict
+    its-verdict : verdictBy (testsOf (Join task share) []) (tablesOf (pooled h hs ls cs ns ds)) ≡ its
+    unfolding tablesOf tablesBy joinVerdict verdictWith verdict testsOf
     its-verdict =
         by-test (isAbsent (stateOf (getD (h .tasks) task absentEntry .state)))
         (λ a. rw (
@@ -90,22 +90,26 @@ module _ {h : Head} (types : HeadTyped h) (holdings : Holdings) (task : ℕ) (sh
     unfolding tablesOf tablesBy joinedPool
     joined-left = refl
 
-  pub join-refused : {why : Refusal} → verdict ≡ Refused why
+  pub join-refused : {why : Refusal} → its ≡ Refused why
       → FollowsAlone (λ blocks. HoldsBoth (h .shares) blocks holdings) (Use (Join task share)) h (RefusedAnswer why) h
+  unfolding testsOf verdict
   join-refused {why} e =
       record {
         follows = λ hs ls cs ns ds z holds w small large.
             let p = pooled h hs ls cs ns ds in
-            refused-obeys (Join task share) [] p small large w (λ s. absurd (false≢true s)) why
-            (λ L reads. join-verdict (typed hs ls cs ns ds z holds w) (fit-parts (tablesOf p) w) reads task share [] ∙ ap asRefusal (its-verdict hs ls cs ns ds z holds w ∙ e));
+            blind-refused p (typed hs ls cs ns ds z holds w) w small large (Join task share) [] (λ i j. refl) (λ s. absurd (false≢true s))
+            (its-verdict hs ls cs ns ds z holds w ∙ e);
       }
 
-  pub join-known : verdict ≡ Accepted → task < taskCount
-  join-known e = leb-false taskCount task (not-refused _ NoSuchTask (both-accept (refuseIf (leb taskCount task) NoSuchTask) _ (sym so ∙ e) .0))
+  pub join-known : its ≡ Accepted → task < taskCount
+  unfolding joinVerdict testsOf
+  join-known e =
+      let (known, (absent, (ordered, (free, end)))) = passed _ (testsOf (Join task share) [])
+      (accepted-none _ (sym so ∙ e)) in leb-false taskCount task known
 
-  pub join-done : verdict ≡ Accepted
+  pub join-done : its ≡ Accepted
       → FollowsAlone (λ blocks. HoldsBoth (h .shares) blocks holdings) (Use (Join task share)) h Done (joinedHead h task share)
-  unfolding replyTo
+  unfolding replyTo testsOf verdict
   join-done e =
       record {
         follows = λ hs ls cs ns ds z holds w small large.
@@ -116,7 +120,7 @@ module _ {h : Head} (types : HeadTyped h) (holdings : Holdings) (task : ℕ) (sh
             let left = joined-left hs ls cs ns ds z holds w in
             let fit = fit-parts (tablesOf p) w in
             carried-obeys (Join task share) [] p small large w (λ s. absurd (false≢true s)) (plain Done) p′ small large refl
-            (λ L reads. join-verdict t fit reads task share [] ∙ ap asRefusal v)
+            (λ L reads. blind-alike p t w small large (Join task share) [] (λ i j. refl) reads ∙ v)
             (λ L reads. refl) (λ L reads. rw left (join-reads task share fit (joining task share (tablesOf p) v) reads))
             (rw left (join-fits task share (tablesOf p) t w v)) (rw left (join-stays task share (tablesOf p))) (refl, refl) (refl, refl);
       }

@@ -1,19 +1,18 @@
 -- Make on lent tables, refused or carried out.
 use Prim.Native.Nat.{ℕ, _+_, _<_}
 use native.Mathlib.Omega.{arith}
-use mathlib.Core.Bool.{true, _||_}
-use mathlib.Core.List.{List}
+use mathlib.Core.Bool.{true}
+use mathlib.Core.List.{List, []}
 use mathlib.Core.Path.{_≡_, sym, ap, _∙_}
-use lib.Dec.{eqb, leb, ltb}
 use lib.ListN.{getD, set, replicate, length-set}
 use lib.Seq.{getD-set-same}
-use Rattle.ledger.specs.Limits.{isSmall, isAllowed, taskCount, largeSize, lastHandle}
+use Rattle.ledger.specs.Limits.{isSmall, isAllowed, taskCount, lastHandle}
+use Rattle.ledger.specs.Rules.{testsOf}
 use Rattle.ledger.specs.declared.Answer.the-variants.{Handle}
 use Rattle.ledger.specs.declared.Answer.the-variants.{Refused as RefusedAnswer}
 use Rattle.ledger.specs.declared.Call.the-variants.{Make}
 use Rattle.ledger.specs.declared.Kind.{Kind}
 use Rattle.ledger.specs.declared.Refusal.{Refusal}
-use Rattle.ledger.specs.declared.Refusal.the-variants.{LengthOutOfRange, HandlesSpent, PrefixTooLong, NoFreeBlock, AtLimit}
 use Rattle.ledger.specs.declared.Request.the-variants.{Use}
 use Rattle.ledger.specs.declared.Verdict.the-variants.{Accepted, Refused}
 use Rattle.stores.specs.Places.{InBlock, smallAfter, largeAfter}
@@ -24,9 +23,10 @@ use Rattle.shares.specs.declared.Holding.{Holding}
 use Rattle.record.specs.declared.Head.{Head}
 use Rattle.record.proofs.Columns.{block-at}
 use Rattle.record.proofs.Facts.{fit-parts}
-use Rattle.steps.specs.Objects.{freePlace, freePlaceIn, refuseIf, taskVerdict, extensionVerdict, roomVerdict, makeVerdict}
-use Rattle.steps.proofs.Chosen.{Taken, both-accept, make-takes}
-use Rattle.objects.specs.Outcomes.{isLimitedBy, isFilledBy, makePlan}
+use Rattle.steps.specs.Facts.{verdictBy}
+use Rattle.steps.specs.Objects.{freePlace, freePlaceIn}
+use Rattle.steps.proofs.Chosen.{Taken, make-takes}
+use Rattle.objects.specs.Outcomes.{makePlan}
 use Rattle.objects.specs.declared.Plan.{Plan}
 use Rattle.objects.proofs.Laws.{free-place-of, make-planned}
 use Rattle.expirations.specs.Setting.{Sets}
@@ -51,7 +51,7 @@ module _ {h : Head} (hs ls cs : List ℕ) {ns ds : List ℕ} (types : HeadTyped 
   unfolding makePlan tablesOf tablesBy
   planned-place = rw so (free-place-of hs ls (sized .blocks .of-handles) (sized .blocks .of-extents) (h .limits) size)
 
-  verdict-of : makeVerdict task kind extension size prefix (tablesOf (pooled h hs ls cs ns ds)) ≡ plan .verdict
+  verdict-of : verdictBy (testsOf (Make task kind extension size prefix) []) (tablesOf (pooled h hs ls cs ns ds)) ≡ plan .verdict
   verdict-of =
       rw (so, standing-of (sized .entries), tables-of h hs ls cs ns ds)
       (sym (make-planned hs ls (sized .blocks .of-handles) (sized .blocks .of-extents) h (entriesOf cs ns ds) task kind extension size prefix holding holding-so))
@@ -68,17 +68,6 @@ module _ {h : Head} (hs ls cs : List ℕ) {ns ds : List ℕ} (types : HeadTyped 
     unfolding tablesOf tablesBy
     at-free = planned-place
 
-    room : roomVerdict (h .limits) (standingOf cs) ≡ Accepted
-    unfolding makePlan
-    room =
-        let (task-ok, v₁) = both-accept (taskVerdict true task (h .tasks)) _ (rw so at v) in
-        let (extension-ok, v₂) = both-accept (extensionVerdict (h .limits) kind extension) _ v₁ in
-        let (size-ok, v₃) = both-accept (refuseIf (eqb size 0 || ltb largeSize size) LengthOutOfRange) _ v₂ in
-        let (prefix-ok, v₄) = both-accept (refuseIf (ltb size prefix) PrefixTooLong) _ v₃ in
-        let (given-ok, v₅) = both-accept (refuseIf (leb lastHandle (h .given)) HandlesSpent) _ v₄ in
-        let (limit-ok, v₆) = both-accept (refuseIf (isLimitedBy (isSmall size) (h .shares) holding task) AtLimit) _ v₅ in
-        both-accept (refuseIf (isFilledBy (isSmall size) (h .limits) (h .shares) holding task) NoFreeBlock) _ v₆ .1
-
     may : isAllowed (h .limits) ≡ true
     may = lent-allowed h hs ls cs ns ds (ready .fit)
 
@@ -86,7 +75,7 @@ module _ {h : Head} (hs ls cs : List ℕ) {ns ds : List ℕ} (types : HeadTyped 
     pub make-may-set : (standingOf cs < expirationEntries) × (task < taskCount) × (plan .place < blockEntries)
     unfolding tablesOf tablesBy
     make-may-set = (
-      room-left (h .limits) may (standingOf cs) room,
+      rw (standing-of (sized .entries)) (room-left (h .limits) may _ (taken .room)),
       taken .may .known,
       rw planned-place (omega (arith, taken .block .listed, of-entries .blocks)),
     )

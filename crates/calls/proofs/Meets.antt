@@ -7,6 +7,8 @@ use mathlib.Core.Path.{_≡_, refl, sym, ap, _∙_}
 use lib.ListN.{length, getD, replicate}
 use Rattle.lists.specs.Sums.{total}
 use Rattle.ledger.specs.Objects.{plain}
+use Rattle.ledger.specs.Refusals.{verdict}
+use Rattle.ledger.specs.Rules.{testsOf}
 use Rattle.ledger.specs.declared.Kind.{Kind}
 use Rattle.ledger.specs.declared.Answer.the-variants.{Done, Handle, Bytes}
 use Rattle.ledger.specs.declared.Answer.the-variants.{Refused as RefusedAnswer}
@@ -24,7 +26,8 @@ use Rattle.record.specs.Tables.{tablesBy, tablesOf}
 use Rattle.record.specs.WellFormed.{isBlock}
 use Rattle.record.proofs.Facts.{fit-parts}
 use Rattle.record.specs.declared.Pool.{Pool}
-use Rattle.steps.specs.Objects.{placeIn, placeOf, freePlace, makeVerdict, stateIn, shownLength, readVerdict, writeVerdict, madePool, writtenPool}
+use Rattle.steps.specs.Facts.{verdictWith, verdictBy}
+use Rattle.steps.specs.Objects.{placeIn, placeOf, freePlace, stateIn, shownLength, madePool, writtenPool}
 use Rattle.objects.specs.Outcomes.{bytesBy, bytesIn, shownOf, shownIn}
 use Rattle.objects.specs.declared.FoundBytes.{FoundBytes}
 use Rattle.objects.specs.declared.FoundBytes.the-variants.{At}
@@ -33,9 +36,9 @@ use Rattle.objects.proofs.Outcomes.{bytes-refused, bytes-accepted}
 use Rattle.steps.proofs.ObjectsFollow.{shown-place, write-place}
 use Rattle.record.proofs.Exists.{every-fit-record-reads}
 use Rattle.record.specs.Codes.{freeBlock}
-use Rattle.steps.proofs.Chosen.{make-takes, write-begins, intact-sum}
+use Rattle.steps.proofs.Chosen.{make-takes, read-intact, write-intact}
 use Rattle.calls.specs.Contract.{areWhole, Ready, Obeys, Makes, Locates, ReadsBack, summed, Writes}
-use Rattle.calls.proofs.Outcomes.{make-refused, make-done, read-refused, read-done, write-refused, write-done}
+use Rattle.calls.proofs.Outcomes.{blind-refused, seen-refused, make-done, read-done, write-done}
 
 -- both stores, each by itself
 pub halves : (limits : Limits) (small large : List ℕ) → areWhole limits small large ≡ true → (isWholeSmall limits small ≡ true) × (isWholeLarge limits large ≡ true)
@@ -72,7 +75,7 @@ module _ {task handle : ℕ} {p : Pool} {small large : List ℕ} {f : FoundBytes
 -- make, refused or carried out
 module _ {task : ℕ} {kind : Kind} {extension size prefix : ℕ} {p : Pool} {small large : List ℕ} (types : Typed (tablesOf p))
     (ready : Ready (Use (Make task kind extension size prefix)) p small large) where
-  pub place-known : makeVerdict task kind extension size prefix (tablesOf p) ≡ Accepted
+  pub place-known : verdictBy (testsOf (Make task kind extension size prefix) []) (tablesOf p) ≡ Accepted
       → isBlock (p .limits) (freePlace (p .limits) size (tablesOf p .blocks)) ≡ true
   place-known v = rw (limits-of p) at (make-takes task kind extension size prefix (tablesOf p) (fit-parts (tablesOf p) (ready .fit)) types v .block .its)
 
@@ -82,14 +85,15 @@ module _ {task : ℕ} {kind : Kind} {extension size prefix : ℕ} {p : Pool} {sm
       in-block (p .limits) (rw (limits-of p) at (fit-parts (tablesOf p) (ready .fit) .allowed)) small-whole large-whole known (omega arith)
 
   -- refused: no block is taken
-  pub make-kept : (why : Refusal) → makeVerdict task kind extension size prefix (tablesOf p) ≡ Refused why
+  pub make-kept : (why : Refusal) → verdictBy (testsOf (Make task kind extension size prefix) []) (tablesOf p) ≡ Refused why
       → Makes task kind extension size prefix p small large (RefusedAnswer why) p small large
-  make-kept why v = make-refused p types (ready .fit) small large (ready .whole refl) task kind extension size prefix why v
+  unfolding testsOf verdict
+  make-kept why v = blind-refused p types (ready .fit) small large (Make task kind extension size prefix) [] (λ i j. refl) (ready .whole) v
 
   -- accepted: the block is cleared
   pub make-cleared : {p′ : Pool} (place : ℕ) → place ≡ freePlace (p .limits) size (tablesOf p .blocks) → getD (p .handles) place 0 ≡ 0 → getD (p′ .handles) place 0 ≡ p .given + 1
       → tablesOf p′ ≡ madePool task kind extension size prefix (tablesOf p)
-      → makeVerdict task kind extension size prefix (tablesOf p) ≡ Accepted → {small′ large′ : List ℕ}
+      → verdictBy (testsOf (Make task kind extension size prefix) []) (tablesOf p) ≡ Accepted → {small′ large′ : List ℕ}
       → small′ ≡ smallAfter place 0 (replicate (sizeOf place) 0) small → large′ ≡ largeAfter place 0 (replicate (sizeOf place) 0) large
       → Makes task kind extension size prefix p small large (Handle (p .given + 1)) p′ small′ large′
   make-cleared {p′} place at free holds left v s l =
@@ -99,7 +103,8 @@ module _ {task : ℕ} {kind : Kind} {extension size prefix : ℕ} {p : Pool} {sm
 
 -- an object that is found, or why not
 module _ {task handle : ℕ} {p : Pool} {small large : List ℕ} (types : Typed (tablesOf p)) (ready : Ready (Use (Read task handle)) p small large) where
-  locates-by : (v : Verdict) → readVerdict task handle small large (tablesOf p) ≡ v → Locates task handle p small large (shownOf task (tablesOf p) (bytesBy v handle (tablesOf p)))
+  locates-by : (v : Verdict) → verdictWith small large (testsOf (Read task handle) []) (tablesOf p) ≡ v
+      → Locates task handle p small large (shownOf task (tablesOf p) (bytesBy v handle (tablesOf p)))
   locates-by Accepted e =
       record {
         reads = read-done p types (ready .fit) small large (ready .whole refl) task handle e;
@@ -108,27 +113,32 @@ module _ {task handle : ℕ} {p : Pool} {small large : List ℕ} (types : Typed 
             let n : shownLength (stateIn (tablesOf p .tasks) task) (getD (tablesOf p .blocks) (placeOf handle (tablesOf p .blocks)) freeBlock) ≡ count = cc in
             let (small-whole, large-whole) = table-halves p small large (ready .whole refl) in
             let (L, reads) = every-fit-record-reads p types (ready .fit) small large in
-            rw (← n, ← b) (shown-place (ready .fit) types reads small-whole large-whole false task handle e (stateIn (tablesOf p .tasks) task));
+            rw (← n, ← b) (shown-place (ready .fit) types reads small-whole large-whole handle
+            (read-intact task handle small large (tablesOf p) e .here) (stateIn (tablesOf p .tasks) task));
         summed = λ block count sum f.
             let b : placeOf handle (tablesOf p .blocks) ≡ block = cc in
             let n : getD (tablesOf p .blocks) (placeOf handle (tablesOf p .blocks)) freeBlock .sum ≡ sum = cc in
-            rw (← n, ← b) (sym (intact-sum false task handle small large (tablesOf p) e));
+            rw (← n, ← b) (sym (read-intact task handle small large (tablesOf p) e .summed));
       }
   locates-by (Refused r) e =
-      refused-locates task handle p small large r (read-refused p types (ready .fit) small large (ready .whole refl) task handle r e)
+      refused-locates task handle p small large r
+      (seen-refused p types (ready .fit) small large (ready .whole refl) (Read task handle) [] e)
 
-  pub locates : (f : FoundBytes) → f ≡ shownIn (readVerdict task handle small large) task handle (tablesOf p) → Locates task handle p small large f
-  locates f e = rw e (locates-by (readVerdict task handle small large (tablesOf p)) refl)
+  pub locates : (f : FoundBytes) → f ≡ shownIn small large (testsOf (Read task handle) []) task handle (tablesOf p)
+      → Locates task handle p small large f
+  locates f e = rw e (locates-by (verdictWith small large (testsOf (Read task handle) []) (tablesOf p)) refl)
 
 module _ {task handle offset : ℕ} {p : Pool} {small large : List ℕ} (types : Typed (tablesOf p)) (ready : Ready (Use (Write task handle offset)) p small large)
     (here : placeIn handle (p .handles) ≡ placeOf handle (tablesOf p .blocks)) (new : List ℕ) where
-  module _ (f : FoundBytes) (so : f ≡ bytesIn (writeVerdict task handle offset (length new) small large) handle (tablesOf p)) where
+  module _ (f : FoundBytes) (so : f ≡ bytesIn small large (testsOf (Write task handle offset) new) handle (tablesOf p)) where
     pub write-kept : (why : Refusal) → f ≡ RefusedBytes why → Writes task handle offset new p small large (RefusedAnswer why) p small large
     write-kept why g =
-        write-refused p types (ready .fit) small large (ready .whole refl) task handle offset new why (bytes-refused handle (tablesOf p) _ (sym so ∙ g))
+        seen-refused p types (ready .fit) small large (ready .whole refl) (Write task handle offset) new
+        (bytes-refused handle (tablesOf p) _ (sym so ∙ g))
 
     module _ {block count sum : ℕ} (g : f ≡ At block count sum) where
-      accepted : (writeVerdict task handle offset (length new) small large (tablesOf p) ≡ Accepted) × (placeOf handle (tablesOf p .blocks) ≡ block)
+      accepted : (verdictWith small large (testsOf (Write task handle offset) new) (tablesOf p) ≡ Accepted)
+          × (placeOf handle (tablesOf p .blocks) ≡ block)
           × (getD (tablesOf p .blocks) (placeOf handle (tablesOf p .blocks)) freeBlock .length ≡ count)
           × (getD (tablesOf p .blocks) (placeOf handle (tablesOf p .blocks)) freeBlock .sum ≡ sum)
       accepted = bytes-accepted handle (tablesOf p) _ (sym so ∙ g)
@@ -142,8 +152,7 @@ module _ {task handle offset : ℕ} {p : Pool} {small large : List ℕ} (types :
 
       pub write-sum : sum ≡ sumAt small large block
       write-sum =
-          let begins = write-begins task handle offset (length new) small large (tablesOf p) (accepted .0) in
-          rw (← accepted .1, ← accepted .3) (sym (intact-sum true task handle small large (tablesOf p) begins))
+          rw (← accepted .1, ← accepted .3) (sym (write-intact task handle offset new small large (tablesOf p) (accepted .0) .0 .summed))
 
       -- the sum that is left is that of the bytes which are there then
       sum-left : sumAt (smallAfter block offset new small) (largeAfter block offset new large) block ≡ sumAfter small large block offset new

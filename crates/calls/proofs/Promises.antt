@@ -2,7 +2,6 @@
 use Prim.Native.Nat.{ℕ}
 use mathlib.Core.Bool.{Bool, true, false, not, _&&_, true≢false, false≢true, and-eq-true-iff}
 use mathlib.Core.List.{List, []}
-use mathlib.Core.Option.{none, some}
 use mathlib.Core.Path.{_≡_, refl, sym, ap, _∙_}
 use borrow.Author.Tests.{not-true, not-false}
 use lib.ListN.{length}
@@ -12,10 +11,14 @@ use Rattle.ledger.specs.Ledger.{Ledger, verdictOn, reply, next, replyToRequest,
 use Rattle.ledger.specs.declared.Answer.{Answer}
 use Rattle.ledger.specs.declared.Answer.the-variants.{Refused}
 use Rattle.ledger.specs.Numbers.{isRefusal}
+use Rattle.ledger.specs.Refusals.{asVerdict}
+use Rattle.ledger.proofs.Passed.{accepted-none, refused-some}
 use Rattle.ledger.specs.declared.Call.{Call}
 use Rattle.ledger.specs.declared.Refusal.{Refusal}
 use Rattle.ledger.specs.declared.Refusal.the-variants.{WrongStoreLength, NotWellFormed}
 use Rattle.ledger.specs.declared.Request.{Request}
+use Rattle.ledger.specs.declared.Verdict.the-variants.{Accepted}
+use Rattle.ledger.specs.declared.Verdict.the-variants.{Refused as RefusedVerdict}
 use Rattle.ledger.specs.declared.Call.the-variants.{Join, Schedule, Make, Refresh, Read, Write, Batch, Release}
 use Rattle.ledger.specs.declared.Request.the-variants.{Use, Report, Remaining}
 use Rattle.record.specs.Tables.{tablesOf}
@@ -87,15 +90,15 @@ module _ {request : Request} {p : Pool} {small large : List ℕ} {fit stored who
 
 module _ (call : Call) (new : List ℕ) (p : Pool) (small large : List ℕ) (w : isWellFormed p ≡ true)
     (whole : isStored (Use call) ≡ true → areWhole (p .limits) small large ≡ true) where
-  pub refused-obeys : (r : Refusal) → ((L : Ledger) → Reads p small large L → verdictOn L call new ≡ some r)
+  pub refused-obeys : (r : Refusal) → ((L : Ledger) → Reads p small large L → asVerdict (verdictOn L call new) ≡ RefusedVerdict r)
       → Obeys (Use call) new p small large (plain (Refused r)) p small large
   unfolding reply next
   refused-obeys r v =
       record {
         unfit = λ u. absurd (true≢false (sym w ∙ u));
         wrong = λ x s n. absurd (true≢false (sym (whole s) ∙ n));
-        answers = λ r L reads. rw (v L reads);
-        leaves = λ r L reads. rw (v L reads) reads;
+        answers = λ r L reads. rw (refused-some (verdictOn L call new) (v L reads));
+        leaves = λ r L reads. rw (refused-some (verdictOn L call new) (v L reads)) reads;
         fits = λ x. w;
         keeps = kept p small large r;
         stays = same-stays refl refl refl;
@@ -104,7 +107,7 @@ module _ (call : Call) (new : List ℕ) (p : Pool) (small large : List ℕ) (w :
       }
 
   pub carried-obeys : (y : Reply) (p′ : Pool) (small′ large′ : List ℕ) → isRefusal (y .answer) ≡ false
-      → ((L : Ledger) → Reads p small large L → verdictOn L call new ≡ none)
+      → ((L : Ledger) → Reads p small large L → asVerdict (verdictOn L call new) ≡ Accepted)
       → ((L : Ledger) → Reads p small large L → y ≡ replyTo call (L .memory))
       → ((L : Ledger) → Reads p small large L → Reads p′ small′ large′ (carried call new L))
       → isWellFormed p′ ≡ true → Stays (tablesOf p) (tablesOf p′) → (length small′ ≡ length small) × (length large′ ≡ length large)
@@ -115,8 +118,8 @@ module _ (call : Call) (new : List ℕ) (p : Pool) (small large : List ℕ) (w :
       record {
         unfit = λ u. absurd (true≢false (sym w ∙ u));
         wrong = λ x s n. absurd (true≢false (sym (whole s) ∙ n));
-        answers = λ r L reads. rw (v L reads) (answers L reads);
-        leaves = λ r L reads. rw (v L reads) (leaves L reads);
+        answers = λ r L reads. rw (accepted-none (verdictOn L call new) (v L reads)) (answers L reads);
+        leaves = λ r L reads. rw (accepted-none (verdictOn L call new) (v L reads)) (leaves L reads);
         fits = λ x. fits;
         keeps = λ why e. absurd (false≢true (sym accepted ∙ ap isRefusal e));
         stays = stays;

@@ -1,8 +1,10 @@
 -- Release on lent tables, by what was found: refused or carried out.
 use Prim.Native.Nat.{ℕ, _<_}
-use mathlib.Core.Bool.{true, false}
-use mathlib.Core.List.{List}
-use mathlib.Core.Path.{_≡_, sym, _∙_}
+use mathlib.Core.Bool.{true, false, false≢true}
+use mathlib.Core.List.{List, []}
+use mathlib.Core.Path.{_≡_, refl, sym, _∙_}
+use Rattle.ledger.specs.Refusals.{verdict}
+use Rattle.ledger.specs.Rules.{testsOf}
 use Rattle.ledger.specs.declared.Answer.the-variants.{Done}
 use Rattle.ledger.specs.declared.Answer.the-variants.{Refused as RefusedAnswer}
 use Rattle.ledger.specs.declared.Call.the-variants.{Release}
@@ -12,10 +14,11 @@ use Rattle.ledger.specs.declared.Request.the-variants.{Use}
 use Rattle.ledger.specs.declared.Verdict.the-variants.{Accepted}
 use Rattle.record.specs.Pools.{isWellFormed}
 use Rattle.record.specs.Reading.{HeadTyped, Typed}
-use Rattle.record.specs.Tables.{Sized, blocksOf, tablesBy, tablesOf, lent, pooled, blockEntries}
+use Rattle.record.specs.Tables.{Sized, tablesBy, tablesOf, lent, pooled, blockEntries}
 use Rattle.record.specs.declared.Head.{Head}
-use Rattle.steps.specs.Objects.{placeOf, taskVerdict, standingVerdict, releaseVerdict, releasedPool}
-use Rattle.steps.proofs.Chosen.{both-accept, place-listed}
+use Rattle.steps.specs.Facts.{verdictBy}
+use Rattle.steps.specs.Objects.{placeOf, releasedPool}
+use Rattle.steps.proofs.Chosen.{here-listed, release-known as known}
 use Rattle.objects.specs.Outcomes.{foundIn}
 use Rattle.objects.specs.declared.Found.{Found}
 use Rattle.objects.specs.declared.Found.the-variants.{At}
@@ -24,34 +27,32 @@ use Rattle.objects.proofs.Outcomes.{found-refused, found-accepted}
 use Rattle.endings.specs.Unpinning.{Releases}
 use Rattle.calls.specs.Contract.{Follows}
 use Rattle.calls.proofs.Lent.{tables-of, lent-typed}
-use Rattle.calls.proofs.Outcomes.{release-refused, release-done}
+use Rattle.calls.proofs.Outcomes.{blind-refused, release-done}
 
 module _ {h : Head} {hs ls cs ns ds : List ℕ} (types : HeadTyped h) (sized : Sized hs ls cs ns ds) (task handle : ℕ) (f : Found)
-    (so : f ≡ foundIn false (releaseVerdict task handle) task handle (lent h hs ls cs ns ds)) where
+    (so : f ≡ foundIn false (testsOf (Release task handle) []) task handle (lent h hs ls cs ns ds)) where
   of-entries : Typed (tablesOf (pooled h hs ls cs ns ds))
   of-entries = lent-typed h hs ls cs ns ds types (sized .blocks) (sized .entries)
 
   pub release-kept : isWellFormed (pooled h hs ls cs ns ds) ≡ true → {why : Refusal} → f ≡ RefusedFound why
       → Sized hs ls cs ns ds × Follows (Use (Release task handle)) (pooled h hs ls cs ns ds) (RefusedAnswer why) (pooled h hs ls cs ns ds)
+  unfolding testsOf verdict
   release-kept w e = (
     sized,
-    λ small large. release-refused _ of-entries w small large task handle _
+    λ small large. blind-refused _ of-entries w small large (Release task handle) [] (λ i j. refl) (λ s. absurd (false≢true s))
         (rw (tables-of h hs ls cs ns ds) (found-refused false task handle (lent h hs ls cs ns ds) _ (sym so ∙ e))),
   )
 
   module _ {block : ℕ} {life : Life} (at : f ≡ At block life) where
-    accepted : (releaseVerdict task handle (lent h hs ls cs ns ds) ≡ Accepted) × (placeOf handle (lent h hs ls cs ns ds .blocks) ≡ block)
+    accepted : (verdictBy (testsOf (Release task handle) []) (lent h hs ls cs ns ds) ≡ Accepted)
+        × (placeOf handle (lent h hs ls cs ns ds .blocks) ≡ block)
     accepted = found-accepted false task handle (lent h hs ls cs ns ds) _ (sym so ∙ at)
 
     -- the block is one that there is
     pub release-known : block < blockEntries
-    unfolding releaseVerdict standingVerdict tablesBy
     release-known =
         let p = lent h hs ls cs ns ds in
-        let (v, place) = accepted in
-        let (read, pinned) = both-accept (standingVerdict true task handle p) _ v in
-        let (task-ok, found) = both-accept (taskVerdict true task (h .tasks)) _ read in
-        rw (← place) (place-listed handle (h .given) (placeOf handle (blocksOf hs ls)) found)
+        rw (← accepted .1) (here-listed handle (p .blocks) (known task handle p (accepted .0) .here))
 
     -- the tables that are left are those of the released record
     released-left : {hs′ cs′ : List ℕ} → Releases block ns hs cs hs′ cs′

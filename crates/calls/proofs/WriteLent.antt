@@ -1,8 +1,9 @@
 -- Read and write on lent tables, by what was found.
 use Prim.Native.Nat.{ℕ, _+_, _<_}
-use mathlib.Core.List.{List}
+use mathlib.Core.List.{List, []}
 use mathlib.Core.Path.{_≡_, sym, ap, _∙_}
 use lib.ListN.{length, getD, set, length-set}
+use Rattle.ledger.specs.Rules.{testsOf}
 use Rattle.ledger.specs.declared.Answer.the-variants.{Done}
 use Rattle.ledger.specs.declared.Answer.the-variants.{Refused as RefusedAnswer}
 use Rattle.ledger.specs.declared.Call.the-variants.{Read, Write}
@@ -13,7 +14,8 @@ use Rattle.record.specs.Reading.{HeadTyped, Typed}
 use Rattle.record.specs.Tables.{BlockEntry, Sized, lengthIn, withSum, blocksOf, entriesOf, tablesBy, tablesOf, lent, pooled, blockEntries}
 use Rattle.record.proofs.Columns.{block-at, extents-set, entry-summed}
 use Rattle.record.specs.declared.Head.{Head}
-use Rattle.steps.specs.Objects.{placeIn, placeOf, readVerdict, writeVerdict, writtenPool}
+use Rattle.steps.specs.Facts.{verdictWith}
+use Rattle.steps.specs.Objects.{placeIn, placeOf, writtenPool}
 use Rattle.objects.specs.Outcomes.{bytesIn, shownIn}
 use Rattle.objects.specs.declared.FoundBytes.{FoundBytes}
 use Rattle.objects.specs.declared.FoundBytes.the-variants.{At}
@@ -34,13 +36,13 @@ module _ {h : Head} {hs ls cs ns ds : List ℕ} (types : HeadTyped h) (sized : S
 
   -- where a read finds its object
   pub read-locates : (task handle : ℕ) {small large : List ℕ} → Ready (Use (Read task handle)) (pooled h hs ls cs ns ds) small large
-      → (f : FoundBytes) → f ≡ shownIn (readVerdict task handle small large) task handle (lent h hs ls cs ns ds)
+      → (f : FoundBytes) → f ≡ shownIn small large (testsOf (Read task handle) []) task handle (lent h hs ls cs ns ds)
       → Locates task handle (pooled h hs ls cs ns ds) small large f
   read-locates task handle ready f so = locates of-entries ready f (rw (tables-of h hs ls cs ns ds) so)
 
   module _ (task handle offset : ℕ) (new : List ℕ) {small large : List ℕ} (ready : Ready (Use (Write task handle offset)) (pooled h hs ls cs ns ds) small large)
-      (f : FoundBytes) (so : f ≡ bytesIn (writeVerdict task handle offset (length new) small large) handle (lent h hs ls cs ns ds)) where
-    found : f ≡ bytesIn (writeVerdict task handle offset (length new) small large) handle (tablesOf (pooled h hs ls cs ns ds))
+      (f : FoundBytes) (so : f ≡ bytesIn small large (testsOf (Write task handle offset) new) handle (lent h hs ls cs ns ds)) where
+    found : f ≡ bytesIn small large (testsOf (Write task handle offset) new) handle (tablesOf (pooled h hs ls cs ns ds))
     found = rw (tables-of h hs ls cs ns ds) so
 
     pub write-refused-lent : {why : Refusal} → f ≡ RefusedBytes why
@@ -51,7 +53,7 @@ module _ {h : Head} {hs ls cs ns ds : List ℕ} (types : HeadTyped h) (sized : S
       place-count : (placeOf handle (blocksOf hs ls) ≡ block) × (lengthIn (getD ls block 0) ≡ count)
       unfolding tablesBy
       place-count =
-          let v = writeVerdict task handle offset (length new) small large (lent h hs ls cs ns ds) in
+          let v = verdictWith small large (testsOf (Write task handle offset) new) (lent h hs ls cs ns ds) in
           let (_, place, size, _) = bytes-accepted handle (lent h hs ls cs ns ds) v (sym so ∙ at) in
           (place, ap (λ (b : BlockEntry). b .length) (sym (block-at hs ls (sized .blocks .of-handles) (sized .blocks .of-extents) block)) ∙ rw (← place) size)
 

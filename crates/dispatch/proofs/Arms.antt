@@ -1,6 +1,6 @@
 -- The arms of the dispatch: what each call promises on lent tables serves its request.
 use Prim.Native.Nat.{ℕ}
-use mathlib.Core.List.{List}
+use mathlib.Core.List.{List, []}
 use mathlib.Core.Path.{_≡_, refl}
 use lib.ListN.{length}
 use Rattle.ledger.specs.Rules.{memoryAfter, expirationsAfter, testsOf}
@@ -19,7 +19,6 @@ use Rattle.record.specs.Tables.{BlockEntry, SizedEntries, Sized, blocksOf, entr
 use Rattle.record.specs.declared.Head.{Head}
 use Rattle.record.specs.declared.Pool.{Pool}
 use Rattle.expirations.specs.Standing.{standingOf}
-use Rattle.steps.specs.Objects.{readVerdict}
 use Rattle.objects.specs.Outcomes.{shownIn}
 use Rattle.objects.specs.Usage.{usageIn}
 use Rattle.objects.specs.declared.FoundBytes.{FoundBytes}
@@ -117,7 +116,7 @@ module _ (new : List ℕ) {h : Head} {hs ls cs ns ds : List ℕ} (sized : Sized 
       rw (is, so) (sized′, make-serves new _ small large task kind extension size prefix _ _ _ _ m)
 
   pub read-arm : HeadTyped h → {task handle : ℕ} → call ≡ Read task handle → {f : FoundBytes}
-      → f ≡ shownIn (readVerdict task handle small large) task handle (lent h hs ls cs ns ds) → r ≡ whereFound f h
+      → f ≡ shownIn small large (testsOf (Read task handle) []) task handle (lent h hs ls cs ns ds) → r ≡ whereFound f h
       → Served (Use call) new h hs ls cs ns ds small large r hs ls cs ns ds small large
   read-arm types {task} {handle} is {f} found so =
       rw (is, so) (sized, read-serves new h hs ls cs ns ds small large task handle f (read-locates types sized task handle (rw is at ready) f found))

@@ -13,9 +13,9 @@ use Rattle.lists.proofs.Cases.{by-test}
 use Rattle.lists.proofs.Counts.{not-any-not}
 use Rattle.ledger.specs.Expirations.{Expiration}
 use Rattle.ledger.specs.Objects.{Object, Memory, Reply, plain, objectAt, isIntact, written, orphaned, makersAfter, stands, handlesOf}
-use Rattle.ledger.specs.Refusals.{Test, shared, own, sumDiffers, standingTests, writingTests, verdict}
+use Rattle.ledger.specs.Refusals.{Facts, Test, isHeld, sumDiffers, standingTests, writingTests, verdict}
 use Rattle.ledger.specs.Rules.{memoryAfter, expirationsAfter, testsOf}
-use Rattle.ledger.specs.Ledger.{Ledger, settled, replyBy, afterBy, verdictOn, reply, next, replyToRequest, afterRequest}
+use Rattle.ledger.specs.Ledger.{Ledger, factsIn, settled, replyBy, afterBy, verdictOn, reply, next, replyToRequest, afterRequest}
 use Rattle.ledger.specs.Noticed.{earlierTests}
 use Rattle.ledger.specs.declared.Answer.the-variants.{Refused}
 use Rattle.ledger.specs.declared.Call.{Call}
@@ -36,14 +36,12 @@ firstOf none later = later
 firstOf (some r) later = some r
 
 -- the verdict by two lists of tests, where the earlier ones pass before the later ones are made
-verdict-append : (m : Memory) (xs : List Expiration) (ts us : List Test) (v : Option Refusal) → (verdict m xs ts ≡ none → verdict m xs us ≡ v)
-    → verdict m xs (ts ++ us) ≡ firstOf (verdict m xs ts) v
+verdict-append : (f : Facts) (ts us : List Test) (v : Option Refusal) → (verdict f ts ≡ none → verdict f us ≡ v)
+    → verdict f (ts ++ us) ≡ firstOf (verdict f ts) v
 unfolding verdict
-verdict-append m xs [] us v f = f refl
-verdict-append m xs (shared r holds ∷ ts) us v f =
-    by-test (holds m) (λ h. rw h) (λ h. rw h (verdict-append m xs ts us v (λ e. f (rw h e))))
-verdict-append m xs (own r holds ∷ ts) us v f =
-    by-test (holds m xs) (λ h. rw h) (λ h. rw h (verdict-append m xs ts us v (λ e. f (rw h e))))
+verdict-append f [] us v later = later refl
+verdict-append f (t ∷ ts) us v later =
+    by-test (isHeld f t) (λ h. rw h) (λ h. rw h (verdict-append f ts us v (λ e. later (rw h e))))
 
 -- The object with this handle was given and, as long as it stands, its bytes do not add up.
 pub record Broken (handle : ℕ) (M : Ledger) : Type 0 where
@@ -53,22 +51,22 @@ pub record Broken (handle : ℕ) (M : Ledger) : Type 0 where
 -- then each read and write of it is refused
 module _ (handle : ℕ) (M : Ledger) (b : Broken handle M) where
   abbrev verdictBy : List Test → Option Refusal
-  verdictBy tests = verdict (M .memory) (M .expirations) tests
+  verdictBy tests = verdict (factsIn M) tests
 
   -- by the last of the tests before 23 it stands
   verdict-broken : (tests us : List Test) → (verdictBy tests ≡ none → not (stands (M .expirations) handle) ≡ false)
       → verdictBy (tests ++ (sumDiffers handle ∷ us)) ≡ firstOf (verdictBy tests) (some SumDiffers)
   unfolding verdict
   verdict-broken tests us gone =
-      verdict-append (M .memory) (M .expirations) tests (sumDiffers handle ∷ us) (some SumDiffers) (λ e. rw (b .differs (not-false _ (gone e))))
+      verdict-append (factsIn M) tests (sumDiffers handle ∷ us) (some SumDiffers) (λ e. rw (b .differs (not-false _ (gone e))))
 
   read-stands : (task : ℕ) → verdictBy (standingTests task handle) ≡ none → not (stands (M .expirations) handle) ≡ false
   read-stands task e =
-      let (exists, (present, (active, (given, (gone, end))))) = passed (M .memory) (M .expirations) (standingTests task handle) e in gone
+      let (exists, (present, (active, (given, (gone, end))))) = passed (factsIn M) (standingTests task handle) e in gone
 
   write-stands : (task : ℕ) → verdictBy (writingTests task handle) ≡ none → not (stands (M .expirations) handle) ≡ false
   write-stands task e =
-      let (exists, (present, (active, (acts, (given, (gone, end)))))) = passed (M .memory) (M .expirations) (writingTests task handle) e in gone
+      let (exists, (present, (active, (acts, (given, (gone, end)))))) = passed (factsIn M) (writingTests task handle) e in gone
 
   refused-reply : (v : Option Refusal) (y : Reply) → replyBy (firstOf v (some SumDiffers)) y ≡ replyBy v (plain (Refused SumDiffers))
   refused-reply none y = refl
@@ -163,5 +161,5 @@ broken-after handle M b (Use call) new d = by (verdictOn M call new) refl
   where
     by : (v : Option Refusal) → verdictOn M call new ≡ v
         → Broken handle (afterBy v (settled (memoryAfter call new (M .memory)) (expirationsAfter call new (M .memory) (M .expirations))) M)
-    by none e = carried-broken handle (M .memory) (M .expirations) b call new (passed (M .memory) (M .expirations) (testsOf call new) e) d
+    by none e = carried-broken handle (M .memory) (M .expirations) b call new (passed (factsIn M) (testsOf call new) e) d
     by (some r) e = b

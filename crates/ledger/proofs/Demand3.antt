@@ -19,6 +19,7 @@ use Rattle.lists.proofs.Filters.{filter-map-filter, filter-filter, filter-filte
 use Rattle.ledger.specs.Limits.{blockSize}
 use Rattle.ledger.specs.Expirations.{Expiration, released}
 use Rattle.ledger.specs.Objects.{Object, Memory, Reply, freshMemory, objectAt, isIntact, written, orphaned, makersAfter, stands, standing, handlesOf}
+use Rattle.ledger.specs.Refusals.{factsOf}
 use Rattle.ledger.specs.Ledger.{settled, fresh, verdictOn, replyBy, afterBy, reply, next, replies}
 use Rattle.ledger.specs.Heap.{heapVerdictOn, heapReply, heapNext, heapReplies, bookNext, isLeftAside, allInTimeAndBounds, Used, sent, Demand3}
 use Rattle.ledger.specs.Rules.{replyTo, memoryAfter, expirationsAfter, testsOf, isInTimeAndBounds}
@@ -52,7 +53,7 @@ unfolding HeapKept
 never m handle k = intact-at handle (m .objects) (all-imp (λ o h. h .1) (m .objects) k)
 
 -- every call's tests are in an order that keeps demand 3
-ordered : (m : Memory) → HeapKept m → (call : Call) (new : List ℕ) → isOrdered m (testsOf call new) ≡ true
+ordered : (m : Memory) → HeapKept m → (call : Call) (new : List ℕ) → isOrdered (factsOf m []) (testsOf call new) ≡ true
 unfolding testsOf
 ordered m k (Join task share) new = refl
 ordered m k (Schedule Leave task) new = refl
@@ -68,7 +69,8 @@ ordered m k (Batch task kind extension) new = refl
 ordered m k (Release task handle) new = refl
 
 -- the shared tests come out the same of ledger and heap: but for 13 and 23, they look at no object
-agreed : (m : Memory) (xs : List Expiration) (call : Call) (new : List ℕ) → Agree (swept xs m) xs m (testsOf call new)
+agreed : (m : Memory) (xs : List Expiration) (call : Call) (new : List ℕ)
+    → Agree (factsOf (swept xs m) xs) (factsOf m []) (testsOf call new)
 unfolding testsOf
 agreed m xs (Join task share) new = (refl, (refl, (refl, λ e. tt)))
 agreed m xs (Schedule Leave task) new = search
@@ -87,7 +89,7 @@ agreed m xs (Release task handle) new = (refl, (refl, (refl, (refl, (refl, λ g.
 
 -- no test of the pool's own holds exactly when the book finds the use in time and in bounds
 clear : (m : Memory) (xs : List Expiration) (call : Call) (new : List ℕ)
-    → isClear (swept xs m) xs (testsOf call new) ≡ isInTimeAndBounds m xs call new
+    → isClear (factsOf (swept xs m) xs) (testsOf call new) ≡ isInTimeAndBounds m xs call new
 unfolding testsOf isInTimeAndBounds
 clear m xs (Join task share) new = simp and-true
 clear m xs (Schedule Leave task) new = refl
@@ -196,7 +198,7 @@ module _ {X : Type 0} (tell : Reply → X) (isOwnTold : X → Bool)
   told-apart m xs call new k o q =
       true≢false
       (sym o ∙ sym (shows (verdictOn (settled m xs) call new) call (swept xs m)) ∙ ap isOwnTold q ∙ shows (heapVerdictOn m call new) call m
-      ∙ heap-not-own m (testsOf call new) (ordered m k call new))
+      ∙ heap-not-own (factsOf m []) (testsOf call new) (ordered m k call new))
 
 -- One call: ledger and heap answer alike and stay together, or the use was out of time or bounds and the ledger gives a refusal of its own.
 module _ (m : Memory) (xs : List Expiration) (call : Call) (new : List ℕ) where
@@ -210,7 +212,7 @@ module _ (m : Memory) (xs : List Expiration) (call : Call) (new : List ℕ) wher
 
   step : HeapKept m → Step
   unfolding isFine reply next heapReply heapNext bookNext
-  step k = by (compared (swept xs m) xs m (testsOf call new) (ordered m k call new) (agreed m xs call new))
+  step k = by (compared (factsOf (swept xs m) xs) (factsOf m []) (testsOf call new) (ordered m k call new) (agreed m xs call new))
     where
       by-reply : (v : Option Refusal) → (isLeftAside v || isInTimeAndBounds m xs call new) ≡ true
           → replyBy v (replyTo call (swept xs m)) ≡ replyBy v (replyTo call m)
@@ -223,7 +225,7 @@ module _ (m : Memory) (xs : List Expiration) (call : Call) (new : List ℕ) wher
       by-next none f = same-sweep m xs call new k f
       by-next (some r) f = refl
 
-      by : Compared (isLeftAside (heapVerdictOn m call new) || isClear (swept xs m) xs (testsOf call new))
+      by : Compared (isLeftAside (heapVerdictOn m call new) || isClear (factsOf (swept xs m) xs) (testsOf call new))
           (verdictOn (settled m xs) call new) (heapVerdictOn m call new) → Step
       by (alike f e) =
           let g : isFine ≡ true = rw (clear m xs call new) at f in

@@ -11,7 +11,7 @@ use Rattle.ledger.specs.Tasks.{Clocks, taskAt, absentTask, advances, clo
 use Rattle.ledger.specs.Expirations.{DueTime, departed, Expiration, stillLive, dueAfter, lasting, released, setOnEach}
 use Rattle.ledger.specs.Objects.{Memory, handlesOf}
 use Rattle.ledger.specs.Rules.{memoryAfter, expirationsAfter, testsOf}
-use Rattle.ledger.specs.Ledger.{Ledger, Sent, fresh, settled, afterBy, verdictOn, next, afterRequest, afterSent, afterAll}
+use Rattle.ledger.specs.Ledger.{Ledger, factsIn, Sent, fresh, settled, afterBy, verdictOn, next, afterRequest, afterSent, afterAll}
 use Rattle.ledger.specs.Outlives.{Move, neither, joins, happens, releases, moveOf, moveIn, setIn, leftBy, leftIn, followed, Following}
 use Rattle.ledger.specs.declared.Call.{Call}
 use Rattle.ledger.specs.declared.Call.the-variants.{Join, Schedule, Make, Refresh, Read, Write, Batch, Release}
@@ -163,5 +163,5 @@ move-passed L (Remaining task handle) new = tt
 move-passed L (Use call) new = by (verdictOn L call new) refl
   where
     by : (v : Option Refusal) → verdictOn L call new ≡ v → MovePassed L new (afterBy v (moveOf call) neither)
-    by none e = call-passed L call new (passed (L .memory) (L .expirations) (testsOf call new) e)
+    by none e = call-passed L call new (passed (factsIn L) (testsOf call new) e)
     by (some r) e = tt

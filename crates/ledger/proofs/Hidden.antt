@@ -14,7 +14,7 @@ use Rattle.lists.proofs.Filters.{filter-map, filter-all}
 use Rattle.ledger.specs.Limits.{isSmall}
 use Rattle.ledger.specs.Expirations.{Expiration}
 use Rattle.ledger.specs.Objects.{Object, Memory, withObjects, objectAt, written, orphaned, makersAfter, usage}
-use Rattle.ledger.specs.Refusals.{Test, standingTests, writingTests, verdict}
+use Rattle.ledger.specs.Refusals.{Test, standingTests, writingTests, verdict, factsOf}
 use Rattle.ledger.specs.Rules.{replyTo, memoryAfter, expirationsAfter, testsOf}
 use Rattle.ledger.specs.Ledger.{Ledger, settled, afterBy, verdictOn, reply, next, replyToRequest, afterRequest}
 use Rattle.ledger.specs.Noticed.{disturbed, earlierTests}
@@ -130,7 +130,7 @@ module _ (handle : ℕ) where
   module _ (m : Memory) where
     -- tests and answers look at nothing that is hidden, but for 13, 23 and a read: these look at another object
     verdict-hidden : (xs : List Expiration) (call : Call) (new : List ℕ) → earlierTests handle (Use call) ≡ none
-        → verdict (hiddenMemory handle m) xs (testsOf call new) ≡ verdict m xs (testsOf call new)
+        → verdict (factsOf (hiddenMemory handle m) xs) (testsOf call new) ≡ verdict (factsOf m xs) (testsOf call new)
     unfolding testsOf verdict hidden
     verdict-hidden xs (Join task share) new d =
         rw (

@@ -18,7 +18,7 @@ use Rattle.ledger.specs.Expirations.{Expiration, isOf, isPinOf}
 use Rattle.ledger.specs.Objects.{Object, Memory, noShare, freshMemory, stands, written, makersAfter, handlesOf}
 use Rattle.ledger.specs.Shares.{made, unmet}
 use Rattle.ledger.specs.Rules.{memoryAfter, expirationsAfter, testsOf}
-use Rattle.ledger.specs.Ledger.{Ledger, Sent, fresh, settled, afterBy, verdictOn, next, afterRequest, afterAll}
+use Rattle.ledger.specs.Ledger.{Ledger, factsIn, Sent, fresh, settled, afterBy, verdictOn, next, afterRequest, afterAll}
 use Rattle.ledger.specs.Kept.{TaskKept, ClocksKept, isOwned, ObjectsKept, SharesKept, ExpirationKept, ExpirationsKept, PinsKept, PinnedOnceKept, Kept, EveryLedgerKeeps}
 use Rattle.ledger.specs.declared.Call.{Call}
 use Rattle.ledger.specs.declared.Call.the-variants.{Join, Schedule, Make, Refresh, Read, Write, Batch, Release}
@@ -173,7 +173,7 @@ kept-request L k (Use call) new = by (verdictOn L call new) refl
   where
     by : (v : Option Refusal) → verdictOn L call new ≡ v
         → Kept (afterBy v (settled (memoryAfter call new (L .memory)) (expirationsAfter call new (L .memory) (L .expirations))) L)
-    by none e = kept-carried (L .memory) (L .expirations) call new (passed (L .memory) (L .expirations) (testsOf call new) e) k
+    by none e = kept-carried (L .memory) (L .expirations) call new (passed (factsIn L) (testsOf call new) e) k
     by (some r) e = k
 
 pub kept-after : (ss : List Sent) (L : Ledger) → Kept L → Kept (afterAll L ss)

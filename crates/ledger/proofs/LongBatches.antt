@@ -12,7 +12,7 @@ use Rattle.ledger.specs.Limits.{largestBatch}
 use Rattle.ledger.specs.Objects.{handlesOf}
 use Rattle.ledger.specs.Refusals.{verdict}
 use Rattle.ledger.specs.Rules.{testsOf}
-use Rattle.ledger.specs.Ledger.{Ledger, afterBy, verdictOn, reply, next}
+use Rattle.ledger.specs.Ledger.{Ledger, factsIn, afterBy, verdictOn, reply, next}
 use Rattle.ledger.specs.declared.Call.{Call}
 use Rattle.ledger.specs.declared.Call.the-variants.{Batch}
 use Rattle.ledger.specs.declared.Kind.{Kind}
@@ -34,7 +34,9 @@ module _ (L : Ledger) (task : ℕ) (kind : Kind) (extension : ℕ) where
 
     refused : verdictOn L call bytes ≡ none → ⊥
     unfolding testsOf
-    refused e = true≢false (sym too-many ∙ passed (L .memory) (L .expirations) (testsOf call bytes) e .1 .1 .1 .1 .0)
+    refused e =
+        let (known, (present, (active, (acts, (count, later))))) = passed (factsIn L) (testsOf call bytes) e in true≢false
+        (sym too-many ∙ count)
 
     unchanged : next L call bytes ≡ L
     unfolding next

@@ -15,7 +15,7 @@ use Rattle.lists.proofs.Sums.{total-differs}
 use Rattle.ledger.specs.Objects.{Object, plain, objectAt, isIntact, freshMemory}
 use Rattle.ledger.specs.Rules.{memoryAfter, expirationsAfter}
 use Rattle.ledger.specs.Refusals.{Test, standingTests, writingTests, verdict}
-use Rattle.ledger.specs.Ledger.{Ledger, Sent, fresh, settled, replyBy, afterBy, verdictOn, next, replyToRequest, afterRequest, afterSent, replies, afterAll}
+use Rattle.ledger.specs.Ledger.{Ledger, factsIn, Sent, fresh, settled, replyBy, afterBy, verdictOn, next, replyToRequest, afterRequest, afterSent, replies, afterAll}
 use Rattle.ledger.specs.Noticed.{disturbed, Change, changed, earlierTests, noticedBy, noticed, noticedIn, Notices}
 use Rattle.ledger.specs.Numbers.{isRefusal}
 use Rattle.ledger.specs.declared.Answer.the-variants.{Refused}
@@ -58,12 +58,12 @@ module _ (handle : ℕ) (L M : Ledger) (k : Beside handle L M) where
 
   -- and the tests before 23 look at nothing that is
   same-earlier : (request : Request) (tests : List Test) → earlierTests handle request ≡ some tests
-      → verdict (M .memory) (M .expirations) tests ≡ verdict (L .memory) (L .expirations) tests
+      → verdict (factsIn M) tests ≡ verdict (factsIn L) tests
   unfolding verdict
   same-earlier request tests u =
-      by-use handle (λ (ts : List Test) (r : Request). verdict (M .memory) (M .expirations) ts ≡ verdict (L .memory) (L .expirations) ts)
-      (λ task. ap (λ (N : Ledger). verdict (N .memory) (N .expirations) (standingTests task handle)) (k .same))
-      (λ task offset. ap (λ (N : Ledger). verdict (N .memory) (N .expirations) (writingTests task handle)) (k .same))
+      by-use handle (λ (ts : List Test) (r : Request). verdict (factsIn M) ts ≡ verdict (factsIn L) ts)
+      (λ task. ap (λ (N : Ledger). verdict (factsIn N) (standingTests task handle)) (k .same))
+      (λ task offset. ap (λ (N : Ledger). verdict (factsIn N) (writingTests task handle)) (k .same))
       tests request u
 
   -- one call
@@ -145,7 +145,7 @@ notices =
       every = λ c ss. every-from (c .handle) ss (c .before) (changed c) (start c);
       refused = λ c ss s tests u.
           let k = beside-all (c .handle) ss (c .before) (changed c) (start c) in
-          rw (answered (c .handle) _ _ k s, u) (let L = afterAll (c .before) ss in refused-by (verdict (L .memory) (L .expirations) tests));
+          rw (answered (c .handle) _ _ k s, u) (let L = afterAll (c .before) ss in refused-by (verdict (factsIn L) tests));
       others = λ c ss s u.
           let k = beside-all (c .handle) ss (c .before) (changed c) (start c) in
           rw (answered (c .handle) _ _ k s, u);

@@ -8,7 +8,7 @@ use Rattle.lists.proofs.Cases.{by-test}
 use Rattle.ledger.specs.Tasks.{isTested}
 use Rattle.ledger.specs.Expirations.{Expiration}
 use Rattle.ledger.specs.Objects.{Memory, Reply}
-use Rattle.ledger.specs.Refusals.{Test, shared, own, verdict}
+use Rattle.ledger.specs.Refusals.{Facts, factsOf, Test, refusalOf, isHeld, verdict, asVerdict}
 use Rattle.ledger.specs.Rules.{replyTo, testsOf}
 use Rattle.ledger.specs.Ledger.{replyBy}
 use Rattle.ledger.specs.declared.Answer.{Answer}
@@ -16,14 +16,15 @@ use Rattle.ledger.specs.declared.Answer.the-variants.{Refused, Done, Adv
 use Rattle.ledger.specs.declared.Call.{Call}
 use Rattle.ledger.specs.declared.Call.the-variants.{Join, Schedule, Make, Refresh, Read, Write, Batch, Release}
 use Rattle.ledger.specs.declared.Refusal.{Refusal}
+use Rattle.ledger.specs.declared.Verdict.the-variants.{Accepted}
+use Rattle.ledger.specs.declared.Verdict.the-variants.{Refused as RefusedVerdict}
 
-abbrev pub AllPassed : Memory → List Expiration → List Test → Type 0
-AllPassed m xs [] = Unit
-AllPassed m xs (shared r holds ∷ ts) = (holds m ≡ false) × AllPassed m xs ts
-AllPassed m xs (own r holds ∷ ts) = (holds m xs ≡ false) × AllPassed m xs ts
+abbrev pub AllPassed : Facts → List Test → Type 0
+AllPassed f [] = Unit
+AllPassed f (t ∷ ts) = (isHeld f t ≡ false) × AllPassed f ts
 
 abbrev pub Passed : Memory → List Expiration → Call → List ℕ → Type 0
-Passed m xs call new = AllPassed m xs (testsOf call new)
+Passed m xs call new = AllPassed (factsOf m xs) (testsOf call new)
 
 -- a test that gives no refusal does not hold, and leaves it to the others
 first : (b : Bool) (r : Refusal) {later : Option Refusal} {C : Type 0} → (later ≡ none → C)
@@ -31,11 +32,19 @@ first : (b : Bool) (r : Refusal) {later : Option Refusal} {C : Type 0} → (late
 first true r f e = absurd (subst IsSome e tt)
 first false r f e = (refl, f e)
 
-pub passed : (m : Memory) (xs : List Expiration) (ts : List Test) → verdict m xs ts ≡ none → AllPassed m xs ts
+pub passed : (f : Facts) (ts : List Test) → verdict f ts ≡ none → AllPassed f ts
 unfolding verdict
-passed m xs [] e = tt
-passed m xs (shared r holds ∷ ts) e = first (holds m) r (passed m xs ts) e
-passed m xs (own r holds ∷ ts) e = first (holds m xs) r (passed m xs ts) e
+passed f [] e = tt
+passed f (t ∷ ts) e = first (isHeld f t) (refusalOf t) (passed f ts) e
+
+-- code's verdict tells the ledger's
+pub accepted-none : (v : Option Refusal) → asVerdict v ≡ Accepted → v ≡ none
+accepted-none none e = refl
+accepted-none (some r) e = cc
+
+pub refused-some : (v : Option Refusal) {r : Refusal} → asVerdict v ≡ RefusedVerdict r → v ≡ some r
+refused-some none e = cc
+refused-some (some r) e = cc
 
 -- the refusal in an answer
 abbrev pub refusalIn : Answer → Option Refusal

@@ -56,7 +56,7 @@ pub read-stands : (L : Ledger) (task handle : ℕ) → stands (L .expirations) h
 unfolding reply verdict testsOf replyTo
 read-stands L task handle h e =
     let state = taskAt (L .memory .clocks) task .state in
-    not-gone (leb taskCount task) (isAbsent state) (isWaiting state) (isNotGiven (L .memory) handle)
+    not-gone (leb taskCount task) (isAbsent state) (isWaiting state) (isNotGiven (L .memory .given) handle)
     (not (isIntact (objectAt handle (L .memory .objects)))) (replyTo (Read task handle) (L .memory)) never (rw h at e)
 
 module _ (object : ℕ) where

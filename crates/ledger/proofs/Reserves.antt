@@ -16,7 +16,7 @@ use Rattle.ledger.specs.Objects.{freshMemory, noShare}
 use Rattle.ledger.specs.Shares.{quotaIn, quotaOf, blocksIn, usedIn, made, unmet, allUnmet, takenFrom, isFull, isShort, isAtLimit}
 use Rattle.ledger.specs.Refusals.{verdict}
 use Rattle.ledger.specs.Rules.{memoryAfter, expirationsAfter, testsOf}
-use Rattle.ledger.specs.Ledger.{Ledger, Sent, fresh, verdictOn, reply, next, afterAll}
+use Rattle.ledger.specs.Ledger.{Ledger, factsIn, Sent, fresh, verdictOn, reply, next, afterAll}
 use Rattle.ledger.specs.Tasks.{freshClocks, entered}
 use Rattle.ledger.specs.Rows.{joinWith, shareOf}
 use Rattle.ledger.specs.Kept.{Kept}
@@ -65,12 +65,12 @@ module _ (L : Ledger) (k : Kept L) (task : ℕ) (store : Bool) (h : 1 ≤ unmet 
 
 -- an answer that a test would give which does not hold is not given
 not-given : (n : ℕ) (L : Ledger) (call : Call) (new : List ℕ) (a : Answer) → isNumbered n (refusalIn a) ≡ true
-    → isSpared n (L .memory) (L .expirations) (testsOf call new) ≡ true → reply L call new .answer ≢ a
+    → isSpared n (factsIn L) (testsOf call new) ≡ true → reply L call new .answer ≢ a
 unfolding reply
 not-given n L call new a number clear q =
     true≢false
     (sym number ∙ ap (λ (b : Answer). isNumbered n (refusalIn b)) (sym q)
-    ∙ (rw (refusal-told (verdictOn L call new) call (L .memory)) (spared n (L .memory) (L .expirations) (testsOf call new) clear)))
+    ∙ (rw (refusal-told (verdictOn L call new) call (L .memory)) (spared n (factsIn L) (testsOf call new) clear)))
 
 never : (L : Ledger) → Kept L → (task : ℕ) (kind : Kind) (extension size prefix : ℕ) (new : List ℕ)
     → 1 ≤ unmet (isSmall size) (L .memory .shares) (L .memory .objects) task

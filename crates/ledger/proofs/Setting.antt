@@ -11,7 +11,7 @@ use Rattle.ledger.specs.Tasks.{Clocks, taskAt, isActive}
 use Rattle.ledger.specs.Expirations.{DueTime, Expiration, isOf, dueAfter, released, setOnEach}
 use Rattle.ledger.specs.Objects.{Memory, stands, handlesOf}
 use Rattle.ledger.specs.Rules.{expirationsAfter, testsOf}
-use Rattle.ledger.specs.Ledger.{Ledger, Sent, fresh, afterBy, verdictOn, afterSent, afterAll}
+use Rattle.ledger.specs.Ledger.{Ledger, factsIn, Sent, fresh, afterBy, verdictOn, afterSent, afterAll}
 use Rattle.ledger.specs.Kept.{Kept, isOwned}
 use Rattle.ledger.specs.Outlives.{Move, neither, moveOf, moveIn, setIn, leftIn, followed, Setting, whenSet}
 use Rattle.ledger.specs.declared.Kind.{Kind}
@@ -67,7 +67,7 @@ new-in L (Use call) new = by (verdictOn L call new) refl
   where
     by : (v : Option Refusal) → verdictOn L call new ≡ v
         → All (IsNew (L .memory .clocks) (afterBy v (moveOf call) neither)) (afterBy v (expirationsAfter call new (L .memory) []) [])
-    by none e = all-new (L .memory) (L .expirations) call new (passed (L .memory) (L .expirations) (testsOf call new) e)
+    by none e = all-new (L .memory) (L .expirations) call new (passed (factsIn L) (testsOf call new) e)
     by (some r) e = tt
 
 all-middle : (P : Expiration → Type 0) (front : List Expiration) (x : Expiration) (back : List Expiration) → All P (front ++ (x ∷ back)) → P x

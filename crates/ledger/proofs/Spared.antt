@@ -13,9 +13,9 @@ use Rattle.lists.proofs.Cases.{by-test}
 use Rattle.ledger.specs.Numbers.{numberOf}
 use Rattle.ledger.specs.Expirations.{Expiration}
 use Rattle.ledger.specs.Objects.{Object, Memory, Reply, plain, isIntact}
-use Rattle.ledger.specs.Refusals.{Test, shared, own, standingTests, verdict, heapVerdict}
+use Rattle.ledger.specs.Refusals.{Facts, factsOf, Test, shared, own, refusalOf, isHeld, standingTests, verdict, heapVerdict}
 use Rattle.ledger.specs.Rules.{testsOf}
-use Rattle.ledger.specs.Ledger.{Ledger, Sent, verdictOn, standingVerdictOn, reply, replyToRequest, afterSent, replies}
+use Rattle.ledger.specs.Ledger.{Ledger, Sent, verdictOn, standingVerdictOn, reply, replyToRequest, afterSent, replies, fresh, factsIn}
 use Rattle.ledger.specs.Remaining.{remainingLife}
 use Rattle.ledger.specs.Kept.{Kept}
 use Rattle.ledger.specs.declared.Answer.{Answer}
@@ -33,24 +33,20 @@ use Rattle.ledger.proofs.Passed.{refusalIn, verdict-told, refusal-told}
 use Rattle.ledger.specs.Heap.{heapVerdictOn, heapReply, heapNext, heapReplies, Used}
 
 -- no test that holds gives the refusal with this number
-abbrev pub isSpared : ℕ → Memory → List Expiration → List Test → Bool
-isSpared n m xs [] = true
-isSpared n m xs (shared r holds ∷ ts) = not (eqb (numberOf r) n && holds m) && isSpared n m xs ts
-isSpared n m xs (own r holds ∷ ts) = not (eqb (numberOf r) n && holds m xs) && isSpared n m xs ts
+abbrev pub isSpared : ℕ → Facts → List Test → Bool
+isSpared n f [] = true
+isSpared n f (t ∷ ts) = not (eqb (numberOf (refusalOf t)) n && isHeld f t) && isSpared n f ts
 
 abbrev pub isNumbered : ℕ → Option Refusal → Bool
 isNumbered n none = false
 isNumbered n (some r) = eqb (numberOf r) n
 
-pub spared : (n : ℕ) (m : Memory) (xs : List Expiration) (ts : List Test) → isSpared n m xs ts ≡ true → isNumbered n (verdict m xs ts) ≡ false
+pub spared : (n : ℕ) (f : Facts) (ts : List Test) → isSpared n f ts ≡ true → isNumbered n (verdict f ts) ≡ false
 unfolding verdict
-spared n m xs [] e = refl
-spared n m xs (shared r holds ∷ ts) e =
-    let (l, ls) = and-eq-true-iff (not (eqb (numberOf r) n && holds m)) (isSpared n m xs ts) .0 e in
-    by-test (holds m) (λ h. rw h (not-true _ (rw (h, and-true) at l))) (λ h. rw h (spared n m xs ts ls))
-spared n m xs (own r holds ∷ ts) e =
-    let (l, ls) = and-eq-true-iff (not (eqb (numberOf r) n && holds m xs)) (isSpared n m xs ts) .0 e in
-    by-test (holds m xs) (λ h. rw h (not-true _ (rw (h, and-true) at l))) (λ h. rw h (spared n m xs ts ls))
+spared n f [] e = refl
+spared n f (t ∷ ts) e =
+    let (l, ls) = and-eq-true-iff (not (eqb (numberOf (refusalOf t)) n && isHeld f t)) (isSpared n f ts) .0 e in
+    by-test (isHeld f t) (λ h. rw h (not-true _ (rw (h, and-true) at l))) (λ h. rw h (spared n f ts ls))
 
 -- the heap's verdict is that on the shared tests alone, which spare it too
 abbrev sharedOf : List Test → List Test
@@ -58,22 +54,22 @@ sharedOf [] = []
 sharedOf (shared r holds ∷ ts) = shared r holds ∷ sharedOf ts
 sharedOf (own r holds ∷ ts) = sharedOf ts
 
-heap-verdict : (m : Memory) (xs : List Expiration) (ts : List Test) → heapVerdict m ts ≡ verdict m xs (sharedOf ts)
+heap-verdict : (f : Facts) (ts : List Test) → heapVerdict f ts ≡ verdict f (sharedOf ts)
 unfolding heapVerdict verdict
-heap-verdict m xs [] = refl
-heap-verdict m xs (shared r holds ∷ ts) = by-test (holds m) (λ h. rw h) (λ h. rw h (heap-verdict m xs ts))
-heap-verdict m xs (own r holds ∷ ts) = heap-verdict m xs ts
+heap-verdict f [] = refl
+heap-verdict f (shared r holds ∷ ts) = by-test (holds f) (λ h. rw h) (λ h. rw h (heap-verdict f ts))
+heap-verdict f (own r holds ∷ ts) = heap-verdict f ts
 
-spared-shared : (n : ℕ) (m : Memory) (xs : List Expiration) (ts : List Test) → isSpared n m xs ts ≡ true → isSpared n m xs (sharedOf ts) ≡ true
-spared-shared n m xs [] e = refl
-spared-shared n m xs (shared r holds ∷ ts) e =
-    let (l, ls) = and-eq-true-iff (not (eqb (numberOf r) n && holds m)) (isSpared n m xs ts) .0 e in rw l (spared-shared n m xs ts ls)
-spared-shared n m xs (own r holds ∷ ts) e =
-    spared-shared n m xs ts (and-eq-true-iff (not (eqb (numberOf r) n && holds m xs)) (isSpared n m xs ts) .0 e .1)
+spared-shared : (n : ℕ) (f : Facts) (ts : List Test) → isSpared n f ts ≡ true → isSpared n f (sharedOf ts) ≡ true
+spared-shared n f [] e = refl
+spared-shared n f (shared r holds ∷ ts) e =
+    let (l, ls) = and-eq-true-iff (not (eqb (numberOf r) n && holds f)) (isSpared n f ts) .0 e in rw l (spared-shared n f ts ls)
+spared-shared n f (own r holds ∷ ts) e =
+    spared-shared n f ts (and-eq-true-iff (not (eqb (numberOf r) n && holds f)) (isSpared n f ts) .0 e .1)
 
 -- 23 is spared where all objects are intact
 intact-spared : (m : Memory) (xs : List Expiration) → All (λ (o : Object). isIntact o ≡ true) (m .objects)
-    → (call : Call) (new : List ℕ) → isSpared 23 m xs (testsOf call new) ≡ true
+    → (call : Call) (new : List ℕ) → isSpared 23 (factsOf m xs) (testsOf call new) ≡ true
 unfolding testsOf
 intact-spared m xs i (Join task share) new = refl
 intact-spared m xs i (Schedule Leave task) new = refl
@@ -94,11 +90,11 @@ unfolding reply
 never-23 L k (Use call) new =
     let intact = all-imp (λ o h. h .intact) (L .memory .objects) (k .objects .each) in
     rw (refusal-told (verdictOn L call new) call (L .memory))
-    (spared 23 (L .memory) (L .expirations) (testsOf call new) (intact-spared (L .memory) (L .expirations) intact call new))
+    (spared 23 (factsIn L) (testsOf call new) (intact-spared (L .memory) (L .expirations) intact call new))
 never-23 L k Report new = refl
 never-23 L k (Remaining task handle) new =
     rw (verdict-told (standingVerdictOn L task handle) (plain (Lasts (remainingLife task handle (L .memory .clocks) (L .expirations)))) refl)
-    (spared 23 (L .memory) (L .expirations) (standingTests task handle) refl)
+    (spared 23 (factsIn L) (standingTests task handle) refl)
 
 pub never-from : (ss : List Sent) (L : Ledger) → Kept L → All (λ (y : Reply). y .answer ≢ Refused SumDiffers) (replies L ss)
 unfolding replies
@@ -114,7 +110,8 @@ unfolding heapReply HeapKept
 heap-23 m k call new =
     let ts = testsOf call new in
     let clear = intact-spared m [] (all-imp (λ o h. h .1) (m .objects) k) call new in
-    rw (refusal-told (heapVerdictOn m call new) call m, heap-verdict m [] ts) (spared 23 m [] (sharedOf ts) (spared-shared 23 m [] ts clear))
+    rw (refusal-told (heapVerdictOn m call new) call m, heap-verdict (factsOf m []) ts)
+    (spared 23 (factsOf m []) (sharedOf ts) (spared-shared 23 (factsOf m []) ts clear))
 
 pub heap-never : (us : List Used) (m : Memory) → HeapKept m → All (λ (y : Reply). y .answer ≢ Refused SumDiffers) (heapReplies m us)
 unfolding heapReplies

@@ -1,9 +1,9 @@
 -- What stands after a call stood before it, and an object that stands is found among those that do.
 use Prim.Native.Nat.{ℕ, _+_, _≤_}
 use native.Mathlib.Omega.{arith}
-use mathlib.Core.Bool.{Bool, true, not, and-eq-true-iff}
+use mathlib.Core.Bool.{Bool, true, false, false≢true, not, and-eq-true-iff}
 use mathlib.Core.List.{List, [], _∷_}
-use mathlib.Core.Path.{_≡_, refl, sym}
+use mathlib.Core.Path.{_≡_, refl, sym, _∙_}
 use borrow.Author.Tests.{eqb-true}
 use lib.Dec.{eqb}
 use Rattle.lists.specs.Tests.{all, filter, All}
@@ -12,8 +12,8 @@ use Rattle.lists.proofs.Cases.{by-test, or-second, or-right}
 use Rattle.lists.proofs.Counts.{any-map}
 use Rattle.lists.proofs.Filters.{any-filter}
 use Rattle.ledger.specs.Tasks.{Clocks}
-use Rattle.ledger.specs.Expirations.{DueTime, Expiration, isOf, isSetBy, putOff, deserted, eachDue, stillLive, dueAfter, lasting, released, setOnEach}
-use Rattle.ledger.specs.Objects.{Object, Memory, objectAt, stands, standing, handlesOf}
+use Rattle.ledger.specs.Expirations.{departed, DueTime, Expiration, isOf, isSetBy, putOff, deserted, eachDue, stillLive, dueAfter, lasting, released, setOnEach}
+use Rattle.ledger.specs.Objects.{Object, Memory, zeroed, objectAt, stands, standing, handlesOf}
 use Rattle.ledger.specs.Rules.{expirationsAfter}
 use Rattle.ledger.specs.Ledger.{Ledger}
 use Rattle.ledger.specs.declared.Call.{Call}
@@ -30,6 +30,16 @@ at-standing xs handle (o ∷ os) s =
     by-test (eqb (o .handle) handle)
     (λ e. let d : stands xs (o .handle) ≡ true = rw (eqb-true (o .handle) handle e) s in rw (d, e))
     (λ e. by-test (stands xs (o .handle)) (λ d. rw (d, e) (at-standing xs handle os s)) (λ d. rw (d, e) (at-standing xs handle os s)))
+
+-- where all stand, none is found by the handle of one that is gone
+pub gone-object : (xs : List Expiration) (handle : ℕ) (os : List Object) → stands xs handle ≡ false
+    → All (λ (o : Object). stands xs (o .handle) ≡ true) os
+    → objectAt handle os ≡ zeroed departed 0 0 0
+unfolding objectAt
+gone-object xs handle [] gone stood = refl
+gone-object xs handle (o ∷ os) gone (s, ss) =
+    by-test (eqb (o .handle) handle) (λ e. absurd (false≢true (sym gone ∙ rw (eqb-true (o .handle) handle e) at s)))
+    (λ e. rw e (gone-object xs handle os gone ss))
 
 -- an event sets no expiration
 due-stands : (f : DueTime → DueTime) (xs : List Expiration) (handle : ℕ) → stands (eachDue f xs) handle ≡ stands xs handle

@@ -20,9 +20,9 @@ use Rattle.ledger.specs.Limits.{isSmall, blockSize}
 use Rattle.ledger.specs.Tasks.{taskAt, isViewing}
 use Rattle.ledger.specs.Expirations.{Expiration}
 use Rattle.ledger.specs.Objects.{Object, Memory, Reply, zeroed, isIntact, objectAt, written, orphaned, makersAfter, usage}
-use Rattle.ledger.specs.Refusals.{verdict}
+use Rattle.ledger.specs.Refusals.{factsOf, verdict}
 use Rattle.ledger.specs.Rules.{replyTo, memoryAfter, expirationsAfter, testsOf}
-use Rattle.ledger.specs.Ledger.{Ledger, Sent, fresh, settled, replyBy, afterBy, verdictOn, reply, next, replyToRequest, afterRequest, afterSent, replies, afterAll}
+use Rattle.ledger.specs.Ledger.{Ledger, factsIn, Sent, fresh, settled, replyBy, afterBy, verdictOn, reply, next, replyToRequest, afterRequest, afterSent, replies, afterAll}
 use Rattle.ledger.specs.Kept.{ObjectsKept, Kept}
 use Rattle.ledger.specs.Veil.{veiled, veiledObject, veiledMemory, veiledIn, veiledBytes, veiledBy, veiledSent, veils, taskOf, isViewer, isViewers, toViewers, seenBytes, seen, seenIn, Discreet}
 use Rattle.ledger.specs.declared.Event.{Event}
@@ -134,7 +134,7 @@ makers-veiled View task os = refl
 -- The tests look at nothing under the veil, as long as all bytes add up.
 module _ (m : Memory) (xs : List Expiration) where
   verdict-veiled : All (λ (o : Object). isIntact o ≡ true) (m .objects) → (call : Call) (new : List ℕ)
-      → verdict (veiledMemory m) xs (testsOf call (veiledBytes m call new)) ≡ verdict m xs (testsOf call new)
+      → verdict (factsOf (veiledMemory m) xs) (testsOf call (veiledBytes m call new)) ≡ verdict (factsOf m xs) (testsOf call new)
   unfolding testsOf verdict veiledBytes veiledObject
   verdict-veiled i (Join task share) new =
       rw (
@@ -242,7 +242,7 @@ module _ (L : Ledger) (k : Kept L) where
           ≡ veiledIn (afterBy v (settled (memoryAfter call new (L .memory)) (expirationsAfter call new (L .memory) (L .expirations))) L)
       by none e =
           rw (
-            memory-veiled (L .memory) (L .expirations) call new (passed (L .memory) (L .expirations) (testsOf call new) e) (k .objects),
+            memory-veiled (L .memory) (L .expirations) call new (passed (factsIn L) (testsOf call new) e) (k .objects),
             expirations-veiled (L .memory) (L .expirations) call new,
           )
           (settled-veiled (memoryAfter call new (L .memory)) (expirationsAfter call new (L .memory) (L .expirations)))

@@ -7,9 +7,7 @@ use borrow.Author.Tests.{not-true}
 use lib.Dec.{eqb}
 use Rattle.lists.proofs.Cases.{by-test, and₃, or-map}
 use Rattle.ledger.specs.Numbers.{numberOf}
-use Rattle.ledger.specs.Expirations.{Expiration}
-use Rattle.ledger.specs.Objects.{Memory}
-use Rattle.ledger.specs.Refusals.{Test, shared, own, verdict, heapVerdict}
+use Rattle.ledger.specs.Refusals.{Facts, Test, shared, own, verdict, heapVerdict}
 use Rattle.ledger.specs.Heap.{isLeftAside}
 use Rattle.ledger.specs.declared.Refusal.{Refusal}
 
@@ -22,16 +20,16 @@ isOwnVerdict none = false
 isOwnVerdict (some r) = isOwn r
 
 -- no test of the pool's own holds
-abbrev pub isClear : Memory → List Expiration → List Test → Bool
-isClear m xs [] = true
-isClear m xs (shared r holds ∷ ts) = isClear m xs ts
-isClear m xs (own r holds ∷ ts) = not (holds m xs) && isClear m xs ts
+abbrev pub isClear : Facts → List Test → Bool
+isClear f [] = true
+isClear f (shared r holds ∷ ts) = isClear f ts
+isClear f (own r holds ∷ ts) = not (holds f) && isClear f ts
 
--- none of the heap's refusals that are left aside can come of this heap
-abbrev pub isLate : Memory → List Test → Bool
-isLate n [] = true
-isLate n (shared r holds ∷ ts) = not (isLeftAside (some r) && holds n) && isLate n ts
-isLate n (own r holds ∷ ts) = isLate n ts
+-- none of the heap's refusals that are left aside can come by these facts
+abbrev pub isLate : Facts → List Test → Bool
+isLate g [] = true
+isLate g (shared r holds ∷ ts) = not (isLeftAside (some r) && holds g) && isLate g ts
+isLate g (own r holds ∷ ts) = isLate g ts
 
 -- no test is the pool's own
 abbrev pub isShared : List Test → Bool
@@ -40,55 +38,55 @@ isShared (shared r holds ∷ ts) = isShared ts
 isShared (own r holds ∷ ts) = false
 
 -- each refusal that is left aside is tested before the pool's own ones or is never this heap's, and 13 and 22 are tested after them
-abbrev pub isOrdered : Memory → List Test → Bool
-isOrdered n [] = true
-isOrdered n (shared r holds ∷ ts) = not (isOwn r) && (isLeftAside (some r) || isShared ts) && isOrdered n ts
-isOrdered n (own r holds ∷ ts) = isOwn r && isLate n ts && isOrdered n ts
+abbrev pub isOrdered : Facts → List Test → Bool
+isOrdered g [] = true
+isOrdered g (shared r holds ∷ ts) = not (isOwn r) && (isLeftAside (some r) || isShared ts) && isOrdered g ts
+isOrdered g (own r holds ∷ ts) = isOwn r && isLate g ts && isOrdered g ts
 
--- the shared tests come out the same of two memories, as far as the pool gets
-abbrev pub Agree : Memory → List Expiration → Memory → List Test → Type 0
-Agree m xs n [] = Unit
-Agree m xs n (shared r holds ∷ ts) = (holds m ≡ holds n) × Agree m xs n ts
-Agree m xs n (own r holds ∷ ts) = holds m xs ≡ false → Agree m xs n ts
+-- the shared tests come out the same by either's facts, as far as the pool gets
+abbrev pub Agree : Facts → Facts → List Test → Type 0
+Agree f g [] = Unit
+Agree f g (shared r holds ∷ ts) = (holds f ≡ holds g) × Agree f g ts
+Agree f g (own r holds ∷ ts) = holds f ≡ false → Agree f g ts
 
 -- what the heap makes of late tests is never left aside
-late-stays : (n : Memory) (ts : List Test) → isLate n ts ≡ true → isLeftAside (heapVerdict n ts) ≡ false
+late-stays : (g : Facts) (ts : List Test) → isLate g ts ≡ true → isLeftAside (heapVerdict g ts) ≡ false
 unfolding heapVerdict
-late-stays n [] e = refl
-late-stays n (shared r holds ∷ ts) e =
-    let (l, ls) = and-eq-true-iff (not (isLeftAside (some r) && holds n)) (isLate n ts) .0 e in
-    by-test (holds n) (λ h. rw h (not-true _ (rw (h, and-true) at l))) (λ h. rw h (late-stays n ts ls))
-late-stays n (own r holds ∷ ts) e = late-stays n ts e
+late-stays g [] e = refl
+late-stays g (shared r holds ∷ ts) e =
+    let (l, ls) = and-eq-true-iff (not (isLeftAside (some r) && holds g)) (isLate g ts) .0 e in
+    by-test (holds g) (λ h. rw h (not-true _ (rw (h, and-true) at l))) (λ h. rw h (late-stays g ts ls))
+late-stays g (own r holds ∷ ts) e = late-stays g ts e
 
 -- with no test of the pool's own, none holds
-shared-clear : (m : Memory) (xs : List Expiration) (ts : List Test) → isShared ts ≡ true → isClear m xs ts ≡ true
-shared-clear m xs [] e = refl
-shared-clear m xs (shared r holds ∷ ts) e = shared-clear m xs ts e
-shared-clear m xs (own r holds ∷ ts) e = absurd (false≢true e)
+shared-clear : (f : Facts) (ts : List Test) → isShared ts ≡ true → isClear f ts ≡ true
+shared-clear f [] e = refl
+shared-clear f (shared r holds ∷ ts) e = shared-clear f ts e
+shared-clear f (own r holds ∷ ts) e = absurd (false≢true e)
 
 -- the heap never gives a refusal of the pool's own
-pub heap-not-own : (n : Memory) (ts : List Test) → isOrdered n ts ≡ true → isOwnVerdict (heapVerdict n ts) ≡ false
+pub heap-not-own : (g : Facts) (ts : List Test) → isOrdered g ts ≡ true → isOwnVerdict (heapVerdict g ts) ≡ false
 unfolding heapVerdict
-heap-not-own n [] e = refl
-heap-not-own n (shared r holds ∷ ts) e =
-    let (o, p, es) = and₃ (not (isOwn r)) (isLeftAside (some r) || isShared ts) (isOrdered n ts) e in
-    by-test (holds n) (λ h. rw h (not-true _ o)) (λ h. rw h (heap-not-own n ts es))
-heap-not-own n (own r holds ∷ ts) e = let (o, l, es) = and₃ (isOwn r) (isLate n ts) (isOrdered n ts) e in heap-not-own n ts es
+heap-not-own g [] e = refl
+heap-not-own g (shared r holds ∷ ts) e =
+    let (o, p, es) = and₃ (not (isOwn r)) (isLeftAside (some r) || isShared ts) (isOrdered g ts) e in
+    by-test (holds g) (λ h. rw h (not-true _ o)) (λ h. rw h (heap-not-own g ts es))
+heap-not-own g (own r holds ∷ ts) e = let (o, l, es) = and₃ (isOwn r) (isLate g ts) (isOrdered g ts) e in heap-not-own g ts es
 
 -- how the two verdicts compare, where `fine` says that the call is left aside or that no test of the pool's own holds
 pub data Compared (fine : Bool) (pool heap : Option Refusal) : Type 0 where
   alike : fine ≡ true → pool ≡ heap → Compared fine pool heap
   apart : fine ≡ false → isOwnVerdict pool ≡ true → Compared fine pool heap
 
-pub compared : (m : Memory) (xs : List Expiration) (n : Memory) (ts : List Test) → isOrdered n ts ≡ true → Agree m xs n ts
-    → Compared (isLeftAside (heapVerdict n ts) || isClear m xs ts) (verdict m xs ts) (heapVerdict n ts)
+pub compared : (f g : Facts) (ts : List Test) → isOrdered g ts ≡ true → Agree f g ts
+    → Compared (isLeftAside (heapVerdict g ts) || isClear f ts) (verdict f ts) (heapVerdict g ts)
 unfolding heapVerdict verdict
-compared m xs n [] e a = alike refl refl
-compared m xs n (shared r holds ∷ ts) e (a, rest) =
-    let (o, p, es) = and₃ (not (isOwn r)) (isLeftAside (some r) || isShared ts) (isOrdered n ts) e in
-    by-test (holds n)
-    (λ h. rw (a, h) (alike (or-map (isLeftAside (some r)) (shared-clear m xs ts) p) refl))
-    (λ h. rw (a, h) (compared m xs n ts es rest))
-compared m xs n (own r holds ∷ ts) e a =
-    let (o, l, es) = and₃ (isOwn r) (isLate n ts) (isOrdered n ts) e in
-    by-test (holds m xs) (λ h. rw (h, late-stays n ts l) (apart refl o)) (λ h. rw h (compared m xs n ts es (a h)))
+compared f g [] e a = alike refl refl
+compared f g (shared r holds ∷ ts) e (a, rest) =
+    let (o, p, es) = and₃ (not (isOwn r)) (isLeftAside (some r) || isShared ts) (isOrdered g ts) e in
+    by-test (holds g)
+    (λ h. rw (a, h) (alike (or-map (isLeftAside (some r)) (shared-clear f ts) p) refl))
+    (λ h. rw (a, h) (compared f g ts es rest))
+compared f g (own r holds ∷ ts) e a =
+    let (o, l, es) = and₃ (isOwn r) (isLate g ts) (isOrdered g ts) e in
+    by-test (holds f) (λ h. rw (h, late-stays g ts l) (apart refl o)) (λ h. rw h (compared f g ts es (a h)))

@@ -8,9 +8,10 @@ use mathlib.Core.Path.{_≡_}
 use lib.Dec.{eqb}
 use Rattle.ledger.specs.Numbers.{numberOf}
 use Rattle.ledger.specs.Expirations.{Expiration}
-use Rattle.ledger.specs.Objects.{Memory, Reply, freshMemory}
-use Rattle.ledger.specs.Refusals.{heapVerdict}
+use Rattle.ledger.specs.Objects.{Memory, Reply, freshMemory, stands, standing, handlesOf}
+use Rattle.ledger.specs.Refusals.{heapVerdict, factsOf}
 use Rattle.ledger.specs.Rules.{testsOf, replyTo, memoryAfter, expirationsAfter, isInTimeAndBounds}
+use Rattle.ledger.specs.Shares.{isFull, isShortOf, isAtLimit}
 use Rattle.ledger.specs.Ledger.{Sent, fresh, replies, replyBy, afterBy}
 use Rattle.ledger.specs.declared.Request.the-variants.{Use}
 use Rattle.ledger.specs.declared.Call.{Call}
@@ -19,7 +20,7 @@ use Rattle.ledger.specs.declared.Limits.{Limits}
 
 -- H3: the heap is a memory that never takes an object back.
 abbrev pub heapVerdictOn : Memory → Call → List ℕ → Option Refusal
-heapVerdictOn m call new = heapVerdict m (testsOf call new)
+heapVerdictOn m call new = heapVerdict (factsOf m []) (testsOf call new)
 
 unfoldable pub heapReply : Memory → Call → List ℕ → Reply
 heapReply m call new = replyBy (heapVerdictOn m call new) (replyTo call m)

@@ -4,7 +4,7 @@ use mathlib.Core.List.{List, [], _∷_}
 use mathlib.Core.Option.{Option, none, some}
 use Rattle.ledger.specs.Expirations.{Expiration}
 use Rattle.ledger.specs.Objects.{Memory, Reply, freshMemory, plain, standing, withObjects, usage}
-use Rattle.ledger.specs.Refusals.{standingTests, verdict}
+use Rattle.ledger.specs.Refusals.{standingTests, verdict, Facts, factsOf}
 use Rattle.ledger.specs.Rules.{replyTo, memoryAfter, expirationsAfter, testsOf}
 use Rattle.ledger.specs.Remaining.{remainingLife}
 use Rattle.ledger.specs.declared.Answer.the-variants.{Refused, Counted, Lasts}
@@ -40,11 +40,14 @@ abbrev pub afterBy {ℓ} : {A : Type ℓ} → Option Refusal → A → A → A
 afterBy none next now = next
 afterBy (some r) next now = now
 
+abbrev pub factsIn : Ledger → Facts
+factsIn L = factsOf (L .memory) (L .expirations)
+
 abbrev pub verdictOn : Ledger → Call → List ℕ → Option Refusal
-verdictOn L call new = verdict (L .memory) (L .expirations) (testsOf call new)
+verdictOn L call new = verdict (factsIn L) (testsOf call new)
 
 abbrev pub standingVerdictOn : Ledger → ℕ → ℕ → Option Refusal
-standingVerdictOn L task handle = verdict (L .memory) (L .expirations) (standingTests task handle)
+standingVerdictOn L task handle = verdict (factsIn L) (standingTests task handle)
 
 unfoldable pub reply : Ledger → Call → List ℕ → Reply
 reply L call new = replyBy (verdictOn L call new) (replyTo call (L .memory))

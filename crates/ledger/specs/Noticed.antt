@@ -12,7 +12,7 @@ use Rattle.lists.specs.Blocks.{overwritten}
 use Rattle.lists.specs.Tests.{any, All}
 use Rattle.ledger.specs.Objects.{Object, withBytes, withObjects, Reply, freshMemory, plain, objectAt, isIntact, stands}
 use Rattle.ledger.specs.Refusals.{Test, standingTests, writingTests, verdict}
-use Rattle.ledger.specs.Ledger.{Ledger, Sent, fresh, replyBy, replyToRequest, afterSent, replies, afterAll}
+use Rattle.ledger.specs.Ledger.{Ledger, Sent, fresh, factsIn, replyBy, replyToRequest, afterSent, replies, afterAll}
 use Rattle.ledger.specs.Heap.{Used, heapReplies}
 use Rattle.ledger.specs.Numbers.{isRefusal}
 use Rattle.ledger.specs.declared.Answer.the-variants.{Refused}
@@ -69,7 +69,7 @@ earlierTests handle (Remaining task used) = none
 -- where no earlier test refuses it; any other call is answered as that ledger does
 unfoldable pub noticedBy : Option (List Test) → Ledger → Sent → Reply
 noticedBy none L s = replyToRequest L (s .request) (s .bytes)
-noticedBy (some tests) L s = replyBy (verdict (L .memory) (L .expirations) tests) (plain (Refused SumDiffers))
+noticedBy (some tests) L s = replyBy (verdict (factsIn L) tests) (plain (Refused SumDiffers))
 
 abbrev pub noticed : ℕ → Ledger → Sent → Reply
 noticed handle L s = noticedBy (earlierTests handle (s .request)) L s

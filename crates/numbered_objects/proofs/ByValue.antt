@@ -1,8 +1,9 @@
 -- What a call finds in the columns of a record by value, lent where they are, it finds in the record.
 use Prim.Native.Nat.{ℕ}
 use mathlib.Core.Bool.{true}
-use mathlib.Core.List.{List}
+use mathlib.Core.List.{List, []}
 use mathlib.Core.Path.{_≡_}
+use Rattle.ledger.specs.Rules.{testsOf}
 use Rattle.ledger.specs.declared.Answer.{Answer}
 use Rattle.ledger.specs.declared.Answer.the-variants.{Counted}
 use Rattle.ledger.specs.declared.Call.the-variants.{Read}
@@ -15,7 +16,6 @@ use Rattle.record.specs.declared.Head.{Head}
 use Rattle.record.specs.declared.Pool.{Pool}
 use Rattle.expirations.specs.Standing.{standingOf}
 use Rattle.expirations.proofs.Counting.{standing-of}
-use Rattle.steps.specs.Objects.{readVerdict}
 use Rattle.objects.specs.Outcomes.{shownIn}
 use Rattle.objects.specs.Usage.{usageIn}
 use Rattle.objects.specs.declared.FoundBytes.{FoundBytes}
@@ -33,7 +33,8 @@ module _ (p : Pool) {h : Head} (e : h ≡ headOf p) where
 
   pub located-by-value : HeadTyped (headOf p) → Sized (p .handles) (p .extents) (p .clocks) (p .named) (p .dues) → (task handle : ℕ) {small large : List ℕ}
       → Ready (Use (Read task handle)) p small large → {f : FoundBytes}
-      → f ≡ shownIn (readVerdict task handle small large) task handle (lent h (p .handles) (p .extents) (p .clocks) (p .named) (p .dues))
+      → f ≡ shownIn small large (testsOf (Read task handle) []) task handle
+      (lent h (p .handles) (p .extents) (p .clocks) (p .named) (p .dues))
       → Locates task handle p small large f
   located-by-value types sized task handle ready found = read-locates types sized task handle ready _ (rw e at found)
 

@@ -9,6 +9,9 @@ use Rattle.lists.proofs.Cases.{by-test}
 use Rattle.lists.proofs.Counts.{count-map}
 use Rattle.lists.proofs.First.{first-map}
 use Rattle.ledger.specs.Limits.{taskCount, isSmall}
+use Rattle.ledger.specs.Refusals.{verdict}
+use Rattle.ledger.specs.Rules.{testsOf}
+use Rattle.ledger.specs.declared.Call.the-variants.{Make}
 use Rattle.ledger.specs.declared.Kind.{Kind}
 use Rattle.ledger.specs.declared.Limits.{Limits}
 use Rattle.record.specs.Tables.{BlockEntry, ExpirationEntry, blocksOf, tablesBy, blockEntries}
@@ -16,7 +19,8 @@ use Rattle.record.specs.declared.Head.{Head}
 use Rattle.record.proofs.Columns.{handles-of}
 use Rattle.shares.specs.Holdings.{Holds}
 use Rattle.shares.specs.declared.Holding.{Holding}
-use Rattle.steps.specs.Objects.{placeOf, placeIn, freePlace, freePlaceIn, standingIn, makeVerdict}
+use Rattle.steps.specs.Objects.{placeOf, placeIn, freePlace, freePlaceIn, standingIn}
+use Rattle.steps.specs.Facts.{verdictWith, verdictBy}
 use Rattle.steps.specs.Usage.{usageOf}
 use Rattle.objects.specs.Outcomes.{makePlan}
 use Rattle.objects.specs.Usage.{usageIn}
@@ -59,8 +63,9 @@ module _ (hs ls : List ℕ) (a : length hs ≡ blockEntries) (b : length ls ≡ 
     usage-of = ap (λ hs′. usageIn (h .given) hs′ (standingIn xs)) (sym (handles-of hs ls a b)) ∙ usage-in h (blocksOf hs ls) xs
 
     pub make-planned : (task : ℕ) (kind : Kind) (extension size prefix : ℕ) (holding : Holding) → Holds (isSmall size) (h .shares) (blocksOf hs ls) holding
-        → makePlan task kind extension size prefix h (freePlaceIn (h .limits) size hs) holding (standingIn xs) .verdict ≡ makeVerdict task kind extension size prefix (tablesBy h (blocksOf hs ls) xs)
-    unfolding makePlan makeVerdict tablesBy
+        → makePlan task kind extension size prefix h (freePlaceIn (h .limits) size hs) holding (standingIn xs) .verdict
+        ≡ verdictBy (testsOf (Make task kind extension size prefix) []) (tablesBy h (blocksOf hs ls) xs)
+    unfolding makePlan verdictWith verdict testsOf tablesBy
     make-planned task kind extension size prefix holding holds =
         by-test (leb taskCount task)
         (λ e. rw e)

@@ -1,15 +1,18 @@
 -- Laws of a make: its tests in the two parts in which they are made, and what it decides by what the tasks have of the store.
 use Prim.Native.Nat.{ℕ, _+_, _-_, _≤_, _<_}
 use native.Mathlib.Omega.{arith}
-use mathlib.Core.Bool.{Bool, true}
-use mathlib.Core.List.{List}
+use mathlib.Core.Bool.{Bool, true, false}
+use mathlib.Core.List.{List, []}
 use mathlib.Core.Path.{_≡_, sym, ap, _∙_}
 use borrow.Author.Tests.{le-leb, leb-true}
 use lib.Dec.{leb}
 use Rattle.lists.proofs.Cases.{same-test}
 use Rattle.lists.proofs.Sums.{sum-at}
 use Rattle.ledger.specs.Limits.{taskCount, isSmall}
+use Rattle.ledger.specs.Refusals.{verdict, asVerdict}
+use Rattle.ledger.specs.Rules.{testsOf}
 use Rattle.ledger.specs.Shares.{blocksIn}
+use Rattle.ledger.specs.declared.Call.the-variants.{Make}
 use Rattle.ledger.specs.declared.Kind.{Kind}
 use Rattle.ledger.specs.declared.Limits.{Limits}
 use Rattle.ledger.specs.declared.Refusal.{Refusal}
@@ -22,10 +25,11 @@ use Rattle.record.specs.declared.Head.{Head}
 use Rattle.record.specs.declared.TaskEntry.{TaskEntry}
 use Rattle.shares.specs.Holdings.{Holds}
 use Rattle.shares.specs.declared.Holding.{Holding}
-use Rattle.steps.specs.Objects.{andThen, taskVerdict, takingVerdict, isFilled, makeVerdictBy}
-use Rattle.steps.proofs.Chosen.{both-accept, task-known}
-use Rattle.steps.proofs.Verdicts.{then-assoc}
-use Rattle.refusals.specs.Verdicts.{makeCallVerdict}
+use Rattle.steps.specs.Facts.{isFilled}
+use Rattle.steps.specs.Objects.{stateIn}
+use Rattle.steps.specs.Parts.{partFacts}
+use Rattle.refusals.specs.Verdicts.{andThen, taskVerdict, makeCallVerdict, takingVerdict}
+use Rattle.refusals.proofs.Verdicts.{then-assoc, then-accepted, both-accept, test-then, no-test, task-tests, task-known}
 use Rattle.objects.specs.Outcomes.{isLimitedBy, isFilledBy, makePlan}
 use Rattle.objects.specs.declared.Plan.{Plan}
 
@@ -35,8 +39,12 @@ module _ (limits : Limits) (task : ℕ) (kind : Kind) (extension size prefix : �
 
   pub make-tests : (limited full : Bool) (standing : ℕ)
       → andThen (makeCallVerdict limits task kind extension size prefix tasks given) (takingVerdict limits limited full standing)
-      ≡ makeVerdictBy limits task kind extension size prefix tasks given limited full standing
-  make-tests limited full standing = simp then-assoc
+      ≡ asVerdict (verdict (partFacts limits (stateIn tasks) given (λ (handle : ℕ). true) standing limited full false)
+      (testsOf (Make task kind extension size prefix) []))
+  unfolding testsOf
+  make-tests limited full standing =
+      sym (task-tests (partFacts limits (stateIn tasks) given (λ (handle : ℕ). true) standing limited full false) true task _
+      ∙ simp (test-then, no-test, then-accepted, then-assoc))
 
 module _ (task : ℕ) (kind : Kind) (extension size prefix : ℕ) (h : Head) (holding : Holding) (standing : ℕ) where
   abbrev first : Verdict

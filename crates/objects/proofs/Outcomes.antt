@@ -1,14 +1,17 @@
--- Laws of the one finding: what a test before it or after it makes of it, and what the columns give.
-use Prim.Native.Nat.{ℕ, _<_}
+-- Laws of the one finding: what a test after it makes of it, its tests in parts, and what the columns give.
+use Prim.Native.Nat.{ℕ}
 use native.Mathlib.Nat.{zero-add}
 use native.Mathlib.Omega.{arith}
-use mathlib.Core.Bool.{Bool, true, false}
-use mathlib.Core.List.{List}
-use mathlib.Core.Path.{_≡_, refl, _∙_}
+use mathlib.Core.Bool.{Bool, true, false, Bool·not-not}
+use mathlib.Core.List.{List, [], _++_}
+use mathlib.Core.Path.{_≡_, refl, sym, _∙_}
 use borrow.Author.Tests.{eqb-true}
 use lib.Dec.{eqb}
 use lib.ListN.{length, getD}
 use Rattle.lists.proofs.First.{first-at}
+use Rattle.ledger.specs.Refusals.{Test, verdict}
+use Rattle.ledger.specs.Rules.{testsOf}
+use Rattle.ledger.specs.declared.Call.the-variants.{Refresh}
 use Rattle.ledger.specs.declared.Kind.{Kind}
 use Rattle.ledger.specs.declared.Life.{Life}
 use Rattle.ledger.specs.declared.Refusal.{Refusal}
@@ -23,15 +26,16 @@ use Rattle.record.proofs.Columns.{block-at, length-blocks}
 use Rattle.record.proofs.Facts.{fit-parts, fit-used}
 use Rattle.stores.specs.Places.{InBlock}
 use Rattle.stores.proofs.Places.{in-block}
-use Rattle.steps.specs.Objects.{isBlockOf, placeOf, placeIn, andThen, taskVerdict, kindVerdict, foundVerdict, handleVerdict, roomVerdict, refreshVerdict, standingVerdict}
+use Rattle.steps.specs.Facts.{isHere, factsWith, taskTests, handleTests, verdictWith, verdictBy}
+use Rattle.steps.specs.Objects.{isBlockOf, placeOf, placeIn, blockOf, standingIn}
 use Rattle.steps.specs.Remaining.{lifeIn, LifeWithin}
-use Rattle.steps.proofs.Chosen.{both-accept, handle-found, place-listed}
+use Rattle.steps.proofs.Chosen.{here-found}
 use Rattle.steps.proofs.Remaining.{life-within}
-use Rattle.steps.proofs.Verdicts.{then-assoc}
 use Rattle.expirations.specs.Standing.{standingOf}
 use Rattle.expirations.proofs.Counting.{standing-of}
-use Rattle.refusals.specs.Verdicts.{setVerdict}
-use Rattle.objects.specs.Outcomes.{foundBy, foundIf, lifeIf, bytesBy}
+use Rattle.refusals.specs.Verdicts.{andThen, taskVerdict, setVerdict, foundVerdict, roomVerdict}
+use Rattle.refusals.proofs.Verdicts.{then-assoc, then-accepted, test-then, no-test, tests-then, task-tests}
+use Rattle.objects.specs.Outcomes.{foundBy, foundIn, foundIf, lifeIf, bytesBy}
 use Rattle.objects.specs.declared.Found.the-variants.{At}
 use Rattle.objects.specs.declared.Found.the-variants.{Refused as RefusedFound}
 use Rattle.objects.specs.declared.FoundBytes.the-variants.{At as AtBytes}
@@ -39,13 +43,6 @@ use Rattle.objects.specs.declared.FoundBytes.the-variants.{Refused as Re
 use Rattle.objects.proofs.Laws.{place-of}
 
 module _ (asks : Bool) (task handle : ℕ) (p : Tables) where
-  -- a test before it
-  pub refused-before : (u v : Verdict) {why : Refusal} → u ≡ Refused why → RefusedFound why ≡ foundBy asks (andThen u v) task handle p
-  refused-before u v e = rw e
-
-  pub accepted-before : (u v : Verdict) → u ≡ Accepted → foundBy asks v task handle p ≡ foundBy asks (andThen u v) task handle p
-  accepted-before u v e = rw e
-
   -- a test after it
   pub tested-after : (v w : Verdict) → foundIf (foundBy asks v task handle p) w ≡ foundBy asks (andThen v w) task handle p
   tested-after Accepted Accepted = refl
@@ -75,55 +72,75 @@ module _ (handle : ℕ) (p : Tables) where
   bytes-accepted Accepted e = (refl, cc, cc, cc)
   bytes-accepted (Refused r) e = (cc, cc, cc, cc)
 
--- an accepted one's block is one of the blocks'
-pub standing-listed : (acts : Bool) (task handle : ℕ) (p : Tables) → standingVerdict acts task handle p ≡ Accepted → placeOf handle (p .blocks) < blockEntries
-unfolding standingVerdict
-standing-listed acts task handle p v = place-listed handle (p .given) _ (both-accept (taskVerdict acts task (p .tasks)) _ v .1)
-
--- and in use
-pub standing-used : (acts : Bool) (task handle : ℕ) (p : Tables) → length (p .blocks) ≡ blockEntries → standingVerdict acts task handle p ≡ Accepted
-    → eqb (getD (p .blocks) (placeOf handle (p .blocks)) freeBlock .handle) 0 ≡ false
-unfolding standingVerdict
-standing-used acts task handle p size v =
-    let (nonzero, place) = handle-found handle (p .given) (placeOf handle (p .blocks)) (both-accept (taskVerdict acts task (p .tasks)) _ v .1) in
+-- the block of an object that has one is in use
+pub here-used : (handle : ℕ) (p : Tables) → length (p .blocks) ≡ blockEntries → isHere (p .blocks) handle ≡ true
+    → eqb (blockOf handle (p .blocks) .handle) 0 ≡ false
+here-used handle p size h =
+    let (nonzero, place) = here-found handle (p .blocks) h in
     let (k, listed, at, its) = first-at (isBlockOf handle) freeBlock 0 (p .blocks) (rw (zero-add, size) place) in
     let here : placeOf handle (p .blocks) ≡ k = omega (arith, at) in
     rw (here, eqb-true _ handle its) nonzero
 
 -- so its bytes lie in stores that are as long as the figures need
-pub standing-block : (h : Head) {hs ls cs ns ds small large : List ℕ} → Sized hs ls cs ns ds → (acts : Bool) (task handle : ℕ)
+pub here-block : (h : Head) {hs ls cs ns ds small large : List ℕ} → Sized hs ls cs ns ds → (handle : ℕ)
     → (let p = lent h hs ls cs ns ds in isWellFormed p ≡ true → isWholeSmall (h .limits) small ≡ true → isWholeLarge (h .limits) large ≡ true
-    → standingVerdict acts task handle p ≡ Accepted → InBlock small large (placeOf handle (p .blocks)) (sizeOf (placeOf handle (p .blocks))))
+    → isHere (p .blocks) handle ≡ true → InBlock small large (placeOf handle (p .blocks)) (sizeOf (placeOf handle (p .blocks))))
 unfolding tablesBy
-standing-block h {hs} {ls} {cs} {ns} {ds} sized acts task handle w s l v =
+here-block h {hs} {ls} {cs} {ns} {ds} sized handle w s l here =
     let p = lent h hs ls cs ns ds in
     let fit = fit-parts p w in
     let size = length-blocks hs ls (sized .blocks .of-handles) (sized .blocks .of-extents) in
-    in-block (h .limits) (fit .allowed) s l (fit-used fit _ (standing-used acts task handle p size v) .listed) (omega arith)
+    in-block (h .limits) (fit .allowed) s l (fit-used fit _ (here-used handle p size here) .listed) (omega arith)
 
--- the tests of a refresh, before it and after it
+-- tests that look at no bytes are the same with whatever stores
+pub using-blind : (small large : List ℕ) (acts : Bool) (task handle : ℕ) (p : Tables)
+    → verdictWith small large (taskTests acts task (handleTests handle)) p ≡ verdictBy (taskTests acts task (handleTests handle)) p
+unfolding verdictWith verdict
+using-blind small large true task handle p = refl
+using-blind small large false task handle p = refl
+
+-- the tests of a use are its task's, and then those of its object
+pub using-tests : (acts : Bool) (task handle : ℕ) (p : Tables)
+    → andThen (taskVerdict acts task (p .tasks)) (verdictBy (handleTests handle) p) ≡ verdictBy (taskTests acts task (handleTests handle)) p
+unfolding verdictWith
+using-tests acts task handle p = sym (task-tests (factsWith [] [] p) acts task (handleTests handle))
+
+-- one test more
+pub with-test : (small large : List ℕ) (ts us : List Test) (p : Tables)
+    → verdictWith small large (ts ++ us) p ≡ andThen (verdictWith small large ts p) (verdictWith small large us p)
+unfolding verdictWith
+with-test small large ts us p = tests-then (factsWith small large p) ts us
+
+-- the tests of a refresh: those before the finding, its own, and the one after it
 abbrev pub firstVerdict : ℕ → Kind → ℕ → Head → Verdict
 firstVerdict task kind extension h = andThen (taskVerdict true task (h .tasks)) (setVerdict (h .limits) kind extension)
 
 module _ (task : ℕ) (kind : Kind) (extension handle : ℕ) (h : Head) (hs ls cs ns ds : List ℕ) where
+  refresh-tests : verdictBy (testsOf (Refresh task kind extension handle) []) (lent h hs ls cs ns ds)
+      ≡ andThen (firstVerdict task kind extension h)
+      (andThen (verdictBy (handleTests handle) (lent h hs ls cs ns ds)) (roomVerdict (h .limits) (standingIn (entriesOf cs ns ds))))
+  unfolding verdictWith testsOf tablesBy
+  refresh-tests =
+      task-tests (factsWith [] [] (lent h hs ls cs ns ds)) true task _ ∙ simp (test-then, no-test, then-accepted, then-assoc)
+
   pub refresh-refused : {why : Refusal} → firstVerdict task kind extension h ≡ Refused why
-      → RefusedFound why ≡ foundBy false (refreshVerdict task kind extension handle (lent h hs ls cs ns ds)) task handle (lent h hs ls cs ns ds)
-  unfolding refreshVerdict tablesBy
-  refresh-refused e = rw (← then-assoc (kindVerdict kind), ← then-assoc (taskVerdict true task (h .tasks))) (refused-before false task handle (lent h hs ls cs ns ds) (firstVerdict task kind extension h) _ e)
+      → RefusedFound why ≡ foundIn false (testsOf (Refresh task kind extension handle) []) task handle (lent h hs ls cs ns ds)
+  refresh-refused e = rw (refresh-tests, e)
 
   pub refresh-found : SizedEntries cs ns ds → firstVerdict task kind extension h ≡ Accepted
-      → foundIf (foundBy false (handleVerdict handle (lent h hs ls cs ns ds)) task handle (lent h hs ls cs ns ds)) (roomVerdict (h .limits) (standingOf cs))
-      ≡ foundBy false (refreshVerdict task kind extension handle (lent h hs ls cs ns ds)) task handle (lent h hs ls cs ns ds)
-  unfolding refreshVerdict tablesBy
+      → foundIf (foundIn false (handleTests handle) task handle (lent h hs ls cs ns ds)) (roomVerdict (h .limits) (standingOf cs))
+      ≡ foundIn false (testsOf (Refresh task kind extension handle) []) task handle (lent h hs ls cs ns ds)
   refresh-found sized e =
       let p = lent h hs ls cs ns ds in
-      rw (standing-of sized, ← then-assoc (kindVerdict kind), ← then-assoc (taskVerdict true task (h .tasks))) (tested-after false task handle p (handleVerdict handle p) _ ∙ accepted-before false task handle p (firstVerdict task kind extension h) _ e)
+      rw (standing-of sized, refresh-tests, e) (tested-after false task handle p (verdictBy (handleTests handle) p) _)
 
 module _ (h : Head) {hs ls cs ns ds : List ℕ} (sized : Sized hs ls cs ns ds) (asks : Bool) (task handle : ℕ) where
   -- 11 and 12 by the handles
-  pub verdict-at : foundVerdict handle (h .given) (placeIn handle hs) ≡ handleVerdict handle (lent h hs ls cs ns ds)
-  unfolding tablesBy
-  verdict-at = rw (place-of hs ls (sized .blocks .of-handles) (sized .blocks .of-extents) handle)
+  pub verdict-at : foundVerdict handle (h .given) (placeIn handle hs) ≡ verdictBy (handleTests handle) (lent h hs ls cs ns ds)
+  unfolding verdictWith tablesBy
+  verdict-at =
+      rw (place-of hs ls (sized .blocks .of-handles) (sized .blocks .of-extents) handle)
+      (simp (test-then, no-test, then-accepted, Bool·not-not))
 
   -- what stands at the handle's place
   pub found-at : At (placeIn handle hs) (lifeIf asks (lifeIn task (placeIn handle hs) (h .tasks) (h .global) (entriesOf cs ns ds)))

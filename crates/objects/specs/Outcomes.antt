@@ -8,16 +8,21 @@ use Rattle.ledger.specs.declared.Life.{Life}
 use Rattle.ledger.specs.declared.Verdict.{Verdict}
 use Rattle.ledger.specs.declared.Verdict.the-variants.{Accepted, Refused}
 use Rattle.record.specs.Codes.{freeBlock}
-use mathlib.Core.List.{List}
+use mathlib.Core.List.{List, []}
 use Rattle.ledger.specs.Limits.{isSmall}
 use Rattle.ledger.specs.Objects.{noShare}
+use Rattle.ledger.specs.Refusals.{Test, verdict, asVerdict}
+use Rattle.ledger.specs.Rules.{testsOf}
+use Rattle.ledger.specs.declared.Call.the-variants.{Make}
 use Rattle.ledger.specs.Shares.{quotaIn, blocksIn}
 use Rattle.ledger.specs.declared.Limits.{Limits}
 use Rattle.ledger.specs.declared.Share.{Share}
 use Rattle.record.specs.Tables.{Tables}
 use Rattle.record.specs.declared.Head.{Head}
 use Rattle.shares.specs.declared.Holding.{Holding}
-use Rattle.steps.specs.Objects.{placeOf, stateIn, shownLength, makeVerdictBy}
+use Rattle.steps.specs.Facts.{verdictWith, verdictBy}
+use Rattle.steps.specs.Objects.{placeOf, stateIn, shownLength}
+use Rattle.steps.specs.Parts.{partFacts}
 use Rattle.steps.specs.Remaining.{lifeIn}
 use Rattle.objects.specs.declared.Plan.{Plan}
 use Rattle.objects.specs.declared.Found.{Found}
@@ -40,8 +45,8 @@ foundBy asks Accepted task handle p =
 foundBy asks (Refused r) task handle p = RefusedFound r
 
 -- by the tests of a call
-abbrev pub foundIn : Bool → (Tables → Verdict) → ℕ → ℕ → Tables → Found
-foundIn asks verdict task handle p = foundBy asks (verdict p) task handle p
+abbrev pub foundIn : Bool → List Test → ℕ → ℕ → Tables → Found
+foundIn asks tests task handle p = foundBy asks (verdictBy tests p) task handle p
 
 -- what was found, if one test more accepts
 abbrev pub foundIf : Found → Verdict → Found
@@ -58,16 +63,16 @@ bytesOf (At block life) p = AtBytes block (getD (p .blocks) block freeBlock .len
 abbrev pub bytesBy : Verdict → ℕ → Tables → FoundBytes
 bytesBy verdict handle p = bytesOf (foundBy false verdict 0 handle p) p
 
-abbrev pub bytesIn : (Tables → Verdict) → ℕ → Tables → FoundBytes
-bytesIn verdict handle p = bytesBy (verdict p) handle p
+abbrev pub bytesIn : List ℕ → List ℕ → List Test → ℕ → Tables → FoundBytes
+bytesIn small large tests handle p = bytesBy (verdictWith small large tests p) handle p
 
 -- V5: and a read goes on by as many bytes as its task is shown
 abbrev pub shownOf : ℕ → Tables → FoundBytes → FoundBytes
 shownOf task p (RefusedBytes r) = RefusedBytes r
 shownOf task p (AtBytes block length sum) = AtBytes block (shownLength (stateIn (p .tasks) task) (getD (p .blocks) block freeBlock)) sum
 
-abbrev pub shownIn : (Tables → Verdict) → ℕ → ℕ → Tables → FoundBytes
-shownIn verdict task handle p = shownOf task p (bytesIn verdict handle p)
+abbrev pub shownIn : List ℕ → List ℕ → List Test → ℕ → ℕ → Tables → FoundBytes
+shownIn small large tests task handle p = shownOf task p (bytesIn small large tests handle p)
 
 -- 26 and 9, by what the tasks have of the store
 abbrev pub isLimitedBy : Bool → List Share → Holding → ℕ → Bool
@@ -82,7 +87,11 @@ unfoldable pub makePlan : ℕ → Kind → ℕ → ℕ → ℕ → Head → ℕ 
 makePlan task kind extension size prefix h place holding standing =
     record {
       verdict =
-          makeVerdictBy (h .limits) task kind extension size prefix (h .tasks) (h .given) (isLimitedBy (isSmall size) (h .shares) holding task)
-          (isFilledBy (isSmall size) (h .limits) (h .shares) holding task) standing;
+          asVerdict
+          (verdict
+          (partFacts (h .limits) (stateIn (h .tasks)) (h .given) (λ (handle : ℕ). true) standing
+          (isLimitedBy (isSmall size) (h .shares) holding task)
+          (isFilledBy (isSmall size) (h .limits) (h .shares) holding task) false)
+          (testsOf (Make task kind extension size prefix) []));
       place = place;
     }

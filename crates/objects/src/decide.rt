@@ -5,7 +5,6 @@ ghost use lib.Dec.{leb};
 ghost use mathlib.Core.Path.{_≡_};
 ghost use Rattle.ledger.specs.Limits.{isAllowed};
 ghost use lib.ListN.{length};
-ghost use Rattle.ledger.specs.Objects.{handlesOf};
 ghost use Rattle.record.specs.Tables.{blockEntries};
 ghost use Rattle.steps.specs.Objects.{freePlaceIn};
 ghost use Rattle.objects.specs.Batches.{PlansBatch};
@@ -107,7 +106,7 @@ pub fn plan_batch(
     bytes: &[u8],
 ) -> BatchPlan
     requires { ⌜ length (now handles) ≡ blockEntries ⌝ }
-    ensures { λ r. ⌜ PlansBatch task kind extension (handlesOf (now (bytes .entry))) h (now (handles .entry)) standing r ⌝ }
+    ensures { λ r. ⌜ PlansBatch task kind extension (now (bytes .entry)) h (now (handles .entry)) standing r ⌝ }
 {
     let count = bytes.len() / 4;
     let tasks = h.tasks;

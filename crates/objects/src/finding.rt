@@ -1,13 +1,17 @@
 // Where an object is: one finding (O30), which remaining life, refresh, release, read and write make after the tests that go before it. The record is well-formed, or its figures would not fit; `extents` are lent for that alone where no length is asked.
-ghost use Prim.Native.Nat.{_<_};
+ghost use Prim.Native.Nat.{ℕ, _<_};
 ghost use mathlib.Core.Bool.{true, false};
 ghost use mathlib.Core.Path.{_≡_};
+ghost use lib.ListN.{length};
 ghost use Rattle.ledger.specs.Limits.{taskCount};
 ghost use Rattle.record.specs.Reading.{isWholeSmall, isWholeLarge};
 ghost use Rattle.record.specs.Tables.{Sized, SizedEntries, entriesOf, blockEntries, lent};
 ghost use Rattle.record.specs.WellFormed.{isWellFormed};
 ghost use Rattle.steps.specs.Remaining.{lifeIn, LifeWithin};
-ghost use Rattle.steps.specs.Objects.{handleVerdict, standingVerdict, intactVerdict, readVerdict, writeVerdict, refreshVerdict, releaseVerdict};
+ghost use mathlib.Core.List.{List, [], _∷_, _++_};
+ghost use Rattle.ledger.specs.Refusals.{sumDiffers, testsOf};
+ghost use Rattle.ledger.specs.declared.Call.the-variants.{Read, Refresh, Release, Write};
+ghost use Rattle.steps.specs.Facts.{taskTests, handleTests};
 ghost use Rattle.objects.specs.Outcomes.{foundIn, foundIf, lifeIf, bytesIn, shownIn};
 use super::Found;
 use super::FoundBytes;
@@ -70,7 +74,7 @@ fn find<'a>(
     asks: bool,
 ) -> Found
     requires { ⌜ Sized (now handles) (now extents) (now clocks) (now named) (now dues) × (isWellFormed (lent h (now handles) (now extents) (now clocks) (now named) (now dues)) ≡ true) × (task < taskCount) ⌝ }
-    ensures { λ r. ⌜ r ≡ foundIn asks (handleVerdict handle) task handle (lent h (now (handles .entry)) (now (extents .entry)) (now (clocks .entry)) (now (named .entry)) (now (dues .entry))) ⌝ }
+    ensures { λ r. ⌜ r ≡ foundIn asks (handleTests handle) task handle (lent h (now (handles .entry)) (now (extents .entry)) (now (clocks .entry)) (now (named .entry)) (now (dues .entry))) ⌝ }
 {
     let place = locate(handles, handle);
     match found_verdict(handle, h.given, place) {
@@ -110,7 +114,7 @@ pub fn find_standing<'a>(
     asks: bool,
 ) -> Found
     requires { ⌜ Sized (now handles) (now extents) (now clocks) (now named) (now dues) × (isWellFormed (lent h (now handles) (now extents) (now clocks) (now named) (now dues)) ≡ true) ⌝ }
-    ensures { λ r. ⌜ r ≡ foundIn asks (standingVerdict acts task handle) task handle (lent h (now (handles .entry)) (now (extents .entry)) (now (clocks .entry)) (now (named .entry)) (now (dues .entry))) ⌝ }
+    ensures { λ r. ⌜ r ≡ foundIn asks (taskTests acts task (handleTests handle)) task handle (lent h (now (handles .entry)) (now (extents .entry)) (now (clocks .entry)) (now (named .entry)) (now (dues .entry))) ⌝ }
 {
     let tasks = h.tasks;
     match task_verdict(acts, task, tasks) {
@@ -134,7 +138,7 @@ fn find_bytes<'a>(
     acts: bool,
 ) -> FoundBytes
     requires { ⌜ Sized (now handles) (now extents) (now clocks) (now named) (now dues) × (isWellFormed (lent h (now handles) (now extents) (now clocks) (now named) (now dues)) ≡ true) × (isWholeSmall (h .limits) (now small) ≡ true) × (isWholeLarge (h .limits) (now large) ≡ true) ⌝ }
-    ensures { λ r. ⌜ r ≡ bytesIn (intactVerdict acts task handle (now (small .entry)) (now (large .entry))) handle (lent h (now (handles .entry)) (now (extents .entry)) (now (clocks .entry)) (now (named .entry)) (now (dues .entry))) ⌝ }
+    ensures { λ r. ⌜ r ≡ bytesIn (now (small .entry)) (now (large .entry)) (taskTests acts task (handleTests handle) ++ (sumDiffers handle ∷ [])) handle (lent h (now (handles .entry)) (now (extents .entry)) (now (clocks .entry)) (now (named .entry)) (now (dues .entry))) ⌝ }
 {
     match find_standing(
         h,
@@ -181,7 +185,7 @@ pub fn find_for_read<'a>(
         × (isWellFormed (lent h (now handles) (now extents) (now clocks) (now named) (now dues)) ≡ true)
         × (isWholeSmall (h .limits) (now small) ≡ true)
         × (isWholeLarge (h .limits) (now large) ≡ true) ⌝ }
-    ensures { λ r. ⌜ r ≡ shownIn (readVerdict task handle (now (small .entry)) (now (large .entry))) task handle (lent h (now (handles .entry)) (now (extents .entry)) (now (clocks .entry)) (now (named .entry)) (now (dues .entry))) ⌝ }
+    ensures { λ r. ⌜ r ≡ shownIn (now (small .entry)) (now (large .entry)) (testsOf (Read task handle) []) task handle (lent h (now (handles .entry)) (now (extents .entry)) (now (clocks .entry)) (now (named .entry)) (now (dues .entry))) ⌝ }
 {
     match find_bytes(
         h,
@@ -213,7 +217,7 @@ pub fn find_for_read<'a>(
     }
 }
 
-// The object that is written: count bytes from offset lie within its length.
+// The object that is written, with however many bytes: as many from the offset on lie within its length.
 pub fn find_for_write<'a>(
     h: Head,
     handles: &'a [u32; BLOCK_COUNT],
@@ -229,7 +233,8 @@ pub fn find_for_write<'a>(
     count: usize,
 ) -> FoundBytes
     requires { ⌜ Sized (now handles) (now extents) (now clocks) (now named) (now dues) × (isWellFormed (lent h (now handles) (now extents) (now clocks) (now named) (now dues)) ≡ true) × (isWholeSmall (h .limits) (now small) ≡ true) × (isWholeLarge (h .limits) (now large) ≡ true) ⌝ }
-    ensures { λ r. ⌜ r ≡ bytesIn (writeVerdict task handle offset count (now (small .entry)) (now (large .entry))) handle (lent h (now (handles .entry)) (now (extents .entry)) (now (clocks .entry)) (now (named .entry)) (now (dues .entry))) ⌝ }
+    ensures { λ r. ⌜ ((new : List ℕ) → length new ≡ count
+        → r ≡ bytesIn (now (small .entry)) (now (large .entry)) (testsOf (Write task handle offset) new) handle (lent h (now (handles .entry)) (now (extents .entry)) (now (clocks .entry)) (now (named .entry)) (now (dues .entry)))) ⌝ }
 {
     match find_bytes(
         h,
@@ -269,7 +274,7 @@ pub fn find_for_refresh<'a>(
     handle: u32,
 ) -> Found
     requires { ⌜ Sized (now handles) (now extents) (now clocks) (now named) (now dues) × (isWellFormed (lent h (now handles) (now extents) (now clocks) (now named) (now dues)) ≡ true) ⌝ }
-    ensures { λ r. ⌜ r ≡ foundIn false (refreshVerdict task kind extension handle) task handle (lent h (now (handles .entry)) (now (extents .entry)) (now (clocks .entry)) (now (named .entry)) (now (dues .entry))) ⌝ }
+    ensures { λ r. ⌜ r ≡ foundIn false (testsOf (Refresh task kind extension handle) []) task handle (lent h (now (handles .entry)) (now (extents .entry)) (now (clocks .entry)) (now (named .entry)) (now (dues .entry))) ⌝ }
 {
     let tasks = h.tasks;
     match and_then(
@@ -306,7 +311,7 @@ pub fn find_for_release<'a>(
     handle: u32,
 ) -> Found
     requires { ⌜ Sized (now handles) (now extents) (now clocks) (now named) (now dues) × (isWellFormed (lent h (now handles) (now extents) (now clocks) (now named) (now dues)) ≡ true) ⌝ }
-    ensures { λ r. ⌜ r ≡ foundIn false (releaseVerdict task handle) task handle (lent h (now (handles .entry)) (now (extents .entry)) (now (clocks .entry)) (now (named .entry)) (now (dues .entry))) ⌝ }
+    ensures { λ r. ⌜ r ≡ foundIn false (testsOf (Release task handle) []) task handle (lent h (now (handles .entry)) (now (extents .entry)) (now (clocks .entry)) (now (named .entry)) (now (dues .entry))) ⌝ }
 {
     match find_standing(
         h,

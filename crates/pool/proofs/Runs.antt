@@ -16,7 +16,7 @@ use Rattle.ledger.specs.Limits.{counterRange}
 use Rattle.ledger.specs.Tasks.{isTested}
 use Rattle.ledger.specs.Numbers.{isRefusal}
 use Rattle.ledger.specs.Objects.{Reply, plain, handlesOf}
-use Rattle.ledger.specs.Refusals.{asRefusal}
+use Rattle.ledger.specs.Refusals.{verdict}
 use Rattle.ledger.specs.Rules.{replyTo, memoryAfter, expirationsAfter, testsOf}
 use Rattle.ledger.specs.Ledger.{reply, next}
 use Rattle.ledger.specs.declared.Answer.{Answer}
@@ -42,12 +42,12 @@ use Rattle.record.proofs.Columns.{block-at, entry-of}
 use Rattle.record.proofs.Facts.{fit-parts}
 use Rattle.stores.specs.Places.{smallAfter, largeAfter, sumAfter}
 use Rattle.steps.specs.Events.{verdictAt, leaverOf, keptBlock, swept, orphanedBlock, orphanedPool, movedPool, poolAfter, answerAfter, outcomeBy, scheduled}
-use Rattle.steps.specs.Joins.{joinVerdict, joinedPool}
-use Rattle.steps.specs.Objects.{freePlace, makeVerdict, refreshVerdict, readVerdict, writeVerdict, batchVerdict, releaseVerdict, madePool, refreshedPool, batchedPool, releasedPool}
+use Rattle.steps.specs.Facts.{verdictBy}
+use Rattle.steps.specs.Joins.{joinedPool}
+use Rattle.steps.specs.Objects.{freePlace, madePool, refreshedPool, batchedPool, releasedPool}
 use Rattle.steps.proofs.Chosen.{make-takes}
 use Rattle.steps.proofs.EventTypes.{InRange, typed-scheduled}
 use Rattle.steps.proofs.Joins.{joining, join-stays, join-reads, join-fits}
-use Rattle.steps.proofs.Verdicts.{join-verdict}
 use Rattle.steps.proofs.ObjectTypes.{typed-made, typed-refreshed, typed-released}
 use Rattle.objects.specs.Outcomes.{bytesIn, shownIn}
 use Rattle.objects.specs.declared.FoundBytes.{FoundBytes}
@@ -56,8 +56,8 @@ use Rattle.calls.specs.Contract.{isStored, areWhole, TellsWhole, Ready, Obeys}
 use Rattle.calls.specs.Served.{withoutBytes, Serves}
 use Rattle.calls.proofs.Lent.{lent-typed}
 use Rattle.calls.proofs.Meets.{make-kept, make-cleared, locates}
-use Rattle.calls.proofs.Outcomes.{refresh-refused, refresh-done, batch-refused, batch-done, release-refused, release-done}
-use Rattle.calls.proofs.Promises.{unfit-obeys, wrong-obeys, refused-obeys, carried-obeys, ready}
+use Rattle.calls.proofs.Outcomes.{blind-alike, blind-refused, refresh-done, batch-done, release-done}
+use Rattle.calls.proofs.Promises.{unfit-obeys, wrong-obeys, carried-obeys, ready}
 use Rattle.calls.proofs.Reported.{report-obeys, life-obeys}
 use Rattle.calls.proofs.Scheduled.{schedule-obeys}
 use Rattle.calls.proofs.Served.{whatever-bytes, schedule-serves, join-serves, refresh-serves, batch-serves, release-serves, report-serves, life-serves, make-serves, write-serves}
@@ -202,12 +202,17 @@ fine-released : (handle : ℕ) (t : Tables) → Fine t → Fine (releasedPool ha
 unfolding releasedPool
 fine-released handle t f = record { types = typed-released handle t (f .types); short = kept-short (releasedPool handle t .expirations) 0 (t .blocks) (f .short) }
 
-fine-made : (task : ℕ) (kind : Kind) (extension size prefix : ℕ) (t : Tables) → Fine t → WellFormed.isWellFormed t ≡ true → makeVerdict task kind extension size prefix t ≡ Accepted
+fine-made : (task : ℕ) (kind : Kind) (extension size prefix : ℕ) (t : Tables) → Fine t → WellFormed.isWellFormed t ≡ true
+    → verdictBy (testsOf (Make task kind extension size prefix) []) t ≡ Accepted
     → Fine (madePool task kind extension size prefix t)
 unfolding madePool
 fine-made task kind extension size prefix t f w v =
     let taken = make-takes task kind extension size prefix t (fit-parts t w) (f .types) v in
-    record { types = typed-made task kind extension size prefix t (f .types) v; short = all-set Short (t .blocks) _ (f .short) (omega (arith, taken .block .most), omega (arith, taken .may .known), omega (arith, taken .prefixed, taken .block .most)) }
+    record {
+      types = typed-made task kind extension size prefix t (f .types) (taken .unspent);
+      short = all-set Short (t .blocks) _
+          (f .short) (omega (arith, taken .block .most), omega (arith, taken .may .known), omega (arith, taken .prefixed, taken .block .most));
+    }
 
 -- A call that can be made
 record Made (request : Request) (new : List ℕ) (p : Pool) (small large : List ℕ) : Type 0 where
@@ -252,8 +257,9 @@ module _ (new : List ℕ) {p : Pool} (o : OfType p) (small large : List ℕ) whe
         served (schedule-serves new p small large event task (RefusedAnswer r) p
         (λ small large. schedule-obeys event task types w small large (rw e) (rw e) (λ why r. refl))) o
 
-    join-by : (task : ℕ) (share : Share) (v : Verdict) → joinVerdict task share (tablesOf p) ≡ v → Made (Use (Join task share)) new p small large
-    unfolding replyTo
+    join-by : (task : ℕ) (share : Share) (v : Verdict) → verdictBy (testsOf (Join task share) []) (tablesOf p) ≡ v
+        → Made (Use (Join task share)) new p small large
+    unfolding replyTo testsOf verdict
     join-by task share Accepted e =
         let t = joinedPool task share (tablesOf p) in
         let f = fine-joined task share (tablesOf p) fine in
@@ -261,18 +267,18 @@ module _ (new : List ℕ) {p : Pool} (o : OfType p) (small large : List ℕ) whe
         served (join-serves new p small large task share _ (poolBy t)
         (λ small large.
         carried-obeys (Join task share) [] p small large w (λ s. absurd (false≢true s)) (plain Done) (poolBy t) small large refl
-        (λ L reads. join-verdict types fit reads task share [] ∙ ap asRefusal e)
+        (λ L reads. blind-alike p types w small large (Join task share) [] (λ i j. refl) reads ∙ e)
         (λ L reads. refl) (λ L reads. rw (tables-by t f) (join-reads task share fit (joining task share (tablesOf p) e) reads))
         (rw (tables-by t f) (join-fits task share (tablesOf p) types w e)) (rw (tables-by t f) (join-stays task share (tablesOf p))) (refl, refl) (refl, refl)))
         (of-type-by t f)
     join-by task share (Refused r) e =
         served (join-serves new p small large task share _ p
-        (λ small large.
-        refused-obeys (Join task share) [] p small large w (λ s. absurd (false≢true s)) r
-        (λ L reads. join-verdict types (fit-parts (tablesOf p) w) reads task share [] ∙ ap asRefusal e))) o
+        (λ small large. blind-refused p types w small large (Join task share) [] (λ i j. refl) (λ s. absurd (false≢true s)) e)) o
 
-    refresh-by : (task : ℕ) (kind : Kind) (extension handle : ℕ) (v : Verdict) → refreshVerdict task kind extension handle (tablesOf p) ≡ v
+    refresh-by : (task : ℕ) (kind : Kind) (extension handle : ℕ) (v : Verdict)
+        → verdictBy (testsOf (Refresh task kind extension handle) []) (tablesOf p) ≡ v
         → Made (Use (Refresh task kind extension handle)) new p small large
+    unfolding testsOf verdict
     refresh-by task kind extension handle Accepted e =
         let t = refreshedPool task kind extension handle (tablesOf p) in
         let f = fine-refreshed task kind extension handle (tablesOf p) fine in
@@ -280,26 +286,32 @@ module _ (new : List ℕ) {p : Pool} (o : OfType p) (small large : List ℕ) whe
         (λ small large. refresh-done p types w small large task kind extension handle (tables-by t f) e)) (of-type-by t f)
     refresh-by task kind extension handle (Refused r) e =
         served (refresh-serves new p small large task kind extension handle _ p
-        (λ small large. refresh-refused p types w small large task kind extension handle r e)) o
+        (λ small large. blind-refused p types w small large (Refresh task kind extension handle) [] (λ i j. refl)
+        (λ s. absurd (false≢true s)) e)) o
 
-    batch-by : (task : ℕ) (kind : Kind) (extension : ℕ) (v : Verdict) → batchVerdict task kind extension (handlesOf new) (tablesOf p) ≡ v
+    batch-by : (task : ℕ) (kind : Kind) (extension : ℕ) (v : Verdict) → verdictBy (testsOf (Batch task kind extension) new) (tablesOf p) ≡ v
         → Made (Use (Batch task kind extension)) new p small large
+    unfolding testsOf verdict
     batch-by task kind extension Accepted e =
         let t = batchedPool task kind extension (handlesOf new) (tablesOf p) in
         let f = fine-batched task kind extension (handlesOf new) (tablesOf p) fine in
         served (batch-serves new p small large task kind extension _ (poolBy t)
         (λ small large. batch-done p types w small large task kind extension new (tables-by t f) e)) (of-type-by t f)
     batch-by task kind extension (Refused r) e =
-        served (batch-serves new p small large task kind extension _ p (λ small large. batch-refused p types w small large task kind extension new r e)) o
+        served (batch-serves new p small large task kind extension _ p
+        (λ small large. blind-refused p types w small large (Batch task kind extension) new (λ i j. refl) (λ s. absurd (false≢true s)) e)) o
 
-    release-by : (task handle : ℕ) (v : Verdict) → releaseVerdict task handle (tablesOf p) ≡ v → Made (Use (Release task handle)) new p small large
+    release-by : (task handle : ℕ) (v : Verdict) → verdictBy (testsOf (Release task handle) []) (tablesOf p) ≡ v
+        → Made (Use (Release task handle)) new p small large
+    unfolding testsOf verdict
     release-by task handle Accepted e =
         let t = releasedPool handle (tablesOf p) in
         let f = fine-released handle (tablesOf p) fine in
         served (release-serves new p small large task handle _ (poolBy t) (λ small large. release-done p types w small large task handle (tables-by t f) e))
         (of-type-by t f)
     release-by task handle (Refused r) e =
-        served (release-serves new p small large task handle _ p (λ small large. release-refused p types w small large task handle r e)) o
+        served (release-serves new p small large task handle _ p
+        (λ small large. blind-refused p types w small large (Release task handle) [] (λ i j. refl) (λ s. absurd (false≢true s)) e)) o
 
     life-made : (task handle : ℕ) → Made (Remaining task handle) new p small large
     life-made task handle = served (life-serves new p small large task handle _ (life-obeys (o .head) (o .sized) w task handle refl)) o
@@ -308,7 +320,8 @@ module _ (new : List ℕ) {p : Pool} (o : OfType p) (small large : List ℕ) whe
     report-made = served (report-serves new p small large _ (report-obeys p w)) o
 
   make-by : (task : ℕ) (kind : Kind) (extension size prefix : ℕ) → Ready (Use (Make task kind extension size prefix)) p small large
-      → (v : Verdict) → makeVerdict task kind extension size prefix (tablesOf p) ≡ v → Made (Use (Make task kind extension size prefix)) new p small large
+      → (v : Verdict) → verdictBy (testsOf (Make task kind extension size prefix) []) (tablesOf p) ≡ v
+      → Made (Use (Make task kind extension size prefix)) new p small large
   unfolding tablesOf tablesBy madePool
   make-by task kind extension size prefix ready Accepted e =
       let t = madePool task kind extension size prefix (tablesOf p) in
@@ -326,11 +339,12 @@ module _ (new : List ℕ) {p : Pool} (o : OfType p) (small large : List ℕ) whe
   read-made : (task handle : ℕ) → Ready (Use (Read task handle)) p small large → Made (Use (Read task handle)) new p small large
   unfolding reply next testsOf memoryAfter expirationsAfter
   read-made task handle ready =
-      let found = locates types ready (shownIn (readVerdict task handle small large) task handle (tablesOf p)) refl in
+      let found = locates types ready (shownIn small large (testsOf (Read task handle) []) task handle (tablesOf p)) refl in
       obeyed (whatever-bytes new (λ L. refl) (λ L. refl) (λ b. b) (found .reads)) o
 
   write-by : (task handle offset : ℕ) → Ready (Use (Write task handle offset)) p small large
-      → (f : FoundBytes) → f ≡ bytesIn (writeVerdict task handle offset (length new) small large) handle (tablesOf p) → Made (Use (Write task handle offset)) new p small large
+      → (f : FoundBytes) → f ≡ bytesIn small large (testsOf (Write task handle offset) new) handle (tablesOf p)
+      → Made (Use (Write task handle offset)) new p small large
   unfolding tablesOf
   write-by task handle offset ready (At block count sum) so =
       let (size, writes) = write-done-lent (o .head) (o .sized) task handle offset new ready (At block count sum) so refl (sumAfter small large block offset new) refl refl refl in

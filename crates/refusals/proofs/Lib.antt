@@ -1,3 +1,4 @@
+pub mod Verdicts
 pub mod Searching
 pub mod Firsts
 pub mod Batches

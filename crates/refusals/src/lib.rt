@@ -2,9 +2,8 @@
 ghost use Prim.Native.Nat.{_+_};
 ghost use lib.Dec.{ltb};
 ghost use mathlib.Core.Path.{_≡_};
-ghost use Rattle.ledger.specs.Refusals.{mostExtension, isPinning};
-ghost use Rattle.steps.specs.Objects.{andThen, refuseIf, byState, taskVerdict, extensionVerdict, isUngiven, foundVerdict, roomVerdict, takingVerdict};
-ghost use Rattle.refusals.specs.Verdicts.{setVerdict, makeCallVerdict, batchCallVerdict, batchObjectsVerdict};
+ghost use Rattle.ledger.specs.Refusals.{mostExtension, isPinning, isNotGiven};
+ghost use Rattle.refusals.specs.Verdicts.{andThen, refuseIf, byState, taskVerdict, extensionVerdict, setVerdict, foundVerdict, roomVerdict, makeCallVerdict, takingVerdict, batchCallVerdict, batchObjectsVerdict};
 
 mod batch;
 mod search;
@@ -113,7 +112,7 @@ pub fn set_verdict(limits: Limits, kind: Kind, extension: u8) -> Verdict
 
 // 11
 pub fn is_ungiven(given: u32, handle: u32) -> bool
-    ensures { λ r. ⌜ r ≡ isUngiven given handle ⌝ }
+    ensures { λ r. ⌜ r ≡ isNotGiven given handle ⌝ }
 {
     (handle == 0) | (given < handle)
 }

@@ -1,12 +1,12 @@
--- What an accepted verdict shows: the task may set an expiration, and the block and the entry that are chosen are free; or the object stands, its block's bytes
--- add up to their sum, and a write lies within it.
+-- What an accepted verdict shows, by the tests that passed: the task may set an expiration, and the block and the entry that are chosen are free; or the object
+-- stands, its block's bytes add up to their sum, and a write lies within it.
 use Prim.Native.Nat.{ℕ, _+_, _≤_, _<_}
 use native.Mathlib.Nat.{zero-add, le-trans}
 use native.Mathlib.Omega.{arith}
-use mathlib.Core.Bool.{Bool, true, false, _||_}
-use mathlib.Core.List.{List}
+use mathlib.Core.Bool.{Bool, true, false, not, _||_}
+use mathlib.Core.List.{List, []}
 use mathlib.Core.Path.{_≡_, refl, sym, _∙_}
-use borrow.Author.Tests.{not-false, leb-false, ltb-false, eqb-true, eqb-false, lt-ltb, le-ltb, lt-leb}
+use borrow.Author.Tests.{not-true, not-false, leb-false, ltb-false, eqb-true, eqb-false, lt-ltb, le-ltb, lt-leb}
 use lib.Dec.{eqb, leb, ltb}
 use lib.ListN.{length, getD, take, drop, length-take, length-drop}
 use lib.Seq.{getD-take, getD-drop}
@@ -16,43 +16,32 @@ use Rattle.lists.proofs.First.{first-at, first-full, count-before, first-before
 use Rattle.lists.proofs.Tables.{allFrom-at}
 use Rattle.ledger.specs.Limits.{capacity, taskCount, largeSize, lastHandle, isSmall}
 use Rattle.ledger.proofs.Figures.{allowed}
+use Rattle.ledger.proofs.Passed.{AllPassed, passed, accepted-none}
 use Rattle.ledger.specs.Tasks.{isAbsent}
-use Rattle.ledger.specs.Refusals.{mostExtension, isPinning as isPinningKind}
+use Rattle.ledger.specs.Refusals.{mostExtension, isPinning as isPinningKind, Test}
+use Rattle.ledger.specs.Rules.{testsOf}
+use Rattle.ledger.specs.declared.Call.the-variants.{Make, Refresh, Read, Write, Release}
 use Rattle.ledger.specs.declared.Kind.{Kind}
 use Rattle.ledger.specs.declared.Kind.the-variants.{Local, Global, Pinned}
-use Rattle.ledger.specs.declared.State.{State}
-use Rattle.ledger.specs.declared.State.the-variants.{Absent, Running, Waiting, Viewing}
-use Rattle.ledger.specs.declared.Refusal.{Refusal}
-use Rattle.ledger.specs.declared.Refusal.the-variants.{NoSuchTask, LengthOutOfRange, HandlesSpent, PrefixTooLong, NoFreeBlock, AtLimit, OnlyMakePins, OutsideObject, SumDiffers}
-use Rattle.ledger.specs.declared.Verdict.{Verdict}
-use Rattle.ledger.specs.declared.Verdict.the-variants.{Accepted, Refused}
+use Rattle.ledger.specs.declared.Verdict.the-variants.{Accepted}
 use Rattle.ledger.specs.declared.Limits.{Limits}
 use Rattle.stores.specs.Places.{sumAt}
-use Rattle.record.specs.Codes.{stateOf, absentEntry, freeBlock, freeEntry}
+use Rattle.record.specs.Codes.{freeBlock, freeEntry}
 use Rattle.record.specs.Reading.{isSmallBlock, Typed}
+use Rattle.record.specs.Shares.{isLimited}
 use Rattle.record.specs.WellFormed.{isBlock, isEntryAt}
 use Rattle.record.proofs.Facts.{Fit}
-use Rattle.record.specs.Tables.{Tables, blockEntries}
-use Rattle.record.specs.declared.TaskEntry.{TaskEntry}
-use Rattle.steps.specs.Objects.{placeOf, isFreeBlock, endFor, freePlace, isFreeEntry, standingIn, freeSlot, andThen, refuseIf, byState, taskVerdict, kindVerdict, extensionVerdict, foundVerdict, handleVerdict, roomVerdict, isFilled, makeVerdict, refreshVerdict, standingVerdict, intactVerdict, writeVerdict}
-use Rattle.record.specs.Shares.{isLimited}
+use Rattle.record.specs.Tables.{BlockEntry, Tables, blockEntries}
+use Rattle.steps.specs.Facts.{isHere, isFilled, isSummed, factsWith, taskTests, handleTests, verdictWith, verdictBy}
+use Rattle.steps.specs.Objects.{placeOf, blockOf, isFreeBlock, endFor, freePlace, isFreeEntry, standingIn, freeSlot, stateIn}
 use Rattle.steps.proofs.Rooms.{room-left}
 use Rattle.steps.proofs.Taken.{MaySet, SlotFree, PlaceFree}
 
--- a chain that accepts, accepts in each of its parts
-pub both-accept : (v w : Verdict) → andThen v w ≡ Accepted → (v ≡ Accepted) × (w ≡ Accepted)
-both-accept Accepted w e = (refl, e)
-both-accept (Refused r) w e = (cc, cc)
-
-pub not-refused : (b : Bool) (r : Refusal) → refuseIf b r ≡ Accepted → b ≡ false
-not-refused true r e = cc
-not-refused false r e = refl
-
-present : (acts : Bool) (s : State) → byState acts s ≡ Accepted → isAbsent s ≡ false
-present acts Absent e = cc
-present acts Running e = refl
-present acts Waiting e = cc
-present acts Viewing e = refl
+-- every test by which a verdict accepts has passed
+pub all-passed : (small large : List ℕ) (tests : List Test) (p : Tables) → verdictWith small large tests p ≡ Accepted
+    → AllPassed (factsWith small large p) tests
+unfolding verdictWith
+all-passed small large tests p v = passed (factsWith small large p) tests (accepted-none _ v)
 
 -- no kind has more than the largest extension
 most-within : (limits : Limits) (kind : Kind) → mostExtension limits kind ≤ limits .extension
@@ -60,14 +49,14 @@ most-within limits Local = omega arith
 most-within limits Global = omega arith
 most-within limits Pinned = omega arith
 
-may-set : (task : ℕ) (kind : Kind) (extension : ℕ) (p : Tables) → Fit p → taskVerdict true task (p .tasks) ≡ Accepted → extensionVerdict (p .limits) kind extension ≡ Accepted
-    → MaySet task extension p
-may-set task kind extension p fit t x =
-    let (known, state) = both-accept _ _ t in
-    let short = le-trans (ltb-false (mostExtension (p .limits) kind) extension (not-refused _ _ x)) (most-within (p .limits) kind) in
+pub may-set : (task : ℕ) (kind : Kind) (extension : ℕ) (p : Tables) → Fit p → leb taskCount task ≡ false
+    → isAbsent (stateIn (p .tasks) task) ≡ false
+    → ltb (mostExtension (p .limits) kind) extension ≡ false → MaySet task extension p
+may-set task kind extension p fit known present within =
+    let short = le-trans (ltb-false (mostExtension (p .limits) kind) extension within) (most-within (p .limits) kind) in
     record {
-      known = leb-false taskCount task (not-refused _ _ known);
-      present = present true (stateOf (getD (p .tasks) task absentEntry .state)) state;
+      known = leb-false taskCount task known;
+      present = present;
       short = short;
       most = le-trans short (allowed (p .limits) (fit .allowed) .most-extension);
     }
@@ -77,12 +66,11 @@ or-false-left true e h = refl
 or-false-left false e h = sym e ∙ h
 
 -- the first free entry, where there is one
-slot-free : (p : Tables) → Fit p → Typed p → roomVerdict (p .limits) (standingIn (p .expirations)) ≡ Accepted
+pub slot-free : (p : Tables) → Fit p → Typed p → standingIn (p .expirations) < p .limits .expirations
     → SlotFree (p .limits) (freeSlot (p .expirations)) (p .expirations)
-slot-free p fit types v =
+slot-free p fit types few =
     let xs = p .expirations in
     let n = p .limits .expirations in
-    let few = leb-false n (standingIn xs) (not-refused _ _ v) in
     let fits : n ≤ length xs = omega (arith, types .expirations, allowed (p .limits) (fit .allowed) .most-expirations) in
     let past : (k : ℕ) → n ≤ k → isFreeEntry (getD xs k freeEntry) ≡ true = λ k h. or-false-left (eqb (getD xs k freeEntry .clock) 0) (le-ltb k n h) (allFrom-at (isEntryAt (p .limits)) freeEntry (λ i. refl) xs (fit .counted) k) in
     let below = first-before isFreeEntry n xs fits (omega (arith, few, count-before isFreeEntry freeEntry n xs past)) in
@@ -145,104 +133,118 @@ pub record Taken (task extension size prefix : ℕ) (p : Tables) : Type 0 where
   pub limited : isLimited (isSmall size) (p .shares) (p .blocks) task ≡ false
   pub filled : isFilled (isSmall size) (p .limits) (p .shares) (p .blocks) task ≡ false
   pub block : PlaceFree (p .limits) (freePlace (p .limits) size (p .blocks)) size (p .blocks)
+  pub room : standingIn (p .expirations) < p .limits .expirations
   pub entry : SlotFree (p .limits) (freeSlot (p .expirations)) (p .expirations)
 
-pub make-unspent : (task : ℕ) (kind : Kind) (extension size prefix : ℕ) (p : Tables) → makeVerdict task kind extension size prefix p ≡ Accepted → p .given < lastHandle
-unfolding makeVerdict
-make-unspent task kind extension size prefix p v =
-    let v₁ = both-accept (taskVerdict true task (p .tasks)) _ v .1 in
-    let v₂ = both-accept (extensionVerdict (p .limits) kind extension) _ v₁ .1 in
-    let v₃ = both-accept (refuseIf (eqb size 0 || ltb largeSize size) LengthOutOfRange) _ v₂ .1 in
-    let v₄ = both-accept (refuseIf (ltb size prefix) PrefixTooLong) _ v₃ .1 in
-    let (given-ok, _) = both-accept (refuseIf (leb lastHandle (p .given)) HandlesSpent) _ v₄ in
-    leb-false lastHandle (p .given) (not-refused _ HandlesSpent given-ok)
-
-pub make-takes : (task : ℕ) (kind : Kind) (extension size prefix : ℕ) (p : Tables) → Fit p → Typed p → makeVerdict task kind extension size prefix p ≡ Accepted
-    → Taken task extension size prefix p
-unfolding makeVerdict
+pub make-takes : (task : ℕ) (kind : Kind) (extension size prefix : ℕ) (p : Tables) → Fit p → Typed p
+    → verdictBy (testsOf (Make task kind extension size prefix) []) p ≡ Accepted → Taken task extension size prefix p
+unfolding testsOf
 make-takes task kind extension size prefix p fit types v =
-    let (task-ok, v₁) = both-accept _ _ v in
-    let (extension-ok, v₂) = both-accept _ _ v₁ in
-    let (size-ok, v₃) = both-accept _ _ v₂ in
-    let (prefix-ok, v₄) = both-accept (refuseIf (ltb size prefix) PrefixTooLong) _ v₃ in
-    let (_, v₅) = both-accept (refuseIf (leb lastHandle (p .given)) HandlesSpent) _ v₄ in
-    let (limit-ok, v₆) = both-accept (refuseIf (isLimited (isSmall size) (p .shares) (p .blocks) task) AtLimit) _ v₅ in
-    let (block-ok, slot-ok) = both-accept _ _ v₆ in
+    let (
+      known,
+      (
+        present,
+        (
+          active,
+          (acts, (within, (ranged, (prefixed, (unspent, (limited, (filled, (room, end)))))))),
+        ),
+      ),
+    ) = all-passed [] [] _ p v in
+    let few = leb-false (p .limits .expirations) (standingIn (p .expirations)) room in
     record {
-      may = may-set task kind extension p fit task-ok extension-ok;
-      prefixed = ltb-false size prefix (not-refused _ PrefixTooLong prefix-ok);
-      unspent = make-unspent task kind extension size prefix p v;
-      limited = not-refused _ AtLimit limit-ok;
-      filled = not-refused _ NoFreeBlock block-ok;
-      block = place-free p fit types size (not-refused _ LengthOutOfRange size-ok) (room-left p fit types task size (not-refused _ NoFreeBlock block-ok));
-      entry = slot-free p fit types slot-ok;
+      may = may-set task kind extension p fit known present within;
+      prefixed = ltb-false size prefix prefixed;
+      unspent = leb-false lastHandle (p .given) unspent;
+      limited = limited;
+      filled = filled;
+      block = place-free p fit types size ranged (room-left p fit types task size filled);
+      room = few;
+      entry = slot-free p fit types few;
     }
 
 -- what a refresh that is accepted has: an object that stands, and a free entry
 pub record Renewed (task : ℕ) (kind : Kind) (extension handle : ℕ) (p : Tables) : Type 0 where
   pub may : MaySet task extension p
   pub plain : isPinningKind kind ≡ false
-  pub found : handleVerdict handle p ≡ Accepted
+  pub here : isHere (p .blocks) handle ≡ true
+  pub room : standingIn (p .expirations) < p .limits .expirations
   pub entry : SlotFree (p .limits) (freeSlot (p .expirations)) (p .expirations)
 
-pub refresh-takes : (task : ℕ) (kind : Kind) (extension handle : ℕ) (p : Tables) → Fit p → Typed p → refreshVerdict task kind extension handle p ≡ Accepted
-    → Renewed task kind extension handle p
-unfolding refreshVerdict
+pub refresh-takes : (task : ℕ) (kind : Kind) (extension handle : ℕ) (p : Tables) → Fit p → Typed p
+    → verdictBy (testsOf (Refresh task kind extension handle) []) p ≡ Accepted → Renewed task kind extension handle p
+unfolding testsOf
 refresh-takes task kind extension handle p fit types v =
-    let (task-ok, v₁) = both-accept _ _ v in
-    let (kind-ok, v₂) = both-accept (kindVerdict kind) _ v₁ in
-    let (extension-ok, v₃) = both-accept _ _ v₂ in
-    let (found, slot-ok) = both-accept _ _ v₃ in
+    let (known, (present, (active, (acts, (plain, (within, (given, (gone, (room, end))))))))) = all-passed [] [] _ p v in
+    let few = leb-false (p .limits .expirations) (standingIn (p .expirations)) room in
     record {
-      may = may-set task kind extension p fit task-ok extension-ok;
-      plain = not-refused _ OnlyMakePins kind-ok;
-      found = found;
-      entry = slot-free p fit types slot-ok;
+      may = may-set task kind extension p fit known present within;
+      plain = plain;
+      here = not-false _ gone;
+      room = few;
+      entry = slot-free p fit types few;
     }
 
--- a handle that is found is not 0, and its place is that of an entry
-pub handle-found : (handle given place : ℕ) → foundVerdict handle given place ≡ Accepted → (eqb handle 0 ≡ false) × (leb blockEntries place ≡ false)
-handle-found handle given place v =
-    let (given-ok, place-ok) = both-accept _ _ v in
-    (or-false-parts (eqb handle 0) _ (not-refused _ _ given-ok) .0, not-refused _ _ place-ok)
+-- an object that has a block: its handle is not 0, and its place is that of an entry
+pub here-found : (handle : ℕ) (blocks : List BlockEntry) → isHere blocks handle ≡ true
+    → (eqb handle 0 ≡ false) × (leb blockEntries (placeOf handle blocks) ≡ false)
+here-found handle blocks h = or-false-parts (eqb handle 0) _ (not-true _ h)
 
-pub place-listed : (handle given place : ℕ) → foundVerdict handle given place ≡ Accepted → place < blockEntries
-place-listed handle given place v = leb-false _ _ (handle-found handle given place v .1)
+pub here-listed : (handle : ℕ) (blocks : List BlockEntry) → isHere blocks handle ≡ true → placeOf handle blocks < blockEntries
+here-listed handle blocks h = leb-false _ _ (here-found handle blocks h .1)
 
-pub task-known : (acts : Bool) (task : ℕ) (tasks : List TaskEntry) → taskVerdict acts task tasks ≡ Accepted → task < taskCount
-task-known acts task tasks v =
-    leb-false taskCount task (not-refused _ NoSuchTask (both-accept (refuseIf (leb taskCount task) NoSuchTask) _ v .0))
+-- what is asked of a task and an object before any other test: who asks is one of the tasks, and the object has a block
+pub record Known (task handle : ℕ) (p : Tables) : Type 0 where
+  pub known : task < taskCount
+  pub here : isHere (p .blocks) handle ≡ true
 
--- what the tests of remaining life, of a read and of a write share: each begins with those of the one before
-pub standing-found : (acts : Bool) (task handle : ℕ) (p : Tables) → standingVerdict acts task handle p ≡ Accepted → handleVerdict handle p ≡ Accepted
-unfolding standingVerdict
-standing-found acts task handle p v = both-accept (taskVerdict acts task (p .tasks)) _ v .1
+pub using-known : (acts : Bool) (task handle : ℕ) (p : Tables) → verdictBy (taskTests acts task (handleTests handle)) p ≡ Accepted
+    → Known task handle p
+using-known true task handle p v =
+    let (known, (present, (active, (acts, (given, (gone, end)))))) = all-passed [] [] (taskTests true task (handleTests handle)) p v in
+    record { known = leb-false taskCount task known; here = not-false _ gone }
+using-known false task handle p v =
+    let (known, (present, (active, (given, (gone, end))))) = all-passed [] [] (taskTests false task (handleTests handle)) p v in
+    record { known = leb-false taskCount task known; here = not-false _ gone }
 
--- who may make such a call is one of the tasks
-pub standing-known : (acts : Bool) (task handle : ℕ) (p : Tables) → standingVerdict acts task handle p ≡ Accepted → task < taskCount
-unfolding standingVerdict
-standing-known acts task handle p v = task-known acts task (p .tasks) (both-accept (taskVerdict acts task (p .tasks)) _ v .0)
+pub release-known : (task handle : ℕ) (p : Tables) → verdictBy (testsOf (Release task handle) []) p ≡ Accepted → Known task handle p
+unfolding testsOf
+release-known task handle p v =
+    let (known, (present, (active, (acts, (given, (gone, (pinned, end))))))) = all-passed [] [] _ p v in
+    record { known = leb-false taskCount task known; here = not-false _ gone }
 
-pub intact-stands : (acts : Bool) (task handle : ℕ) (small large : List ℕ) (p : Tables) → intactVerdict acts task handle small large p ≡ Accepted
-    → standingVerdict acts task handle p ≡ Accepted
-unfolding intactVerdict
-intact-stands acts task handle small large p v = both-accept (standingVerdict acts task handle p) _ v .0
+-- a read that is accepted, and a write, is one of a task that there is, and finds the object in a block whose bytes add up to the sum in its
+-- entry
+pub record Intact (task handle : ℕ) (small large : List ℕ) (p : Tables) : Type 0 where
+  pub known : task < taskCount
+  pub here : isHere (p .blocks) handle ≡ true
+  pub summed : sumAt small large (placeOf handle (p .blocks)) ≡ blockOf handle (p .blocks) .sum
 
-pub write-begins : (task handle offset count : ℕ) (small large : List ℕ) (p : Tables) → writeVerdict task handle offset count small large p ≡ Accepted
-    → intactVerdict true task handle small large p ≡ Accepted
-unfolding writeVerdict
-write-begins task handle offset count small large p v = both-accept (intactVerdict true task handle small large p) _ v .0
+intact : (task handle : ℕ) (small large : List ℕ) (p : Tables) → leb taskCount task ≡ false → not (isHere (p .blocks) handle) ≡ false
+    → not (isSummed small large (p .blocks) handle) ≡ false → Intact task handle small large p
+intact task handle small large p known gone differs =
+    record { known = leb-false taskCount task known; here = not-false _ gone; summed = eqb-true _ _ (not-false _ (rw gone at differs)) }
 
--- a read that is accepted has a block whose bytes add up to the sum in its entry
-pub intact-sum : (acts : Bool) (task handle : ℕ) (small large : List ℕ) (p : Tables) → intactVerdict acts task handle small large p ≡ Accepted
-    → (let place = placeOf handle (p .blocks) in sumAt small large place ≡ getD (p .blocks) place freeBlock .sum)
-unfolding intactVerdict
-intact-sum acts task handle small large p v =
-    eqb-true _ _ (not-false _ (not-refused _ SumDiffers (both-accept (standingVerdict acts task handle p) _ v .1)))
+pub read-intact : (task handle : ℕ) (small large : List ℕ) (p : Tables) → verdictWith small large (testsOf (Read task handle) []) p
+    ≡ Accepted
+    → Intact task handle small large p
+unfolding testsOf
+read-intact task handle small large p v =
+    let (
+      known,
+      (
+        present,
+        (
+          active,
+          (given, (gone, (differs, end))),
+        ),
+      ),
+    ) = all-passed small large _ p v in intact task handle small large p known gone differs
 
--- and a write one of as many bytes as it asks for
-pub write-end : (task handle offset count : ℕ) (small large : List ℕ) (p : Tables) → writeVerdict task handle offset count small large p ≡ Accepted
-    → offset + count ≤ getD (p .blocks) (placeOf handle (p .blocks)) freeBlock .length
-unfolding writeVerdict
-write-end task handle offset count small large p v =
-    ltb-false _ _ (not-refused _ OutsideObject (both-accept (intactVerdict true task handle small large p) _ v .1))
+-- a write as many bytes as it asks for
+pub write-intact : (task handle offset : ℕ) (new small large : List ℕ) (p : Tables)
+    → verdictWith small large (testsOf (Write task handle offset) new) p ≡ Accepted
+    → Intact task handle small large p × (offset + length new ≤ blockOf handle (p .blocks) .length)
+unfolding testsOf
+write-intact task handle offset new small large p v =
+    let (known, (present, (active, (acts, (given, (gone, (differs, (outside, end)))))))) = all-passed small large _ p v in
+    (intact task handle small large p known gone differs, ltb-false _ _ (rw (not-false (isHere (p .blocks) handle) gone) at outside))

@@ -3,7 +3,7 @@ use Prim.Native.Nat.{ℕ, _<_}
 use borrow.Author.Tests.{leb-false}
 use mathlib.Core.Bool.{Bool, true, false, cond}
 use mathlib.Core.List.{List, [], map, List·Permᴰ}
-use mathlib.Core.Option.{none}
+use mathlib.Core.Option.{Option, none, some}
 use mathlib.Core.Path.{_≡_, refl, sym, ap, _∙_}
 use lib.Dec.{leb}
 use lib.ListN.{length, getD}
@@ -13,11 +13,11 @@ use Rattle.ledger.specs.Limits.{taskCount}
 use Rattle.ledger.specs.Tasks.{Clocks, taskAt, clocksAfter, isAbsent, isTested, allTicked}
 use Rattle.ledger.specs.Objects.{withClocks}
 use Rattle.ledger.specs.Rules.{replyTo, memoryAfter, expirationsAfter}
-use Rattle.ledger.specs.Refusals.{asRefusal}
+use Rattle.ledger.specs.Refusals.{asVerdict}
 use Rattle.ledger.specs.Kept.{PinsKept}
 use Rattle.ledger.proofs.KeptPins.{pins-carried}
 use Rattle.ledger.proofs.KeptShares.{shares-filter, shares-after}
-use Rattle.ledger.specs.Ledger.{Ledger, settled, replyBy, afterBy, reply, next}
+use Rattle.ledger.specs.Ledger.{Ledger, settled, replyBy, afterBy, verdictOn, reply, next}
 use Rattle.ledger.specs.Compared.{shown, viewOf}
 use Rattle.ledger.specs.declared.Share.{Share}
 use Rattle.ledger.specs.declared.Event.{Event}
@@ -34,13 +34,14 @@ use Rattle.record.specs.declared.GlobalTime.{GlobalTime}
 use Rattle.record.proofs.Facts.{Fit, Shared, fit-parts, shared-part, fit-whole}
 use Rattle.record.proofs.Exists.{fit-tables-read}
 use Rattle.steps.specs.Events.{verdictOf, verdictAt, movedTasks, advancedTasks, advancedTime, leaverOf, passedEntry, keptBlock, swept, orphanedPool, movedPool, poolAfter, answerAfter, outcomeBy, scheduled}
+use Rattle.ledger.specs.declared.Refusal.{Refusal}
 use Rattle.ledger.specs.declared.Verdict.{Verdict}
 use Rattle.ledger.specs.declared.Verdict.the-variants.{Accepted, Refused}
 use Rattle.steps.proofs.FitAfter.{fit-after}
 use Rattle.steps.proofs.Orphans.{shares-counted, withMakers, fit-orphaned, reads-orphaned}
 use Rattle.steps.proofs.Shares.{shared-kept, kept-shared}
 use Rattle.steps.proofs.FitTasks.{view-absent}
-use Rattle.steps.proofs.ReadTasks.{ClocksAlike, state-alike, verdict-alike, advances-alike, clocks-alike, untested-clocks-alike}
+use Rattle.steps.proofs.ReadTasks.{ClocksAlike, state-alike, event-verdict, advances-alike, clocks-alike, untested-clocks-alike}
 use Rattle.steps.proofs.ReadExpirations.{expirations-alike, untested-expirations-alike}
 use Rattle.steps.proofs.ReadObjects.{freed-shown, objects-alike, standing-ascending}
 use Rattle.steps.proofs.Standing.{none-freed}
@@ -145,13 +146,14 @@ module _ (event : Event) (task : ℕ) (p : Tables) (small large : List ℕ) (L :
       as-many types = shares-left event task p ∙ types .shares
 
 -- what the record's verdict makes of both
-by-verdict : (v : Verdict) (event : Event) (task : ℕ) (p : Tables) (small large : List ℕ) (L : Ledger) → Fit p → Reads p small large L
-    → (v ≡ Accepted → verdictOf event (stateOf (getD (p .tasks) task absentEntry .state)) ≡ Accepted)
-    → (outcomeBy v event task p .answer ≡ replyBy (asRefusal v) (replyTo (Schedule event task) (L .memory)) .answer)
-    × Reads (outcomeBy v event task p .pool) small large (afterBy (asRefusal v) (after event task L) L)
-by-verdict Accepted event task p small large L fit reads accepted =
+by-verdict : (v : Option Refusal) (event : Event) (task : ℕ) (p : Tables) (small large : List ℕ) (L : Ledger) → Fit p
+    → Reads p small large L
+    → (asVerdict v ≡ Accepted → verdictOf event (stateOf (getD (p .tasks) task absentEntry .state)) ≡ Accepted)
+    → (outcomeBy (asVerdict v) event task p .answer ≡ replyBy v (replyTo (Schedule event task) (L .memory)) .answer)
+    × Reads (outcomeBy (asVerdict v) event task p .pool) small large (afterBy v (after event task L) L)
+by-verdict none event task p small large L fit reads accepted =
     (answers event task p small large L fit reads (accepted refl), reads-after event task p small large L fit reads (accepted refl))
-by-verdict (Refused r) event task p small large L fit reads accepted = (refl, reads)
+by-verdict (some r) event task p small large L fit reads accepted = (refl, reads)
 
 -- an event of a task that exists is accepted by its state
 pub accepted-by-state : (none : Bool) (v : Verdict) → cond none (Refused NoSuchTask) v ≡ Accepted → v ≡ Accepted
@@ -167,8 +169,10 @@ pub schedule-follows : (event : Event) (task : ℕ) (p : Tables) (small large : 
     × Reads (scheduled event task p .pool) small large (next L (Schedule event task) [])
 unfolding scheduled reply next recordView viewOf
 schedule-follows event task p small large L w reads =
-    rw (verdict-alike (L .memory) (L .expirations) event task [] (p .tasks) (reads .alike .tasks))
-    (by-verdict (recordVerdict event task p) event task p small large L (fit-parts p w) reads (accepted-by-state (leb taskCount task) _))
+    let same = event-verdict (L .memory) (L .expirations) event task [] (p .tasks) (reads .alike .tasks) in
+    rw (← same)
+    (by-verdict (verdictOn L (Schedule event task) []) event task p small large L (fit-parts p w) reads
+    (λ e. accepted-by-state (leb taskCount task) _ (sym same ∙ e)))
 
 pub schedule-fits : (event : Event) (task : ℕ) (p : Tables) → Typed p → isWellFormed p ≡ true → isWellFormed (scheduled event task p .pool) ≡ true
 unfolding scheduled

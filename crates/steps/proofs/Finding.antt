@@ -29,11 +29,7 @@ use Rattle.record.specs.Tables.{BlockEntry, Tables, blockEntries}
 use Rattle.record.proofs.Facts.{Fit, FitUsed, fit-used}
 use Rattle.record.proofs.Distinct.{handleAt, same-handle}
 use Rattle.steps.proofs.ReadObjects.{shown-stands, named-stands}
-use Rattle.steps.specs.Objects.{isBlockOf, placeOf, isFreeBlock}
-
--- the block of a handle
-abbrev pub blockOf : ℕ → List BlockEntry → BlockEntry
-blockOf handle blocks = getD blocks (placeOf handle blocks) freeBlock
+use Rattle.steps.specs.Objects.{isBlockOf, placeOf, blockOf, isFreeBlock}
 
 -- the object in a block, if that is in use
 abbrev pub objectOf : List ℕ → List ℕ → List BlockEntry → ℕ → Object
@@ -90,8 +86,11 @@ module _ {p : Tables} {small large : List ℕ} {L : Ledger} (fit : Fit p) (reads
       ∙ f .named
 
   -- so does every object, since each is in a block in use
+  pub objects-stand : All (λ (o : Object). stands (L .expirations) (o .handle) ≡ true) (L .memory .objects)
+  objects-stand = each-object (λ (o : Object). stands (L .expirations) (o .handle) ≡ true) used-stands
+
   pub every-object-stands : standing (L .expirations) (L .memory .objects) ≡ L .memory .objects
-  every-object-stands = filter-all _ (L .memory .objects) (each-object (λ (o : Object). stands (L .expirations) (o .handle) ≡ true) used-stands)
+  every-object-stands = filter-all _ (L .memory .objects) objects-stand
 
   pub handles-given : All (λ (o : Object). (1 ≤ o .handle) × (o .handle ≤ L .memory .given)) (L .memory .objects)
   unfolding recordView viewOf

@@ -15,6 +15,8 @@ use Rattle.lists.proofs.All.{at-set}
 use Rattle.ledger.specs.Limits.{counterRange}
 use Rattle.ledger.specs.Tasks.{Task, isAbsent, isRunning, allTicked}
 use Rattle.ledger.proofs.KeptTasks.{ticked-as}
+use Rattle.ledger.specs.Refusals.{verdict}
+use Rattle.ledger.specs.Rules.{testsOf}
 use Rattle.ledger.specs.declared.State.{State}
 use Rattle.ledger.specs.declared.State.the-variants.{Absent, Running, Waiting, Viewing}
 use Rattle.ledger.specs.declared.Event.the-variants.{Tick, View}
@@ -57,6 +59,7 @@ set-stays-present moves same tasks task e any f =
 
 -- the state of a task that may become a viewer,
 pub view-absent : (s : State) → verdictOf View s ≡ Accepted → s ≡ Absent
+unfolding verdict testsOf
 view-absent Absent a = refl
 view-absent Running a = cc
 view-absent Waiting a = cc
@@ -64,6 +67,7 @@ view-absent Viewing a = cc
 
 -- and of one that may tick
 pub tick-running : (s : State) → verdictOf Tick s ≡ Accepted → s ≡ Running
+unfolding verdict testsOf
 tick-running Absent a = cc
 tick-running Running a = refl
 tick-running Waiting a = cc

@@ -12,17 +12,16 @@ use Rattle.lists.proofs.All.{at-set}
 use Rattle.lists.proofs.Tables.{map-set}
 use Rattle.ledger.specs.Limits.{taskCount, counterRange}
 use Rattle.ledger.specs.Tasks.{Task, taskAt, absentTask, isAbsent, joined, entered}
-use Rattle.ledger.specs.Refusals.{isUpsideDown, asRefusal}
+use Rattle.ledger.specs.Refusals.{isUpsideDown, verdict}
 use Rattle.ledger.specs.Rules.{memoryAfter, expirationsAfter, testsOf}
 use Rattle.ledger.specs.Compared.{viewOf, wrappedTask}
-use Rattle.ledger.specs.Ledger.{Ledger, verdictOn}
+use Rattle.ledger.specs.Ledger.{Ledger, factsIn, verdictOn}
 use Rattle.ledger.specs.declared.Call.the-variants.{Join}
 use Rattle.ledger.specs.declared.Share.{Share}
-use Rattle.ledger.specs.declared.Refusal.the-variants.{NoSuchTask, TaskPresent, ReserveAboveLimit}
 use Rattle.ledger.specs.declared.Verdict.the-variants.{Accepted}
 use Rattle.ledger.proofs.KeptPins.{pins-carried}
 use Rattle.ledger.proofs.KeptShares.{shares-filter, shares-joined}
-use Rattle.ledger.proofs.Passed.{passed}
+use Rattle.ledger.proofs.Passed.{passed, accepted-none}
 use Rattle.record.specs.Codes.{stateOf, taskOf, absentEntry}
 use Rattle.record.specs.Reading.{objectIn, recordView, Typed, Reads}
 use Rattle.record.specs.Tables.{Tables}
@@ -31,8 +30,9 @@ use Rattle.record.proofs.Exists.{fit-tables-read}
 use Rattle.record.proofs.Facts.{Fit, fit-parts, shared-part, fit-whole}
 use Rattle.steps.specs.Joins.{joinVerdict, joinedEntry, joinedPool}
 use Rattle.steps.specs.Objects.{refuseIf}
+use Rattle.steps.specs.Facts.{verdictBy}
 use Rattle.steps.specs.Staying.{Stays}
-use Rattle.steps.proofs.Chosen.{both-accept, not-refused}
+use Rattle.steps.proofs.Chosen.{all-passed}
 use Rattle.steps.proofs.EventsFollow.{reads-with}
 use Rattle.steps.proofs.FitAfter.{fit-running}
 use Rattle.steps.proofs.ObjectsFollow.{carried}
@@ -41,7 +41,7 @@ use Rattle.steps.proofs.ReadTasks.{ClocksAlike, state-alike}
 use Rattle.steps.proofs.Shares.{shared-kept, kept-shared}
 use Rattle.steps.proofs.Standing.{none-freed}
 use Rattle.steps.proofs.Staying.{same-stays}
-use Rattle.steps.proofs.Verdicts.{join-verdict}
+use Rattle.steps.proofs.Verdicts.{verdict-alike}
 
 -- what an accepted join shows
 pub record Joining (task : ℕ) (share : Share) (p : Tables) : Type 0 where
@@ -49,17 +49,11 @@ pub record Joining (task : ℕ) (share : Share) (p : Tables) : Type 0 where
   pub absent : isAbsent (stateOf (getD (p .tasks) task absentEntry .state)) ≡ true
   pub ordered : (isUpsideDown (share .small) || isUpsideDown (share .large)) ≡ false
 
-pub joining : (task : ℕ) (share : Share) (p : Tables) → joinVerdict task share p ≡ Accepted → Joining task share p
-unfolding joinVerdict
+pub joining : (task : ℕ) (share : Share) (p : Tables) → verdictBy (testsOf (Join task share) []) p ≡ Accepted → Joining task share p
+unfolding testsOf
 joining task share p v =
-    let (known, v₁) = both-accept (refuseIf (leb taskCount task) NoSuchTask) _ v in
-    let (absent, v₂) = both-accept (refuseIf (not (isAbsent (stateOf (getD (p .tasks) task absentEntry .state)))) TaskPresent) _ v₁ in
-    let (ordered, v₃) = both-accept (refuseIf (isUpsideDown (share .small) || isUpsideDown (share .large)) ReserveAboveLimit) _ v₂ in
-    record {
-      known = leb-false taskCount task (not-refused _ NoSuchTask known);
-      absent = not-false _ (not-refused _ TaskPresent absent);
-      ordered = not-refused _ ReserveAboveLimit ordered;
-    }
+    let (known, (absent, (ordered, (free, end)))) = all-passed [] [] _ p v in
+    record { known = leb-false taskCount task known; absent = not-false _ absent; ordered = ordered }
 
 pub join-stays : (task : ℕ) (share : Share) (p : Tables) → Stays p (joinedPool task share p)
 unfolding joinedPool
@@ -113,15 +107,17 @@ unfolding recordView viewOf
 clocks-counted {p} {small} {large} {L} reads n =
     sym (length-map (L .memory .clocks .tasks) wrappedTask) ∙ sym (ap (λ (ts : List Task). length ts) (reads .alike .tasks)) ∙ length-map (p .tasks) taskOf ∙ n
 
-pub join-fits : (task : ℕ) (share : Share) (p : Tables) → Typed p → isWellFormed p ≡ true → joinVerdict task share p ≡ Accepted → isWellFormed (joinedPool task share p) ≡ true
-unfolding joinedPool memoryAfter
+pub join-fits : (task : ℕ) (share : Share) (p : Tables) → Typed p → isWellFormed p ≡ true → verdictBy (testsOf (Join task share) []) p
+    ≡ Accepted → isWellFormed (joinedPool task share p) ≡ true
+unfolding joinedPool memoryAfter testsOf verdict
 join-fits task share p types w v =
     let fit = fit-parts p w in
     let j = joining task share p v in
     let (L, reads) = fit-tables-read p types fit [] [] in
-    let clear : verdictOn L (Join task share) [] ≡ none = join-verdict types fit reads task share [] ∙ ap asRefusal v in
+    let clear : verdictOn L (Join task share) []
+    ≡ none = accepted-none _ (verdict-alike types fit reads (testsOf (Join task share) []) (λ i j. refl) ∙ v) in
     fit-whole _ (fit-joined task share fit j)
     (kept-shared (join-reads task share fit j reads) (simp length-set (types .shares))
     (shares-filter _
-    (shares-joined (L .memory) task share (L .expirations) [] (passed (L .memory) (L .expirations) (testsOf (Join task share) []) clear)
+    (shares-joined (L .memory) task share (L .expirations) [] (passed (factsIn L) (testsOf (Join task share) []) clear)
     (clocks-counted reads (types .tasks)) (shared-kept reads (types .shares) (shared-part p w)))))

@@ -1,17 +1,15 @@
 -- A value of the record's type stays one under a make that is accepted, and under a refresh, a write and a release.
-use Prim.Native.Nat.{ℕ}
+use Prim.Native.Nat.{ℕ, _<_}
 use native.Mathlib.Omega.{arith}
 use mathlib.Core.List.{List}
-use mathlib.Core.Path.{_≡_, _∙_}
+use mathlib.Core.Path.{_∙_}
 use lib.ListN.{length-set, length-map}
 use Rattle.lists.proofs.Tables.{length-mapFrom}
 use Rattle.ledger.specs.Limits.{lastHandle, counterRange}
 use Rattle.ledger.specs.declared.Kind.{Kind}
-use Rattle.ledger.specs.declared.Verdict.the-variants.{Accepted}
 use Rattle.record.specs.Reading.{Typed}
 use Rattle.record.specs.Tables.{ExpirationEntry, Tables}
-use Rattle.steps.specs.Objects.{makeVerdict, withEntry, withObject, madePool, refreshedPool, writtenPool, releasedPool}
-use Rattle.steps.proofs.Chosen.{make-unspent}
+use Rattle.steps.specs.Objects.{withEntry, withObject, madePool, refreshedPool, writtenPool, releasedPool}
 
 typed-entry : (slot : ℕ) (e : ExpirationEntry) (p : Tables) → Typed p → Typed (withEntry slot e p)
 typed-entry slot e p types =
@@ -25,11 +23,10 @@ typed-entry slot e p types =
       given = types .given;
     }
 
-pub typed-made : (task : ℕ) (kind : Kind) (extension size prefix : ℕ) (p : Tables) → Typed p → makeVerdict task kind extension size prefix p ≡ Accepted
+pub typed-made : (task : ℕ) (kind : Kind) (extension size prefix : ℕ) (p : Tables) → Typed p → p .given < lastHandle
     → Typed (madePool task kind extension size prefix p)
 unfolding madePool lastHandle counterRange
-typed-made task kind extension size prefix p types accepted =
-    let unspent = make-unspent task kind extension size prefix p accepted in
+typed-made task kind extension size prefix p types unspent =
     typed-entry _ _ (withObject _ _ size prefix p)
     (record {
       tasks = types .tasks;

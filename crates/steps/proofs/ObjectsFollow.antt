@@ -1,26 +1,24 @@
 -- Make, refresh, read and write on a well-formed record follow the ledger that it reads as.
 use Prim.Native.Nat.{ℕ, _+_, _≤_}
-use mathlib.Core.Bool.{Bool, true, false}
+use mathlib.Core.Bool.{true, false}
 use mathlib.Core.List.{List, []}
 use mathlib.Core.Logic.{_≢_}
-use mathlib.Core.Path.{_≡_, refl, sym, subst, _∙_}
+use mathlib.Core.Path.{_≡_, refl, subst, _∙_}
 use native.Mathlib.Nat.{le-refl, le-trans}
-use borrow.Author.Tests.{not-false, not-true, eqb-false}
+use borrow.Author.Tests.{not-true, eqb-false}
 use lib.Dec.{eqb}
 use lib.ListN.{length, getD, replicate}
 use Rattle.lists.proofs.Cases.{by-test}
 use Rattle.ledger.specs.Tasks.{taskAt, isViewing}
 use Rattle.ledger.specs.Objects.{bytesFor, objectAt, stands}
-use Rattle.ledger.specs.Rules.{replyTo, memoryAfter, expirationsAfter}
-use Rattle.ledger.specs.Refusals.{asRefusal}
+use Rattle.ledger.specs.Rules.{memoryAfter, expirationsAfter, testsOf}
 use Rattle.ledger.specs.Remaining.{remainingLife}
-use Rattle.ledger.specs.Ledger.{Ledger, settled, replyBy, afterBy, verdictOn, reply, next}
+use Rattle.ledger.specs.Ledger.{Ledger, settled}
 use Rattle.ledger.specs.Compared.{viewOf}
 use Rattle.ledger.specs.declared.State.{State}
 use Rattle.ledger.specs.declared.Kind.{Kind}
 use Rattle.ledger.specs.declared.Call.{Call}
 use Rattle.ledger.specs.declared.Call.the-variants.{Make, Refresh, Write}
-use Rattle.ledger.specs.declared.Verdict.{Verdict}
 use Rattle.ledger.specs.declared.Verdict.the-variants.{Accepted}
 use Rattle.stores.specs.Places.{InBlock, smallAfter, largeAfter}
 use Rattle.record.specs.Codes.{freeBlock}
@@ -29,12 +27,14 @@ use Rattle.record.specs.WellFormed.{isWellFormed}
 use Rattle.record.specs.Tables.{Tables}
 use Rattle.record.proofs.Distinct.{handleAt}
 use Rattle.record.proofs.Facts.{fit-parts, shared-part, fit-whole, fit-used}
-use Rattle.steps.specs.Objects.{placeOf, freePlace, handleVerdict, makeVerdict, refreshVerdict, standingVerdict, stateIn, shownLength, intactVerdict, readVerdict, writeVerdict, madePool, refreshedPool, writtenPool}
+use Rattle.steps.specs.Facts.{isHere, verdictWith, verdictBy}
+use Rattle.steps.specs.Objects.{placeOf, blockOf, freePlace, stateIn, shownLength, madePool, refreshedPool, writtenPool}
 use Rattle.steps.specs.Remaining.{lifeIn}
-use Rattle.steps.proofs.Chosen.{make-takes, refresh-takes, handle-found, standing-found, intact-stands, write-begins, write-end}
-use Rattle.steps.proofs.Finding.{Found, gone-alike, found, blockOf}
+use Rattle.steps.proofs.Chosen.{Renewed, make-takes, here-found, write-intact}
+use Rattle.steps.proofs.Finding.{Found, found}
 use Rattle.steps.proofs.ReadTasks.{state-alike}
 use Rattle.steps.proofs.Remaining.{life-alike}
+use Rattle.steps.proofs.Verdicts.{stands-alike}
 use Rattle.steps.proofs.StoreBytes.{both-whole, whole-block, used-in-block, first-bytes, made-bytes}
 use Rattle.stores.proofs.Places.{first-bytes as first-of}
 use Rattle.steps.proofs.FitMade.{fit-made, fit-refreshed}
@@ -47,35 +47,29 @@ use Rattle.steps.proofs.ReadWritten.{written-place, written-sizes, writ
 abbrev pub carried : Call → List ℕ → Ledger → Ledger
 carried call new L = settled (memoryAfter call new (L .memory)) (expirationsAfter call new (L .memory) (L .expirations))
 
--- answer and next ledger by the record's verdict
-pub by-verdict : (L : Ledger) (call : Call) (new : List ℕ) (v : Verdict) → verdictOn L call new ≡ asRefusal v
-    → (reply L call new ≡ replyBy (asRefusal v) (replyTo call (L .memory))) × (next L call new ≡ afterBy (asRefusal v) (carried call new L) L)
-unfolding reply next
-by-verdict L call new v e = (rw e, rw e)
-
 module _ {p : Tables} {small large : List ℕ} {L : Ledger} (w : isWellFormed p ≡ true) (types : Typed p) (reads : Reads p small large L) where
-  -- an accepted handle is that of an object that stands,
-  pub handle-stands : (handle : ℕ) → handleVerdict handle p ≡ Accepted → (eqb handle 0 ≡ false) × (stands (L .expirations) handle ≡ true)
-  handle-stands handle v =
-      let (nonzero, place) = handle-found handle (p .given) (placeOf handle (p .blocks)) v in
-      (nonzero, not-false _ (sym (gone-alike (fit-parts p w) reads handle nonzero types) ∙ place))
+  -- an object that has a block stands,
+  pub handle-stands : (handle : ℕ) → isHere (p .blocks) handle ≡ true → (eqb handle 0 ≡ false) × (stands (L .expirations) handle ≡ true)
+  handle-stands handle h = (here-found handle (p .blocks) h .0, stands-alike types (fit-parts p w) reads handle ∙ h)
 
   -- in a block in use
-  place-found : (handle : ℕ) → handleVerdict handle p ≡ Accepted → Found (p .limits) small large (p .blocks) handle (objectAt handle (L .memory .objects))
-  place-found handle v = let (nonzero, standing) = handle-stands handle v in found (fit-parts p w) reads handle nonzero standing
+  place-found : (handle : ℕ) → isHere (p .blocks) handle ≡ true
+      → Found (p .limits) small large (p .blocks) handle (objectAt handle (L .memory .objects))
+  place-found handle h = let (nonzero, standing) = handle-stands handle h in found (fit-parts p w) reads handle nonzero standing
 
   -- and with the life that the ledger gives it
-  pub read-life : (task handle : ℕ) → standingVerdict false task handle p ≡ Accepted
+  pub read-life : (task handle : ℕ) → isHere (p .blocks) handle ≡ true
       → lifeIn task (placeOf handle (p .blocks)) (p .tasks) (p .global) (p .expirations) ≡ remainingLife task handle (L .memory .clocks) (L .expirations)
-  read-life task handle v =
-      let (nonzero, standing) = handle-stands handle (standing-found false task handle p v) in
+  read-life task handle h =
+      let (nonzero, standing) = handle-stands handle h in
       life-alike (fit-parts p w) reads task handle nonzero standing
 
   pub same-given : p .given ≡ L .memory .given
   unfolding recordView viewOf
   same-given = reads .alike .given
 
-  pub make-fits : (task : ℕ) (kind : Kind) (extension size prefix : ℕ) → makeVerdict task kind extension size prefix p ≡ Accepted
+  pub make-fits : (task : ℕ) (kind : Kind) (extension size prefix : ℕ) → verdictBy (testsOf (Make task kind extension size prefix) []) p
+      ≡ Accepted
       → isWellFormed (madePool task kind extension size prefix p) ≡ true
   unfolding madePool
   make-fits task kind extension size prefix v =
@@ -83,30 +77,30 @@ module _ {p : Tables} {small large : List ℕ} {L : Ledger} (w : isWellFormed p 
       let taken = make-takes task kind extension size prefix p fit types v in
       fit-whole _ (fit-made p fit types kind task extension size prefix _ _ (taken .may) (taken .prefixed) (taken .block) (taken .entry)) (shared-made p fit types kind task extension size prefix (taken) (shared-part p w))
 
-  pub refresh-fits : (task : ℕ) (kind : Kind) (extension handle : ℕ) → refreshVerdict task kind extension handle p ≡ Accepted
+  pub refresh-fits : (task : ℕ) (kind : Kind) (extension handle : ℕ) → Renewed task kind extension handle p
       → isWellFormed (refreshedPool task kind extension handle p) ≡ true
   unfolding refreshedPool
-  refresh-fits task kind extension handle v =
-      let renewed = refresh-takes task kind extension handle p (fit-parts p w) types v in
+  refresh-fits task kind extension handle renewed =
       fit-whole _
-      (fit-refreshed p (fit-parts p w) types kind task extension _ _ (renewed .may) (renewed .entry) (place-found handle (renewed .found) .used) (renewed .plain))
+      (fit-refreshed p (fit-parts p w) types kind task extension _ _ (renewed .may) (renewed .entry)
+      (place-found handle (renewed .here) .used) (renewed .plain))
       (shared-part p w)
 
   pub write-fits : (handle offset : ℕ) (new : List ℕ) → isWellFormed (writtenPool handle offset new small large p) ≡ true
   unfolding writtenPool
   write-fits handle offset new = fit-whole _ (fit-summed _ _ p (fit-parts p w)) (shared-summed _ _ p (shared-part p w))
 
-  pub refresh-reads : (task : ℕ) (kind : Kind) (extension handle : ℕ) → refreshVerdict task kind extension handle p ≡ Accepted
+  pub refresh-reads : (task : ℕ) (kind : Kind) (extension handle : ℕ) → Renewed task kind extension handle p
       → Reads (refreshedPool task kind extension handle p) small large (carried (Refresh task kind extension handle) [] L)
   unfolding refreshedPool
-  refresh-reads task kind extension handle v =
-      let renewed = refresh-takes task kind extension handle p (fit-parts p w) types v in
+  refresh-reads task kind extension handle renewed =
       refreshed-reads p small large L (fit-parts p w) types reads kind task extension _ _ (renewed .may) (renewed .entry) handle
-      (place-found handle (renewed .found) .its) (renewed .plain)
+      (place-found handle (renewed .here) .its) (renewed .plain)
 
   -- with both stores as long as the blocks need
   module _ (small-whole : isWholeSmall (p .limits) small ≡ true) (large-whole : isWholeLarge (p .limits) large ≡ true) where
-    pub make-reads : (task : ℕ) (kind : Kind) (extension size prefix : ℕ) → makeVerdict task kind extension size prefix p ≡ Accepted
+    pub make-reads : (task : ℕ) (kind : Kind) (extension size prefix : ℕ) → verdictBy (testsOf (Make task kind extension size prefix) []) p
+        ≡ Accepted
         → (let place = freePlace (p .limits) size (p .blocks) in
         let zeros : List ℕ = replicate (sizeOf place) 0 in
         Reads (madePool task kind extension size prefix p) (smallAfter place 0 zeros small) (largeAfter place 0 zeros large)
@@ -117,13 +111,10 @@ module _ {p : Tables} {small large : List ℕ} {L : Ledger} (w : isWellFormed p 
         made-reads p small large _ _ L (fit-parts p w) types reads kind task extension size prefix _ _ (taken .may) (taken .block) (taken .entry)
         small-whole large-whole (made-bytes (p .limits) (fit-parts p w .allowed) small large small-whole large-whole _ (taken .block .its))
 
-    -- a read that is accepted, and a write before 13, finds the object in a block,
-    module _ (acts : Bool) (task handle : ℕ) (v : intactVerdict acts task handle small large p ≡ Accepted) where
-      intact-found : Found (p .limits) small large (p .blocks) handle (objectAt handle (L .memory .objects))
-      intact-found = place-found handle (standing-found acts task handle p (intact-stands acts task handle small large p v))
-
+    -- a read that is accepted, and a write, finds the object in a block,
+    module _ (handle : ℕ) (h : isHere (p .blocks) handle ≡ true) where
       in-use : eqb (handleAt (p .blocks) (placeOf handle (p .blocks))) 0 ≡ false
-      in-use = not-true _ (intact-found .used)
+      in-use = not-true _ (place-found handle h .used)
 
       -- which lies in its store, and the object's bytes with it
       pub intact-block : InBlock small large (placeOf handle (p .blocks)) (sizeOf (placeOf handle (p .blocks)))
@@ -138,31 +129,33 @@ module _ {p : Tables} {small large : List ℕ} {L : Ledger} (w : isWellFormed p 
           first-of own-place _
           (le-trans (by-test (isViewing state) (λ e. rw e (fit-used (fit-parts p w) _ in-use .prefixed)) (λ e. rw e (le-refl _))) (own-place .within))
 
-    module _ (task handle : ℕ) (v : readVerdict task handle small large p ≡ Accepted) where
+    module _ (task handle : ℕ) (h : isHere (p .blocks) handle ≡ true) where
       -- those are what the ledger answers
       pub read-bytes : bytesFor (taskAt (L .memory .clocks) task .state) (objectAt handle (L .memory .objects))
           ≡ blockBytes small large (placeOf handle (p .blocks)) (shownLength (stateIn (p .tasks) task) (blockOf handle (p .blocks)))
       unfolding recordView viewOf
       read-bytes =
-          let here = intact-found false task handle v in
+          let here = place-found handle h in
           let bytes = here .bytes (both-whole (p .limits) (fit-parts p w .allowed) small large small-whole large-whole (blockOf handle (p .blocks) .length)) in
           let first =
-          first-bytes (p .limits) (fit-parts p w .allowed) small large small-whole large-whole _ _ (shown-place false task handle v (taskAt (L .memory .clocks) task .state)) in
+          first-bytes (p .limits) (fit-parts p w .allowed) small large small-whole large-whole _ _
+          (shown-place handle h (taskAt (L .memory .clocks) task .state)) in
           rw (state-alike (p .tasks) (L .memory .clocks) (reads .alike .tasks) task)
           (by-test (isViewing (taskAt (L .memory .clocks) task .state))
           (λ e. rw (e, bytes, here .prefix) (rw e at first))
           (λ e. rw (e, bytes, here .size) (rw e at first)))
 
     -- a write that is accepted lies in a block in use
-    module _ (task handle offset : ℕ) (new : List ℕ) (v : writeVerdict task handle offset (length new) small large p ≡ Accepted) where
+    module _ (task handle offset : ℕ) (new : List ℕ)
+        (v : verdictWith small large (testsOf (Write task handle offset) new) p ≡ Accepted) where
       here : Found (p .limits) small large (p .blocks) handle (objectAt handle (L .memory .objects))
-      here = intact-found true task handle (write-begins task handle offset (length new) small large p v)
+      here = place-found handle (write-intact task handle offset new small large p v .0 .here)
 
       used : handleAt (p .blocks) (placeOf handle (p .blocks)) ≢ 0
       used = eqb-false _ 0 (not-true _ (here .used))
 
       within : offset + length new ≤ getD (p .blocks) (placeOf handle (p .blocks)) freeBlock .length
-      within = write-end task handle offset (length new) small large p v
+      within = write-intact task handle offset new small large p v .1
 
       pub write-place : InBlock small large (placeOf handle (p .blocks)) (offset + length new)
       write-place = written-place p small large L (fit-parts p w) types reads small-whole large-whole _ offset new used within

@@ -16,6 +16,8 @@ use Rattle.ledger.specs.Tasks.{Task, Clocks, absentTask, taskAt, isAbsent, move
 use Rattle.ledger.specs.Expirations.{Expiration, remaining, lasting}
 use Rattle.ledger.specs.Expirations.{DueTime, byLocal, byGlobal, pinned}
 use Rattle.ledger.specs.Compared.{Left, localLeft, globalLeft, pinnedLeft, Shown, leftOf, shown}
+use Rattle.ledger.specs.Refusals.{verdict}
+use Rattle.ledger.specs.Rules.{testsOf}
 use Rattle.ledger.specs.declared.State.{State}
 use Rattle.ledger.specs.declared.State.the-variants.{Absent, Running, Waiting, Viewing}
 use Rattle.ledger.specs.declared.Event.{Event}
@@ -37,6 +39,7 @@ use Rattle.steps.proofs.Aging.{aged, clock-after, ledger-ages, record-a
 
 -- an event with an advance test is refused to an absent task
 tested-present : (event : Event) (s : State) → isTested event ≡ true → verdictOf event s ≡ Accepted → isAbsent s ≡ false
+unfolding verdict testsOf
 tested-present Leave Absent tested accepted = cc
 tested-present Block Absent tested accepted = cc
 tested-present Resume Absent tested accepted = cc
@@ -66,7 +69,7 @@ lasting-all Tick task advanced c xs untested = absurd (true≢false untested)
 -- and leaves its task's clock, unless the task was absent
 moved-stays : (event : Event) (t : Task) (s : State) → isTested event ≡ false → verdictOf event s ≡ Accepted → isAbsent s ≡ false
     → moved event t .clock ≡ t .clock
-unfolding moved
+unfolding moved verdict testsOf
 moved-stays Leave t s untested accepted present = absurd (true≢false untested)
 moved-stays Block t s untested accepted present = absurd (true≢false untested)
 moved-stays Resume t s untested accepted present = refl

@@ -3,7 +3,6 @@ use Prim.Native.Nat.{ℕ, _+_}
 use native.Mathlib.Omega.{arith}
 use mathlib.Core.Bool.{true, false, cond}
 use mathlib.Core.List.{List, map, map-map}
-use mathlib.Core.Option.{some}
 use mathlib.Core.Path.{_≡_, refl, ap, sym, _∙_}
 use lib.Dec.{leb}
 use lib.ListN.{getD, List·getD-map}
@@ -14,11 +13,9 @@ use Rattle.ledger.specs.Limits.{taskCount, counterRange}
 use Rattle.ledger.specs.Tasks.{Task, Clocks, absentTask, taskAt, moved, isTested, allTicked, unticked, tasksAfter, advances, clocksAfter}
 use Rattle.ledger.specs.Expirations.{Expiration}
 use Rattle.ledger.specs.Objects.{Memory}
-use Rattle.ledger.specs.Refusals.{asRefusal, verdict}
+use Rattle.ledger.specs.Refusals.{factsOf, verdict, asVerdict}
 use Rattle.ledger.specs.Rules.{testsOf}
 use Rattle.ledger.specs.Compared.{wrapped, wrappedTask}
-use Rattle.ledger.specs.declared.State.{State}
-use Rattle.ledger.specs.declared.State.the-variants.{Absent, Running, Waiting, Viewing}
 use Rattle.ledger.specs.declared.Event.{Event}
 use Rattle.ledger.specs.declared.Event.the-variants.{Leave, Block, Resume, Tick, View}
 use Rattle.ledger.specs.declared.Call.the-variants.{Schedule}
@@ -26,7 +23,7 @@ use Rattle.ledger.specs.declared.Refusal.the-variants.{NoSuchTask}
 use Rattle.record.specs.Codes.{stateOf, taskOf, absentEntry}
 use Rattle.record.specs.declared.TaskEntry.{TaskEntry}
 use Rattle.record.specs.declared.GlobalTime.{GlobalTime}
-use Rattle.steps.specs.Events.{verdictOf, nextTime, movedEntry, untickedEntry, movedTasks, advancedTasks, advancedTime}
+use Rattle.steps.specs.Events.{verdictOf, verdictAt, nextTime, movedEntry, untickedEntry, movedTasks, advancedTasks, advancedTime}
 use Rattle.ledger.specs.declared.Verdict.the-variants.{Refused}
 
 -- the record's tasks read as the ledger's, one by one
@@ -43,31 +40,21 @@ module _ (tasks : List TaskEntry) (c : Clocks) (same : map taskOf tasks ≡ map 
   pub clock-alike : getD tasks i absentEntry .clock .0 ≡ wrapped (taskAt c i .clock)
   clock-alike = ap (λ (t : Task). t .clock) task-alike
 
-by-state {ℓ} : {C : Type ℓ} (s : State) → (s ≡ Absent → C) → (s ≡ Running → C) → (s ≡ Waiting → C) → (s ≡ Viewing → C) → C
-by-state Absent f g h i = f refl
-by-state Running f g h i = g refl
-by-state Waiting f g h i = h refl
-by-state Viewing f g h i = i refl
-
--- the ledger's tests of an event: first 1, then those of the task's state
-tests-alike : (m : Memory) (xs : List Expiration) (event : Event) (task : ℕ) (new : List ℕ)
-    → verdict m xs (testsOf (Schedule event task) new)
-    ≡ cond (leb taskCount task) (some NoSuchTask) (asRefusal (verdictOf event (taskAt (m .clocks) task .state)))
+-- the ledger's verdict on an event is the record's: first 1, then the tests of the task's state
+state-tests : (m : Memory) (xs : List Expiration) (event : Event) (task : ℕ) (new : List ℕ)
+    → asVerdict (verdict (factsOf m xs) (testsOf (Schedule event task) new))
+    ≡ cond (leb taskCount task) (Refused NoSuchTask) (verdictOf event (taskAt (m .clocks) task .state))
 unfolding verdict testsOf
-tests-alike m xs Leave task new = by-state (taskAt (m .clocks) task .state) (λ e. rw e) (λ e. rw e) (λ e. rw e) (λ e. rw e)
-tests-alike m xs Block task new = by-state (taskAt (m .clocks) task .state) (λ e. rw e) (λ e. rw e) (λ e. rw e) (λ e. rw e)
-tests-alike m xs Resume task new = by-state (taskAt (m .clocks) task .state) (λ e. rw e) (λ e. rw e) (λ e. rw e) (λ e. rw e)
-tests-alike m xs View task new = by-state (taskAt (m .clocks) task .state) (λ e. rw e) (λ e. rw e) (λ e. rw e) (λ e. rw e)
-tests-alike m xs Tick task new = by-state (taskAt (m .clocks) task .state) (λ e. rw e) (λ e. rw e) (λ e. rw e) (λ e. rw e)
+state-tests m xs Leave task new = by-test (leb taskCount task) (λ e. rw e) (λ e. rw e)
+state-tests m xs Block task new = by-test (leb taskCount task) (λ e. rw e) (λ e. rw e)
+state-tests m xs Resume task new = by-test (leb taskCount task) (λ e. rw e) (λ e. rw e)
+state-tests m xs View task new = by-test (leb taskCount task) (λ e. rw e) (λ e. rw e)
+state-tests m xs Tick task new = by-test (leb taskCount task) (λ e. rw e) (λ e. rw e)
 
--- the ledger's verdict is the record's
-pub verdict-alike : (m : Memory) (xs : List Expiration) (event : Event) (task : ℕ) (new : List ℕ) (tasks : List TaskEntry)
-    → map taskOf tasks ≡ map wrappedTask (m .clocks .tasks)
-    → verdict m xs (testsOf (Schedule event task) new)
-    ≡ asRefusal (cond (leb taskCount task) (Refused NoSuchTask) (verdictOf event (stateOf (getD tasks task absentEntry .state))))
-verdict-alike m xs event task new tasks same =
-    rw (tests-alike m xs event task new, state-alike tasks (m .clocks) same task)
-    (by-test (leb taskCount task) (λ e. rw e) (λ e. rw e))
+pub event-verdict : (m : Memory) (xs : List Expiration) (event : Event) (task : ℕ) (new : List ℕ) (tasks : List TaskEntry)
+    → map taskOf tasks ≡ map wrappedTask (m .clocks .tasks) → asVerdict (verdict (factsOf m xs) (testsOf (Schedule event task) new))
+    ≡ verdictAt event task tasks
+event-verdict m xs event task new tasks same = rw (state-tests m xs event task new, state-alike tasks (m .clocks) same task)
 
 -- one task's entry
 entry-moved : (event : Event) (e : TaskEntry) (t : Task) → taskOf e ≡ wrappedTask t → taskOf (movedEntry event e) ≡ wrappedTask (moved event t)

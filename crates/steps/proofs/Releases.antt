@@ -13,7 +13,6 @@ use Rattle.ledger.specs.Rules.{memoryAfter, expirationsAfter}
 use Rattle.ledger.specs.Ledger.{Ledger}
 use Rattle.ledger.specs.Compared.{viewOf}
 use Rattle.ledger.specs.declared.Call.the-variants.{Release}
-use Rattle.ledger.specs.declared.Verdict.the-variants.{Accepted}
 use Rattle.ledger.proofs.KeptPins.{pins-carried}
 use Rattle.record.specs.Codes.{dueBy, dueOf, isPinnedDue}
 use Rattle.record.specs.Reading.{recordView, Typed, Reads}
@@ -23,9 +22,9 @@ use Rattle.record.proofs.Facts.{Fit, fit-parts, shared-part, fit-whole}
 use Rattle.ledger.proofs.KeptShares.{shares-filter}
 use Rattle.steps.proofs.Shares.{shared-kept, kept-shared}
 use Rattle.steps.specs.Events.{keptBlock}
-use Rattle.steps.specs.Objects.{placeOf, handleVerdict, standingVerdict, releaseVerdict, unpinnedEntry, releasedPool}
+use Rattle.steps.specs.Facts.{isHere}
+use Rattle.steps.specs.Objects.{placeOf, unpinnedEntry, releasedPool}
 use Rattle.steps.specs.Staying.{Stays}
-use Rattle.steps.proofs.Chosen.{both-accept, standing-found}
 use Rattle.steps.proofs.EventsFollow.{reads-with}
 use Rattle.steps.proofs.FitSwept.{named-fits, kept-fits, kept-distinct}
 use Rattle.steps.proofs.KeptBlocks.{kept-block}
@@ -79,16 +78,12 @@ unfolding releasedPool
 release-stays handle p = kept-stays p _
 
 module _ {p : Tables} {small large : List ℕ} {L : Ledger} (w : isWellFormed p ≡ true) (types : Typed p) (reads : Reads p small large L)
-    (task handle : ℕ) (v : releaseVerdict task handle p ≡ Accepted) where
-  handle-ok : handleVerdict handle p ≡ Accepted
-  unfolding releaseVerdict
-  handle-ok = standing-found true task handle p (both-accept (standingVerdict true task handle p) _ v .0)
-
+    (task handle : ℕ) (here : isHere (p .blocks) handle ≡ true) where
   pub release-reads : Reads (releasedPool handle p) small large (carried (Release task handle) [] L)
   unfolding releasedPool recordView viewOf memoryAfter expirationsAfter
   release-reads =
       let fit = fit-parts p w in
-      let (nonzero, stands-on) = handle-stands w types reads handle handle-ok in
+      let (nonzero, stands-on) = handle-stands w types reads handle here in
       let block = placeOf handle (p .blocks) in
       let xs = map (unpinnedEntry block) (p .expirations) in
       reads-with p small large L fit reads (p .tasks) (p .global) _ xs (L .memory .clocks) _ _ (reads .alike .shares)

@@ -37,7 +37,8 @@ use Rattle.record.proofs.Facts.{Fit}
 use Rattle.ledger.specs.Shares.{blocksIn, usedIn}
 use Rattle.record.specs.Shares.{takenBut}
 use Rattle.record.proofs.Exists.{sized-small, fit-tables-read}
-use Rattle.steps.specs.Objects.{isFreeBlock, endFor, freePlace, isFilled, isFreeEntry, standingIn}
+use Rattle.steps.specs.Objects.{isFreeBlock, endFor, freePlace, isFreeEntry, standingIn}
+use Rattle.steps.specs.Facts.{isFilled}
 use Rattle.steps.specs.Usage.{usageOf}
 use Rattle.steps.proofs.Finding.{each-used}
 use Rattle.steps.proofs.Shares.{taken-alike}

@@ -32,8 +32,7 @@ use Rattle.record.specs.Shares.{isTaken, takenIn, madeIn, unmetIn, allUnmetIn, 
 use Rattle.record.specs.Tables.{BlockEntry, Tables}
 use Rattle.record.specs.declared.TaskEntry.{TaskEntry}
 use Rattle.record.proofs.Facts.{Shared}
-use Rattle.steps.specs.Joins.{isScant}
-use Rattle.steps.specs.Objects.{isFilled}
+use Rattle.steps.specs.Facts.{isFilled, isScant}
 use Rattle.steps.proofs.ReadTasks.{state-alike}
 
 -- a count of a record's objects by size and maker is one of its blocks in use

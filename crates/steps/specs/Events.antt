@@ -1,23 +1,25 @@
 -- What an event makes of a record, as a function of its entries.
 use Prim.Native.Nat.{ℕ, _+_, _-_, _%_}
-use mathlib.Core.Bool.{Bool, true, cond, not, _&&_}
-use mathlib.Core.List.{List, map}
+use mathlib.Core.Bool.{Bool, true, false, cond, not, _&&_}
+use mathlib.Core.List.{List, [], map}
 use lib.Dec.{eqb, leb, ltb}
-use lib.ListN.{getD, set}
+use lib.ListN.{getD, set, drop}
 use Rattle.lists.specs.Tests.{any}
 use Rattle.lists.specs.Tables.{mapFrom}
-use Rattle.ledger.specs.Limits.{taskCount, counterRange}
+use Rattle.ledger.specs.Limits.{capacity, taskCount, counterRange}
 use Rattle.ledger.specs.Tasks.{isWaiting, isTested, allTicked}
 use Rattle.ledger.specs.Expirations.{departed}
 use Rattle.ledger.specs.Objects.{sharesAfter}
+use Rattle.ledger.specs.Refusals.{verdict, asVerdict}
+use Rattle.ledger.specs.Rules.{testsOf}
 use Rattle.ledger.specs.declared.State.{State}
-use Rattle.ledger.specs.declared.State.the-variants.{Absent, Running, Waiting, Viewing}
+use Rattle.ledger.specs.declared.Call.the-variants.{Schedule}
 use Rattle.ledger.specs.declared.Event.{Event}
 use Rattle.ledger.specs.declared.Event.the-variants.{Leave, Block, Resume, Tick, View}
 use Rattle.ledger.specs.declared.Answer.{Answer}
 use Rattle.ledger.specs.declared.Answer.the-variants.{Done, Advanced}
 use Rattle.ledger.specs.declared.Answer.the-variants.{Refused as RefusedAnswer}
-use Rattle.ledger.specs.declared.Refusal.the-variants.{NoSuchTask, TaskPresent, TaskAbsent, TaskWaiting, TaskRunning, OnlyViews}
+use Rattle.ledger.specs.declared.Refusal.the-variants.{NoSuchTask}
 use Rattle.record.specs.Codes.{stateOf, taskOf, globalCode, departedCode, isGlobalClock, dueOf, setterOf, leftAt, absentEntry, freedBlock, freedEntry}
 use Rattle.record.specs.WellFormed.{isNaming}
 use Rattle.record.specs.declared.TaskEntry.{TaskEntry}
@@ -27,29 +29,13 @@ use Rattle.record.specs.declared.Due.{Due}
 use Rattle.record.specs.declared.Due.the-variants.{Free, Local, Global, Pinned, Unknown}
 use Rattle.ledger.specs.declared.Verdict.{Verdict}
 use Rattle.ledger.specs.declared.Verdict.the-variants.{Accepted, Refused}
+use Rattle.steps.specs.Parts.{partFacts}
 
--- R37 to R39 and R49, after 1: leave 3; block and tick 3, 4, 27; resume 3, 5; view 2
+-- R37 to R39 and R49, after 1: the tests of the task's state
 abbrev pub verdictOf : Event → State → Verdict
-verdictOf Leave Absent = Refused TaskAbsent
-verdictOf Leave Running = Accepted
-verdictOf Leave Waiting = Accepted
-verdictOf Leave Viewing = Accepted
-verdictOf Block Absent = Refused TaskAbsent
-verdictOf Block Running = Accepted
-verdictOf Block Waiting = Refused TaskWaiting
-verdictOf Block Viewing = Refused OnlyViews
-verdictOf Resume Absent = Refused TaskAbsent
-verdictOf Resume Running = Refused TaskRunning
-verdictOf Resume Waiting = Accepted
-verdictOf Resume Viewing = Refused TaskRunning
-verdictOf Tick Absent = Refused TaskAbsent
-verdictOf Tick Running = Accepted
-verdictOf Tick Waiting = Refused TaskWaiting
-verdictOf Tick Viewing = Refused OnlyViews
-verdictOf View Absent = Accepted
-verdictOf View Running = Refused TaskPresent
-verdictOf View Waiting = Refused TaskPresent
-verdictOf View Viewing = Refused TaskPresent
+verdictOf event state =
+    asVerdict (verdict (partFacts capacity (λ (task : ℕ). state) 0 (λ (handle : ℕ). false) 0 false false false)
+    (drop 1 (testsOf (Schedule event 0) [])))
 
 -- the verdict on an event: first 1, then the tests of the task's state
 abbrev pub verdictAt : Event → ℕ → List TaskEntry → Verdict

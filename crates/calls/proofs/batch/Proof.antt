@@ -1,10 +1,8 @@
 -- By the plan: refused with nothing changed, or one expiration more on each object.
 use borrow.Author.Needs.{needs}
-use Rattle.ledger.specs.Objects.{handlesOf}
 use Rattle.record.proofs.Types.{head-typed}
 use Rattle.objects.specs.Batches.{PlansBatch}
 use Rattle.expirations.specs.Standing.{standingOf}
-use Rattle.calls.proofs.Lent.{lent-allowed}
 use Rattle.calls.proofs.BatchLent.{batch-kept, batch-may-set, batch-set}
 use Rattle.calls.proofs.batch.Statement.{statement}
 use Rattle.calls.proofs.batch.Tie as tie
@@ -12,7 +10,8 @@ use Rattle.calls.proofs.batch.Tie as tie
 -- the plan, by what stands
 planned : (p : tie.After-plan-batch)
     → let a = p .before .before .before .before .args in
-    PlansBatch (a .task) (a .kind) (a .extension) (handlesOf (a .bytes .now)) (a .h) (a .handles .now) (standingOf (a .clocks .now)) (p .plan-batch .result)
+    PlansBatch (a .task) (a .kind) (a .extension) (a .bytes .now) (a .h) (a .handles .now) (standingOf (a .clocks .now))
+    (p .plan-batch .result)
 planned p = rw (← p .before .standing .ensures) (p .plan-batch .ensures)
 
 returns : tie.Need-returns
@@ -29,7 +28,8 @@ set-all-requires c κs =
     let t = c .before .before .before .before in
     let p = t .before .before .before in
     let start = p .before .before .before .before in
-    let (few, room, known) = batch-may-set (head-typed _ _ (start .good .0)) (start .pre .0) (start .args .task) (start .args .kind) (start .args .extension) _ _ (planned p) (t .enum-told .given .1) (lent-allowed _ _ _ _ _ _ (start .pre .1)) in
+    let (few, room, known) = batch-may-set (head-typed _ _ (start .good .0)) (start .pre .0) (start .args .task) (start .args .kind)
+    (start .args .extension) _ _ (planned p) (t .enum-told .given .1) (start .pre .1) in
     (start .pre .0 .entries, p .plan-batch .ensures .sized (t .enum-told .given .1), few, room, known)
 
 returns-2 : tie.Need-returns-2

@@ -2,7 +2,6 @@
 use borrow.Author.Needs.{needs}
 use Rattle.record.proofs.Types.{head-typed}
 use Rattle.calls.proofs.Lent.{lent-fits}
-use Rattle.calls.proofs.Lent.{lent-allowed}
 use Rattle.calls.proofs.RefreshLent.{refresh-kept, refresh-set, refresh-may-set}
 use Rattle.calls.proofs.refresh.Statement.{statement}
 use Rattle.calls.proofs.refresh.Tie as tie
@@ -12,7 +11,8 @@ set-requires c κs =
     let found = c .before .before .before .before .before .before in
     let start = found .before .before .before .before in
     let a = start .args in
-    let (room, known, block) = refresh-may-set (head-typed _ _ (start .good .0)) (start .pre .0) (a .task) (a .kind) (a .extension) (a .handle) _ (found .find-for-refresh .ensures) (c .before .before .before .before .block .given .1) (lent-allowed _ _ _ _ _ _ (start .pre .1)) in
+    let (room, known, block) = refresh-may-set (head-typed _ _ (start .good .0)) (start .pre .0) (a .task) (a .kind) (a .extension)
+    (a .handle) _ (found .find-for-refresh .ensures) (c .before .before .before .before .block .given .1) (start .pre .1) in
     (start .pre .0 .entries, room, known, block)
 
 returns : tie.Need-returns

@@ -27,8 +27,10 @@ sum-after-requires c κs =
     let found = told .before .before .before in
     let s = start found in
     let types = head-typed _ _ (s .good .0) in (
-      write-within types (s .pre .0) _ _ _ (s .args .bytes .now) (s .pre .1) _ (found .find-for-write .ensures) (told .before .block .given .1),
-      write-agrees types (s .pre .0) _ _ _ (s .args .bytes .now) (s .pre .1) _ (found .find-for-write .ensures) (told .before .block .given .1),
+      write-within types (s .pre .0) _ _ _ (s .args .bytes .now) (s .pre .1) _ (found .find-for-write .ensures (s .args .bytes .now) refl)
+          (told .before .block .given .1),
+      write-agrees types (s .pre .0) _ _ _ (s .args .bytes .now) (s .pre .1) _ (found .find-for-write .ensures (s .args .bytes .now) refl)
+          (told .before .block .given .1),
     )
 
 write-place-requires : tie.Need-write-place-requires
@@ -36,21 +38,24 @@ write-place-requires c κs =
     let told = c .before .before .before .before .before in
     let found = told .before .before .before in
     let s = start found in
-    write-within (head-typed _ _ (s .good .0)) (s .pre .0) _ _ _ (s .args .bytes .now) (s .pre .1) _ (found .find-for-write .ensures) (told .before .block .given .1)
+    write-within (head-typed _ _ (s .good .0)) (s .pre .0) _ _ _ (s .args .bytes .now) (s .pre .1) _
+    (found .find-for-write .ensures (s .args .bytes .now) refl) (told .before .block .given .1)
 
 -- the block has an entry
 listed : (told : tie.After-known-told2) → told .before .block .given .0 .0 < blockEntries
 listed told =
     let found = told .before .before .before in
     let s = start found in
-    write-listed (head-typed _ _ (s .good .0)) (s .pre .0) _ _ _ (s .args .bytes .now) (s .pre .1) _ (found .find-for-write .ensures) (told .before .block .given .1)
+    write-listed (head-typed _ _ (s .good .0)) (s .pre .0) _ _ _ (s .args .bytes .now) (s .pre .1) _
+    (found .find-for-write .ensures (s .args .bytes .now) refl) (told .before .block .given .1)
 
 returns : tie.Need-returns
 returns c =
     let found = c .before .before .before in
     let s = start found in (
       s .pre .0 .blocks .of-extents,
-      write-refused-lent (head-typed _ _ (s .good .0)) (s .pre .0) _ _ _ (s .args .bytes .now) (s .pre .1) _ (found .find-for-write .ensures) (c .before .why .given .1),
+      write-refused-lent (head-typed _ _ (s .good .0)) (s .pre .0) _ _ _ (s .args .bytes .now) (s .pre .1) _
+          (found .find-for-write .ensures (s .args .bytes .now) refl) (c .before .why .given .1),
     )
 
 -- from the sum on
@@ -64,7 +69,8 @@ returns-2 c =
     let s = start found in
     let written = c .before .before .before .before .before .before in
     rw (c .with-sum .ensures)
-    (write-done-lent (head-typed _ _ (s .good .0)) (s .pre .0) _ _ _ (s .args .bytes .now) (s .pre .1) _ (found .find-for-write .ensures) (t .before .block .given .1) _
+    (write-done-lent (head-typed _ _ (s .good .0)) (s .pre .0) _ _ _ (s .args .bytes .now) (s .pre .1) _
+    (found .find-for-write .ensures (s .args .bytes .now) refl) (t .before .block .given .1) _
     (written .before .before .before .sum-after .ensures) (written .write-place .ensures .0) (written .write-place .ensures .1))
 
 pub write-spec : {M : Type 1} → statement M

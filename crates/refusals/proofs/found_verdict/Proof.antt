@@ -1,5 +1,6 @@
 -- By what the two tests ensure.
 use borrow.Author.Needs.{needs}
+use Rattle.refusals.proofs.Verdicts.{found-by-place}
 use Rattle.refusals.proofs.found_verdict.Statement.{statement}
 use Rattle.refusals.proofs.found_verdict.Tie as tie
 
@@ -11,4 +12,5 @@ found-verdict-spec =
     (λ c κs. search needs)
     (λ c κs. search needs)
     (λ c κs. search needs)
-    (λ c. rw (c .and-then .ensures, c .before .refuse-if2 .ensures, c .before .before .refuse-if .ensures, c .before .before .before .is-ungiven .ensures)))
+    (λ c. let a = c .before .before .before .before .args in
+    rw (c .and-then .ensures, c .before .refuse-if2 .ensures, c .before .before .refuse-if .ensures, c .before .before .before .is-ungiven .ensures) (found-by-place (a .handle) (a .given) (a .place))))

@@ -3,8 +3,8 @@ use Prim.Native.Nat.{_<_}
 use mathlib.Core.Path.{_≡_, sym, _∙_}
 use borrow.Author.Needs.{needs}
 use Rattle.record.specs.Tables.{lent, blockEntries}
-use Rattle.steps.specs.Objects.{handleVerdict}
-use Rattle.steps.proofs.Chosen.{place-listed}
+use Rattle.steps.specs.Facts.{handleTests, verdictBy}
+use Rattle.refusals.proofs.Verdicts.{found-listed}
 use Rattle.objects.proofs.Outcomes.{verdict-at, found-at, life-fits}
 use Rattle.objects.proofs.finding.find.Statement.{statement}
 use Rattle.objects.proofs.finding.find.Tie as tie
@@ -12,7 +12,8 @@ use Rattle.objects.proofs.finding.find.Tie as tie
 -- the verdict is that of the tables
 verdict : (c : tie.After-found-verdict)
     → let a = c .before .before .args in
-    c .found-verdict .result ≡ handleVerdict (a .handle) (lent (a .h) (a .handles .now) (a .extents .now) (a .clocks .now) (a .named .now) (a .dues .now))
+    c .found-verdict .result
+    ≡ verdictBy (handleTests (a .handle)) (lent (a .h) (a .handles .now) (a .extents .now) (a .clocks .now) (a .named .now) (a .dues .now))
 verdict c =
     let start = c .before .before in
     rw (c .found-verdict .ensures, c .before .locate .ensures) (verdict-at (start .args .h) (start .pre .0) (start .args .asks) (start .args .task) (start .args .handle))
@@ -22,7 +23,7 @@ listed : (c : tie.After-enum-told) → c .before .before .before .locate .result
 listed c =
     let tested = c .before .before in
     let a = tested .before .before .args in
-    place-listed (a .handle) (a .h .given) (tested .before .locate .result) (sym (tested .found-verdict .ensures) ∙ c .enum-told .given .1)
+    found-listed (a .handle) (a .h .given) (tested .before .locate .result) (sym (tested .found-verdict .ensures) ∙ c .enum-told .given .1)
 
 pub find-spec : {M : Type 1} → statement M
 find-spec =

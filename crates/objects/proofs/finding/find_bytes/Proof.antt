@@ -1,28 +1,32 @@
 -- What stands, by the test of its block's sum.
 use Prim.Native.Nat.{ℕ, _<_}
 use mathlib.Core.Bool.{Bool, true, false, cond}
-use mathlib.Core.List.{List}
+use mathlib.Core.List.{List, [], _∷_, _++_}
 use mathlib.Core.Path.{_≡_, refl, sym, _∙_}
 use borrow.Author.Needs.{needs}
 use borrow.Author.Tests.{eq-eqb, ne-eqb}
 use lib.Dec.{eqb}
 use lib.ListN.{getD}
 use Rattle.lists.proofs.Cases.{by-test}
+use Rattle.ledger.specs.Refusals.{Test, sumDiffers, verdict}
 use Rattle.ledger.specs.declared.Refusal.the-variants.{SumDiffers}
 use Rattle.ledger.specs.declared.Verdict.{Verdict}
 use Rattle.ledger.specs.declared.Verdict.the-variants.{Accepted, Refused}
 use Rattle.record.specs.Codes.{freeBlock}
 use Rattle.record.specs.Tables.{BlockEntry, Tables, lent, blockEntries}
 use Rattle.stores.specs.Places.{sumAt}
-use Rattle.steps.specs.Objects.{placeOf, andThen, standingVerdict, sumVerdict, intactVerdict}
-use Rattle.objects.specs.Outcomes.{foundBy, bytesBy}
+use Rattle.steps.specs.Facts.{isHere, taskTests, handleTests, verdictWith, verdictBy}
+use Rattle.steps.specs.Objects.{placeOf, blockOf}
+use Rattle.steps.proofs.Chosen.{using-known, here-listed}
+use Rattle.refusals.specs.Verdicts.{andThen}
+use Rattle.objects.specs.Outcomes.{foundBy, bytesBy, bytesIn}
 use Rattle.objects.specs.declared.Found.{Found}
 use Rattle.objects.specs.declared.Found.the-variants.{At}
 use Rattle.objects.specs.declared.Found.the-variants.{Refused as RefusedFound}
 use Rattle.objects.specs.declared.FoundBytes.{FoundBytes}
 use Rattle.objects.specs.declared.FoundBytes.the-variants.{At as AtBytes}
 use Rattle.objects.specs.declared.FoundBytes.the-variants.{Refused as RefusedBytes}
-use Rattle.objects.proofs.Outcomes.{found-accepted, standing-listed, standing-block, entry-at}
+use Rattle.objects.proofs.Outcomes.{found-accepted, here-block, using-blind, with-test, entry-at}
 use Rattle.objects.proofs.finding.find_bytes.Statement.{statement}
 use Rattle.objects.proofs.finding.find_bytes.Tie as tie
 
@@ -33,46 +37,61 @@ agreeing small large blocks (At block life) =
     let b = getD blocks block freeBlock in
     cond (eqb (sumAt small large block) (b .sum)) (AtBytes block (b .length) (b .sum)) (RefusedBytes SumDiffers)
 
-by-standing : (small large : List ℕ) (v : Verdict) (task handle : ℕ) (p : Tables)
-    → let place = placeOf handle (p .blocks) in
-    bytesBy (andThen v (sumVerdict small large place (getD (p .blocks) place freeBlock))) handle p
+by-standing : (small large : List ℕ) (v : Verdict) (task handle : ℕ) (p : Tables) → (v ≡ Accepted → isHere (p .blocks) handle ≡ true)
+    → bytesBy (andThen v (verdictWith small large (sumDiffers handle ∷ []) p)) handle p
     ≡ agreeing small large (p .blocks) (foundBy false v task handle p)
-by-standing small large Accepted task handle p =
-    let place = placeOf handle (p .blocks) in
-    by-test (eqb (sumAt small large place) (getD (p .blocks) place freeBlock .sum)) (λ e. rw e) (λ e. rw e)
-by-standing small large (Refused r) task handle p = refl
+unfolding verdictWith verdict
+by-standing small large Accepted task handle p here =
+    by-test (eqb (sumAt small large (placeOf handle (p .blocks))) (blockOf handle (p .blocks) .sum)) (λ e. rw (here refl, e))
+    (λ e. rw (here refl, e))
+by-standing small large (Refused r) task handle p here = refl
 
 abbrev tables : tie.Start → Tables
 tables c = let a = c .args in lent (a .h) (a .handles .now) (a .extents .now) (a .clocks .now) (a .named .now) (a .dues .now)
+
+-- its first tests
+abbrev tests : tie.Start → List Test
+tests c = taskTests (c .args .acts) (c .args .task) (handleTests (c .args .handle))
 
 -- the verdict's outcome, by what stands
 found : (c : tie.After-find-standing)
     → let start = c .before .before .before in
     let a = start .args in
-    bytesBy (intactVerdict (a .acts) (a .task) (a .handle) (a .small .now) (a .large .now) (tables start)) (a .handle) (tables start)
+    bytesIn (a .small .now) (a .large .now) (tests start ++ (sumDiffers (a .handle) ∷ [])) (a .handle) (tables start)
     ≡ agreeing (a .small .now) (a .large .now) (tables start .blocks) (c .find-standing .result)
-unfolding intactVerdict
 found c =
     let start = c .before .before .before in
     let a = start .args in
-    rw (c .find-standing .ensures) (by-standing (a .small .now) (a .large .now) (standingVerdict (a .acts) (a .task) (a .handle) (tables start)) (a .task) (a .handle) (tables start))
+    rw (c .find-standing .ensures, with-test (a .small .now) (a .large .now) (tests start), using-blind)
+    (by-standing (a .small .now) (a .large .now) (verdictBy (tests start) (tables start)) (a .task) (a .handle) (tables start)
+    (λ e. using-known (a .acts) (a .task) (a .handle) (tables start) e .here))
+
+-- what stands has a block
+here : (c : tie.After-known-told2)
+    → let start = c .before .before .before .before .before .before in
+    (isHere (tables start .blocks) (start .args .handle) ≡ true)
+    × (placeOf (start .args .handle) (tables start .blocks) ≡ c .before .block .given .0 .0)
+here c =
+    let stood = c .before .before .before in
+    let start = stood .before .before .before in
+    let a = start .args in
+    let (v, place) = found-accepted false (a .task) (a .handle) (tables start) (verdictBy (tests start) (tables start))
+    (sym (stood .find-standing .ensures) ∙ c .before .block .given .1) in
+    (using-known (a .acts) (a .task) (a .handle) (tables start) v .here, place)
 
 -- its block is one of the blocks'
 listed : (c : tie.After-known-told2) → c .before .block .given .0 .0 < blockEntries
 listed c =
-    let stood = c .before .before .before in
-    let start = stood .before .before .before in
-    let a = start .args in
-    let (v, place) = found-accepted false (a .task) (a .handle) (tables start) (standingVerdict (a .acts) (a .task) (a .handle) (tables start)) (sym (stood .find-standing .ensures) ∙ c .before .block .given .1) in
-    rw (← place) (standing-listed (a .acts) (a .task) (a .handle) (tables start) v)
+    let start = c .before .before .before .before .before .before in
+    rw (← here c .1) (here-listed (start .args .handle) (tables start .blocks) (here c .0))
 
 block-sum-requires : tie.Need-block-sum-requires
 block-sum-requires c κs =
-    let stood = c .before .before .before .before .before in
-    let start = stood .before .before .before in
+    let told = c .before .before in
+    let start = told .before .before .before .before .before .before in
     let a = start .args in
-    let (v, place) = found-accepted false (a .task) (a .handle) (tables start) (standingVerdict (a .acts) (a .task) (a .handle) (tables start)) (sym (stood .find-standing .ensures) ∙ c .before .before .before .block .given .1) in
-    rw place at (standing-block (a .h) {small = a .small .now} {large = a .large .now} (start .pre .0) (a .acts) (a .task) (a .handle) (start .pre .1) (start .pre .2) (start .pre .3) v)
+    rw (here told .1) at (here-block (a .h) {small = a .small .now} {large = a .large .now} (start .pre .0) (a .handle) (start .pre .1)
+    (start .pre .2) (start .pre .3) (here told .0))
 
 -- the sum in its entry
 sum-of : (c : tie.After-sum-in)

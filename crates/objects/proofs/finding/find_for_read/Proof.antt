@@ -1,16 +1,18 @@
 -- What has its bytes, as far as the task is shown it.
 use Prim.Native.Nat.{_<_}
-use mathlib.Core.Bool.{false}
+use mathlib.Core.List.{[]}
 use mathlib.Core.Path.{_≡_, sym, _∙_}
 use borrow.Author.Needs.{needs}
 use lib.ListN.{getD}
 use Rattle.ledger.specs.Limits.{taskCount}
+use Rattle.ledger.specs.Rules.{testsOf}
+use Rattle.ledger.specs.declared.Call.the-variants.{Read}
 use Rattle.record.specs.Codes.{freeBlock}
 use Rattle.record.specs.Tables.{Tables, tablesBy, lent, blockEntries}
-use Rattle.steps.specs.Objects.{readVerdict}
-use Rattle.steps.proofs.Chosen.{standing-known, intact-stands}
+use Rattle.steps.specs.Facts.{verdictWith}
+use Rattle.steps.proofs.Chosen.{here-listed, read-intact}
 use Rattle.objects.specs.Outcomes.{shownOf, shownIn}
-use Rattle.objects.proofs.Outcomes.{bytes-accepted, standing-listed, entry-at}
+use Rattle.objects.proofs.Outcomes.{bytes-accepted, entry-at}
 use Rattle.objects.proofs.finding.find_for_read.Statement.{statement}
 use Rattle.objects.proofs.finding.find_for_read.Tie as tie
 
@@ -21,8 +23,9 @@ tables c = let a = c .args in lent (a .h) (a .handles .now) (a .extents .now) (a
 found : (c : tie.After-find-bytes)
     → let start = c .before .before .before in
     let a = start .args in
-    shownIn (readVerdict (a .task) (a .handle) (a .small .now) (a .large .now)) (a .task) (a .handle) (tables start)
+    shownIn (a .small .now) (a .large .now) (testsOf (Read (a .task) (a .handle)) []) (a .task) (a .handle) (tables start)
     ≡ shownOf (a .task) (tables start) (c .find-bytes .result)
+unfolding testsOf
 found c = rw (c .find-bytes .ensures)
 
 -- the task is one of the sixteen, the block one of the blocks', and the length its object's
@@ -30,15 +33,17 @@ known : (c : tie.After-known-told2)
     → let start = c .before .before .before .before .before .before in
     let block = c .before .block .given .0 .0 in
     (start .args .task < taskCount) × (block < blockEntries) × (getD (tables start .blocks) block freeBlock .length ≡ c .before .block .given .0 .1 .0)
+unfolding testsOf
 known c =
     let bytes = c .before .before .before in
     let start = bytes .before .before .before in
     let a = start .args in
     let (v, place, size, sum) =
-    bytes-accepted (a .handle) (tables start) (readVerdict (a .task) (a .handle) (a .small .now) (a .large .now) (tables start))
+    bytes-accepted (a .handle) (tables start)
+    (verdictWith (a .small .now) (a .large .now) (testsOf (Read (a .task) (a .handle)) []) (tables start))
     (sym (bytes .find-bytes .ensures) ∙ c .before .block .given .1) in
-    let stands = intact-stands false (a .task) (a .handle) (a .small .now) (a .large .now) (tables start) v in
-    (standing-known false (a .task) (a .handle) (tables start) stands, rw (← place) (standing-listed false (a .task) (a .handle) (tables start) stands), rw (← place) size)
+    let k = read-intact (a .task) (a .handle) (a .small .now) (a .large .now) (tables start) v in
+    (k .known, rw (← place) (here-listed (a .handle) (tables start .blocks) (k .here)), rw (← place) size)
 
 returns-2 : tie.Need-returns-2
 unfolding tablesBy

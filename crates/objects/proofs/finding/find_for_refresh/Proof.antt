@@ -2,8 +2,8 @@
 use mathlib.Core.Bool.{true}
 use mathlib.Core.Path.{_≡_, sym, _∙_}
 use borrow.Author.Needs.{needs}
-use Rattle.steps.specs.Objects.{taskVerdict}
-use Rattle.steps.proofs.Chosen.{both-accept, task-known}
+use Rattle.refusals.specs.Verdicts.{taskVerdict}
+use Rattle.refusals.proofs.Verdicts.{both-accept, task-known}
 use Rattle.objects.proofs.Outcomes.{firstVerdict, refresh-refused, refresh-found}
 use Rattle.objects.proofs.finding.find_for_refresh.Statement.{statement}
 use Rattle.objects.proofs.finding.find_for_refresh.Tie as tie

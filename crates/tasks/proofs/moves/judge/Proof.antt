@@ -1,9 +1,12 @@
 -- Row by row: what the two matches told.
 use borrow.Author.Needs.{needs}
+use Rattle.ledger.specs.Refusals.{verdict}
+use Rattle.ledger.specs.Rules.{testsOf}
 use Rattle.tasks.proofs.moves.judge.Statement.{statement}
 use Rattle.tasks.proofs.moves.judge.Tie as tie
 
 pub judge-spec : {M : Type 1} → statement M
+unfolding testsOf verdict
 judge-spec =
     tie.close
     (tie.spec
