@@ -60,15 +60,20 @@ prove() {
     echo "proving $count crates; what is unchanged since it was last proved is not proved again"
     rt check "$@" 2>&1 | progress "$count" || fail "not proved"
 }
-# The crates that are named and all that they depend on, of those under crates/. A line of crates.txt has all of a crate's.
+# The crates that are named and all that they stand on, one a line. A line of crates.txt has what a crate names itself, and comes after the
+# lines of those.
 reached() {
-    local name
-    for name in "$@"; do echo "$name"; depends "$name"; done | sort -u
-}
-# depends NAME: on which of the crates, one a line.
-depends() {
-    local name
-    for name in $(sed -n "s/^$1: *//p" crates.txt); do if [ -d "crates/$name" ]; then echo "$name"; fi; done
+    awk -F': *' -v wanted="$*" '
+        /^[^#]/ { name[++count] = $1; knows[$1] = $2 }
+        END {
+            split(wanted, first, " ")
+            for (i in first) is_wanted[first[i]] = 1
+            for (i = count; i > 0; i--) if (name[i] in is_wanted) {
+                print name[i]
+                split(knows[name[i]], known, " ")
+                for (k in known) is_wanted[known[k]] = 1
+            }
+        }' crates.txt
 }
 
 # `rt staticlib` proves its crate each time. So a stamp beside the library tells from what it was made: where that is as it was, so is the

@@ -14,6 +14,12 @@ ghost use Rattle.text.specs.Fields.{inBytes};
 ghost use Rattle.text.specs.Hex.{hexOf, Puts};
 ghost use Rattle.ledger.specs.declared.Answer.the-variants.{Counted, Lasts};
 
+mod showing;
+
+pub use showing::LONGEST_ANSWER;
+pub use showing::put_answer;
+pub use showing::show;
+
 // A number in four bytes as digits at a place of a buffer; the place after them.
 fn put_word(out: &mut [u8], at: usize, value: u32) -> usize
     requires { ⌜ at + 8 ≤ length (now out) ⌝ }

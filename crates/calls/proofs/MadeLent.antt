@@ -9,11 +9,11 @@ use Rattle.record.specs.declared.Head.{Head}
 use Rattle.record.proofs.Columns.{blocks-set, entry-of}
 use Rattle.steps.specs.Objects.{placeOf, freePlace, entryFor, madePool, refreshedPool}
 use Rattle.expirations.specs.Setting.{Sets}
-use Rattle.expirations.specs.Setting.{entryFor as newEntry}
+use Rattle.expirations.specs.Setting.{entryNow}
 use Rattle.calls.specs.Engine.{withGiven}
 
 module _ (h : Head) (hs ls cs ns ds : List ℕ) {cs′ ns′ ds′ : List ℕ} (kind : Kind) (task extension place : ℕ)
-    (sets : Sets (newEntry (h .tasks) (h .global) kind task extension place) cs ns ds cs′ ns′ ds′) where
+    (sets : Sets (entryNow (h .tasks) (h .global) kind task extension place) cs ns ds cs′ ns′ ds′) where
   pub made-left : (size prefix : ℕ) → size < lengthRange → task < makerRange → prefix < lengthRange → place ≡ freePlace (h .limits) size (blocksOf hs ls)
       → tablesOf (pooled (withGiven h (h .given + 1)) (set hs place (h .given + 1)) (set ls place (extentOf size 0 task prefix)) cs′ ns′ ds′)
       ≡ madePool task kind extension size prefix (tablesOf (pooled h hs ls cs ns ds))

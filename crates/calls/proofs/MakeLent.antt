@@ -30,7 +30,7 @@ use Rattle.objects.specs.Outcomes.{makePlan}
 use Rattle.objects.specs.declared.Plan.{Plan}
 use Rattle.objects.proofs.Laws.{free-place-of, make-planned}
 use Rattle.expirations.specs.Setting.{Sets}
-use Rattle.expirations.specs.Setting.{entryFor as newEntry}
+use Rattle.expirations.specs.Setting.{entryNow as newEntry}
 use Rattle.expirations.specs.Standing.{standingOf}
 use Rattle.calls.specs.Contract.{Ready, Makes}
 use Rattle.calls.specs.Engine.{withGiven}

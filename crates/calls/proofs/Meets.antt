@@ -1,7 +1,7 @@
 -- Make, refresh, read and write after 15 and 14: what the record's functions give meets the contracts.
 use Prim.Native.Nat.{ℕ, _+_}
 use native.Mathlib.Omega.{arith}
-use mathlib.Core.Bool.{true, false, and-eq-true-iff}
+use mathlib.Core.Bool.{true, and-eq-true-iff}
 use mathlib.Core.List.{List, []}
 use mathlib.Core.Path.{_≡_, refl, sym, ap, _∙_}
 use lib.ListN.{length, getD, replicate}
@@ -10,8 +10,7 @@ use Rattle.ledger.specs.Objects.{plain}
 use Rattle.ledger.specs.Refusals.{verdict}
 use Rattle.ledger.specs.Rules.{testsOf}
 use Rattle.ledger.specs.declared.Kind.{Kind}
-use Rattle.ledger.specs.declared.Answer.the-variants.{Done, Handle, Bytes}
-use Rattle.ledger.specs.declared.Answer.the-variants.{Refused as RefusedAnswer}
+use Rattle.ledger.specs.declared.Answer.the-variants.{Done, Handle, Bytes, Refused as RefusedAnswer}
 use Rattle.ledger.specs.declared.Call.the-variants.{Make, Read, Write}
 use Rattle.ledger.specs.declared.Refusal.{Refusal}
 use Rattle.ledger.specs.declared.Request.the-variants.{Use}
@@ -30,15 +29,15 @@ use Rattle.steps.specs.Facts.{verdictWith, verdictBy}
 use Rattle.steps.specs.Objects.{placeIn, placeOf, freePlace, stateIn, shownLength, madePool, writtenPool}
 use Rattle.objects.specs.Outcomes.{bytesBy, bytesIn, shownOf, shownIn}
 use Rattle.objects.specs.declared.FoundBytes.{FoundBytes}
-use Rattle.objects.specs.declared.FoundBytes.the-variants.{At}
-use Rattle.objects.specs.declared.FoundBytes.the-variants.{Refused as RefusedBytes}
+use Rattle.objects.specs.declared.FoundBytes.the-variants.{At, Refused as RefusedBytes}
 use Rattle.objects.proofs.Outcomes.{bytes-refused, bytes-accepted}
 use Rattle.steps.proofs.ObjectsFollow.{shown-place, write-place}
 use Rattle.record.proofs.Exists.{every-fit-record-reads}
 use Rattle.record.specs.Codes.{freeBlock}
 use Rattle.steps.proofs.Chosen.{make-takes, read-intact, write-intact}
-use Rattle.calls.specs.Contract.{areWhole, Ready, Obeys, Makes, Locates, ReadsBack, summed, Writes}
+use Rattle.calls.specs.Contract.{Ready, Obeys, Makes, Locates, ReadsBack, summed, Writes}
 use Rattle.calls.proofs.Outcomes.{blind-refused, seen-refused, make-done, read-done, write-done}
+use Rattle.stores.specs.Lengths.{areWhole}
 
 -- both stores, each by itself
 pub halves : (limits : Limits) (small large : List ℕ) → areWhole limits small large ≡ true → (isWholeSmall limits small ≡ true) × (isWholeLarge limits large ≡ true)

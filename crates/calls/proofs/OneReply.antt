@@ -4,7 +4,8 @@ use mathlib.Core.Path.{_≡_, sym, _∙_}
 use Rattle.lists.proofs.Cases.{by-test}
 use Rattle.record.specs.Pools.{isWellFormed}
 use Rattle.record.proofs.Exists.{every-fit-record-reads}
-use Rattle.calls.specs.Contract.{isStored, areWhole, OneReply}
+use Rattle.stores.specs.Lengths.{areWhole}
+use Rattle.calls.specs.Contract.{isStored, OneReply}
 
 pub one-reply : OneReply
 one-reply request new p small large types y y₂ p′ p″ small′ small″ large′ large″ o o₂ =

@@ -9,8 +9,7 @@ use Rattle.ledger.specs.Ledger.{Ledger, verdictOn}
 use Rattle.ledger.specs.Refusals.{verdict, asVerdict}
 use Rattle.ledger.specs.Rules.{replyTo, memoryAfter, expirationsAfter, testsOf}
 use Rattle.ledger.specs.declared.Kind.{Kind}
-use Rattle.ledger.specs.declared.Answer.the-variants.{Done, Handle, Bytes}
-use Rattle.ledger.specs.declared.Answer.the-variants.{Refused as RefusedAnswer}
+use Rattle.ledger.specs.declared.Answer.the-variants.{Done, Handle, Bytes, Refused as RefusedAnswer}
 use Rattle.ledger.specs.declared.Call.{Call}
 use Rattle.ledger.specs.declared.Call.the-variants.{Make, Refresh, Read, Write, Batch, Release}
 use Rattle.ledger.specs.declared.Refusal.{Refusal}
@@ -34,7 +33,8 @@ use Rattle.steps.proofs.Verdicts.{verdict-alike, verdict-with}
 use Rattle.steps.proofs.ObjectsFollow.{same-given, make-fits, make-reads, refresh-fits, refresh-reads, read-bytes, write-fits, write-sizes, write-reads}
 use Rattle.steps.proofs.Batches.{batch-fits, batch-reads, batch-stays}
 use Rattle.steps.proofs.Releases.{release-fits, release-reads, release-stays}
-use Rattle.calls.specs.Contract.{isStored, areWhole, Obeys, Written}
+use Rattle.calls.specs.Contract.{isStored, Obeys, Written}
+use Rattle.stores.specs.Lengths.{areWhole}
 use Rattle.calls.proofs.Promises.{refused-obeys, carried-obeys}
 
 module _ (p : Pool) (types : Typed (tablesOf p)) (w : isWellFormed p ≡ true) (small large : List ℕ) where

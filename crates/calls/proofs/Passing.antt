@@ -1,4 +1,5 @@
--- What an event ends by the time that it leaves is what it ends in the record: an expiration of a well-formed record is ahead while its clock stands still.
+-- What an event ends by the time that it leaves is what it ends in the record: an expiration of a well-formed record is ahead while its
+-- clock stands still.
 use Prim.Native.Nat.{ℕ, _≤_, _<_}
 use native.Mathlib.Omega.{arith}
 use mathlib.Core.Bool.{Bool, true, false, cond, not, _&&_, _||_}
@@ -16,7 +17,7 @@ use Rattle.ledger.specs.Limits.{taskCount}
 use Rattle.ledger.specs.declared.Event.{Event}
 use Rattle.ledger.specs.declared.Event.the-variants.{Leave, Block, Resume, Tick, View}
 use Rattle.ledger.specs.declared.Limits.{Limits}
-use Rattle.record.specs.Codes.{dueOf, setterOf, leftAt, absentEntry, freedEntry}
+use Rattle.record.specs.Codes.{dueOf, setterOf, unitsLeft, absentEntry, freedEntry}
 use Rattle.record.specs.Tables.{BlockEntry, ExpirationEntry}
 use Rattle.record.specs.WellFormed.{isFitDue, isFitEntry}
 use Rattle.record.specs.declared.TaskEntry.{TaskEntry}
@@ -77,9 +78,9 @@ unticked-clocks true tasks i = ap (λ (e : TaskEntry). e .clock .0) (List·getD-
 unticked-clocks false tasks i = refl
 
 -- by the global time, which stands still or advances, with what is put off then
-global-lasts : (advanced waits : Bool) (at : ℕ) (global : GlobalTime) → 1 ≤ leftAt at (global .0)
-    → (let left = leftAt (cond (advanced && waits) (nextTime at) at) (advancedTime advanced global .0) in ltb 0 left ≡ not (advanced && eqb left 0))
-global-lasts true waits at global ahead = lasts-or-ends false (leftAt (cond waits (nextTime at) at) (advancedTime true global .0))
+global-lasts : (advanced waits : Bool) (at : ℕ) (global : GlobalTime) → 1 ≤ unitsLeft at (global .0)
+    → (let left = unitsLeft (cond (advanced && waits) (nextTime at) at) (advancedTime advanced global .0) in ltb 0 left ≡ not (advanced && eqb left 0))
+global-lasts true waits at global ahead = lasts-or-ends false (unitsLeft (cond waits (nextTime at) at) (advancedTime true global .0))
 global-lasts false waits at global ahead = lt-ltb 0 _ ahead
 
 -- An accepted event with an advance test
@@ -120,7 +121,7 @@ module _ (event : Event) (task : ℕ) (tasks : List TaskEntry) (global : GlobalT
         by-test (eqb s task)
         (λ own.
         rw (eqb-true s task own, own-leaver event task known, own-clock, eq-eqb task task refl)
-        (lasts-or-ends (isLeave event) (leftAt (at .0) (movedEntry event (getD tasks task absentEntry) .clock .0))))
+        (lasts-or-ends (isLeave event) (unitsLeft (at .0) (movedEntry event (getD tasks task absentEntry) .clock .0))))
         (λ other.
         let f = fit-local limits (getD tasks s absentEntry) global used s at fit in
         let apart = eqb-false s task other in
@@ -153,7 +154,7 @@ module _ (task : ℕ) (tasks : List TaskEntry) (global : GlobalTime) (sixteen : 
   unending limits used (Local s at) fit =
       let f = fit-local limits (getD tasks s absentEntry) global used s at fit in
       by-test (eqb s task)
-      (λ own. rw (own, ← eqb-true s task own, ne-eqb (leftAt (at .0) (getD tasks s absentEntry .clock .0)) 0 (λ z. omega (arith, f .ahead))))
+      (λ own. rw (own, ← eqb-true s task own, ne-eqb (unitsLeft (at .0) (getD tasks s absentEntry .clock .0)) 0 (λ z. omega (arith, f .ahead))))
       (λ other. rw other)
   unending limits used (Global s at) fit = refl
   unending limits used (Pinned due) fit = refl

@@ -27,7 +27,8 @@ use Rattle.record.specs.declared.Pool.{Pool}
 use Rattle.steps.specs.Staying.{Stays}
 use Rattle.steps.proofs.ObjectsFollow.{carried}
 use Rattle.steps.proofs.Staying.{same-stays}
-use Rattle.calls.specs.Contract.{Leaves, isStored, areWhole, TellsWhole, Ready, Refuses, Obeys, Follows}
+use Rattle.stores.specs.Lengths.{areWhole, TellsWhole}
+use Rattle.calls.specs.Contract.{Leaves, isStored, Ready, Refuses, Obeys, Follows}
 
 -- what was refused for one reason was not for another
 kept : (p : Pool) (small large : List ℕ) (r why : Refusal) → Refused r ≡ Refused why → Refuses why p small large (plain (Refused r)) p small large

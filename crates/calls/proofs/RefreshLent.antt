@@ -31,7 +31,7 @@ use Rattle.objects.specs.declared.Found.the-variants.{At}
 use Rattle.objects.specs.declared.Found.the-variants.{Refused as RefusedFound}
 use Rattle.objects.proofs.Outcomes.{found-refused, found-accepted}
 use Rattle.expirations.specs.Setting.{Sets}
-use Rattle.expirations.specs.Setting.{entryFor as newEntry}
+use Rattle.expirations.specs.Setting.{entryNow as newEntry}
 use Rattle.expirations.specs.Standing.{standingOf}
 use Rattle.expirations.proofs.Counting.{standing-of}
 use Rattle.calls.specs.Contract.{Follows}

@@ -1,6 +1,6 @@
 -- What the calls open to others promise: for each, its reply, and the record and stores that it leaves.
 use Prim.Native.Nat.{ℕ, _+_}
-use mathlib.Core.Bool.{Bool, true, false, _&&_}
+use mathlib.Core.Bool.{Bool, true, false}
 use mathlib.Core.List.{List, []}
 use mathlib.Core.Path.{_≡_}
 use lib.ListN.{length, getD, set, replicate}
@@ -15,9 +15,9 @@ use Rattle.ledger.specs.declared.Refusal.{Refusal}
 use Rattle.ledger.specs.declared.Refusal.the-variants.{WrongStoreLength, NotWellFormed}
 use Rattle.ledger.specs.declared.Request.{Request}
 use Rattle.ledger.specs.declared.Request.the-variants.{Use, Report, Remaining}
-use Rattle.ledger.specs.declared.Limits.{Limits}
+use Rattle.stores.specs.Lengths.{areWhole}
 use Rattle.stores.specs.Places.{InBlock, smallAfter, largeAfter, sumAt}
-use Rattle.record.specs.Reading.{isWholeSmall, isWholeLarge, blockBytes, Typed, sizeOf}
+use Rattle.record.specs.Reading.{blockBytes, Typed, sizeOf}
 use Rattle.record.specs.Tables.{withSum, tablesOf}
 use Rattle.record.specs.Pools.{isWellFormed, Reads}
 use Rattle.record.specs.WellFormed.{isBlock}
@@ -41,14 +41,6 @@ isStored (Use (Release task handle)) = false
 isStored Report = false
 isStored (Remaining task handle) = false
 
--- both stores are as long as the blocks need
-abbrev pub areWhole : Limits → List ℕ → List ℕ → Bool
-areWhole limits small large = isWholeSmall limits small && isWholeLarge limits large
-
--- the same by the lengths alone
-abbrev pub TellsWhole : Limits → ℕ → ℕ → Bool → Type 0
-TellsWhole limits smallBytes largeBytes b = (small large : List ℕ) → length small ≡ smallBytes → length large ≡ largeBytes → b ≡ areWhole limits small large
-
 -- neither 15 nor 14: a well-formed record, and whole stores where the request touches one
 pub record Ready (request : Request) (p : Pool) (small large : List ℕ) : Type 0 where
   pub fit : isWellFormed p ≡ true
@@ -61,7 +53,8 @@ pub record Refuses (why : Refusal) (p : Pool) (small large : List ℕ) (y : Repl
   pub sameSmall : small′ ≡ small
   pub sameLarge : large′ ≡ large
 
--- O10, O11, make: which free block is taken is left open. It is one of the figures' and belonged to no object, it has the new handle, and it is the one that is cleared.
+-- O10, O11, make: which free block is taken is left open. It is one of the figures' and belonged to no object, it has the new handle, and
+-- it is the one that is cleared.
 pub record Placed (p : Pool) (small large : List ℕ) (p′ : Pool) (small′ large′ : List ℕ) (block : ℕ) : Type 0 where
   pub known : isBlock (p .limits) block ≡ true
   pub free : getD (p .handles) block 0 ≡ 0
@@ -85,7 +78,8 @@ summed block sum p =
       dues = p .dues;
     }
 
--- O20, O21, O35, write: the bytes go into its block, the sum of those that are there then into the block's entry, and the rest of record and stores is as it was
+-- O20, O21, O35, write: the bytes go into its block, the sum of those that are there then into the block's entry, and the rest of record
+-- and stores is as it was
 pub record Written (handle offset : ℕ) (new : List ℕ) (p : Pool) (small large : List ℕ) (p′ : Pool) (small′ large′ : List ℕ) : Type 0 where
   pub inSmall : small′ ≡ smallAfter (placeIn handle (p .handles)) offset new small
   pub inLarge : large′ ≡ largeAfter (placeIn handle (p .handles)) offset new large
@@ -106,8 +100,8 @@ abbrev pub LeavesWritten : Bool → ℕ → ℕ → List ℕ → Pool → List �
 LeavesWritten true handle offset new p small large p′ small′ large′ = Same p small large p′ small′ large′
 LeavesWritten false handle offset new p small large p′ small′ large′ = Written handle offset new p small large p′ small′ large′
 
--- What a call leaves of record and stores, byte by byte: a make that is accepted clears its block, a write replaces its bytes, and no other call touches a store, whatever length it has; read,
--- report and remaining life leave the record too.
+-- What a call leaves of record and stores, byte by byte: a make that is accepted clears its block, a write replaces its bytes, and no other
+-- call touches a store, whatever length it has; read, report and remaining life leave the record too.
 abbrev pub Leaves : Request → List ℕ → Pool → List ℕ → List ℕ → Answer → Pool → List ℕ → List ℕ → Type 0
 Leaves (Use (Join task share)) new p small large answer p′ small′ large′ = SameStores small large small′ large′
 Leaves (Use (Schedule event task)) new p small large answer p′ small′ large′ = SameStores small large small′ large′
@@ -137,11 +131,12 @@ pub record Obeys (request : Request) (new : List ℕ) (p : Pool) (small large : 
   -- objects that stand on stay where they are, and a store keeps its length
   pub stays : Stays (tablesOf p) (tablesOf p′)
   pub sizes : (length small′ ≡ length small) × (length large′ ≡ length large)
-  -- and so is what a reading leaves open of the stores: a make clears the block that it takes, a write replaces its bytes, and no other byte changes
+  -- and so is what a reading leaves open of the stores: a make clears the block that it takes, a write replaces its bytes, and no other
+  -- byte changes
   pub left : Leaves request new p small large (y .answer) p′ small′ large′
 
--- The contract settles the reply: any two that it allows for one request on one record with its stores are the same. `Typed` is what the record's type gives of every
--- value; of numbers out of its range there may be no ledger to answer by.
+-- The contract settles the reply: any two that it allows for one request on one record with its stores are the same. `Typed` is what the
+-- record's type gives of every value; of numbers out of its range there may be no ledger to answer by.
 abbrev pub OneReply : Type 0
 OneReply =
     (request : Request) (new : List ℕ) (p : Pool) (small large : List ℕ) → Typed (tablesOf p)

@@ -20,10 +20,18 @@ use Rattle.objects.specs.declared.Found.the-variants.{At, Refused as RefusedFou
 use Rattle.calls.specs.Contract.{Follows}
 use Rattle.calls.specs.declared.Step.{Step}
 
+-- what a call gives back that hands back no bytes
+abbrev pub stepOf : Answer → Head → Step
+stepOf answer h = record { head = h; answer = answer; block = 0; length = 0 }
+
+-- none are handed back
+abbrev pub Bare : Step → Type 0
+Bare s = s ≡ stepOf (s .answer) (s .head)
+
 -- what a verdict that refuses comes to
 abbrev pub refusedBy : Verdict → Head → Step
-refusedBy Accepted h = record { answer = DoneAnswer; head = h }
-refusedBy (Refused why) h = record { answer = RefusedAnswer why; head = h }
+refusedBy Accepted h = stepOf DoneAnswer h
+refusedBy (Refused why) h = stepOf (RefusedAnswer why) h
 
 -- the remaining life that was found, or why nothing was
 abbrev pub lifeFound : Found → Answer

@@ -1,5 +1,6 @@
-// Each call that changes something, and remaining life, of a well-formed record with stores as long as its blocks need: what follows the tests of 15 and 14. The head goes by value, tables and stores
-// are lent. A call decides first, by what it only reads, and then changes: a refusal has touched nothing.
+// Each call that changes something, and remaining life, of a well-formed record with stores as long as its blocks need: what follows the
+// tests of 15 and 14. The head goes by value, tables and stores are lent. A call decides first, by what it only reads, and then changes: a
+// refusal has touched nothing.
 ghost use Prim.Native.Nat.{_<_};
 ghost use mathlib.Core.Bool.{true, false};
 ghost use Rattle.ledger.specs.Limits.{taskCount, isSmall};
@@ -12,7 +13,7 @@ ghost use Rattle.record.specs.Pools.{isWellFormed};
 ghost use Rattle.record.specs.Tables.{pooled, blocksOf, SizedEntries, Sized, blockEntries};
 ghost use Rattle.shares.specs.Holdings.{Holds, HoldsBoth};
 ghost use Rattle.calls.specs.Contract.{Ready, FollowsWith, Follows, Makes, Writes};
-ghost use Rattle.calls.specs.Engine.{refusedBy, withGiven, sharesLeft, joinedHead, FollowsBeside, FollowsAlone};
+ghost use Rattle.calls.specs.Engine.{stepOf, Bare, refusedBy, withGiven, sharesLeft, joinedHead, FollowsBeside, FollowsAlone};
 use endings;
 use endings::Passing;
 use endings::end;
@@ -51,10 +52,25 @@ use tasks::judge_join;
 use tasks::plan;
 use tasks::plan_start;
 
-// What a call that touches tables gives back: its answer, and the head that it leaves.
+// What a call gives back: the head that it leaves, and its answer. The bytes of a read are the first `length` of `block`; length is 0 for
+// every other answer.
 pub struct Step {
     pub head: Head,
     pub answer: Answer,
+    pub block: usize,
+    pub length: u16,
+}
+
+// What a call gives back that hands back no bytes.
+pub fn answered(answer: Answer, head: Head) -> Step
+    ensures { λ r. ⌜ r ≡ stepOf answer head ⌝ }
+{
+    Step {
+        head: head,
+        answer: answer,
+        block: 0,
+        length: 0,
+    }
 }
 
 // What a verdict that refuses comes to.
@@ -62,14 +78,8 @@ fn refused_by(verdict: Verdict, h: Head) -> Step
     ensures { λ r. ⌜ r ≡ refusedBy verdict h ⌝ }
 {
     match verdict {
-        Verdict::Accepted => Step {
-            answer: Answer::Done,
-            head: h,
-        },
-        Verdict::Refused(why) => Step {
-            answer: Answer::Refused(why),
-            head: h,
-        },
+        Verdict::Accepted => answered(Answer::Done, h),
+        Verdict::Refused(why) => answered(Answer::Refused(why), h),
     }
 }
 
@@ -107,7 +117,10 @@ pub fn schedule(
     task: u8,
 ) -> Step
     requires { ⌜ Sized (now handles) (now extents) (now clocks) (now named) (now dues) ⌝ }
-    ensures { λ r. ⌜ FollowsBeside (Use (Schedule event task)) h (now (handles .entry)) (now (extents .entry)) (now (clocks .entry)) (now (named .entry)) (now (dues .entry)) (r .answer) (r .head) (now (handles .exit)) (now (extents .exit)) (now (clocks .exit)) (now (named .entry)) (now (dues .exit)) ⌝ }
+    ensures { λ r. ⌜ FollowsBeside (Use (Schedule event task)) h (now (handles .entry)) (now (extents .entry)) (now (clocks .entry))
+        (now (named .entry)) (now (dues .entry)) (r .answer) (r .head) (now (handles .exit)) (now (extents .exit)) (now (clocks .exit))
+        (now (named .entry)) (now (dues .exit))
+        × Bare r ⌝ }
 {
     let limits = h.limits;
     let before = h.tasks;
@@ -126,10 +139,7 @@ pub fn schedule(
         shares: shares_left(planned.leaves, task, shares),
     };
     if !planned.ends {
-        return Step {
-            answer: answer,
-            head: head,
-        };
+        return answered(answer, head);
     }
     let passing = Passing {
         task: task,
@@ -140,16 +150,14 @@ pub fn schedule(
     };
     end(passing, tasks, handles, clocks, named, dues);
     orphan(passing, extents);
-    Step {
-        answer: answer,
-        head: head,
-    }
+    answered(answer, head)
 }
 
 // A resume or a view alone: no advance test follows it, and it touches no table.
 pub fn start(mut h: Head, event: Event, task: u8) -> Step
     requires { ⌜ isTested event ≡ false ⌝ }
-    ensures { λ r. ⌜ FollowsAlone (λ blocks. Unit) (Use (Schedule event task)) h (r .answer) (r .head) ⌝ }
+    ensures { λ r. ⌜ FollowsAlone (λ blocks. Unit) (Use (Schedule event task)) h (r .answer) (r .head)
+        × Bare r ⌝ }
 {
     let before = h.tasks;
     let time = h.global;
@@ -159,10 +167,7 @@ pub fn start(mut h: Head, event: Event, task: u8) -> Step
     let global = planned.global;
     h.tasks = tasks;
     h.global = global;
-    Step {
-        answer: answer,
-        head: h,
-    }
+    answered(answer, h)
 }
 
 fn with_joined(mut h: Head, task: u8, share: Share) -> Head
@@ -180,16 +185,14 @@ fn with_joined(mut h: Head, task: u8, share: Share) -> Head
 
 // Join, with what the task asks for, where the tasks have this of the stores; no table changes.
 pub fn join(h: Head, holdings: Holdings, task: u8, share: Share) -> Step
-    ensures { λ r. ⌜ FollowsAlone (λ blocks. HoldsBoth (h .shares) blocks holdings) (Use (Join task share)) h (r .answer) (r .head) ⌝ }
+    ensures { λ r. ⌜ FollowsAlone (λ blocks. HoldsBoth (h .shares) blocks holdings) (Use (Join task share)) h (r .answer) (r .head)
+        × Bare r ⌝ }
 {
     let verdict = judge_join(h, holdings.small.spoken, holdings.large.spoken, task, share);
     let Verdict::Accepted = verdict else {
         return refused_by(verdict, h);
     };
-    Step {
-        answer: Answer::Done,
-        head: with_joined(h, task, share),
-    }
+    answered(Answer::Done, with_joined(h, task, share))
 }
 
 // Takes a free block for an object, and sets its first expiration.
@@ -210,10 +213,16 @@ pub fn make(
     prefix: u16,
 ) -> Step
     requires { ⌜ Sized (now handles) (now extents) (now clocks) (now named) (now dues)
-        × Ready (Use (Make task kind extension size prefix)) (pooled h (now handles) (now extents) (now clocks) (now named) (now dues)) (now small) (now large)
+        × Ready (Use (Make task kind extension size prefix))
+        (pooled h (now handles) (now extents) (now clocks) (now named) (now dues)) (now small) (now large)
         × Holds (isSmall size) (h .shares) (blocksOf (now handles) (now extents)) holding ⌝ }
     ensures { λ r. ⌜ Sized (now (handles .exit)) (now (extents .exit)) (now (clocks .exit)) (now (named .exit)) (now (dues .exit))
-        × Makes task kind extension size prefix (pooled h (now (handles .entry)) (now (extents .entry)) (now (clocks .entry)) (now (named .entry)) (now (dues .entry))) (now (small .entry)) (now (large .entry)) (r .answer) (pooled (r .head) (now (handles .exit)) (now (extents .exit)) (now (clocks .exit)) (now (named .exit)) (now (dues .exit))) (now (small .exit)) (now (large .exit)) ⌝ }
+        × Makes task kind extension size prefix
+        (pooled h (now (handles .entry)) (now (extents .entry)) (now (clocks .entry)) (now (named .entry)) (now (dues .entry)))
+        (now (small .entry)) (now (large .entry)) (r .answer)
+        (pooled (r .head) (now (handles .exit)) (now (extents .exit)) (now (clocks .exit)) (now (named .exit)) (now (dues .exit)))
+        (now (small .exit)) (now (large .exit))
+        × Bare r ⌝ }
 {
     let plan = plan_make(
         h,
@@ -236,13 +245,10 @@ pub fn make(
     let handle = h.given + 1;
     handles[place] = handle;
     extents[place] = extent_of(size, 0, task, prefix);
-    Step {
-        answer: Answer::Handle(handle),
-        head: with_given(h, handle),
-    }
+    answered(Answer::Handle(handle), with_given(h, handle))
 }
 
-// Sets one more expiration.
+// Sets one more expiration. (What it gives back is written out: by `answered` the compiler copies two columns once more than it has to.)
 pub fn refresh<'a>(
     h: Head,
     handles: &'a [u32; BLOCK_COUNT],
@@ -255,8 +261,13 @@ pub fn refresh<'a>(
     extension: u8,
     handle: u32,
 ) -> Step
-    requires { ⌜ Sized (now handles) (now extents) (now clocks) (now named) (now dues) × (isWellFormed (pooled h (now handles) (now extents) (now clocks) (now named) (now dues)) ≡ true) ⌝ }
-    ensures { λ r. ⌜ SizedEntries (now (clocks .exit)) (now (named .exit)) (now (dues .exit)) × Follows (Use (Refresh task kind extension handle)) (pooled h (now (handles .entry)) (now (extents .entry)) (now (clocks .entry)) (now (named .entry)) (now (dues .entry))) (r .answer) (pooled (r .head) (now (handles .entry)) (now (extents .entry)) (now (clocks .exit)) (now (named .exit)) (now (dues .exit))) ⌝ }
+    requires { ⌜ Sized (now handles) (now extents) (now clocks) (now named) (now dues)
+        × (isWellFormed (pooled h (now handles) (now extents) (now clocks) (now named) (now dues)) ≡ true) ⌝ }
+    ensures { λ r. ⌜ SizedEntries (now (clocks .exit)) (now (named .exit)) (now (dues .exit))
+        × Follows (Use (Refresh task kind extension handle))
+        (pooled h (now (handles .entry)) (now (extents .entry)) (now (clocks .entry)) (now (named .entry)) (now (dues .entry))) (r .answer)
+        (pooled (r .head) (now (handles .entry)) (now (extents .entry)) (now (clocks .exit)) (now (named .exit)) (now (dues .exit)))
+        × Bare r ⌝ }
 {
     match find_for_refresh(
         h,
@@ -271,14 +282,18 @@ pub fn refresh<'a>(
         handle,
     ) {
         Found::Refused(why) => Step {
-            answer: Answer::Refused(why),
             head: h,
+            answer: Answer::Refused(why),
+            block: 0,
+            length: 0,
         },
         Found::At { block, life: _ } => {
             set(h, kind, task, extension, block, clocks, named, dues);
             Step {
-                answer: Answer::Done,
                 head: h,
+                answer: Answer::Done,
+                block: 0,
+                length: 0,
             }
         }
     }
@@ -295,20 +310,19 @@ pub fn release<'a>(
     task: u8,
     handle: u32,
 ) -> Step
-    requires { ⌜ Sized (now handles) (now extents) (now clocks) (now named) (now dues) × (isWellFormed (pooled h (now handles) (now extents) (now clocks) (now named) (now dues)) ≡ true) ⌝ }
-    ensures { λ r. ⌜ Sized (now (handles .exit)) (now (extents .entry)) (now (clocks .exit)) (now (named .entry)) (now (dues .entry)) × Follows (Use (Release task handle)) (pooled h (now (handles .entry)) (now (extents .entry)) (now (clocks .entry)) (now (named .entry)) (now (dues .entry))) (r .answer) (pooled (r .head) (now (handles .exit)) (now (extents .entry)) (now (clocks .exit)) (now (named .entry)) (now (dues .entry))) ⌝ }
+    requires { ⌜ Sized (now handles) (now extents) (now clocks) (now named) (now dues)
+        × (isWellFormed (pooled h (now handles) (now extents) (now clocks) (now named) (now dues)) ≡ true) ⌝ }
+    ensures { λ r. ⌜ Sized (now (handles .exit)) (now (extents .entry)) (now (clocks .exit)) (now (named .entry)) (now (dues .entry))
+        × Follows (Use (Release task handle))
+        (pooled h (now (handles .entry)) (now (extents .entry)) (now (clocks .entry)) (now (named .entry)) (now (dues .entry))) (r .answer)
+        (pooled (r .head) (now (handles .exit)) (now (extents .entry)) (now (clocks .exit)) (now (named .entry)) (now (dues .entry)))
+        × Bare r ⌝ }
 {
     match find_for_release(h, handles, extents, clocks, named, dues, task, handle) {
-        Found::Refused(why) => Step {
-            answer: Answer::Refused(why),
-            head: h,
-        },
+        Found::Refused(why) => answered(Answer::Refused(why), h),
         Found::At { block, life: _ } => {
             endings::release(block, handles, clocks, named);
-            Step {
-                answer: Answer::Done,
-                head: h,
-            }
+            answered(Answer::Done, h)
         }
     }
 }
@@ -326,8 +340,13 @@ pub fn batch<'a>(
     extension: u8,
     bytes: &[u8],
 ) -> Step
-    requires { ⌜ Sized (now handles) (now extents) (now clocks) (now named) (now dues) × (isWellFormed (pooled h (now handles) (now extents) (now clocks) (now named) (now dues)) ≡ true) ⌝ }
-    ensures { λ r. ⌜ SizedEntries (now (clocks .exit)) (now (named .exit)) (now (dues .exit)) × FollowsWith (Use (Batch task kind extension)) (now (bytes .entry)) (pooled h (now (handles .entry)) (now (extents .entry)) (now (clocks .entry)) (now (named .entry)) (now (dues .entry))) (r .answer) (pooled (r .head) (now (handles .entry)) (now (extents .entry)) (now (clocks .exit)) (now (named .exit)) (now (dues .exit))) ⌝ }
+    requires { ⌜ Sized (now handles) (now extents) (now clocks) (now named) (now dues)
+        × (isWellFormed (pooled h (now handles) (now extents) (now clocks) (now named) (now dues)) ≡ true) ⌝ }
+    ensures { λ r. ⌜ SizedEntries (now (clocks .exit)) (now (named .exit)) (now (dues .exit))
+        × FollowsWith (Use (Batch task kind extension)) (now (bytes .entry))
+        (pooled h (now (handles .entry)) (now (extents .entry)) (now (clocks .entry)) (now (named .entry)) (now (dues .entry))) (r .answer)
+        (pooled (r .head) (now (handles .entry)) (now (extents .entry)) (now (clocks .exit)) (now (named .exit)) (now (dues .exit)))
+        × Bare r ⌝ }
 {
     let plan = plan_batch(h, handles, standing(clocks), task, kind, extension, bytes);
     let verdict = plan.verdict;
@@ -346,10 +365,7 @@ pub fn batch<'a>(
         named,
         dues,
     );
-    Step {
-        answer: Answer::Done,
-        head: h,
-    }
+    answered(Answer::Done, h)
 }
 
 // Replaces bytes of an object, and with them the sum of its block's bytes.
@@ -367,8 +383,15 @@ pub fn write<'a>(
     offset: u8,
     bytes: &[u8],
 ) -> Answer
-    requires { ⌜ Sized (now handles) (now extents) (now clocks) (now named) (now dues) × Ready (Use (Write task handle offset)) (pooled h (now handles) (now extents) (now clocks) (now named) (now dues)) (now small) (now large) ⌝ }
-    ensures { λ r. ⌜ (length (now (extents .exit)) ≡ blockEntries) × Writes task handle offset (now (bytes .entry)) (pooled h (now (handles .entry)) (now (extents .entry)) (now (clocks .entry)) (now (named .entry)) (now (dues .entry))) (now (small .entry)) (now (large .entry)) r (pooled h (now (handles .entry)) (now (extents .exit)) (now (clocks .entry)) (now (named .entry)) (now (dues .entry))) (now (small .exit)) (now (large .exit)) ⌝ }
+    requires { ⌜ Sized (now handles) (now extents) (now clocks) (now named) (now dues)
+        × Ready (Use (Write task handle offset))
+        (pooled h (now handles) (now extents) (now clocks) (now named) (now dues)) (now small) (now large) ⌝ }
+    ensures { λ r. ⌜ (length (now (extents .exit)) ≡ blockEntries)
+        × Writes task handle offset (now (bytes .entry))
+        (pooled h (now (handles .entry)) (now (extents .entry)) (now (clocks .entry)) (now (named .entry)) (now (dues .entry)))
+        (now (small .entry)) (now (large .entry)) r
+        (pooled h (now (handles .entry)) (now (extents .exit)) (now (clocks .entry)) (now (named .entry)) (now (dues .entry)))
+        (now (small .exit)) (now (large .exit)) ⌝ }
 {
     match find_for_write(
         h,
@@ -410,8 +433,11 @@ pub fn remaining<'a>(
     task: u8,
     handle: u32,
 ) -> Answer
-    requires { ⌜ Sized (now handles) (now extents) (now clocks) (now named) (now dues) × (isWellFormed (pooled h (now handles) (now extents) (now clocks) (now named) (now dues)) ≡ true) ⌝ }
-    ensures { λ r. ⌜ Follows (Remaining task handle) (pooled h (now (handles .entry)) (now (extents .entry)) (now (clocks .entry)) (now (named .entry)) (now (dues .entry))) r (pooled h (now (handles .entry)) (now (extents .entry)) (now (clocks .entry)) (now (named .entry)) (now (dues .entry))) ⌝ }
+    requires { ⌜ Sized (now handles) (now extents) (now clocks) (now named) (now dues)
+        × (isWellFormed (pooled h (now handles) (now extents) (now clocks) (now named) (now dues)) ≡ true) ⌝ }
+    ensures { λ r. ⌜ Follows (Remaining task handle)
+        (pooled h (now (handles .entry)) (now (extents .entry)) (now (clocks .entry)) (now (named .entry)) (now (dues .entry))) r
+        (pooled h (now (handles .entry)) (now (extents .entry)) (now (clocks .entry)) (now (named .entry)) (now (dues .entry))) ⌝ }
 {
     match find_standing(
         h,

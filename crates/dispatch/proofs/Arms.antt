@@ -26,15 +26,14 @@ use Rattle.objects.specs.declared.FoundBytes.the-variants.{At, Refused}
 use Rattle.objects.proofs.Laws.{usage-of}
 use Rattle.calls.specs.Contract.{Ready, FollowsWith, Follows, Makes, Locates, Writes}
 use Rattle.calls.specs.Served.{Serves}
-use Rattle.calls.specs.Engine.{FollowsBeside, FollowsAlone}
+use Rattle.calls.specs.Engine.{stepOf, FollowsBeside, FollowsAlone}
 use Rattle.ledger.specs.Limits.{isSmall}
 use Rattle.shares.specs.Holdings.{Holds, HoldsBoth}
 use Rattle.shares.specs.declared.Holding.{Holding}
 use Rattle.shares.specs.declared.Holdings.{Holdings}
 use Rattle.dispatch.specs.Needs.{holdingFor, HoldsFor}
-use Rattle.dispatch.specs.Done.{withoutBytes, whereFound, givenBack}
+use Rattle.dispatch.specs.Found.{whereFound, givenBack}
 use Rattle.calls.specs.declared.Step.{Step}
-use Rattle.dispatch.specs.declared.Done.{Done}
 use Rattle.expirations.proofs.Counting.{standing-of}
 use Rattle.calls.proofs.Reported.{report-obeys}
 use Rattle.calls.proofs.Served.{whatever-bytes, serves-plain, schedule-serves, join-serves, refresh-serves, batch-serves, release-serves, make-serves, write-serves, report-serves, life-serves}
@@ -66,52 +65,52 @@ pub holds-made : (shares : List Share) (blocks : List BlockEntry) (holdings : Ho
 holds-made shares blocks holdings is holds so = rw so (rw is at holds)
 
 -- what a call on these tables and stores owes
-abbrev Served : Request → List ℕ → Head → List ℕ → List ℕ → List ℕ → List ℕ → List ℕ → List ℕ → List ℕ → Done
+abbrev Served : Request → List ℕ → Head → List ℕ → List ℕ → List ℕ → List ℕ → List ℕ → List ℕ → List ℕ → Step
     → List ℕ → List ℕ → List ℕ → List ℕ → List ℕ → List ℕ → List ℕ → Type 0
 Served request new h hs ls cs ns ds small large r hs′ ls′ cs′ ns′ ds′ small′ large′ =
     Sized hs′ ls′ cs′ ns′ ds′
     × Serves request new (pooled h hs ls cs ns ds) small large (givenBack r hs′ ls′ cs′ ns′ ds′) small′ large′
 
 module _ (new : List ℕ) {h : Head} {hs ls cs ns ds : List ℕ} (sized : Sized hs ls cs ns ds) {small large : List ℕ} {call : Call}
-    (ready : Ready (Use call) (pooled h hs ls cs ns ds) small large) {r : Done} where
-  pub schedule-arm : {event : Event} {task : ℕ} → call ≡ Schedule event task → {s : Step} {hs′ ls′ cs′ ds′ : List ℕ}
-      → FollowsBeside (Use (Schedule event task)) h hs ls cs ns ds (s .answer) (s .head) hs′ ls′ cs′ ns ds′ → r ≡ withoutBytes (s .answer) (s .head)
+    (ready : Ready (Use call) (pooled h hs ls cs ns ds) small large) {r : Step} where
+  pub schedule-arm : {event : Event} {task : ℕ} → call ≡ Schedule event task → {answer : Answer} {h′ : Head} {hs′ ls′ cs′ ds′ : List ℕ}
+      → FollowsBeside (Use (Schedule event task)) h hs ls cs ns ds answer h′ hs′ ls′ cs′ ns ds′ → r ≡ stepOf answer h′
       → Served (Use call) new h hs ls cs ns ds small large r hs′ ls′ cs′ ns ds′ small large
-  schedule-arm {event} {task} is {s} f so =
-      rw (is, so) (f .sized, schedule-serves new _ small large event task (s .answer) _ (f .follows (ready .fit)))
+  schedule-arm {event} {task} is f so =
+      rw (is, so) (f .sized, schedule-serves new _ small large event task _ _ (f .follows (ready .fit)))
 
-  pub join-arm : {task : ℕ} {share : Share} → call ≡ Join task share → {holdings : Holdings} → HoldsFor (Use call) (h .shares) (blocksOf hs ls) holdings → {s : Step}
-      → FollowsAlone (λ blocks. HoldsBoth (h .shares) blocks holdings) (Use (Join task share)) h (s .answer) (s .head) → r ≡ withoutBytes (s .answer) (s .head)
+  pub join-arm : {task : ℕ} {share : Share} → call ≡ Join task share → {holdings : Holdings} → HoldsFor (Use call) (h .shares) (blocksOf hs ls) holdings → {answer : Answer} {h′ : Head}
+      → FollowsAlone (λ blocks. HoldsBoth (h .shares) blocks holdings) (Use (Join task share)) h answer h′ → r ≡ stepOf answer h′
       → Served (Use call) new h hs ls cs ns ds small large r hs ls cs ns ds small large
-  join-arm {task} {share} is holds {s} f so =
-      rw (is, so) (sized, join-serves new _ small large task share (s .answer) _ (f .follows hs ls cs ns ds sized (rw is at holds) (ready .fit)))
+  join-arm {task} {share} is holds f so =
+      rw (is, so) (sized, join-serves new _ small large task share _ _ (f .follows hs ls cs ns ds sized (rw is at holds) (ready .fit)))
 
-  pub refresh-arm : {task : ℕ} {kind : Kind} {extension handle : ℕ} → call ≡ Refresh task kind extension handle → {s : Step} {cs′ ns′ ds′ : List ℕ}
+  pub refresh-arm : {task : ℕ} {kind : Kind} {extension handle : ℕ} → call ≡ Refresh task kind extension handle → {answer : Answer} {h′ : Head} {cs′ ns′ ds′ : List ℕ}
       → SizedEntries cs′ ns′ ds′
-      × Follows (Use (Refresh task kind extension handle)) (pooled h hs ls cs ns ds) (s .answer) (pooled (s .head) hs ls cs′ ns′ ds′)
-      → r ≡ withoutBytes (s .answer) (s .head) → Served (Use call) new h hs ls cs ns ds small large r hs ls cs′ ns′ ds′ small large
-  refresh-arm {task} {kind} {extension} {handle} is {s} (entries, f) so =
+      × Follows (Use (Refresh task kind extension handle)) (pooled h hs ls cs ns ds) answer (pooled h′ hs ls cs′ ns′ ds′)
+      → r ≡ stepOf answer h′ → Served (Use call) new h hs ls cs ns ds small large r hs ls cs′ ns′ ds′ small large
+  refresh-arm {task} {kind} {extension} {handle} is (entries, f) so =
       rw (is, so) (
         record { blocks = sized .blocks; entries = entries },
-        refresh-serves new _ small large task kind extension handle (s .answer) _ f,
+        refresh-serves new _ small large task kind extension handle _ _ f,
       )
 
-  pub release-arm : {task handle : ℕ} → call ≡ Release task handle → {s : Step} {hs′ cs′ : List ℕ}
-      → Sized hs′ ls cs′ ns ds × Follows (Use (Release task handle)) (pooled h hs ls cs ns ds) (s .answer) (pooled (s .head) hs′ ls cs′ ns ds)
-      → r ≡ withoutBytes (s .answer) (s .head) → Served (Use call) new h hs ls cs ns ds small large r hs′ ls cs′ ns ds small large
-  release-arm {task} {handle} is {s} (sized′, f) so = rw (is, so) (sized′, release-serves new _ small large task handle (s .answer) _ f)
+  pub release-arm : {task handle : ℕ} → call ≡ Release task handle → {answer : Answer} {h′ : Head} {hs′ cs′ : List ℕ}
+      → Sized hs′ ls cs′ ns ds × Follows (Use (Release task handle)) (pooled h hs ls cs ns ds) answer (pooled h′ hs′ ls cs′ ns ds)
+      → r ≡ stepOf answer h′ → Served (Use call) new h hs ls cs ns ds small large r hs′ ls cs′ ns ds small large
+  release-arm {task} {handle} is (sized′, f) so = rw (is, so) (sized′, release-serves new _ small large task handle _ _ f)
 
-  pub batch-arm : {task : ℕ} {kind : Kind} {extension : ℕ} → call ≡ Batch task kind extension → {s : Step} {cs′ ns′ ds′ : List ℕ}
+  pub batch-arm : {task : ℕ} {kind : Kind} {extension : ℕ} → call ≡ Batch task kind extension → {answer : Answer} {h′ : Head} {cs′ ns′ ds′ : List ℕ}
       → SizedEntries cs′ ns′ ds′
-      × FollowsWith (Use (Batch task kind extension)) new (pooled h hs ls cs ns ds) (s .answer) (pooled (s .head) hs ls cs′ ns′ ds′)
-      → r ≡ withoutBytes (s .answer) (s .head) → Served (Use call) new h hs ls cs ns ds small large r hs ls cs′ ns′ ds′ small large
-  batch-arm {task} {kind} {extension} is {s} (entries, f) so =
-      rw (is, so) (record { blocks = sized .blocks; entries = entries }, batch-serves new _ small large task kind extension (s .answer) _ f)
+      × FollowsWith (Use (Batch task kind extension)) new (pooled h hs ls cs ns ds) answer (pooled h′ hs ls cs′ ns′ ds′)
+      → r ≡ stepOf answer h′ → Served (Use call) new h hs ls cs ns ds small large r hs ls cs′ ns′ ds′ small large
+  batch-arm {task} {kind} {extension} is (entries, f) so =
+      rw (is, so) (record { blocks = sized .blocks; entries = entries }, batch-serves new _ small large task kind extension _ _ f)
 
-  pub make-arm : {task : ℕ} {kind : Kind} {extension size prefix : ℕ} → call ≡ Make task kind extension size prefix → {s : Step} {hs′ ls′ cs′ ns′ ds′ small′ large′ : List ℕ}
+  pub make-arm : {task : ℕ} {kind : Kind} {extension size prefix : ℕ} → call ≡ Make task kind extension size prefix → {answer : Answer} {h′ : Head} {hs′ ls′ cs′ ns′ ds′ small′ large′ : List ℕ}
       → Sized hs′ ls′ cs′ ns′ ds′
-      × Makes task kind extension size prefix (pooled h hs ls cs ns ds) small large (s .answer) (pooled (s .head) hs′ ls′ cs′ ns′ ds′) small′ large′
-      → r ≡ withoutBytes (s .answer) (s .head) → Served (Use call) new h hs ls cs ns ds small large r hs′ ls′ cs′ ns′ ds′ small′ large′
+      × Makes task kind extension size prefix (pooled h hs ls cs ns ds) small large answer (pooled h′ hs′ ls′ cs′ ns′ ds′) small′ large′
+      → r ≡ stepOf answer h′ → Served (Use call) new h hs ls cs ns ds small large r hs′ ls′ cs′ ns′ ds′ small′ large′
   make-arm {task} {kind} {extension} {size} {prefix} is (sized′, m) so =
       rw (is, so) (sized′, make-serves new _ small large task kind extension size prefix _ _ _ _ m)
 
@@ -124,7 +123,7 @@ module _ (new : List ℕ) {h : Head} {hs ls cs ns ds : List ℕ} (sized : Sized 
   pub write-arm : {task handle offset : ℕ} → call ≡ Write task handle offset → {answer : Answer} {ls′ small′ large′ : List ℕ}
       → (length ls′ ≡ blockEntries)
       × Writes task handle offset new (pooled h hs ls cs ns ds) small large answer (pooled h hs ls′ cs ns ds) small′ large′
-      → r ≡ withoutBytes answer h → Served (Use call) new h hs ls cs ns ds small large r hs ls′ cs ns ds small′ large′
+      → r ≡ stepOf answer h → Served (Use call) new h hs ls cs ns ds small large r hs ls′ cs ns ds small′ large′
   write-arm {task} {handle} {offset} is {answer} (size, w) so =
       rw (is, so) (
         record { blocks = record { of-handles = sized .blocks .of-handles; of-extents = size }; entries = sized .entries },
@@ -133,8 +132,8 @@ module _ (new : List ℕ) {h : Head} {hs ls cs ns ds : List ℕ} (sized : Sized 
 
 -- report, remaining life, and any request by its call
 module _ (new : List ℕ) {h : Head} {hs ls cs ns ds : List ℕ} (sized : Sized hs ls cs ns ds) {small large : List ℕ} {request : Request}
-    (ready : Ready request (pooled h hs ls cs ns ds) small large) {r : Done} where
-  pub report-arm : request ≡ Report → r ≡ withoutBytes (Counted (usageIn (h .given) hs (standingOf cs))) h
+    (ready : Ready request (pooled h hs ls cs ns ds) small large) {r : Step} where
+  pub report-arm : request ≡ Report → r ≡ stepOf (Counted (usageIn (h .given) hs (standingOf cs))) h
       → Served request new h hs ls cs ns ds small large r hs ls cs ns ds small large
   unfolding tablesOf
   report-arm is so =
@@ -143,7 +142,7 @@ module _ (new : List ℕ) {h : Head} {hs ls cs ns ds : List ℕ} (sized : Sized 
       (sized, report-serves new (pooled h hs ls cs ns ds) small large _ (report-obeys (pooled h hs ls cs ns ds) (ready .fit)))
 
   pub life-arm : {task handle : ℕ} → request ≡ Remaining task handle → {answer : Answer}
-      → Follows (Remaining task handle) (pooled h hs ls cs ns ds) answer (pooled h hs ls cs ns ds) → r ≡ withoutBytes answer h
+      → Follows (Remaining task handle) (pooled h hs ls cs ns ds) answer (pooled h hs ls cs ns ds) → r ≡ stepOf answer h
       → Served request new h hs ls cs ns ds small large r hs ls cs ns ds small large
   life-arm {task} {handle} is {answer} f so = rw (is, so) (sized, life-serves new _ small large task handle answer f)
 

@@ -1,2 +1,2 @@
-pub mod Done
+pub mod Found
 pub mod Needs

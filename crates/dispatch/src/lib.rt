@@ -4,11 +4,13 @@ ghost use Rattle.ledger.specs.declared.Request.the-variants.{Use};
 ghost use Rattle.record.specs.Tables.{pooled, blocksOf, Sized};
 ghost use Rattle.calls.specs.Contract.{Ready};
 ghost use Rattle.calls.specs.Served.{Serves};
-ghost use Rattle.dispatch.specs.Done.{withoutBytes, whereFound, givenBack};
+ghost use Rattle.dispatch.specs.Found.{whereFound, givenBack};
 ghost use Rattle.dispatch.specs.Needs.{holdingFor, HoldsFor};
 
 pub mod needs;
 
+use calls::Step;
+use calls::answered;
 use calls::batch;
 use calls::join;
 use calls::make;
@@ -32,37 +34,19 @@ use shares::Holding;
 use shares::Holdings;
 use shares::holding_in;
 
-// What a call gives back. The bytes of a read are the first `length` of `block`; length is 0 for every other answer.
-pub struct Done {
-    pub answer: Answer,
-    pub head: Head,
-    pub block: usize,
-    pub length: u16,
-}
-
-fn without_bytes(answer: Answer, h: Head) -> Done
-    ensures { λ r. ⌜ r ≡ withoutBytes answer h ⌝ }
-{
-    Done {
-        answer: answer,
-        head: h,
-        block: 0,
-        length: 0,
-    }
-}
-
-fn where_found(found: FoundBytes, h: Head) -> Done
+// What a read gives back.
+fn where_found(found: FoundBytes, h: Head) -> Step
     ensures { λ r. ⌜ r ≡ whereFound found h ⌝ }
 {
     match found {
-        FoundBytes::Refused(why) => without_bytes(Answer::Refused(why), h),
+        FoundBytes::Refused(why) => answered(Answer::Refused(why), h),
         FoundBytes::At {
             block,
             length,
             sum: _,
-        } => Done {
-            answer: Answer::Bytes,
+        } => Step {
             head: h,
+            answer: Answer::Bytes,
             block: block,
             length: length,
         },
@@ -88,17 +72,28 @@ fn serve(
     holdings: Holdings,
     call: Call,
     bytes: &[u8],
-) -> Done
-    requires { ⌜ Sized (now handles) (now extents) (now clocks) (now named) (now dues) × Ready (Use call) (pooled h (now handles) (now extents) (now clocks) (now named) (now dues)) (now small) (now large) × HoldsFor (Use call) (h .shares) (blocksOf (now handles) (now extents)) holdings ⌝ }
-    ensures { λ r. ⌜ Sized (now (handles .exit)) (now (extents .exit)) (now (clocks .exit)) (now (named .exit)) (now (dues .exit)) × Serves (Use call) (now (bytes .entry)) (pooled h (now (handles .entry)) (now (extents .entry)) (now (clocks .entry)) (now (named .entry)) (now (dues .entry))) (now (small .entry)) (now (large .entry)) (givenBack r (now (handles .exit)) (now (extents .exit)) (now (clocks .exit)) (now (named .exit)) (now (dues .exit))) (now (small .exit)) (now (large .exit)) ⌝ }
+) -> Step
+    requires { ⌜ Sized (now handles) (now extents) (now clocks) (now named) (now dues)
+        × Ready (Use call) (pooled h (now handles) (now extents) (now clocks) (now named) (now dues)) (now small) (now large)
+        × HoldsFor (Use call) (h .shares) (blocksOf (now handles) (now extents)) holdings ⌝ }
+    ensures { λ r. ⌜ Sized (now (handles .exit)) (now (extents .exit)) (now (clocks .exit)) (now (named .exit)) (now (dues .exit))
+        × Serves (Use call) (now (bytes .entry))
+        (pooled h (now (handles .entry)) (now (extents .entry)) (now (clocks .entry)) (now (named .entry)) (now (dues .entry)))
+        (now (small .entry)) (now (large .entry))
+        (givenBack r (now (handles .exit)) (now (extents .exit)) (now (clocks .exit)) (now (named .exit)) (now (dues .exit)))
+        (now (small .exit)) (now (large .exit)) ⌝ }
 {
     match call {
-        Call::Schedule { event, task } => {
-            let step = schedule(h, handles, extents, clocks, named, dues, event, task);
-            let answer = step.answer;
-            let head = step.head;
-            without_bytes(answer, head)
-        }
+        Call::Schedule { event, task } => schedule(
+            h,
+            handles,
+            extents,
+            clocks,
+            named,
+            dues,
+            event,
+            task,
+        ),
         Call::Make {
             task,
             kind,
@@ -107,7 +102,7 @@ fn serve(
             prefix,
         } => {
             let holding = holding_for(holdings, length);
-            let step = make(
+            make(
                 h,
                 handles,
                 extents,
@@ -122,33 +117,25 @@ fn serve(
                 extension,
                 length,
                 prefix,
-            );
-            let answer = step.answer;
-            let head = step.head;
-            without_bytes(answer, head)
+            )
         }
         Call::Refresh {
             task,
             kind,
             extension,
             handle,
-        } => {
-            let step = refresh(
-                h,
-                handles,
-                extents,
-                clocks,
-                named,
-                dues,
-                task,
-                kind,
-                extension,
-                handle,
-            );
-            let answer = step.answer;
-            let head = step.head;
-            without_bytes(answer, head)
-        }
+        } => refresh(
+            h,
+            handles,
+            extents,
+            clocks,
+            named,
+            dues,
+            task,
+            kind,
+            extension,
+            handle,
+        ),
         Call::Read { task, handle } => where_found(
             find_for_read(
                 h,
@@ -168,7 +155,7 @@ fn serve(
             task,
             handle,
             offset,
-        } => without_bytes(
+        } => answered(
             write(
                 h,
                 handles,
@@ -189,35 +176,29 @@ fn serve(
             task,
             kind,
             extension,
-        } => {
-            let step = batch(
-                h,
-                handles,
-                extents,
-                clocks,
-                named,
-                dues,
-                task,
-                kind,
-                extension,
-                bytes,
-            );
-            let answer = step.answer;
-            let head = step.head;
-            without_bytes(answer, head)
-        }
-        Call::Release { task, handle } => {
-            let step = release(h, handles, extents, clocks, named, dues, task, handle);
-            let answer = step.answer;
-            let head = step.head;
-            without_bytes(answer, head)
-        }
-        Call::Join { task, share } => {
-            let step = join(h, holdings, task, share);
-            let answer = step.answer;
-            let head = step.head;
-            without_bytes(answer, head)
-        }
+        } => batch(
+            h,
+            handles,
+            extents,
+            clocks,
+            named,
+            dues,
+            task,
+            kind,
+            extension,
+            bytes,
+        ),
+        Call::Release { task, handle } => release(
+            h,
+            handles,
+            extents,
+            clocks,
+            named,
+            dues,
+            task,
+            handle,
+        ),
+        Call::Join { task, share } => join(h, holdings, task, share),
     }
 }
 
@@ -234,9 +215,16 @@ pub fn call(
     holdings: Holdings,
     request: Request,
     bytes: &[u8],
-) -> Done
-    requires { ⌜ Sized (now handles) (now extents) (now clocks) (now named) (now dues) × Ready request (pooled h (now handles) (now extents) (now clocks) (now named) (now dues)) (now small) (now large) × HoldsFor request (h .shares) (blocksOf (now handles) (now extents)) holdings ⌝ }
-    ensures { λ r. ⌜ Sized (now (handles .exit)) (now (extents .exit)) (now (clocks .exit)) (now (named .exit)) (now (dues .exit)) × Serves request (now (bytes .entry)) (pooled h (now (handles .entry)) (now (extents .entry)) (now (clocks .entry)) (now (named .entry)) (now (dues .entry))) (now (small .entry)) (now (large .entry)) (givenBack r (now (handles .exit)) (now (extents .exit)) (now (clocks .exit)) (now (named .exit)) (now (dues .exit))) (now (small .exit)) (now (large .exit)) ⌝ }
+) -> Step
+    requires { ⌜ Sized (now handles) (now extents) (now clocks) (now named) (now dues)
+        × Ready request (pooled h (now handles) (now extents) (now clocks) (now named) (now dues)) (now small) (now large)
+        × HoldsFor request (h .shares) (blocksOf (now handles) (now extents)) holdings ⌝ }
+    ensures { λ r. ⌜ Sized (now (handles .exit)) (now (extents .exit)) (now (clocks .exit)) (now (named .exit)) (now (dues .exit))
+        × Serves request (now (bytes .entry))
+        (pooled h (now (handles .entry)) (now (extents .entry)) (now (clocks .entry)) (now (named .entry)) (now (dues .entry)))
+        (now (small .entry)) (now (large .entry))
+        (givenBack r (now (handles .exit)) (now (extents .exit)) (now (clocks .exit)) (now (named .exit)) (now (dues .exit)))
+        (now (small .exit)) (now (large .exit)) ⌝ }
 {
     match request {
         Request::Use(c) => serve(
@@ -252,11 +240,11 @@ pub fn call(
             c,
             bytes,
         ),
-        Request::Report => without_bytes(
+        Request::Report => answered(
             Answer::Counted(usage(h.given, handles, standing(clocks))),
             h,
         ),
-        Request::Remaining { task, handle } => without_bytes(
+        Request::Remaining { task, handle } => answered(
             remaining(h, handles, extents, clocks, named, dues, task, handle),
             h,
         ),

@@ -2,7 +2,7 @@
 ghost use mathlib.Core.Bool.{true};
 ghost use mathlib.Core.Path.{_≡_};
 ghost use Rattle.record.specs.Tables.{blocksOf, SizedBlocks};
-ghost use Rattle.shares.specs.Holdings.{Holds, Placed};
+ghost use Rattle.shares.specs.Holdings.{Holds, LengthsFit};
 ghost use Rattle.dispatch.specs.Needs.{isAsked, HoldsFor};
 use handles::used_of;
 use ledger::Call;
@@ -69,7 +69,7 @@ fn holding_if<'a>(
     small: bool,
 ) -> Holding
     requires { ⌜ SizedBlocks (now handles) (now extents)
-        × Placed (blocksOf (now handles) (now extents)) ⌝ }
+        × LengthsFit (blocksOf (now handles) (now extents)) ⌝ }
     ensures { λ r. ⌜ (asked ≡ true → Holds small shares (blocksOf (now (handles .entry)) (now (extents .entry))) r) ⌝ }
 {
     if !asked {
@@ -86,7 +86,7 @@ pub fn holdings_for<'a>(
     request: Request,
 ) -> Holdings
     requires { ⌜ SizedBlocks (now handles) (now extents)
-        × Placed (blocksOf (now handles) (now extents)) ⌝ }
+        × LengthsFit (blocksOf (now handles) (now extents)) ⌝ }
     ensures { λ r. ⌜ HoldsFor request (h .shares) (blocksOf (now (handles .entry)) (now (extents .entry))) r ⌝ }
 {
     let shares = h.shares;

@@ -7,7 +7,7 @@ use mathlib.Core.Path.{_≡_, refl, _∙_}
 use lib.ListN.{length, getD, set}
 use Rattle.lists.proofs.Cases.{by-test, cond-same, or-false-parts}
 use Rattle.endings.specs.Ending.{EndedBy}
-use Rattle.expirations.specs.Places.{Asked}
+use Rattle.expirations.specs.Places.{SomeBetween}
 use Rattle.expirations.proofs.Places.{asked-start, asked-turn, asked-join, asked-same, asked-end, changed-none, changed-start, changed-turn, changed-same, changed-join, changed-end}
 
 module _ (p : ℕ → ℕ → Bool) where
@@ -15,7 +15,7 @@ module _ (p : ℕ → ℕ → Bool) where
   ended-start a xs = record { changed = changed-start a xs; asked = asked-start (λ k. p k (getD xs k 0)) a }
 
   -- where none passes
-  pub ended-none : {a b : ℕ} (xs : List ℕ) → Asked (λ k. p k (getD xs k 0)) a b false → EndedBy p a b xs xs false
+  pub ended-none : {a b : ℕ} (xs : List ℕ) → SomeBetween (λ k. p k (getD xs k 0)) a b false → EndedBy p a b xs xs false
   ended-none xs s = record { changed = changed-none xs (s .ordered) (λ k l m. rw (s .none refl k l m)); asked = s }
 
 module _ {p : ℕ → ℕ → Bool} {a b : ℕ} {xs ys : List ℕ} {r : Bool} (s : EndedBy p a b xs ys r) where
@@ -44,7 +44,8 @@ module _ {p : ℕ → ℕ → Bool} {a b : ℕ} {xs ys : List ℕ} {r : Bool} (s
     ended-same e =
         record { changed = changed-same (s .changed) (λ k l m. rw (e k (getD xs k 0))); asked = asked-same (s .asked) (λ k l m. e k (getD xs k 0)) }
 
-    -- Another test after it, on the same places: what passes either is ended. What the first has ended is free, and stays so; what it has left, the second judges as it was.
+    -- Another test after it, on the same places: what passes either is ended. What the first has ended is free, and stays so; what it has
+    -- left, the second judges as it was.
     pub ended-then : {zs : List ℕ} {r′ : Bool} → EndedBy q a b ys zs r′ → EndedBy (λ k clock. p k clock || q k clock) a b xs zs (r || r′)
     ended-then {r′ = r′} z =
         record {

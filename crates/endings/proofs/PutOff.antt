@@ -15,7 +15,7 @@ use Rattle.record.specs.Tables.{entriesOf, SizedEntries, expirationEntries, byt
 use Rattle.record.specs.declared.TaskEntry.{TaskEntry}
 use Rattle.steps.specs.Events.{isPutOff, lateEntry}
 use Rattle.endings.specs.Late.{leaverIn, lateIn, desertedAt, putOffAt, isWaitingAt, PutOff, GlobalFlags}
-use Rattle.expirations.specs.Places.{Asked, Changed}
+use Rattle.expirations.specs.Places.{SomeBetween, Changed}
 use Rattle.endings.specs.declared.Passing.{Passing}
 use Rattle.expirations.proofs.Places.{split}
 use Rattle.expirations.proofs.Tables.{size-of, entry-of}
@@ -47,7 +47,7 @@ module _ (tasks : List TaskEntry) (size : length tasks ≡ taskCount) where
   departed-waits = rw (List·getD-eq-default tasks absentEntry {n = taskCount} (omega arith))
 
   -- where no task waits, nothing is put off
-  pub none-put-off : {r : Bool} → Asked (isWaitingAt tasks) 0 taskCount r → r ≡ false → (clock : ℕ) → isPutOff tasks clock ≡ false
+  pub none-put-off : {r : Bool} → SomeBetween (isWaitingAt tasks) 0 taskCount r → r ≡ false → (clock : ℕ) → isPutOff tasks clock ≡ false
   none-put-off s e clock =
       by-test (isGlobalClock clock)
       (λ g.

@@ -17,7 +17,7 @@ use Rattle.record.specs.declared.TaskEntry.{TaskEntry}
 use Rattle.record.proofs.Columns.{length-blocks, block-at}
 use Rattle.steps.specs.Events.{keptBlock}
 use Rattle.steps.proofs.KeptBlocks.{block-left}
-use Rattle.expirations.specs.Naming.{Flags}
+use Rattle.expirations.specs.Naming.{NamedFlags}
 use Rattle.expirations.specs.Places.{Changed}
 use Rattle.expirations.proofs.Places.{changed-same}
 use Rattle.expirations.proofs.Tables.{size-of, entry-of, asked-entries, asked-naming}
@@ -45,7 +45,7 @@ freed-blocks {hs} {hs′} xs ls h l z =
     (kept-entry (any (isNaming k) xs) (getD hs k 0) (getD ls k 0)))
 
 -- those that no flag is set for
-released : {cs ns ds hs hs′ : List ℕ} {flags : List Bool} (ls : List ℕ) → Flags cs ns expirationEntries flags → Changed 0 (keptByFlag flags) 0 blockEntries hs hs′
+released : {cs ns ds hs hs′ : List ℕ} {flags : List Bool} (ls : List ℕ) → NamedFlags cs ns expirationEntries flags → Changed 0 (keptByFlag flags) 0 blockEntries hs hs′
     → SizedEntries cs ns ds → length hs ≡ blockEntries → length ls ≡ blockEntries → blocksOf hs′ ls ≡ mapFrom 0 (keptBlock (entriesOf cs ns ds)) (blocksOf hs ls)
 released {cs} {ns} {ds} ls s z sized h l = freed-blocks (entriesOf cs ns ds) ls h l (changed-same z (λ k a b. rw (asked-naming sized k (s .so k b))))
 
@@ -92,7 +92,7 @@ module _ (t : Passing) {cs ns ds cs′ : List ℕ} {r : Bool} (s : Ended t ds 0 
   -- of what a leave and an advance make of other entries
   module _ {tasks : List TaskEntry} {cs₀ ds₀ hs : List ℕ} (late : entriesOf cs ns ds ≡ lateIn t tasks (entriesOf cs₀ ns ds₀)) (h : length hs ≡ blockEntries) where
     -- where any was, blocks are released
-    pub ends-some : {hs′ : List ℕ} {flags : List Bool} → r ≡ true → Flags cs′ ns expirationEntries flags → Changed 0 (keptByFlag flags) 0 blockEntries hs hs′
+    pub ends-some : {hs′ : List ℕ} {flags : List Bool} → r ≡ true → NamedFlags cs′ ns expirationEntries flags → Changed 0 (keptByFlag flags) 0 blockEntries hs hs′
         → Ends t tasks ns ds₀ hs cs₀ hs′ cs′ ds
     ends-some e f z =
         record {

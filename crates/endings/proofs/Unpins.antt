@@ -12,12 +12,12 @@ use lib.Seq.{getD-set-same, getD-set-other}
 use Rattle.lists.specs.Tests.{any}
 use Rattle.lists.proofs.Cases.{by-test, cond-same}
 use Rattle.record.specs.Tables.{entriesOf, tablesBy, lent, Sized, blockEntries, expirationEntries}
-use Rattle.record.specs.WellFormed.{isNaming, isPinning, isWellFormed}
+use Rattle.record.specs.WellFormed.{isNaming, isPinOn, isWellFormed}
 use Rattle.record.specs.declared.Head.{Head}
 use Rattle.record.proofs.Columns.{block-at}
 use Rattle.record.proofs.Facts.{fit-parts, fit-used}
 use Rattle.expirations.specs.Naming.{isNamedAt}
-use Rattle.expirations.specs.Places.{Asked, Changed}
+use Rattle.expirations.specs.Places.{SomeBetween, Changed}
 use Rattle.expirations.specs.Standing.{isDatedAt}
 use Rattle.expirations.proofs.Pins.{pinned-clock, sized-with}
 use Rattle.expirations.proofs.Places.{asked-at}
@@ -44,13 +44,13 @@ module _ {block : ℕ} {cs ns cs′ hs : List ℕ} (c : length cs ≡ expiration
       let (i, least, m, e) = w .so k l (eqb-false (getD hs k 0) 0 z) .some refl in
       rw (← asked-naming (sized-after s (sized-with c n d)) k (asked-at (isNamedAt cs′ ns k) i least m (still-named k i other m e))) refl)
 
-  pub releases : {r : Bool} {handle : ℕ} → Asked (isNamedAt cs′ ns block) 0 expirationEntries r → handle ≡ cond r (getD hs block 0) 0
+  pub releases : {r : Bool} {handle : ℕ} → SomeBetween (isNamedAt cs′ ns block) 0 expirationEntries r → handle ≡ cond r (getD hs block 0) 0
       → Releases block ns hs cs (set hs block handle) cs′
   releases {handle = handle} f e =
       record {
         handlesSize = simp length-set h;
         clocksSize = s .size ∙ c;
-        entries = λ ds d. freed-entries s (sized-with c n d) (isPinning block) (λ k clock. rw (pinned-clock clock (getD ds k 0)));
+        entries = λ ds d. freed-entries s (sized-with c n d) (isPinOn block) (λ k clock. rw (pinned-clock clock (getD ds k 0)));
         blocks = λ ls ds l d.
             freed-blocks (entriesOf cs′ ns ds) ls h l
             (record {

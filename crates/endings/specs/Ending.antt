@@ -8,7 +8,7 @@ use lib.ListN.{length, getD}
 use Rattle.lists.specs.Filled.{Filled}
 use Rattle.lists.specs.Tests.{any}
 use Rattle.lists.specs.Tables.{mapFrom}
-use Rattle.record.specs.Codes.{dueBy, dueOf, leftAt, localCode, isGlobalClock, freedEntry}
+use Rattle.record.specs.Codes.{dueBy, dueOf, unitsLeft, localCode, isGlobalClock, freedEntry}
 use Rattle.record.specs.Tables.{ExpirationEntry, blocksOf, entriesOf, blockEntries, expirationEntries, groupSize}
 use Rattle.record.specs.declared.Due.{Due}
 use Rattle.record.specs.declared.Due.the-variants.{Free, Local, Global, Pinned, Unknown}
@@ -17,14 +17,14 @@ use Rattle.record.specs.declared.LocalTime.{LocalTime}
 use Rattle.record.specs.declared.TaskEntry.{TaskEntry}
 use Rattle.steps.specs.Events.{keptBlock}
 use Rattle.endings.specs.Late.{lateIn}
-use Rattle.expirations.specs.Places.{Asked, Changed}
+use Rattle.expirations.specs.Places.{SomeBetween, Changed}
 use Rattle.endings.specs.declared.Passing.{Passing}
 
 -- an expiration ends where its time has come by the clock that has moved, or where its setter leaves
 abbrev pub isEnding : Passing → Due → Bool
 isEnding t Free = false
-isEnding t (Local setter at) = eqb setter (t .task) && (t .leaves || eqb (leftAt (at .0) (t .local .0)) 0)
-isEnding t (Global setter at) = t .advanced && eqb (leftAt (at .0) (t .global .0)) 0
+isEnding t (Local setter at) = eqb setter (t .task) && (t .leaves || eqb (unitsLeft (at .0) (t .local .0)) 0)
+isEnding t (Global setter at) = t .advanced && eqb (unitsLeft (at .0) (t .global .0)) 0
 isEnding t (Pinned due) = false
 isEnding t Unknown = false
 
@@ -37,7 +37,7 @@ isEndingAt t dues k clock = isEnding t (dueBy clock (getD dues k 0))
 
 -- nothing is left at a place by a time; and which of the places of a group are so
 abbrev pub isOverAt : ℕ → List ℕ → ℕ → Bool
-isOverAt now dues k = eqb (leftAt (getD dues k 0) now) 0
+isOverAt now dues k = eqb (unitsLeft (getD dues k 0) now) 0
 
 abbrev pub Over : ℕ → List ℕ → ℕ → List Bool → Type 0
 Over now dues from r = Filled false (λ k x. x ≡ isOverAt now dues (from + k)) groupSize groupSize r
@@ -59,14 +59,14 @@ isGlobalOverAt now dues k clock = isGlobalClock clock && isOverAt (now .0) dues 
 -- What passes a test of place and clock is ended from place a up to b, and r says whether that was any.
 pub record EndedBy (p : ℕ → ℕ → Bool) (a b : ℕ) (clocks clocks′ : List ℕ) (r : Bool) : Type 0 where
   pub changed : Changed 0 (λ k clock. cond (p k clock) 0 clock) a b clocks clocks′
-  pub asked : Asked (λ k. p k (getD clocks k 0)) a b r
+  pub asked : SomeBetween (λ k. p k (getD clocks k 0)) a b r
 
 -- what an event ends
 abbrev pub Ended : Passing → List ℕ → ℕ → ℕ → List ℕ → List ℕ → Bool → Type 0
 Ended t dues a b clocks clocks′ r = EndedBy (isEndingAt t dues) a b clocks clocks′ r
 
--- Both tables after an event: of what a leave and an advance make of the entries, what it ends is ended; and where it ends anything, the blocks that none
--- names any more are free.
+-- Both tables after an event: of what a leave and an advance make of the entries, what it ends is ended; and where it ends anything, the
+-- blocks that none names any more are free.
 pub record Ends (t : Passing) (tasks : List TaskEntry) (named dues handles clocks handles′ clocks′ dues′ : List ℕ) : Type 0 where
   pub handlesSize : length handles′ ≡ blockEntries
   pub clocksSize : length clocks′ ≡ expirationEntries

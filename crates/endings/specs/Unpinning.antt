@@ -11,7 +11,7 @@ use Rattle.steps.specs.Events.{keptBlock}
 use Rattle.steps.specs.Objects.{unpinnedEntry}
 use Rattle.expirations.specs.Naming.{isNamedAt}
 use Rattle.expirations.specs.Pinning.{isPinBy}
-use Rattle.expirations.specs.Places.{Asked}
+use Rattle.expirations.specs.Places.{SomeBetween}
 
 -- a clock after the release of the object in the block; and the one at a place, with the blocks that all name
 abbrev pub unpinnedClock : ℕ → ℕ → ℕ → ℕ
@@ -22,7 +22,7 @@ unpinnedAt block named k clock = unpinnedClock block clock (getD named k 0)
 
 -- W2: each block in use is named
 pub record AllNamed (handles clocks named : List ℕ) : Type 0 where
-  pub so : (block : ℕ) → block < blockEntries → getD handles block 0 ≢ 0 → Asked (isNamedAt clocks named block) 0 expirationEntries true
+  pub so : (block : ℕ) → block < blockEntries → getD handles block 0 ≢ 0 → SomeBetween (isNamedAt clocks named block) 0 expirationEntries true
 
 -- Both tables after a release: the pinned expiration of the block is ended, and blocks that none names any more are free.
 pub record Releases (block : ℕ) (named handles clocks handles′ clocks′ : List ℕ) : Type 0 where

@@ -1,5 +1,6 @@
-// The end of expirations that are due or were a leaver's own: first those by the task's clock, then those by the global time where that has advanced. A leaver's own end whenever they
-// are due, in one pass over the clocks; else by groups: one where no clock is asked for is passed by, and the due numbers of another are judged before its clocks.
+// The end of expirations that are due or were a leaver's own: first those by the task's clock, then those by the global time where that has
+// advanced. A leaver's own end whenever they are due, in one pass over the clocks; else by groups: one where no clock is asked for is
+// passed by, and the due numbers of another are judged before its clocks.
 ghost use Prim.Native.Nat.{_+_, _≤_, _<_};
 ghost use mathlib.Core.Bool.{cond};
 ghost use mathlib.Core.Path.{_≡_};
@@ -44,7 +45,8 @@ fn end_own(own: u8, clocks: &mut [u8; EXPIRATION_COUNT]) -> bool
 
 // At which places of a group nothing is left, by a task's clock,
 fn local_over(local: LocalTime, dues: &[u32; EXPIRATION_COUNT], from: usize) -> [bool; GROUP]
-    requires { ⌜ (length (now dues) ≡ expirationEntries) × (from + groupSize ≤ expirationEntries) ⌝ }
+    requires { ⌜ (length (now dues) ≡ expirationEntries)
+        × (from + groupSize ≤ expirationEntries) ⌝ }
     ensures { λ r. ⌜ Over (local .0) (now (dues .entry)) from r ⌝ }
 {
     let mut out = [false; GROUP];
@@ -56,7 +58,8 @@ fn local_over(local: LocalTime, dues: &[u32; EXPIRATION_COUNT], from: usize) -> 
 
 // and by the global time.
 fn global_over(global: GlobalTime, dues: &[u32; EXPIRATION_COUNT], from: usize) -> [bool; GROUP]
-    requires { ⌜ (length (now dues) ≡ expirationEntries) × (from + groupSize ≤ expirationEntries) ⌝ }
+    requires { ⌜ (length (now dues) ≡ expirationEntries)
+        × (from + groupSize ≤ expirationEntries) ⌝ }
     ensures { λ r. ⌜ Over (global .0) (now (dues .entry)) from r ⌝ }
 {
     let mut out = [false; GROUP];
@@ -74,8 +77,11 @@ fn end_local_in(
     dues: &[u32; EXPIRATION_COUNT],
     from: usize,
 ) -> bool
-    requires { ⌜ (length (now clocks) ≡ expirationEntries) × (length (now dues) ≡ expirationEntries) × (from + groupSize ≤ expirationEntries) ⌝ }
-    ensures { λ r. ⌜ EndedBy (isOwnOverAt own local (now (dues .entry))) from (from + groupSize) (now (clocks .entry)) (now (clocks .exit)) r ⌝ }
+    requires { ⌜ (length (now clocks) ≡ expirationEntries)
+        × (length (now dues) ≡ expirationEntries)
+        × (from + groupSize ≤ expirationEntries) ⌝ }
+    ensures { λ r. ⌜ EndedBy (isOwnOverAt own local (now (dues .entry))) from (from + groupSize) (now (clocks .entry)) (now (clocks .exit))
+        r ⌝ }
 {
     if !has_byte(clocks, own, from, from + GROUP) {
         return false;
@@ -97,8 +103,10 @@ fn end_local(
     clocks: &mut [u8; EXPIRATION_COUNT],
     dues: &[u32; EXPIRATION_COUNT],
 ) -> bool
-    requires { ⌜ (length (now clocks) ≡ expirationEntries) × (length (now dues) ≡ expirationEntries) ⌝ }
-    ensures { λ r. ⌜ EndedBy (isOwnOverAt own local (now (dues .entry))) 0 expirationEntries (now (clocks .entry)) (now (clocks .exit)) r ⌝ }
+    requires { ⌜ (length (now clocks) ≡ expirationEntries)
+        × (length (now dues) ≡ expirationEntries) ⌝ }
+    ensures { λ r. ⌜ EndedBy (isOwnOverAt own local (now (dues .entry))) 0 expirationEntries (now (clocks .entry)) (now (clocks .exit))
+        r ⌝ }
 {
     let mut some = false;
     for g in 0..GROUP_COUNT / 2 {
@@ -115,8 +123,11 @@ fn end_global_in(
     dues: &[u32; EXPIRATION_COUNT],
     from: usize,
 ) -> bool
-    requires { ⌜ (length (now clocks) ≡ expirationEntries) × (length (now dues) ≡ expirationEntries) × (from + groupSize ≤ expirationEntries) ⌝ }
-    ensures { λ r. ⌜ EndedBy (isGlobalOverAt global (now (dues .entry))) from (from + groupSize) (now (clocks .entry)) (now (clocks .exit)) r ⌝ }
+    requires { ⌜ (length (now clocks) ≡ expirationEntries)
+        × (length (now dues) ≡ expirationEntries)
+        × (from + groupSize ≤ expirationEntries) ⌝ }
+    ensures { λ r. ⌜ EndedBy (isGlobalOverAt global (now (dues .entry))) from (from + groupSize) (now (clocks .entry)) (now (clocks .exit))
+        r ⌝ }
 {
     if !any_global_clock(clocks, from) {
         return false;
@@ -137,8 +148,10 @@ fn end_global(
     clocks: &mut [u8; EXPIRATION_COUNT],
     dues: &[u32; EXPIRATION_COUNT],
 ) -> bool
-    requires { ⌜ (length (now clocks) ≡ expirationEntries) × (length (now dues) ≡ expirationEntries) ⌝ }
-    ensures { λ r. ⌜ EndedBy (isGlobalOverAt global (now (dues .entry))) 0 expirationEntries (now (clocks .entry)) (now (clocks .exit)) r ⌝ }
+    requires { ⌜ (length (now clocks) ≡ expirationEntries)
+        × (length (now dues) ≡ expirationEntries) ⌝ }
+    ensures { λ r. ⌜ EndedBy (isGlobalOverAt global (now (dues .entry))) 0 expirationEntries (now (clocks .entry)) (now (clocks .exit))
+        r ⌝ }
 {
     let mut some = false;
     for g in 0..GROUP_COUNT {
@@ -153,7 +166,9 @@ fn end_tasks(
     clocks: &mut [u8; EXPIRATION_COUNT],
     dues: &[u32; EXPIRATION_COUNT],
 ) -> bool
-    requires { ⌜ (t .task < taskCount) × (length (now clocks) ≡ expirationEntries) × (length (now dues) ≡ expirationEntries) ⌝ }
+    requires { ⌜ (t .task < taskCount)
+        × (length (now clocks) ≡ expirationEntries)
+        × (length (now dues) ≡ expirationEntries) ⌝ }
     ensures { λ r. ⌜ EndedBy (isOwnEndingAt t (now (dues .entry))) 0 expirationEntries (now (clocks .entry)) (now (clocks .exit)) r ⌝ }
 {
     let own = LOCAL + t.task;
@@ -171,7 +186,9 @@ pub fn end_due(
     clocks: &mut [u8; EXPIRATION_COUNT],
     dues: &[u32; EXPIRATION_COUNT],
 ) -> bool
-    requires { ⌜ (t .task < taskCount) × (length (now clocks) ≡ expirationEntries) × (length (now dues) ≡ expirationEntries) ⌝ }
+    requires { ⌜ (t .task < taskCount)
+        × (length (now clocks) ≡ expirationEntries)
+        × (length (now dues) ≡ expirationEntries) ⌝ }
     ensures { λ r. ⌜ Ended t (now (dues .entry)) 0 expirationEntries (now (clocks .entry)) (now (clocks .exit)) r ⌝ }
 {
     let some = end_tasks(t, clocks, dues);

@@ -1,4 +1,5 @@
-// What a leave and an advance make of global expirations, before any is judged due: the leaver's have a departed setter, and those whose setter waits are put off.
+// What a leave and an advance make of global expirations, before any is judged due: the leaver's have a departed setter, and those whose
+// setter waits are put off.
 ghost use Prim.Native.Nat.{_+_, _≤_, _<_};
 ghost use mathlib.Core.Bool.{cond};
 ghost use mathlib.Core.Path.{_≡_};
@@ -7,7 +8,7 @@ ghost use Rattle.ledger.specs.Limits.{taskCount};
 ghost use Rattle.record.specs.Tables.{expirationEntries, groupSize};
 ghost use Rattle.steps.specs.Events.{nextTime, desertedClock};
 ghost use Rattle.endings.specs.Late.{desertedAt, putOffAt, isWaitingAt, PutOff, GlobalFlags, putOffBy};
-ghost use Rattle.expirations.specs.Places.{Asked, Changed};
+ghost use Rattle.expirations.specs.Places.{SomeBetween, Changed};
 use super::Passing;
 use expirations::asking::any_global_clock;
 use expirations::asking::place_for;
@@ -36,7 +37,8 @@ fn deserted(task: u8, clock: u8) -> u8
 
 // All of them, where the task leaves.
 pub fn desert(t: Passing, clocks: &mut [u8; EXPIRATION_COUNT])
-    requires { ⌜ (t .task < taskCount) × (length (now clocks) ≡ expirationEntries) ⌝ }
+    requires { ⌜ (t .task < taskCount)
+        × (length (now clocks) ≡ expirationEntries) ⌝ }
     ensures { λ _. ⌜ Changed 0 (desertedAt t) 0 expirationEntries (now (clocks .entry)) (now (clocks .exit)) ⌝ }
 {
     if !t.leaves {
@@ -49,7 +51,7 @@ pub fn desert(t: Passing, clocks: &mut [u8; EXPIRATION_COUNT])
 
 // Whether a task waits.
 fn any_waiting(tasks: [TaskEntry; TASK_COUNT]) -> bool
-    ensures { λ r. ⌜ Asked (isWaitingAt tasks) 0 taskCount r ⌝ }
+    ensures { λ r. ⌜ SomeBetween (isWaitingAt tasks) 0 taskCount r ⌝ }
 {
     let mut some = false;
     for i in 0..TASK_COUNT {
@@ -85,8 +87,12 @@ fn put_off_in<'a>(
     dues: &mut [u32; EXPIRATION_COUNT],
     from: usize,
 )
-    requires { ⌜ GlobalFlags (now flags) × (length (now clocks) ≡ expirationEntries) × (length (now dues) ≡ expirationEntries) × (from + groupSize ≤ expirationEntries) ⌝ }
-    ensures { λ _. ⌜ Changed 0 (putOffBy (now (flags .entry)) (now (clocks .entry))) from (from + groupSize) (now (dues .entry)) (now (dues .exit)) ⌝ }
+    requires { ⌜ GlobalFlags (now flags)
+        × (length (now clocks) ≡ expirationEntries)
+        × (length (now dues) ≡ expirationEntries)
+        × (from + groupSize ≤ expirationEntries) ⌝ }
+    ensures { λ _. ⌜ Changed 0 (putOffBy (now (flags .entry)) (now (clocks .entry))) from (from + groupSize) (now (dues .entry))
+        (now (dues .exit)) ⌝ }
 {
     if !any_global_clock(clocks, from) {
         return;
@@ -104,7 +110,8 @@ pub fn put_off(
     clocks: &[u8; EXPIRATION_COUNT],
     dues: &mut [u32; EXPIRATION_COUNT],
 )
-    requires { ⌜ (length (now clocks) ≡ expirationEntries) × (length (now dues) ≡ expirationEntries) ⌝ }
+    requires { ⌜ (length (now clocks) ≡ expirationEntries)
+        × (length (now dues) ≡ expirationEntries) ⌝ }
     ensures { λ _. ⌜ Changed 0 (putOffAt t tasks (now (clocks .entry))) 0 expirationEntries (now (dues .entry)) (now (dues .exit)) ⌝ }
 {
     if !t.advanced {

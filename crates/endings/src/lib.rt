@@ -26,7 +26,8 @@ use record::TaskEntry;
 use releasing::keep_named;
 pub use unpinning::release;
 
-// The time that an event of a task leaves: the task's local time, and whether it leaves for good; the global time, and whether that has advanced.
+// The time that an event of a task leaves: the task's local time, and whether it leaves for good; the global time, and whether that has
+// advanced.
 pub struct Passing {
     pub task: u8,
     pub leaves: bool,
@@ -35,8 +36,8 @@ pub struct Passing {
     pub global: GlobalTime,
 }
 
-// What an event ends: the task's local expirations that are due, all of them where it leaves, and at an advance the global ones that are due, after those whose
-// setter waits are put off. An object whose last one ends is gone, and its block is free.
+// What an event ends: the task's local expirations that are due, all of them where it leaves, and at an advance the global ones that are
+// due, after those whose setter waits are put off. An object whose last one ends is gone, and its block is free.
 pub fn end(
     t: Passing,
     tasks: [TaskEntry; TASK_COUNT],
@@ -45,8 +46,11 @@ pub fn end(
     named: &[u8; EXPIRATION_COUNT],
     dues: &mut [u32; EXPIRATION_COUNT],
 )
-    requires { ⌜ (t .task < taskCount) × (length (now handles) ≡ blockEntries) × SizedEntries (now clocks) (now named) (now dues) ⌝ }
-    ensures { λ _. ⌜ Ends t tasks (now (named .entry)) (now (dues .entry)) (now (handles .entry)) (now (clocks .entry)) (now (handles .exit)) (now (clocks .exit)) (now (dues .exit)) ⌝ }
+    requires { ⌜ (t .task < taskCount)
+        × (length (now handles) ≡ blockEntries)
+        × SizedEntries (now clocks) (now named) (now dues) ⌝ }
+    ensures { λ _. ⌜ Ends t tasks (now (named .entry)) (now (dues .entry)) (now (handles .entry)) (now (clocks .entry))
+        (now (handles .exit)) (now (clocks .exit)) (now (dues .exit)) ⌝ }
 {
     desert(t, clocks);
     put_off(t, tasks, clocks, dues);

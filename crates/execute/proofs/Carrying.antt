@@ -1,8 +1,7 @@
 -- A line carried out, by its frame.
-use Prim.Native.Nat.{ℕ, _≤_}
-use native.Mathlib.Omega.{arith}
+use Prim.Native.Nat.{ℕ}
 use mathlib.Core.List.{List, []}
-use mathlib.Core.Path.{_≡_, refl, sym, _∙_}
+use mathlib.Core.Path.{_≡_, refl}
 use lib.ListN.{length, take}
 use Rattle.ledger.specs.Numbers.{answerNumber}
 use Rattle.ledger.specs.declared.Answer.the-variants.{Refused}
@@ -14,19 +13,15 @@ use Rattle.record.specs.declared.Head.{Head}
 use Rattle.record.specs.declared.Pool.{Pool}
 use Rattle.calls.specs.Served.{Called, withoutBytes, Serves}
 use Rattle.answers.specs.Answers.{answerLine}
-use Rattle.frames.specs.Frames.{payloadOf, Decodes}
+use Rattle.frames.specs.Frames.{Decodes}
 use Rattle.text.specs.Hex.{Puts}
-use Rattle.frames.specs.declared.Frame.{Frame}
-use Rattle.frames.proofs.Payloads.{requested, payload-front}
+use Rattle.ledger.specs.declared.Frame.{Frame}
+use Rattle.frames.proofs.Payloads.{payload-front}
 use Rattle.execute.specs.Execution.{executedOf, Executes}
 use Rattle.execute.specs.declared.Carried.{Carried}
-use Rattle.execute.proofs.Showing.{start-within, shows-none}
+use Rattle.answers.proofs.Shown.{shows-none}
 
 module _ {line : List ℕ} {old new : List ℕ} {frame : Frame} (d : Decodes line old frame new) where
-  -- the bytes of a request are in the buffer
-  pub bytes-in : {request : Request} {count : ℕ} → frame ≡ Frame.Request request count → count ≤ length new
-  bytes-in e = rw (d .bytes) (omega (arith, requested line (sym (d .frame) ∙ e) .counted, start-within (payloadOf line) old))
-
   module _ (p : Pool) (small large out out′ : List ℕ) (n : ℕ) where
     pub refused-executes : {why : Refusal} → frame ≡ Frame.Refused why → {none : List ℕ} → none ≡ []
         → {number : ℕ} → number ≡ answerNumber (Refused why) → Puts 0 (answerLine (Refused why) none) out out′ n

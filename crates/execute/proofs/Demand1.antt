@@ -14,13 +14,14 @@ use Rattle.ledger.specs.declared.Refusal.{Refusal}
 use Rattle.ledger.specs.declared.Request.{Request}
 use Rattle.record.specs.declared.Pool.{Pool}
 use Rattle.calls.specs.Contract.{Refuses}
-use Rattle.calls.specs.Served.{Called, replyOf}
+use Rattle.calls.specs.Served.{Called, replyOf, IsReplyTo}
 use Rattle.text.specs.Fields.{fieldsAt}
-use Rattle.text.specs.Hex.{isWithin, isHex, bytesOf}
+use Rattle.ledger.specs.Limits.{isWithin}
+use Rattle.text.specs.Hex.{isHex, bytesOf}
 use Rattle.frames.specs.Frames.{Operation, operations, operationIn, widthsOf, isSizeOf, requestOf, frameWith, frameAs, frameBy, frameIn, frameOf, payloadOf}
-use Rattle.frames.specs.declared.Frame.{Frame}
-use Rattle.execute.specs.Execution.{Performs, IsReplyTo, Demand1}
-use Rattle.execute.proofs.Showing.{shows-none}
+use Rattle.ledger.specs.declared.Frame.{Frame}
+use Rattle.execute.specs.Execution.{Performs, Demand1}
+use Rattle.answers.proofs.Shown.{shows-none}
 
 module _ (bytes : List ℕ) (p : Pool) (small large : List ℕ) (r : Called) (small′ large′ : List ℕ) where
   is-reply : (frame : Frame) → Performs frame bytes p small large r small′ large′ → IsReplyTo frame bytes p small large (replyOf r small′ large′) (r .pool) small′ large′

@@ -1,4 +1,3 @@
-pub mod Showing
 pub mod Carrying
 pub mod Demand1
 pub mod OneAnswer

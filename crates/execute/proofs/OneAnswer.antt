@@ -13,7 +13,7 @@ use Rattle.calls.specs.Served.{Called, replyOf}
 use Rattle.calls.proofs.OneReply.{one-reply}
 use Rattle.answers.specs.Answers.{answerLine}
 use Rattle.frames.specs.Frames.{frameOf, payloadOf}
-use Rattle.frames.specs.declared.Frame.{Frame}
+use Rattle.ledger.specs.declared.Frame.{Frame}
 use Rattle.execute.specs.Execution.{Performs, OneAnswer}
 
 module _ (p : Pool) (small large : List ℕ) (types : Typed (tablesOf p)) where

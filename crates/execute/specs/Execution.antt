@@ -1,40 +1,23 @@
 -- D1, demand 1: a line of any bytes is carried out or refused, on any record with any stores; and what the ledger makes of a frame.
-use Prim.Native.Nat.{ℕ, _+_, _≤_, _<_}
+use Prim.Native.Nat.{ℕ, _≤_}
 use mathlib.Core.List.{List}
 use mathlib.Core.Path.{_≡_}
 use lib.ListN.{length}
 use Rattle.ledger.specs.Numbers.{answerNumber}
-use Rattle.ledger.specs.Objects.{Reply, plain}
-use Rattle.ledger.specs.Ledger.{Ledger, replyToRequest, afterRequest}
-use Rattle.ledger.specs.declared.Answer.{Answer}
+use Rattle.ledger.specs.Objects.{Reply}
 use Rattle.ledger.specs.declared.Answer.the-variants.{Refused}
 use Rattle.ledger.specs.declared.Refusal.{Refusal}
-use Rattle.stores.specs.Places.{InBlock}
-use Rattle.record.specs.Reading.{blockBytes, Typed}
+use Rattle.record.specs.Reading.{Typed}
 use Rattle.record.specs.Tables.{tablesOf, pooled}
 use Rattle.record.specs.declared.Pool.{Pool}
-use Rattle.calls.specs.Contract.{Refuses, Obeys}
-use Rattle.calls.specs.Served.{Called, withoutBytes, replyOf, Serves}
+use Rattle.calls.specs.Contract.{Refuses}
+use Rattle.calls.specs.Served.{Called, withoutBytes, replyOf, Serves, IsReplyTo}
 use Rattle.answers.specs.Answers.{answerLine}
 use Rattle.frames.specs.Frames.{frameOf, payloadOf}
 use Rattle.text.specs.Hex.{Puts}
-use Rattle.frames.specs.declared.Frame.{Frame}
+use Rattle.ledger.specs.declared.Frame.{Frame}
 use Rattle.execute.specs.declared.Executed.{Executed}
 use Rattle.execute.specs.declared.Carried.{Carried}
-
--- the ledger's reply to a frame with the bytes that come with it, and the ledger after it; F26: a frame that is refused is no call
-abbrev pub replyToFrame : Ledger → Frame → List ℕ → Reply
-replyToFrame L (Frame.Request request count) bytes = replyToRequest L request bytes
-replyToFrame L (Frame.Refused why) bytes = plain (Refused why)
-
-abbrev pub afterFrame : Ledger → Frame → List ℕ → Ledger
-afterFrame L (Frame.Request request count) bytes = afterRequest L request bytes
-afterFrame L (Frame.Refused why) bytes = L
-
--- The bytes that an answer shows lie in a block of the stores, and its line has room in a buffer from a place on.
-pub record Showable (answer : Answer) (small large : List ℕ) (block count : ℕ) (out : List ℕ) (at : ℕ) : Type 0 where
-  pub inside : 0 < count → InBlock small large block count
-  pub room : at + length (answerLine answer (blockBytes small large block count)) ≤ length out
 
 -- F26: a frame carried out: refused with nothing changed, or served by the pool
 abbrev pub Performs : Frame → List ℕ → Pool → List ℕ → List ℕ → Called → List ℕ → List ℕ → Type 0
@@ -54,8 +37,8 @@ pub record Executes (line : List ℕ) (p : Pool) (small large out : List ℕ) (r
 abbrev pub executedOf : Carried → List ℕ → List ℕ → List ℕ → List ℕ → List ℕ → Executed
 executedOf r handles extents clocks named dues = record { pool = pooled (r .head) handles extents clocks named dues; number = r .number; length = r .length }
 
--- The contract settles the answer: any two results that it allows for one line on one record with its stores and buffer have the same number, length and buffer.
--- `Typed` is what the record's type gives of every value.
+-- The contract settles the answer: any two results that it allows for one line on one record with its stores and buffer have the same
+-- number, length and buffer. `Typed` is what the record's type gives of every value.
 abbrev pub OneAnswer : Type 0
 OneAnswer =
     (line : List ℕ) (p : Pool) (small large out : List ℕ) → Typed (tablesOf p)
@@ -63,12 +46,8 @@ OneAnswer =
     → Executes line p small large out r small′ large′ out′ → Executes line p small large out r₂ small″ large″ out″
     → (r .number ≡ r₂ .number) × (r .length ≡ r₂ .length) × (out′ ≡ out″)
 
--- the reply to a frame: one that the pool's contract allows for its request, or its refusal where it yields no call, with record and stores the same
-abbrev pub IsReplyTo : Frame → List ℕ → Pool → List ℕ → List ℕ → Reply → Pool → List ℕ → List ℕ → Type 0
-IsReplyTo (Frame.Request request count) bytes p small large y p′ small′ large′ = Obeys request bytes p small large y p′ small′ large′
-IsReplyTo (Frame.Refused why) bytes p small large y p′ small′ large′ = Refuses why p small large y p′ small′ large′
-
--- A line has that reply, by its number and in its line: 16 to 19 where it yields no call. Every refusal is its number alone and leaves record and both stores the same.
+-- A line has that reply, by its number and in its line: 16 to 19 where it yields no call. Every refusal is its number alone and leaves
+-- record and both stores the same.
 pub record Answered (line : List ℕ) (p : Pool) (small large out : List ℕ) (r : Executed) (small′ large′ out′ : List ℕ) : Type 0 where
   pub reply : Reply
   pub replies : IsReplyTo (frameOf line) (payloadOf line) p small large reply (r .pool) small′ large′

@@ -13,7 +13,7 @@ use Rattle.lists.proofs.Loops.{Scanned, scanned-from, scanned-turn, scanned-pas
 use Rattle.lists.proofs.Most.{most-append}
 use Rattle.ledger.specs.Limits.{taskCount}
 use Rattle.ledger.specs.declared.Life.{Life}
-use Rattle.record.specs.Codes.{isGlobalClock, leftAt, localCode, absentEntry, freeEntry}
+use Rattle.record.specs.Codes.{isGlobalClock, unitsLeft, localCode, absentEntry, freeEntry}
 use Rattle.record.specs.Tables.{ExpirationEntry, expirationEntry, entriesOf, SizedEntries, expirationEntries, byteValues, groupSize, groupCount}
 use Rattle.record.specs.declared.Head.{Head}
 use Rattle.record.proofs.Asked.{by-task-clock, by-global-clock}
@@ -41,15 +41,15 @@ byte-of false by left e = refl
 module _ (q : Query) where
   module _ (clock block due : ℕ) where
     counted-local : q .task < taskCount
-        → cond (eqb block (q .block) && eqb clock (localCode + q .task)) (leftAt due (q .local .0) % byteValues) 0 ≡ localOn q (expirationEntry clock block due)
+        → cond (eqb block (q .block) && eqb clock (localCode + q .task)) (unitsLeft due (q .local .0) % byteValues) 0 ≡ localOn q (expirationEntry clock block due)
     counted-local known =
-        let left = leftAt due (q .local .0) in
+        let left = unitsLeft due (q .local .0) in
         byte-of (eqb block (q .block)) (eqb clock (localCode + q .task)) left
         (by-task-clock (leftLocal (q .task) (q .local)) (λ b. cond b left 0) clock due refl refl refl (q .task) known (λ s. refl) (λ s. refl))
 
-    counted-global : cond (eqb block (q .block) && isGlobalClock clock) (leftAt due (q .global .0) % byteValues) 0 ≡ globalOn q (expirationEntry clock block due)
+    counted-global : cond (eqb block (q .block) && isGlobalClock clock) (unitsLeft due (q .global .0) % byteValues) 0 ≡ globalOn q (expirationEntry clock block due)
     counted-global =
-        let left = leftAt due (q .global .0) in
+        let left = unitsLeft due (q .global .0) in
         byte-of (eqb block (q .block)) (isGlobalClock clock) left
         (by-global-clock (leftGlobal (q .global)) (λ b. cond b left 0) clock due refl refl refl (λ s. refl) (λ s. refl))
 
@@ -89,10 +89,10 @@ module _ {q : Query} {cs ns ds : List ℕ} (sized : SizedEntries cs ns ds) {from
   -- the same by its numbers: of each figure what is left of the due number, and whether that counts
   pub longest-turn : {start a : Units} {i : ℕ} → q .task < taskCount → Longest q (entriesOf cs ns ds) from n start i a → i < n
       → {by : Bool} {left counted local left′ counted′ global : ℕ}
-      → left ≡ leftAt (getD ds (from + i) 0) (q .local .0) % byteValues
+      → left ≡ unitsLeft (getD ds (from + i) 0) (q .local .0) % byteValues
       → counted ≡ cond (eqb (getD ns (from + i) 0) (q .block) && eqb (getD cs (from + i) 0) (localCode + q .task)) left 0
       → local ≡ max (a .local) counted
-      → left′ ≡ leftAt (getD ds (from + i) 0) (q .global .0) % byteValues
+      → left′ ≡ unitsLeft (getD ds (from + i) 0) (q .global .0) % byteValues
       → by ≡ isGlobalClock (getD cs (from + i) 0)
       → counted′ ≡ cond (eqb (getD ns (from + i) 0) (q .block) && by) left′ 0
       → global ≡ max (a .global) counted′

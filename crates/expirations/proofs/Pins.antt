@@ -9,9 +9,9 @@ use lib.ListN.{length, getD}
 use Rattle.lists.proofs.Cases.{by-test}
 use Rattle.record.specs.Codes.{isGlobalClock, dueBy, isPinnedDue, localCode, globalCode, pinnedCode}
 use Rattle.record.specs.Tables.{SizedEntries, expirationEntries}
-use Rattle.record.specs.WellFormed.{isPinning}
+use Rattle.record.specs.WellFormed.{isPinOn}
 use Rattle.expirations.specs.Pinning.{isPinAt, Pins}
-use Rattle.expirations.specs.Places.{Asked}
+use Rattle.expirations.specs.Places.{SomeBetween}
 use Rattle.expirations.proofs.Tables.{asked-entries}
 
 -- its clock is no other's
@@ -33,6 +33,6 @@ module _ {cs ns : List ℕ} (c : length cs ≡ expirationEntries) (n : length ns
   sized-with d = record { of-clocks = c; of-named = n; of-dues = d }
 
   -- all places asked
-  pub pins-all : {block : ℕ} {r : Bool} → Asked (isPinAt block cs ns) 0 expirationEntries r → Pins block cs ns r
+  pub pins-all : {block : ℕ} {r : Bool} → SomeBetween (isPinAt block cs ns) 0 expirationEntries r → Pins block cs ns r
   pins-all {block} s =
-      record { so = λ ds d. asked-entries (sized-with d) (isPinning block) (λ k. rw (pinned-clock (getD cs k 0) (getD ds k 0))) s }
+      record { so = λ ds d. asked-entries (sized-with d) (isPinOn block) (λ k. rw (pinned-clock (getD cs k 0) (getD ds k 0))) s }

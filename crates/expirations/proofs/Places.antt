@@ -14,7 +14,7 @@ use Rattle.lists.proofs.Cases.{by-test, refuted, or-false-parts}
 use Rattle.lists.proofs.First.{none-before}
 use Rattle.lists.proofs.Loops.{Scanned, scanned-start, first-turn}
 use Rattle.lists.proofs.Searches.{first-least, first-most}
-use Rattle.expirations.specs.Places.{Asked, Changed}
+use Rattle.expirations.specs.Places.{SomeBetween, Changed}
 
 -- what holds before a place and from there on holds everywhere
 pub split {ℓ} : {C : Type ℓ} (k b : ℕ) → (k < b → C) → (b ≤ k → C) → C
@@ -22,19 +22,19 @@ split k b f g = by-test (ltb k b) (λ t. f (ltb-true k b t)) (λ t. g (ltb-false
 
 module _ (p : ℕ → Bool) where
   -- where none passes
-  pub asked-none : {a b : ℕ} → a ≤ b → ((k : ℕ) → a ≤ k → k < b → p k ≡ false) → Asked p a b false
+  pub asked-none : {a b : ℕ} → a ≤ b → ((k : ℕ) → a ≤ k → k < b → p k ≡ false) → SomeBetween p a b false
   asked-none h f = record { ordered = h; some = λ e. absurd (false≢true e); none = λ e. f }
 
   -- where one does
-  pub asked-at : {a b : ℕ} (k : ℕ) → a ≤ k → k < b → p k ≡ true → Asked p a b true
+  pub asked-at : {a b : ℕ} (k : ℕ) → a ≤ k → k < b → p k ≡ true → SomeBetween p a b true
   asked-at k l m h = record { ordered = omega arith; some = λ e. (k, l, m, h); none = λ e. absurd (true≢false e) }
 
-  pub asked-start : (a : ℕ) → Asked p a a false
+  pub asked-start : (a : ℕ) → SomeBetween p a a false
   asked-start a = asked-none (omega arith) (λ k l m. absurd (omega arith))
 
-module _ {p : ℕ → Bool} {a b : ℕ} {r : Bool} (s : Asked p a b r) where
+module _ {p : ℕ → Bool} {a b : ℕ} {r : Bool} (s : SomeBetween p a b r) where
   -- the places after them
-  pub asked-join : {c : ℕ} {r′ : Bool} → Asked p b c r′ → Asked p a c (r || r′)
+  pub asked-join : {c : ℕ} {r′ : Bool} → SomeBetween p b c r′ → SomeBetween p a c (r || r′)
   asked-join {c} {r′} z =
       record {
         ordered = omega (arith, s .ordered, z .ordered);
@@ -48,7 +48,7 @@ module _ {p : ℕ → Bool} {a b : ℕ} {r : Bool} (s : Asked p a b r) where
       }
 
   -- one more
-  pub asked-turn : {v : Bool} → v ≡ p b → Asked p a (b + 1) (r || v)
+  pub asked-turn : {v : Bool} → v ≡ p b → SomeBetween p a (b + 1) (r || v)
   asked-turn {v} e =
       asked-join (record {
         ordered = omega arith;
@@ -56,16 +56,16 @@ module _ {p : ℕ → Bool} {a b : ℕ} {r : Bool} (s : Asked p a b r) where
         none = λ t k l m. let same : k ≡ b = omega arith in rw same (sym e ∙ t);
       })
 
-  pub asked-end : {c : ℕ} → b ≤ c → c ≤ b → Asked p a c r
+  pub asked-end : {c : ℕ} → b ≤ c → c ≤ b → SomeBetween p a c r
   asked-end {c} h k = let same : b ≡ c = omega arith in rw same at s
 
   -- more of which none passes
-  pub asked-skip : {c : ℕ} → b ≤ c → ((k : ℕ) → b ≤ k → k < c → p k ≡ false) → Asked p a c r
+  pub asked-skip : {c : ℕ} → b ≤ c → ((k : ℕ) → b ≤ k → k < c → p k ≡ false) → SomeBetween p a c r
   asked-skip h f = rw (or-false r) at (asked-join (asked-none p h f))
 
   module _ {q : ℕ → Bool} where
     -- the same asked in another way
-    pub asked-same : ((k : ℕ) → a ≤ k → k < b → p k ≡ q k) → Asked q a b r
+    pub asked-same : ((k : ℕ) → a ≤ k → k < b → p k ≡ q k) → SomeBetween q a b r
     asked-same f =
         record {
           ordered = s .ordered;
@@ -74,7 +74,7 @@ module _ {p : ℕ → Bool} {a b : ℕ} {r : Bool} (s : Asked p a b r) where
         }
 
     -- where none passes here, none passes there
-    pub asked-unless : r ≡ false → ((k : ℕ) → q k ≡ true → p k ≡ true) → Asked q a b false
+    pub asked-unless : r ≡ false → ((k : ℕ) → q k ≡ true → p k ≡ true) → SomeBetween q a b false
     asked-unless e f =
         asked-none q (s .ordered) (λ k l m. refuted (q k) (λ h. true≢false (sym (f k h) ∙ s .none e k l m)))
 

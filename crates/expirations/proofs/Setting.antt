@@ -17,8 +17,8 @@ use Rattle.record.specs.Tables.{ExpirationEntry, entriesOf, SizedEntries, expir
 use Rattle.record.specs.declared.GlobalTime.{GlobalTime}
 use Rattle.record.specs.declared.TaskEntry.{TaskEntry}
 use Rattle.record.proofs.Columns.{clocks-of}
-use Rattle.steps.specs.Objects.{freeSlot, placeOf, batchedPool, refreshedPool, entryFor as tableEntry}
-use Rattle.expirations.specs.Setting.{entryFor, entryOf, Sets, setEach, SetsEach}
+use Rattle.steps.specs.Objects.{freeSlot, placeOf, batchedPool, refreshedPool, entryFor}
+use Rattle.expirations.specs.Setting.{entryNow, entryOf, Sets, setEach, SetsEach}
 use Rattle.expirations.specs.Standing.{standingOf, freeIn}
 use Rattle.expirations.specs.declared.Entry.{Entry}
 use Rattle.expirations.proofs.Counting.{isFree, free-of, free-within}
@@ -29,14 +29,14 @@ onBlock e block = record { clock = e .clock; block = block; due = e .due }
 
 module _ (tasks : List TaskEntry) (global : GlobalTime) where
   -- one that a task sets is in use
-  pub made-used : (kind : Kind) (task extension block : ℕ) {e : Entry} → e ≡ entryFor tasks global kind task extension block → isFree (e .clock) ≡ false
+  pub made-used : (kind : Kind) (task extension block : ℕ) {e : Entry} → e ≡ entryNow tasks global kind task extension block → isFree (e .clock) ≡ false
   made-used Local task extension block made = rw made (ne-eqb (localCode + task) 0 (omega arith))
   made-used Global task extension block made = rw made (ne-eqb (globalCode + task) 0 (omega arith))
   made-used Pinned task extension block made = rw made
 
   -- and on any block it is the same but for that
-  made-on : (kind : Kind) (task extension block : ℕ) {e : Entry} → e ≡ entryFor tasks global kind task extension block
-      → onBlock e ≡ entryFor tasks global kind task extension
+  made-on : (kind : Kind) (task extension block : ℕ) {e : Entry} → e ≡ entryNow tasks global kind task extension block
+      → onBlock e ≡ entryNow tasks global kind task extension
   made-on Local task extension block made = ap onBlock made
   made-on Global task extension block made = ap onBlock made
   made-on Pinned task extension block made = ap onBlock made
@@ -98,7 +98,7 @@ module _ (f : ℕ → Entry) where
 -- and the end, where the entry is one that a task sets
 pub set-end : {e : Entry} {tasks : List TaskEntry} {global : GlobalTime} {kind : Kind} {task extension : ℕ} (block : ℕ) {blocks : List ℕ} {n i place : ℕ}
     {clocks named dues clocks′ named′ dues′ : List ℕ}
-    → e ≡ entryFor tasks global kind task extension block → SetTo (onBlock e) blocks n (entriesOf clocks named dues) i place clocks′ named′ dues′ → n ≤ i
+    → e ≡ entryNow tasks global kind task extension block → SetTo (onBlock e) blocks n (entriesOf clocks named dues) i place clocks′ named′ dues′ → n ≤ i
     → SetsEach tasks global kind task extension (take n blocks) clocks named dues clocks′ named′ dues′
 set-end {tasks = tasks} {global} {kind} {task} {extension} block {blocks} {n} {i} {clocks = clocks} {named} {dues} made s h =
     let on = made-on tasks global kind task extension block made in
@@ -118,8 +118,8 @@ pub batched-set : (task : ℕ) (kind : Kind) (extension : ℕ) (handles : List �
       given = p .given;
       shares = p .shares;
       blocks = p .blocks;
-      expirations = setEach (entryFor (p .tasks) (p .global) kind task extension) (map (λ (handle : ℕ). placeOf handle (p .blocks)) handles) (p .expirations);
+      expirations = setEach (entryNow (p .tasks) (p .global) kind task extension) (map (λ (handle : ℕ). placeOf handle (p .blocks)) handles) (p .expirations);
     }
-unfolding batchedPool refreshedPool tableEntry setEach
+unfolding batchedPool refreshedPool entryFor setEach
 batched-set task kind extension [] p = refl
 batched-set task kind extension (handle ∷ handles) p = batched-set task kind extension handles (refreshedPool task kind extension handle p)

@@ -16,7 +16,7 @@ use Rattle.record.specs.Tables.{ExpirationEntry, expirationEntry, entriesOf, Si
 use Rattle.record.specs.WellFormed.{isNaming}
 use Rattle.record.proofs.Columns.{length-entries, entry-at}
 use Rattle.expirations.specs.Naming.{isNamedAt}
-use Rattle.expirations.specs.Places.{Asked}
+use Rattle.expirations.specs.Places.{SomeBetween}
 use Rattle.expirations.specs.Standing.{isDatedClock}
 use Rattle.expirations.proofs.Places.{split, asked-at, asked-same}
 
@@ -31,7 +31,7 @@ module _ {ℓ} {A : Type ℓ} (p : A → Bool) (d : A) where
   any-place (x ∷ xs) (suc k) l e = or-right (p x) (any-place xs k (omega arith) e)
 
   -- all places asked
-  asked-any : (xs : List A) {n : ℕ} {r : Bool} → length xs ≡ n → Asked (λ k. p (getD xs k d)) 0 n r → r ≡ any p xs
+  asked-any : (xs : List A) {n : ℕ} {r : Bool} → length xs ≡ n → SomeBetween (λ k. p (getD xs k d)) 0 n r → r ≡ any p xs
   asked-any xs {r = r} e s =
       by-test r
       (λ t. let (k, l, m, h) = s .some t in t ∙ sym (any-place xs k (omega arith) h))
@@ -72,17 +72,17 @@ module _ {cs ns ds : List ℕ} (sized : SizedEntries cs ns ds) where
   entry-of = entry-at cs ns ds (sized .of-clocks) (sized .of-named) (sized .of-dues)
 
   pub asked-entries : (p : ExpirationEntry → Bool) {q : ℕ → Bool} {r : Bool}
-      → ((k : ℕ) → q k ≡ p (expirationEntry (getD cs k 0) (getD ns k 0) (getD ds k 0))) → Asked q 0 expirationEntries r → r ≡ any p (entriesOf cs ns ds)
+      → ((k : ℕ) → q k ≡ p (expirationEntry (getD cs k 0) (getD ns k 0) (getD ds k 0))) → SomeBetween q 0 expirationEntries r → r ≡ any p (entriesOf cs ns ds)
   asked-entries p f s = asked-any p freeEntry (entriesOf cs ns ds) size-of (asked-same s (λ k l m. f k ∙ ap p (sym (entry-of k))))
 
 -- a block is named where one of all places names it
-pub asked-naming : {cs ns ds : List ℕ} → SizedEntries cs ns ds → (block : ℕ) {r : Bool} → Asked (isNamedAt cs ns block) 0 expirationEntries r
+pub asked-naming : {cs ns ds : List ℕ} → SizedEntries cs ns ds → (block : ℕ) {r : Bool} → SomeBetween (isNamedAt cs ns block) 0 expirationEntries r
     → r ≡ any (isNaming block) (entriesOf cs ns ds)
 asked-naming {cs} {ns} {ds} sized block s = asked-entries sized (isNaming block) (λ k. rw (dated-clock (getD cs k 0) (getD ds k 0))) s
 
 -- and one of them does, where it is named
 pub naming-asked : {cs ns ds : List ℕ} → SizedEntries cs ns ds → (block : ℕ) → any (isNaming block) (entriesOf cs ns ds) ≡ true
-    → Asked (isNamedAt cs ns block) 0 expirationEntries true
+    → SomeBetween (isNamedAt cs ns block) 0 expirationEntries true
 naming-asked {cs} {ns} {ds} sized block e =
     let xs = entriesOf cs ns ds in
     let k = firstFrom 0 (isNaming block) xs in

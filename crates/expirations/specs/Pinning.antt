@@ -8,7 +8,7 @@ use lib.ListN.{length, getD}
 use Rattle.lists.specs.Tests.{any}
 use Rattle.record.specs.Codes.{pinnedCode}
 use Rattle.record.specs.Tables.{entriesOf, expirationEntries}
-use Rattle.record.specs.WellFormed.{isPinning}
+use Rattle.record.specs.WellFormed.{isPinOn}
 
 -- an entry is pinned and names the block, by its numbers; and the one at a place
 abbrev pub isPinBy : ℕ → ℕ → ℕ → Bool
@@ -19,4 +19,4 @@ isPinAt block clocks named k = isPinBy block (getD clocks k 0) (getD named k 0)
 
 -- r says whether the object in the block has its pinned expiration, whatever the due numbers are
 pub record Pins (block : ℕ) (clocks named : List ℕ) (r : Bool) : Type 0 where
-  pub so : (dues : List ℕ) → length dues ≡ expirationEntries → r ≡ any (isPinning block) (entriesOf clocks named dues)
+  pub so : (dues : List ℕ) → length dues ≡ expirationEntries → r ≡ any (isPinOn block) (entriesOf clocks named dues)

@@ -12,7 +12,7 @@ pub record PlaceFor (byte r : ℕ) : Type 0 where
   pub below : r < byteValues
 
 -- r says whether one of the places from a up to b passes
-pub record Asked (p : ℕ → Bool) (a b : ℕ) (r : Bool) : Type 0 where
+pub record SomeBetween (p : ℕ → Bool) (a b : ℕ) (r : Bool) : Type 0 where
   pub ordered : a ≤ b
   pub some : r ≡ true → (k : ℕ) × (a ≤ k) × (k < b) × (p k ≡ true)
   pub none : r ≡ false → (k : ℕ) → a ≤ k → k < b → p k ≡ false

@@ -1,11 +1,12 @@
--- The units left on the expirations of a block, by either time, as bytes hold them: a number of units below byteValues as it is, of any other the last byte.
+-- The units left on the expirations of a block, by either time, as bytes hold them: a number of units below byteValues as it is, of any
+-- other the last byte.
 use Prim.Native.Nat.{ℕ, max, _+_, _%_}
 use mathlib.Core.List.{List}
 use mathlib.Core.Path.{_≡_}
 use lib.ListN.{getD}
 use Rattle.lists.specs.Filled.{Filled}
 use Rattle.lists.specs.Most.{most}
-use Rattle.record.specs.Codes.{leftAt}
+use Rattle.record.specs.Codes.{unitsLeft}
 use Rattle.record.specs.Tables.{ExpirationEntry, byteValues, groupSize}
 use Rattle.steps.specs.Remaining.{leftLocal, leftGlobal, unitsOn}
 use Rattle.expirations.specs.declared.remaining.Query.{Query}
@@ -27,4 +28,4 @@ unitsIn q xs = record { local = most (localOn q) xs; global = most (globalOn q) 
 
 -- of the first i due numbers of a group, by a clock that shows `now`
 abbrev pub Lefts : ℕ → List ℕ → ℕ → ℕ → List ℕ → Type 0
-Lefts now dues from i r = Filled 0 (λ k x. x ≡ leftAt (getD dues (from + k) 0) now % byteValues) groupSize i r
+Lefts now dues from i r = Filled 0 (λ k x. x ≡ unitsLeft (getD dues (from + k) 0) now % byteValues) groupSize i r

@@ -11,8 +11,8 @@ use Rattle.steps.specs.Objects.{freeSlot, entryBy}
 use Rattle.expirations.specs.declared.Entry.{Entry}
 
 -- an entry that a task sets on a block now
-abbrev pub entryFor : List TaskEntry → GlobalTime → Kind → ℕ → ℕ → ℕ → Entry
-entryFor tasks global kind task extension block =
+abbrev pub entryNow : List TaskEntry → GlobalTime → Kind → ℕ → ℕ → ℕ → Entry
+entryNow tasks global kind task extension block =
     let e = entryBy kind task extension block tasks global in record { clock = e .clock; block = e .block; due = e .due }
 
 -- an entry as the table has it
@@ -32,4 +32,4 @@ setEach f (block ∷ blocks) xs = setEach f blocks (set xs (freeSlot xs) (entryO
 -- The table after the entries of a batch that a task makes now.
 pub record SetsEach (tasks : List TaskEntry) (global : GlobalTime) (kind : Kind) (task extension : ℕ) (blocks clocks named dues clocks′ named′ dues′ : List ℕ) : Type 0 where
   pub sized : SizedEntries clocks′ named′ dues′
-  pub entries : entriesOf clocks′ named′ dues′ ≡ setEach (entryFor tasks global kind task extension) blocks (entriesOf clocks named dues)
+  pub entries : entriesOf clocks′ named′ dues′ ≡ setEach (entryNow tasks global kind task extension) blocks (entriesOf clocks named dues)

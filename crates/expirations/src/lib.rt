@@ -1,11 +1,12 @@
 // How expirations (01: dates) are kept: a table of entries, of which those with clock 0 are free. A call knows how many stand and how
-// long the object in a block has left, and sets one on a block or one on each of a batch's. Where an entry stands is known here and in crates/endings, which ends them, alone.
+// long the object in a block has left, and sets one on a block or one on each of a batch's. Where an entry stands is known here and in
+// crates/endings, which ends them, alone.
 ghost use Prim.Native.Nat.{_+_, _≤_, _<_};
 ghost use mathlib.Core.Path.{_≡_};
 ghost use lib.ListN.{length, take};
 ghost use Rattle.ledger.specs.Limits.{taskCount, largestBatch};
 ghost use Rattle.expirations.specs.Standing.{standingOf, freeIn};
-ghost use Rattle.expirations.specs.Setting.{entryFor, Sets, SetsEach};
+ghost use Rattle.expirations.specs.Setting.{entryNow, Sets, SetsEach};
 ghost use Rattle.record.specs.Tables.{SizedEntries, blockEntries, expirationEntries};
 
 pub mod asking;
@@ -55,8 +56,9 @@ fn entry_for(
     extension: u8,
     block: usize,
 ) -> Entry
-    requires { ⌜ (task < taskCount) × (block < blockEntries) ⌝ }
-    ensures { λ r. ⌜ r ≡ entryFor tasks global kind task extension block ⌝ }
+    requires { ⌜ (task < taskCount)
+        × (block < blockEntries) ⌝ }
+    ensures { λ r. ⌜ r ≡ entryNow tasks global kind task extension block ⌝ }
 {
     match kind {
         Kind::Local => {
@@ -88,8 +90,11 @@ fn put(
     named: &mut [u8; EXPIRATION_COUNT],
     dues: &mut [u32; EXPIRATION_COUNT],
 )
-    requires { ⌜ SizedEntries (now clocks) (now named) (now dues) × (at ≡ freeIn (now clocks)) × (at < expirationEntries) ⌝ }
-    ensures { λ _. ⌜ Sets e (now (clocks .entry)) (now (named .entry)) (now (dues .entry)) (now (clocks .exit)) (now (named .exit)) (now (dues .exit)) ⌝ }
+    requires { ⌜ SizedEntries (now clocks) (now named) (now dues)
+        × (at ≡ freeIn (now clocks))
+        × (at < expirationEntries) ⌝ }
+    ensures { λ _. ⌜ Sets e (now (clocks .entry)) (now (named .entry)) (now (dues .entry)) (now (clocks .exit)) (now (named .exit))
+        (now (dues .exit)) ⌝ }
 {
     clocks[at] = e.clock;
     named[at] = e.block;
@@ -107,8 +112,12 @@ pub fn set(
     named: &mut [u8; EXPIRATION_COUNT],
     dues: &mut [u32; EXPIRATION_COUNT],
 )
-    requires { ⌜ SizedEntries (now clocks) (now named) (now dues) × (standingOf (now clocks) < expirationEntries) × (task < taskCount) × (block < blockEntries) ⌝ }
-    ensures { λ _. ⌜ Sets (entryFor (h .tasks) (h .global) kind task extension block) (now (clocks .entry)) (now (named .entry)) (now (dues .entry)) (now (clocks .exit)) (now (named .exit)) (now (dues .exit)) ⌝ }
+    requires { ⌜ SizedEntries (now clocks) (now named) (now dues)
+        × (standingOf (now clocks) < expirationEntries)
+        × (task < taskCount)
+        × (block < blockEntries) ⌝ }
+    ensures { λ _. ⌜ Sets (entryNow (h .tasks) (h .global) kind task extension block) (now (clocks .entry)) (now (named .entry))
+        (now (dues .entry)) (now (clocks .exit)) (now (named .exit)) (now (dues .exit)) ⌝ }
 {
     let tasks = h.tasks;
     let global = h.global;
@@ -117,8 +126,8 @@ pub fn set(
     put(e, at, clocks, named, dues);
 }
 
-// One expiration more on each of the first `count` blocks, where there are free entries for all. The entry is made once; the entries before the first free one are passed over
-// many at a time, and each search goes on where the last one ended: one pass.
+// One expiration more on each of the first `count` blocks, where there are free entries for all. The entry is made once; the entries before
+// the first free one are passed over many at a time, and each search goes on where the last one ended: one pass.
 pub fn set_all(
     h: Head,
     kind: Kind,
@@ -130,8 +139,13 @@ pub fn set_all(
     named: &mut [u8; EXPIRATION_COUNT],
     dues: &mut [u32; EXPIRATION_COUNT],
 )
-    requires { ⌜ SizedEntries (now clocks) (now named) (now dues) × (length (now blocks) ≡ largestBatch) × (count ≤ largestBatch) × (standingOf (now clocks) + count ≤ expirationEntries) × (task < taskCount) ⌝ }
-    ensures { λ _. ⌜ SetsEach (h .tasks) (h .global) kind task extension (take count (now (blocks .entry))) (now (clocks .entry)) (now (named .entry)) (now (dues .entry)) (now (clocks .exit)) (now (named .exit)) (now (dues .exit)) ⌝ }
+    requires { ⌜ SizedEntries (now clocks) (now named) (now dues)
+        × (length (now blocks) ≡ largestBatch)
+        × (count ≤ largestBatch)
+        × (standingOf (now clocks) + count ≤ expirationEntries)
+        × (task < taskCount) ⌝ }
+    ensures { λ _. ⌜ SetsEach (h .tasks) (h .global) kind task extension (take count (now (blocks .entry))) (now (clocks .entry))
+        (now (named .entry)) (now (dues .entry)) (now (clocks .exit)) (now (named .exit)) (now (dues .exit)) ⌝ }
 {
     let tasks = h.tasks;
     let global = h.global;

@@ -4,7 +4,7 @@ ghost use mathlib.Core.Path.{_≡_};
 ghost use lib.ListN.{length};
 ghost use Rattle.record.specs.Tables.{blockEntries, expirationEntries, groupSize};
 ghost use Rattle.expirations.specs.Pinning.{isPinBy, isPinAt, Pins};
-ghost use Rattle.expirations.specs.Places.{Asked};
+ghost use Rattle.expirations.specs.Places.{SomeBetween};
 use super::asking::has_byte;
 use record::EXPIRATION_COUNT;
 use record::GROUP;
@@ -25,8 +25,10 @@ fn any_pin<'a>(
     named: &'a [u8; EXPIRATION_COUNT],
     from: usize,
 ) -> bool
-    requires { ⌜ (length (now clocks) ≡ expirationEntries) × (length (now named) ≡ expirationEntries) × (from + groupSize ≤ expirationEntries) ⌝ }
-    ensures { λ r. ⌜ Asked (isPinAt block (now (clocks .entry)) (now (named .entry))) from (from + groupSize) r ⌝ }
+    requires { ⌜ (length (now clocks) ≡ expirationEntries)
+        × (length (now named) ≡ expirationEntries)
+        × (from + groupSize ≤ expirationEntries) ⌝ }
+    ensures { λ r. ⌜ SomeBetween (isPinAt block (now (clocks .entry)) (now (named .entry))) from (from + groupSize) r ⌝ }
 {
     if !has_byte(clocks, PINNED, from, from + GROUP) {
         return false;
@@ -44,7 +46,9 @@ pub fn is_pinned<'a>(
     named: &'a [u8; EXPIRATION_COUNT],
     block: usize,
 ) -> bool
-    requires { ⌜ (length (now clocks) ≡ expirationEntries) × (length (now named) ≡ expirationEntries) × (block < blockEntries) ⌝ }
+    requires { ⌜ (length (now clocks) ≡ expirationEntries)
+        × (length (now named) ≡ expirationEntries)
+        × (block < blockEntries) ⌝ }
     ensures { λ r. ⌜ Pins block (now (clocks .entry)) (now (named .entry)) r ⌝ }
 {
     let mut some = false;

@@ -1,4 +1,5 @@
-// E15, E16: how long the object in a block has left, group by group: one in which no entry names the block is passed by. Units are bytes, so that many are looked at at once.
+// E15, E16: how long the object in a block has left, group by group: one in which no entry names the block is passed by. Units are bytes,
+// so that many are looked at at once.
 ghost use Prim.Native.Nat.{max, _+_, _≤_, _<_};
 ghost use mathlib.Core.Bool.{cond};
 ghost use mathlib.Core.Path.{_≡_};
@@ -44,7 +45,8 @@ const BYTE_RANGE: u32 = BYTE_VALUES as u32;
 
 // The last byte of what is left of each due number of a group, read as a local time
 fn local_lefts(local: LocalTime, dues: &[u32; EXPIRATION_COUNT], from: usize) -> [u8; GROUP]
-    requires { ⌜ (length (now dues) ≡ expirationEntries) × (from + groupSize ≤ expirationEntries) ⌝ }
+    requires { ⌜ (length (now dues) ≡ expirationEntries)
+        × (from + groupSize ≤ expirationEntries) ⌝ }
     ensures { λ r. ⌜ Lefts (local .0) (now (dues .entry)) from groupSize r ⌝ }
 {
     let mut out = [0; GROUP];
@@ -56,7 +58,8 @@ fn local_lefts(local: LocalTime, dues: &[u32; EXPIRATION_COUNT], from: usize) ->
 
 // and as a global one.
 fn global_lefts(global: GlobalTime, dues: &[u32; EXPIRATION_COUNT], from: usize) -> [u8; GROUP]
-    requires { ⌜ (length (now dues) ≡ expirationEntries) × (from + groupSize ≤ expirationEntries) ⌝ }
+    requires { ⌜ (length (now dues) ≡ expirationEntries)
+        × (from + groupSize ≤ expirationEntries) ⌝ }
     ensures { λ r. ⌜ Lefts (global .0) (now (dues .entry)) from groupSize r ⌝ }
 {
     let mut out = [0; GROUP];
@@ -87,8 +90,11 @@ fn longest_in<'a>(
     dues: &'a [u32; EXPIRATION_COUNT],
     from: usize,
 ) -> Units
-    requires { ⌜ SizedEntries (now clocks) (now named) (now dues) × (from + groupSize ≤ expirationEntries) × (q .task < taskCount) ⌝ }
-    ensures { λ r. ⌜ r ≡ longest «so_far» (unitsIn q (drop from (take (from + groupSize) (entriesOf (now (clocks .entry)) (now (named .entry)) (now (dues .entry)))))) ⌝ }
+    requires { ⌜ SizedEntries (now clocks) (now named) (now dues)
+        × (from + groupSize ≤ expirationEntries)
+        × (q .task < taskCount) ⌝ }
+    ensures { λ r. ⌜ r ≡ longest «so_far»
+        (unitsIn q (drop from (take (from + groupSize) (entriesOf (now (clocks .entry)) (now (named .entry)) (now (dues .entry)))))) ⌝ }
 {
     if !has_byte(named, q.block, from, from + GROUP) {
         return so_far;
@@ -120,8 +126,12 @@ pub fn remaining_life<'a>(
     task: u8,
     block: usize,
 ) -> Life
-    requires { ⌜ SizedEntries (now clocks) (now named) (now dues) × (task < taskCount) × (block < blockEntries) × LifeWithin (lifeIn task block (h .tasks) (h .global) (entriesOf (now clocks) (now named) (now dues))) ⌝ }
-    ensures { λ r. ⌜ r ≡ lifeIn task block (h .tasks) (h .global) (entriesOf (now (clocks .entry)) (now (named .entry)) (now (dues .entry))) ⌝ }
+    requires { ⌜ SizedEntries (now clocks) (now named) (now dues)
+        × (task < taskCount)
+        × (block < blockEntries)
+        × LifeWithin (lifeIn task block (h .tasks) (h .global) (entriesOf (now clocks) (now named) (now dues))) ⌝ }
+    ensures { λ r. ⌜ r ≡ lifeIn task block (h .tasks) (h .global)
+        (entriesOf (now (clocks .entry)) (now (named .entry)) (now (dues .entry))) ⌝ }
 {
     let tasks = h.tasks;
     let asker = tasks[task as usize];

@@ -14,11 +14,11 @@ use Rattle.lists.proofs.Tables.{allFrom-each, allFrom-within}
 use Rattle.record.specs.Codes.{freeBlock}
 use Rattle.record.specs.Tables.{BlockEntry, blocksOf, SizedBlocks, lengthIn, prefixIn}
 use Rattle.record.proofs.Columns.{length-blocks, block-at}
-use Rattle.handles.specs.Handles.{Used}
+use Rattle.handles.specs.Handles.{UsedFlags}
 use Rattle.fitness.specs.Checks.{isShapedFor, ShapedTo, isGivenAt, isNamedIn, isFitBlockIn}
 
--- one block: z is whether it is free, n whether it is named, s whether its length and prefix fit and g whether its handle was given, as that
--- of a free block is
+-- one block: z is whether it is free, n whether it is named, s whether its length and prefix fit and g whether its handle was given, as
+-- that of a free block is
 apart : (z n s g : Bool) → (z ≡ true → g ≡ true)
     → (Bool·beq (not z) n && (not (not z) || (s && g))) ≡ (g && (Bool·beq (not z) n && (not (not z) || s)))
 apart true n s g h = rw (h refl)
@@ -26,7 +26,7 @@ apart false true s g h = and-comm s g
 apart false false s g h = sym (and-false g)
 
 module _ (given : ℕ) (flags : List Bool) {handles extents : List ℕ} (size : SizedBlocks handles extents) {used shaped : List Bool}
-    (u : Used handles used) (s : ShapedTo (map lengthIn extents) (map prefixIn extents) 96 shaped) where
+    (u : UsedFlags handles used) (s : ShapedTo (map lengthIn extents) (map prefixIn extents) 96 shaped) where
   abbrev blocks : List BlockEntry
   blocks = blocksOf handles extents
 

@@ -8,7 +8,7 @@ use Rattle.record.specs.Tables.{blocksOf, entriesOf, lent, tablesBy}
 use Rattle.record.specs.WellFormed.{isConsistent, isBounded, isWellFormed}
 use Rattle.record.specs.declared.Head.{Head}
 use Rattle.handles.specs.Handles.{UsedIn}
-use Rattle.shares.specs.Holdings.{Placed, Shares}
+use Rattle.shares.specs.Holdings.{LengthsFit, TellsSharing}
 use Rattle.shares.specs.declared.Holdings.{Holdings}
 use Rattle.shares.specs.declared.Sharing.{Sharing}
 use Rattle.shares.proofs.Placing.{placed-consistent}
@@ -30,12 +30,12 @@ module _ (h : Head) (handles extents clocks named dues : List ℕ) where
   not-consistent e = unfit (rw e)
 
   -- past these, W3 holds
-  placed : isConsistent (lent h handles extents clocks named dues) ≡ true → Placed (blocksOf handles extents)
+  placed : isConsistent (lent h handles extents clocks named dues) ≡ true → LengthsFit (blocksOf handles extents)
   unfolding tablesBy
   placed e = placed-consistent (lent h handles extents clocks named dues) e
 
   pub judged : {used : List Bool} {bounded : Bool} {sharing : Sharing} → isAllowed (h .limits) ≡ true → isConsistent (lent h handles extents clocks named dues) ≡ true
-      → bounded ≡ isBounded (h .limits) (blocksOf handles extents) (entriesOf clocks named dues) → UsedIn handles used → Shares h used extents sharing
+      → bounded ≡ isBounded (h .limits) (blocksOf handles extents) (entriesOf clocks named dues) → UsedIn handles used → TellsSharing h used extents sharing
       → Fitness h handles extents clocks named dues (record { fit = bounded && sharing .fit; holdings = sharing .holdings })
   unfolding isWellFormed tablesBy
   judged a c b u s =

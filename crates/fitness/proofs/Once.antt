@@ -17,7 +17,7 @@ use Rattle.lists.proofs.Loops.{Marked, marked-start, marked-turn, marked-none}
 use Rattle.lists.proofs.Searches.{passes-within}
 use Rattle.record.specs.Codes.{isGlobalClock, dueBy, dueOf, isPinnedDue, freeEntry}
 use Rattle.record.specs.Tables.{ExpirationEntry, entriesOf}
-use Rattle.record.specs.WellFormed.{isPinning, isPinnedOnce}
+use Rattle.record.specs.WellFormed.{isPinOn, isPinnedOnce}
 use Rattle.record.proofs.Columns.{length-entries, entry-at}
 use Rattle.fitness.specs.Checks.{SizedCodes}
 use Rattle.fitness.specs.Pins.{isUnpinned, PinsTo, PinnedOnce}
@@ -42,8 +42,8 @@ eqb-swap a b =
     (λ e. rw e (sym (eq-eqb b a (sym (eqb-true a b e)))))
     (λ e. rw e (sym (ne-eqb b a (λ s. eqb-false a b e (sym s)))))
 
--- Two that are pinned, x and the last one: same is whether they name one block; among the others, twice is whether one names that of x, later whether one names that of the last,
--- and others whether none of them is pinned twice.
+-- Two that are pinned, x and the last one: same is whether they name one block; among the others, twice is whether one names that of x,
+-- later whether one names that of the last, and others whether none of them is pinned twice.
 last-apart : (x last same twice later others : Bool)
     → ((not x || not (twice || ((last && same) || false))) && (others && not (last && later)))
     ≡ (((not x || not twice) && others) && not (last && ((x && same) || later)))
@@ -57,11 +57,11 @@ last-apart false last same twice later others = refl
 
 -- one more at the end
 once-last : (xs : List ExpirationEntry) (e : ExpirationEntry)
-    → isPinnedOnce (xs ++ (e ∷ [])) ≡ (isPinnedOnce xs && not (isPinnedDue (dueOf e) && any (isPinning (e .block)) xs))
+    → isPinnedOnce (xs ++ (e ∷ [])) ≡ (isPinnedOnce xs && not (isPinnedDue (dueOf e) && any (isPinOn (e .block)) xs))
 once-last [] e = by-test (isPinnedDue (dueOf e)) (λ p. rw p) (λ p. rw p)
 once-last (x ∷ xs) e =
-    rw (once-last xs e, any-append (isPinning (x .block)) xs (e ∷ []), eqb-swap (x .block) (e .block))
-    (last-apart (isPinnedDue (dueOf x)) (isPinnedDue (dueOf e)) (eqb (e .block) (x .block)) (any (isPinning (x .block)) xs) (any (isPinning (e .block)) xs) (isPinnedOnce xs))
+    rw (once-last xs e, any-append (isPinOn (x .block)) xs (e ∷ []), eqb-swap (x .block) (e .block))
+    (last-apart (isPinnedDue (dueOf x)) (isPinnedDue (dueOf e)) (eqb (e .block) (x .block)) (any (isPinOn (x .block)) xs) (any (isPinOn (e .block)) xs) (isPinnedOnce xs))
 
 module _ {clocks named : List ℕ} (s : SizedCodes clocks named) where
   -- the entries, whatever their due numbers
@@ -72,12 +72,12 @@ module _ {clocks named : List ℕ} (s : SizedCodes clocks named) where
     size : length entries ≡ 256
     size = length-entries clocks named dues (s .of-clocks) (s .of-named) d
 
-    pinning-at : (i k : ℕ) → isPinning k (getD entries i freeEntry) ≡ (eqb (getD clocks i 0) 49 && eqb (getD named i 0) k)
+    pinning-at : (i k : ℕ) → isPinOn k (getD entries i freeEntry) ≡ (eqb (getD clocks i 0) 49 && eqb (getD named i 0) k)
     pinning-at i k = rw (entry-at clocks named dues (s .of-clocks) (s .of-named) d i, pinned-code (getD clocks i 0) (getD dues i 0))
 
     once-next : (i : ℕ) → i < 256
         → isPinnedOnce (take (i + 1) entries)
-        ≡ (isPinnedOnce (take i entries) && not (eqb (getD clocks i 0) 49 && any (isPinning (getD named i 0)) (take i entries)))
+        ≡ (isPinnedOnce (take i entries) && not (eqb (getD clocks i 0) 49 && any (isPinOn (getD named i 0)) (take i entries)))
     once-next i h =
         rw
         (add-one, take-suc entries i freeEntry (omega (arith, size)), once-last (take i entries) (getD entries i freeEntry), entry-at clocks named dues (s .of-clocks) (s .of-named) d i, pinned-code (getD clocks i 0) (getD dues i 0))
@@ -86,12 +86,12 @@ module _ {clocks named : List ℕ} (s : SizedCodes clocks named) where
   pins-start =
       record {
         size = length-replicate 256 false;
-        names = λ dues d. marked-start isPinning (entriesOf clocks named dues) 256 256 256 (size dues d) (omega arith) .so;
+        names = λ dues d. marked-start isPinOn (entriesOf clocks named dues) 256 256 256 (size dues d) (omega arith) .so;
         once = λ dues d. refl;
       }
 
   module _ {i : ℕ} {flags : List Bool} {fit : Bool} (m : PinsTo clocks named i flags fit) where
-    marked : (dues : List ℕ) → length dues ≡ 256 → Marked isPinning (entriesOf clocks named dues) 256 256 i flags
+    marked : (dues : List ℕ) → length dues ≡ 256 → Marked isPinOn (entriesOf clocks named dues) 256 256 i flags
     marked dues d = record { size = size dues d; within = omega (arith, m .size); so = m .names dues d }
 
     -- one that is not pinned
@@ -99,7 +99,7 @@ module _ {clocks named : List ℕ} (s : SizedCodes clocks named) where
     pins-kept h p =
         record {
           size = m .size;
-          names = λ dues d. marked-none isPinning freeEntry (marked dues d) h (λ k l. pinning-at dues d i k ∙ rw p) .so;
+          names = λ dues d. marked-none isPinOn freeEntry (marked dues d) h (λ k l. pinning-at dues d i k ∙ rw p) .so;
           once = λ dues d. m .once dues d ∙ sym (once-next dues d i h ∙ rw p (and-true _));
         }
 
@@ -109,7 +109,7 @@ module _ {clocks named : List ℕ} (s : SizedCodes clocks named) where
     pins-turn {at} h p e b =
         record {
           size = simp length-set (m .size);
-          names = λ dues d. marked-turn isPinning at freeEntry (marked dues d) h (λ k l. pinning-at dues d i k ∙ rw (p, ← e)) .so;
+          names = λ dues d. marked-turn isPinOn at freeEntry (marked dues d) h (λ k l. pinning-at dues d i k ∙ rw (p, ← e)) .so;
           once = λ dues d. rw (m .once dues d, m .names dues d at b) (sym (once-next dues d i h ∙ rw (p, ← e)));
         }
 

@@ -17,7 +17,7 @@ use Rattle.ledger.specs.Limits.{counterRange, isAllowed}
 use Rattle.ledger.proofs.Figures.{allowed}
 use Rattle.ledger.specs.Tasks.{isAbsent}
 use Rattle.ledger.specs.declared.Limits.{Limits}
-use Rattle.record.specs.Codes.{stateOf, isGlobalClock, dueBy, leftAt, absentEntry, freeEntry}
+use Rattle.record.specs.Codes.{stateOf, isGlobalClock, dueBy, unitsLeft, absentEntry, freeEntry}
 use Rattle.record.specs.Reading.{HeadTyped}
 use Rattle.record.specs.Tables.{ExpirationEntry, entriesOf}
 use Rattle.record.specs.WellFormed.{isAhead, isFitDue}
@@ -25,7 +25,7 @@ use Rattle.record.specs.declared.GlobalTime.{GlobalTime}
 use Rattle.record.specs.declared.Head.{Head}
 use Rattle.record.specs.declared.TaskEntry.{TaskEntry}
 use Rattle.record.proofs.Columns.{length-entries, entry-at}
-use Rattle.fitness.specs.Checks.{leftFrom, nextLocal, nextGlobal, noTime, Firsts, unitsOf, Units, isWithin, isTimely}
+use Rattle.fitness.specs.Checks.{leftFrom, nextLocal, nextGlobal, noTime, Firsts, unitsOf, Units, isInUnits, isTimely}
 use Rattle.fitness.specs.declared.times.Time.{Time}
 use Rattle.fitness.specs.declared.times.Time.the-variants.{None, Local, Global}
 
@@ -132,30 +132,30 @@ unfolding counterRange
 zero-below = omega arith
 
 -- from the next time on there is one unit less than from now on
-ahead-next : (due now most : ℕ) → now < counterRange → most < counterRange → ltb (leftAt due ((now + 1) % counterRange)) most ≡ isAhead most (leftAt due now)
+ahead-next : (due now most : ℕ) → now < counterRange → most < counterRange → ltb (unitsLeft due ((now + 1) % counterRange)) most ≡ isAhead most (unitsLeft due now)
 unfolding counterRange
 ahead-next due now most n m =
     same-test _ _
     (λ e.
-    let less = ltb-true (leftAt due ((now + 1) % counterRange)) most e in
-    and-eq-true-iff _ _ .1 (le-leb 1 (leftAt due now) (omega arith), le-leb (leftAt due now) most (omega arith)))
+    let less = ltb-true (unitsLeft due ((now + 1) % counterRange)) most e in
+    and-eq-true-iff _ _ .1 (le-leb 1 (unitsLeft due now) (omega arith), le-leb (unitsLeft due now) most (omega arith)))
     (λ e.
-    let (least, last) = and-eq-true-iff (leb 1 (leftAt due now)) _ .0 e in
-    lt-ltb _ most (omega (arith, leb-true 1 (leftAt due now) least, leb-true (leftAt due now) most last)))
+    let (least, last) = and-eq-true-iff (leb 1 (unitsLeft due now)) _ .0 e in
+    lt-ltb _ most (omega (arith, leb-true 1 (unitsLeft due now) least, leb-true (unitsLeft due now) most last)))
 
 -- the same of a task that may be absent
 units-ahead : (due now most : ℕ) (absent : Bool) → now < counterRange → most < counterRange
-    → ltb (leftAt due ((now + 1) % counterRange)) (cond absent 0 most) ≡ (not absent && isAhead most (leftAt due now))
-units-ahead due now most true n m = le-ltb (leftAt due ((now + 1) % counterRange)) 0 (omega arith)
+    → ltb (unitsLeft due ((now + 1) % counterRange)) (cond absent 0 most) ≡ (not absent && isAhead most (unitsLeft due now))
+units-ahead due now most true n m = le-ltb (unitsLeft due ((now + 1) % counterRange)) 0 (omega arith)
 units-ahead due now most false n m = ahead-next due now most n m
 
 -- from 0 on there are as many units as the number says
-none-left : (due : ℕ) → due < counterRange → ltb (leftAt due 0) 1 ≡ eqb due 0
+none-left : (due : ℕ) → due < counterRange → ltb (unitsLeft due 0) 1 ≡ eqb due 0
 unfolding counterRange
 none-left due below =
     same-test _ _
-    (λ e. eq-eqb due 0 (omega (arith, ltb-true (leftAt due 0) 1 e)))
-    (λ e. lt-ltb (leftAt due 0) 1 (omega (arith, eqb-true due 0 e)))
+    (λ e. eq-eqb due 0 (omega (arith, ltb-true (unitsLeft due 0) 1 e)))
+    (λ e. lt-ltb (unitsLeft due 0) 1 (omega (arith, eqb-true due 0 e)))
 
 few : (limits : Limits) → isAllowed limits ≡ true → limits .extension + 2 < counterRange
 unfolding counterRange
@@ -175,7 +175,7 @@ module _ {h : Head} (typed : HeadTyped h) {firsts : List Time} {units : List ℕ
   setter e a = getD (h .tasks) (e .clock - a) absentEntry
 
   -- by a task's clock
-  local-timely : (e : ExpirationEntry) → 16 ≤ e .clock → e .clock < 32 → isWithin firsts units e ≡ isTimely (h .limits) (h .tasks) (h .global) e
+  local-timely : (e : ExpirationEntry) → 16 ≤ e .clock → e .clock < 32 → isInUnits firsts units e ≡ isTimely (h .limits) (h .tasks) (h .global) e
   unfolding isFitDue dueBy
   local-timely e least below =
       let place : e .clock ≡ e .clock - 16 + 16 = omega arith in
@@ -187,7 +187,7 @@ module _ {h : Head} (typed : HeadTyped h) {firsts : List Time} {units : List ℕ
       (units-ahead (e .due) (setter e 16 .clock .0) (h .limits .extension + 1) (isAbsent (stateOf (setter e 16 .state))) now (omega (arith, few (h .limits) may)))
 
   -- by the global time, of a task
-  global-timely : (e : ExpirationEntry) → 32 ≤ e .clock → e .clock < 48 → isWithin firsts units e ≡ isTimely (h .limits) (h .tasks) (h .global) e
+  global-timely : (e : ExpirationEntry) → 32 ≤ e .clock → e .clock < 48 → isInUnits firsts units e ≡ isTimely (h .limits) (h .tasks) (h .global) e
   unfolding isFitDue dueBy
   global-timely e least below =
       let place : e .clock ≡ e .clock - 32 + 32 = omega arith in
@@ -197,13 +197,13 @@ module _ {h : Head} (typed : HeadTyped h) {firsts : List Time} {units : List ℕ
       (units-ahead (e .due) (h .global .0) (h .limits .extension + 2) (isAbsent (stateOf (setter e 32 .state))) (typed .global) (few (h .limits) may))
 
   -- and of a departed setter
-  departed-timely : (e : ExpirationEntry) → e .clock ≡ 48 → isWithin firsts units e ≡ isTimely (h .limits) (h .tasks) (h .global) e
+  departed-timely : (e : ExpirationEntry) → e .clock ≡ 48 → isInUnits firsts units e ≡ isTimely (h .limits) (h .tasks) (h .global) e
   unfolding isFitDue dueBy
   departed-timely e d =
       rw (d, u .by-departed, f .by-global 48 (omega arith) (omega arith)) (ahead-next (e .due) (h .global .0) (h .limits .extension + 2) (typed .global) (few (h .limits) may))
 
   -- a pinned one has the number 0
-  pinned-timely : (e : ExpirationEntry) → e .due < counterRange → e .clock ≡ 49 → isWithin firsts units e ≡ isTimely (h .limits) (h .tasks) (h .global) e
+  pinned-timely : (e : ExpirationEntry) → e .due < counterRange → e .clock ≡ 49 → isInUnits firsts units e ≡ isTimely (h .limits) (h .tasks) (h .global) e
   unfolding isFitDue dueBy
   pinned-timely e below p = rw (p, u .by-pinned, f .by-pinned) (none-left (e .due) below)
 
@@ -216,7 +216,7 @@ module _ {h : Head} (typed : HeadTyped h) {firsts : List Time} {units : List ℕ
       let not-local : 32 ≤ k = ltb-false k 32 (rw (le-leb 16 k (ltb-false k 16 t)) at l) in
       List·getD-eq-default units 0 {n = k} (omega (arith, u .size, eqb-false k 49 p, leb-false k 48 (rw (le-leb 32 k not-local) at g))))
 
-  timely : (e : ExpirationEntry) → e .due < counterRange → isWithin firsts units e ≡ isTimely (h .limits) (h .tasks) (h .global) e
+  timely : (e : ExpirationEntry) → e .due < counterRange → isInUnits firsts units e ≡ isTimely (h .limits) (h .tasks) (h .global) e
   unfolding isFitDue dueBy
   timely e below =
       by-test (eqb (e .clock) 0)
@@ -239,6 +239,6 @@ module _ {h : Head} (typed : HeadTyped h) {firsts : List Time} {units : List ℕ
       (λ l. rw (no-units (e .clock) z p g l, z, p, g, l) (le-ltb (leftFrom (e .due) (getD firsts (e .clock) noTime)) 0 (omega arith))))))
 
   pub all-timely : (xs : List ExpirationEntry) → ((k : ℕ) → k < length xs → getD xs k freeEntry .due < counterRange)
-      → all (isWithin firsts units) xs ≡ all (isTimely (h .limits) (h .tasks) (h .global)) xs
+      → all (isInUnits firsts units) xs ≡ all (isTimely (h .limits) (h .tasks) (h .global)) xs
   all-timely [] below = refl
   all-timely (x ∷ xs) below = rw (timely x (below 0 (omega arith)), all-timely xs (λ k l. below (suc k) (omega arith)))

@@ -10,7 +10,7 @@ use Rattle.lists.specs.Filled.{Filled}
 use Rattle.ledger.specs.Limits.{counterRange, taskCount}
 use Rattle.ledger.specs.Tasks.{isAbsent}
 use Rattle.ledger.specs.declared.Limits.{Limits}
-use Rattle.record.specs.Codes.{stateOf, dueOf, setterOf, leftAt, absentEntry, localCode, globalCode, departedCode, pinnedCode}
+use Rattle.record.specs.Codes.{stateOf, dueOf, setterOf, unitsLeft, absentEntry, localCode, globalCode, departedCode, pinnedCode}
 use Rattle.record.specs.WellFormed.{isUsed, isFitDue, isNaming, isSizedFor, isPrefixed, isBounded}
 use Rattle.record.specs.Tables.{BlockEntry, ExpirationEntry, blocksOf, entriesOf, blockEntries, expirationEntries, byteValues}
 use Rattle.record.specs.declared.GlobalTime.{GlobalTime}
@@ -91,16 +91,16 @@ pub record CodedTimes (clocks dues : List ℕ) : Type 0 where
 
 -- units from a first time on, by the clock of that time
 abbrev pub leftFrom : ℕ → Time → ℕ
-leftFrom due (None number) = leftAt due number
-leftFrom due (Local at) = leftAt due (at .0)
-leftFrom due (Global at) = leftAt due (at .0)
+leftFrom due (None number) = unitsLeft due number
+leftFrom due (Local at) = unitsLeft due (at .0)
+leftFrom due (Global at) = unitsLeft due (at .0)
 
-abbrev pub isWithinBy : ℕ → Time → ℕ → Bool
-isWithinBy units first due = ltb (leftFrom due first) units
+abbrev pub isInUnitsBy : ℕ → Time → ℕ → Bool
+isInUnitsBy units first due = ltb (leftFrom due first) units
 
 -- of a due number that the counters can have
 pub record WithinBy (units : ℕ) (first : Time) (due : ℕ) (r : Bool) : Type 0 where
-  pub so : r ≡ isWithinBy units first due
+  pub so : r ≡ isInUnitsBy units first due
   pub below : due < counterRange
 
 -- the first times that lie ahead
@@ -133,12 +133,12 @@ pub record Units (limits : Limits) (tasks : List TaskEntry) (r : List ℕ) : Typ
   pub by-pinned : getD r pinnedCode 0 ≡ 1
 
 -- an entry by such tables
-abbrev pub isWithin : List Time → List ℕ → ExpirationEntry → Bool
-isWithin firsts units e = isWithinBy (getD units (e .clock) 0) (getD firsts (e .clock) noTime) (e .due)
+abbrev pub isInUnits : List Time → List ℕ → ExpirationEntry → Bool
+isInUnits firsts units e = isInUnitsBy (getD units (e .clock) 0) (getD firsts (e .clock) noTime) (e .due)
 
 -- whatever blocks the entries name; the due numbers are such as the counters can have
 pub record AllWithin (firsts : List Time) (units clocks dues : List ℕ) (r : Bool) : Type 0 where
-  pub so : (named : List ℕ) → length named ≡ expirationEntries → r ≡ all (isWithin firsts units) (entriesOf clocks named dues)
+  pub so : (named : List ℕ) → length named ≡ expirationEntries → r ≡ all (isInUnits firsts units) (entriesOf clocks named dues)
   pub below : (k : ℕ) → k < expirationEntries → getD dues k 0 < counterRange
 
 -- an entry by W6 to W8 and W14, which say when it is due and who set it, apart from the block that it names

@@ -8,7 +8,7 @@ use lib.ListN.{length, getD, take}
 use Rattle.lists.specs.Tests.{any}
 use Rattle.record.specs.Codes.{pinnedCode}
 use Rattle.record.specs.Tables.{entriesOf, expirationEntries, byteValues}
-use Rattle.record.specs.WellFormed.{isPinning, isPinnedOnce}
+use Rattle.record.specs.WellFormed.{isPinOn, isPinnedOnce}
 
 abbrev pub isUnpinned : ℕ → Bool
 isUnpinned clock = not (eqb clock pinnedCode)
@@ -17,7 +17,7 @@ isUnpinned clock = not (eqb clock pinnedCode)
 pub record PinsTo (clocks named : List ℕ) (i : ℕ) (flags : List Bool) (fit : Bool) : Type 0 where
   pub size : length flags ≡ byteValues
   pub names : (dues : List ℕ) → length dues ≡ expirationEntries → (k : ℕ) → k < byteValues
-      → getD flags k false ≡ any (isPinning k) (take i (entriesOf clocks named dues))
+      → getD flags k false ≡ any (isPinOn k) (take i (entriesOf clocks named dues))
   pub once : (dues : List ℕ) → length dues ≡ expirationEntries → fit ≡ isPinnedOnce (take i (entriesOf clocks named dues))
 
 -- after all

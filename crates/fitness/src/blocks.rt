@@ -1,4 +1,5 @@
-// Tests of blocks, by the flags that say which of them expirations name. Each goes by itself over few columns and has no way out before the end, so that many blocks are tested at once.
+// Tests of blocks, by the flags that say which of them expirations name. Each goes by itself over few columns and has no way out before the
+// end, so that many blocks are tested at once.
 ghost use mathlib.Core.List.{map};
 ghost use mathlib.Core.Path.{_≡_};
 ghost use lib.ListN.{length};
@@ -6,7 +7,7 @@ ghost use Rattle.lists.specs.Tables.{allFrom};
 ghost use Rattle.ledger.specs.Limits.{capacity};
 ghost use Rattle.record.specs.Tables.{blocksOf, blockEntries, SizedBlocks, lengthIn, prefixIn};
 ghost use Rattle.record.specs.WellFormed.{isSizedFor};
-ghost use Rattle.handles.specs.Handles.{Used};
+ghost use Rattle.handles.specs.Handles.{UsedFlags};
 ghost use Rattle.fitness.specs.Checks.{isGivenAt, isShapedFor, ShapedTo, isNamedIn, isFitBlockIn};
 use ledger::LARGE_SIZE;
 use ledger::SMALL_SIZE;
@@ -113,7 +114,8 @@ pub fn check_blocks<'a>(
     handles: &'a [u32; BLOCK_COUNT],
     extents: &'a [u64; BLOCK_COUNT],
 ) -> bool
-    requires { ⌜ SizedBlocks (now handles) (now extents) × Used (now handles) used ⌝ }
+    requires { ⌜ SizedBlocks (now handles) (now extents)
+        × UsedFlags (now handles) used ⌝ }
     ensures { λ r. ⌜ r ≡ allFrom 0 (isFitBlockIn given flags) (blocksOf (now (handles .entry)) (now (extents .entry))) ⌝ }
 {
     let shaped = shaped(lengths(extents), prefixes(extents));

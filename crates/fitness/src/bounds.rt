@@ -13,7 +13,9 @@ use record::EXPIRATION_COUNT;
 use record::SMALL_COUNT;
 
 fn all_free(handles: &[u32; BLOCK_COUNT], from: usize, to: usize) -> bool
-    requires { ⌜ (length (now handles) ≡ blockEntries) × (from ≤ to) × (to ≤ blockEntries) ⌝ }
+    requires { ⌜ (length (now handles) ≡ blockEntries)
+        × (from ≤ to)
+        × (to ≤ blockEntries) ⌝ }
     ensures { λ r. ⌜ r ≡ all isNone (drop from (take to (now (handles .entry)))) ⌝ }
 {
     let mut fit = true;
@@ -24,7 +26,8 @@ fn all_free(handles: &[u32; BLOCK_COUNT], from: usize, to: usize) -> bool
 }
 
 fn all_unset(clocks: &[u8; EXPIRATION_COUNT], from: usize) -> bool
-    requires { ⌜ (length (now clocks) ≡ expirationEntries) × (from ≤ expirationEntries) ⌝ }
+    requires { ⌜ (length (now clocks) ≡ expirationEntries)
+        × (from ≤ expirationEntries) ⌝ }
     ensures { λ r. ⌜ r ≡ all isNone (drop from (take expirationEntries (now (clocks .entry)))) ⌝ }
 {
     let mut fit = true;
@@ -39,7 +42,9 @@ pub fn is_bounded<'a>(
     handles: &'a [u32; BLOCK_COUNT],
     clocks: &'a [u8; EXPIRATION_COUNT],
 ) -> bool
-    requires { ⌜ (isAllowed limits ≡ true) × (length (now handles) ≡ blockEntries) × (length (now clocks) ≡ expirationEntries) ⌝ }
+    requires { ⌜ (isAllowed limits ≡ true)
+        × (length (now handles) ≡ blockEntries)
+        × (length (now clocks) ≡ expirationEntries) ⌝ }
     ensures { λ r. ⌜ Bounds limits (now (handles .entry)) (now (clocks .entry)) r ⌝ }
 {
     let small = limits.small as usize;

@@ -1,4 +1,5 @@
-// The codes of expirations: those that there are, and the flags of the blocks that they name. Nothing is left before the end, so that many are tested at once.
+// The codes of expirations: those that there are, and the flags of the blocks that they name. Nothing is left before the end, so that many
+// are tested at once.
 ghost use Prim.Native.Nat.{_+_, _≤_, _<_};
 ghost use mathlib.Core.Path.{_≡_};
 ghost use lib.ListN.{length};
@@ -40,7 +41,8 @@ pub fn index_of(byte: u8) -> usize
 
 // The code of an expiration, which there is.
 pub fn code_at(clocks: &[u8; EXPIRATION_COUNT], i: usize) -> usize
-    requires { ⌜ Codes (now clocks) × (i < expirationEntries) ⌝ }
+    requires { ⌜ Codes (now clocks)
+        × (i < expirationEntries) ⌝ }
     ensures { λ r. ⌜ CodeAt (now (clocks .entry)) i r ⌝ }
 {
     index_of(clocks[i])
@@ -68,7 +70,9 @@ fn slots<'a>(
 
 // Sets the flag of a byte,
 fn mark(out: &mut [bool; BYTE_VALUES], bytes: &[u8; EXPIRATION_COUNT], i: usize)
-    requires { ⌜ MarksTo (now bytes) i (now out) × (length (now bytes) ≡ expirationEntries) × (i < expirationEntries) ⌝ }
+    requires { ⌜ MarksTo (now bytes) i (now out)
+        × (length (now bytes) ≡ expirationEntries)
+        × (i < expirationEntries) ⌝ }
     ensures { λ _. ⌜ MarksTo (now (bytes .entry)) (i + 1) (now (out .exit)) ⌝ }
 {
     let at = index_of(bytes[i]);
@@ -77,7 +81,9 @@ fn mark(out: &mut [bool; BYTE_VALUES], bytes: &[u8; EXPIRATION_COUNT], i: usize)
 
 // of four,
 fn mark_four(out: &mut [bool; BYTE_VALUES], bytes: &[u8; EXPIRATION_COUNT], i: usize)
-    requires { ⌜ MarksTo (now bytes) i (now out) × (length (now bytes) ≡ expirationEntries) × (i + 4 ≤ expirationEntries) ⌝ }
+    requires { ⌜ MarksTo (now bytes) i (now out)
+        × (length (now bytes) ≡ expirationEntries)
+        × (i + 4 ≤ expirationEntries) ⌝ }
     ensures { λ _. ⌜ MarksTo (now (bytes .entry)) (i + 4) (now (out .exit)) ⌝ }
 {
     mark(out, bytes, i);

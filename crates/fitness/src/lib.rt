@@ -1,10 +1,11 @@
-// The test of well-formedness (01: a fit record) on lent tables, in parts, each one pass: tasks; expirations by themselves; the pinned ones; blocks by who names them; handles.
+// The test of well-formedness (01: a fit record) on lent tables, in parts, each one pass: tasks; expirations by themselves; the pinned
+// ones; blocks by who names them; handles.
 ghost use mathlib.Core.Bool.{true};
 ghost use mathlib.Core.Path.{_≡_};
 ghost use Rattle.ledger.specs.Limits.{isAllowed};
 ghost use Rattle.record.specs.Tables.{lent, Sized};
 ghost use Rattle.record.specs.WellFormed.{isConsistent, isWellFormed};
-ghost use Rattle.handles.specs.Handles.{Used};
+ghost use Rattle.handles.specs.Handles.{UsedFlags};
 ghost use Rattle.fitness.specs.Fitness.{Fitness};
 
 mod blocks;
@@ -57,8 +58,11 @@ fn is_consistent<'a>(
     named: &'a [u8; EXPIRATION_COUNT],
     dues: &'a [u32; EXPIRATION_COUNT],
 ) -> bool
-    requires { ⌜ Sized (now handles) (now extents) (now clocks) (now named) (now dues) × (isAllowed (h .limits) ≡ true) × Used (now handles) used ⌝ }
-    ensures { λ r. ⌜ r ≡ isConsistent (lent h (now (handles .entry)) (now (extents .entry)) (now (clocks .entry)) (now (named .entry)) (now (dues .entry))) ⌝ }
+    requires { ⌜ Sized (now handles) (now extents) (now clocks) (now named) (now dues)
+        × (isAllowed (h .limits) ≡ true)
+        × UsedFlags (now handles) used ⌝ }
+    ensures { λ r. ⌜ r ≡ isConsistent
+        (lent h (now (handles .entry)) (now (extents .entry)) (now (clocks .entry)) (now (named .entry)) (now (dues .entry))) ⌝ }
 {
     let tasks = h.tasks;
     if !all_fit_tasks(tasks) {
@@ -90,7 +94,8 @@ pub fn fitness_of<'a>(
     dues: &'a [u32; EXPIRATION_COUNT],
 ) -> Sharing
     requires { ⌜ Sized (now handles) (now extents) (now clocks) (now named) (now dues) ⌝ }
-    ensures { λ r. ⌜ Fitness h (now (handles .entry)) (now (extents .entry)) (now (clocks .entry)) (now (named .entry)) (now (dues .entry)) r ⌝ }
+    ensures { λ r. ⌜ Fitness h (now (handles .entry)) (now (extents .entry)) (now (clocks .entry)) (now (named .entry)) (now (dues .entry))
+        r ⌝ }
 {
     let limits = h.limits;
     if !is_allowed(limits) {
@@ -117,7 +122,8 @@ pub fn is_well_formed<'a>(
     dues: &'a [u32; EXPIRATION_COUNT],
 ) -> bool
     requires { ⌜ Sized (now handles) (now extents) (now clocks) (now named) (now dues) ⌝ }
-    ensures { λ r. ⌜ r ≡ isWellFormed (lent h (now (handles .entry)) (now (extents .entry)) (now (clocks .entry)) (now (named .entry)) (now (dues .entry))) ⌝ }
+    ensures { λ r. ⌜ r ≡ isWellFormed
+        (lent h (now (handles .entry)) (now (extents .entry)) (now (clocks .entry)) (now (named .entry)) (now (dues .entry))) ⌝ }
 {
     let sharing = fitness_of(h, handles, extents, clocks, named, dues);
     sharing.fit

@@ -1,4 +1,5 @@
-// Whether no block is pinned twice: by a flag for each block, set where a pinned expiration names it. Most often none is pinned, so they are sought many at a time.
+// Whether no block is pinned twice: by a flag for each block, set where a pinned expiration names it. Most often none is pinned, so they
+// are sought many at a time.
 ghost use Prim.Native.Nat.{_+_, _≤_};
 ghost use mathlib.Core.Path.{_≡_};
 ghost use lib.ListN.{length, take, drop};
@@ -15,7 +16,8 @@ use record::codes::PINNED;
 
 // It has no way out before the end, so that many bytes are compared at once.
 fn none_pinned(clocks: &[u8; EXPIRATION_COUNT], from: usize) -> bool
-    requires { ⌜ (length (now clocks) ≡ expirationEntries) × (from + groupSize ≤ expirationEntries) ⌝ }
+    requires { ⌜ (length (now clocks) ≡ expirationEntries)
+        × (from + groupSize ≤ expirationEntries) ⌝ }
     ensures { λ r. ⌜ r ≡ all isUnpinned (drop from (take (from + groupSize) (now (clocks .entry)))) ⌝ }
 {
     let mut none = true;
@@ -33,7 +35,9 @@ fn pin_in<'a>(
     from: usize,
     fit: bool,
 ) -> bool
-    requires { ⌜ PinsTo (now clocks) (now named) from (now flags) fit × SizedCodes (now clocks) (now named) × (from + groupSize ≤ expirationEntries) ⌝ }
+    requires { ⌜ PinsTo (now clocks) (now named) from (now flags) fit
+        × SizedCodes (now clocks) (now named)
+        × (from + groupSize ≤ expirationEntries) ⌝ }
     ensures { λ r. ⌜ PinsTo (now (clocks .entry)) (now (named .entry)) (from + groupSize) (now (flags .exit)) r ⌝ }
 {
     if none_pinned(clocks, from) {

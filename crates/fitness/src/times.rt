@@ -1,4 +1,5 @@
-// When expirations may be due: by each clock, so many units from a first time on. A due number becomes a LocalTime where that is a task's, and a GlobalTime where it is the global one.
+// When expirations may be due: by each clock, so many units from a first time on. A due number becomes a LocalTime where that is a task's,
+// and a GlobalTime where it is the global one.
 ghost use Prim.Native.Nat.{_+_, _≤_, _<_};
 ghost use mathlib.Core.Bool.{true};
 ghost use mathlib.Core.Path.{_≡_};
@@ -22,7 +23,8 @@ use record::codes::PINNED;
 use record::codes::global_left;
 use record::codes::local_left;
 
-// The codes of clocks, as indices: those of tasks are from LOCAL on, those of the global time from GLOBAL on by the task that set it, to DEPARTED; PINNED, which is no clock's, is the last that there is.
+// The codes of clocks, as indices: those of tasks are from LOCAL on, those of the global time from GLOBAL on by the task that set it, to
+// DEPARTED; PINNED, which is no clock's, is the last that there is.
 const NO_CLOCK: usize = FREE as usize;
 
 const FIRST_LOCAL: usize = LOCAL as usize;
@@ -41,8 +43,8 @@ const ALL_UNITS: u64 = 4294967296;
 // A pinned one has no time: its number is 0 and no other.
 const PINNED_UNITS: u64 = 1;
 
-// A time by one of the clocks, or the number of a pinned expiration, which is none. (It holds the number that a due one is held against, as the others do: with no number in it the
-// compiler makes no vector code of the fit test, which then takes 2,600 instructions more.)
+// A time by one of the clocks, or the number of a pinned expiration, which is none. (It holds the number that a due one is held against, as
+// the others do: with no number in it the compiler makes no vector code of the fit test, which then takes 2,600 instructions more.)
 pub enum Time {
     None(u32),
     Local(LocalTime),
@@ -106,7 +108,8 @@ fn units_of(state: u16, most: u16) -> u64
 
 // By each code the units in which its expirations may be due: none of an absent task, nor by a code that there is not.
 fn units(limits: Limits, tasks: [TaskEntry; TASK_COUNT]) -> [u64; CODES]
-    requires { ⌜ (isAllowed limits ≡ true) × (all isFitTask tasks ≡ true) ⌝ }
+    requires { ⌜ (isAllowed limits ≡ true)
+        × (all isFitTask tasks ≡ true) ⌝ }
     ensures { λ r. ⌜ Units limits tasks r ⌝ }
 {
     let local = limits.extension as u16 + 1;
@@ -147,7 +150,9 @@ pub fn all_timely<'a>(
     clocks: &'a [u8; EXPIRATION_COUNT],
     dues: &'a [u32; EXPIRATION_COUNT],
 ) -> bool
-    requires { ⌜ CodedTimes (now clocks) (now dues) × (isAllowed (h .limits) ≡ true) × (all isFitTask (h .tasks) ≡ true) ⌝ }
+    requires { ⌜ CodedTimes (now clocks) (now dues)
+        × (isAllowed (h .limits) ≡ true)
+        × (all isFitTask (h .tasks) ≡ true) ⌝ }
     ensures { λ r. ⌜ AllTimely h (now (clocks .entry)) (now (dues .entry)) r ⌝ }
 {
     let tasks = h.tasks;

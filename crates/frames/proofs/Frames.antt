@@ -15,7 +15,7 @@ use Rattle.ledger.specs.declared.Request.{Request}
 use Rattle.text.specs.Fields.{fieldAt, fieldsAt}
 use Rattle.frames.specs.Frames.{Operation, widthsOf, headSize, bytesUpTo, tailOf, isTail, isSizeOf, handedOn, requestOf, frameAs, operations, operationNumber, operationIn, frameBy, frameIn}
 use Rattle.text.specs.Hex.{bytesOf}
-use Rattle.frames.specs.declared.Frame.{Frame}
+use Rattle.ledger.specs.declared.Frame.{Frame}
 use Rattle.text.proofs.Digits.{length-bytes}
 use Rattle.text.proofs.Fields.{field-one}
 

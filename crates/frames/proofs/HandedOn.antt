@@ -18,9 +18,10 @@ use Rattle.ledger.proofs.Batches.{handles-count}
 use Rattle.ledger.proofs.LongBatches.{long-reply, long-next}
 use Rattle.text.specs.Hex.{bytesOf}
 use Rattle.text.proofs.Digits.{length-bytes}
-use Rattle.frames.specs.Frames.{headSize, anyHandles, tailOf, mostHandleBytes, handedOn, frameOf, lastBytes, payloadOf, operationOf}
+use Rattle.text.specs.HandleBytes.{mostHandleBytes}
+use Rattle.frames.specs.Frames.{headSize, anyHandles, tailOf, handedOn, frameOf, lastBytes, payloadOf, operationOf}
 use Rattle.frames.specs.HandedOn.{HandsOnEnough}
-use Rattle.frames.specs.declared.Frame.{Frame}
+use Rattle.ledger.specs.declared.Frame.{Frame}
 use Rattle.frames.proofs.Payloads.{last-after, requested}
 
 module _ (L : Ledger) where

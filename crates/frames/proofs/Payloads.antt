@@ -5,7 +5,7 @@ use native.Mathlib.Omega.{arith}
 use mathlib.Core.Bool.{true}
 use mathlib.Core.List.{List, [], _++_}
 use mathlib.Core.Option.{Option, none, some}
-use mathlib.Core.Path.{_≡_, refl, sym}
+use mathlib.Core.Path.{_≡_, refl, sym, _∙_}
 use borrow.Author.Tests.{leb-true}
 use lib.ListN.{length, getD, take, drop, length-drop}
 use lib.Seq.{length-take-le, take-all, drop-drop}
@@ -17,12 +17,15 @@ use Rattle.ledger.specs.declared.Refusal.{Refusal}
 use Rattle.ledger.specs.declared.Request.{Request}
 use Rattle.ledger.specs.Limits.{largeSize}
 use Rattle.text.specs.Fields.{fieldsAt}
-use Rattle.frames.specs.Frames.{Operation, join, schedule, make, refresh, read, write, report, remaining, batch, release, widthsOf, headSize, Tail, bytesUpTo, anyHandles, tailOf, isTail, mostHandleBytes, isSizeOf, handedOn, kindOf, withKind, requestOf, frameWith, frameAs, operations, operationIn, frameBy, frameIn, frameOf, lastBytes, payloadOf, Decodes, operationOf}
+use Rattle.text.specs.HandleBytes.{mostHandleBytes}
+use Rattle.ledger.specs.Numbers.{kindOf}
+use Rattle.frames.specs.Frames.{Operation, join, schedule, make, refresh, read, write, report, remaining, batch, release, widthsOf, headSize, Tail, bytesUpTo, anyHandles, tailOf, isTail, isSizeOf, handedOn, withKind, requestOf, frameWith, frameAs, operations, operationIn, frameBy, frameIn, frameOf, lastBytes, payloadOf, Decodes, operationOf}
 use Rattle.text.specs.Hex.{isHex, bytesOf}
-use Rattle.frames.specs.declared.Frame.{Frame}
-use Rattle.frames.specs.declared.requests.KindByte.{KindByte}
-use Rattle.frames.specs.declared.requests.KindByte.the-variants.{Known, Unknown}
+use Rattle.ledger.specs.declared.Frame.{Frame}
+use Rattle.ledger.specs.declared.KindByte.{KindByte}
+use Rattle.ledger.specs.declared.KindByte.the-variants.{Known, Unknown}
 use Rattle.text.proofs.Digits.{length-bytes}
+use Rattle.text.proofs.Puts.{start-within}
 use Rattle.frames.proofs.Frames.{sizes}
 
 apart : {refusal : Refusal} {request : Request} {count : ℕ} → Frame.Refused refusal ≡ Frame.Request request count → ⊥
@@ -144,3 +147,8 @@ pub payload-front : {line old new : List ℕ} {request : Request} {count : ℕ} 
 payload-front {line} {old} {count = count} d =
     let r = requested line (sym (d .frame)) in
     rw (d .bytes, take-new count (payloadOf line) old (omega (arith, r .counted))) (take-all count (payloadOf line) (omega (arith, r .counted)))
+
+-- the bytes of a request are in the buffer
+pub bytes-in : {line old new : List ℕ} {frame : Frame} → Decodes line old frame new → {request : Request} {count : ℕ}
+    → frame ≡ Frame.Request request count → count ≤ length new
+bytes-in {line} {old} d e = rw (d .bytes) (omega (arith, requested line (sym (d .frame) ∙ e) .counted, start-within (payloadOf line) old))

@@ -17,7 +17,7 @@ use Rattle.ledger.specs.declared.Request.the-variants.{Use, Report, Remaining}
 use Rattle.text.specs.Fields.{inFields, FitFields}
 use Rattle.frames.specs.Frames.{Operation, join, schedule, make, refresh, read, write, report, remaining, batch, release, operations, operationNumber, operationIn, widthsOf, headSize, tailOf, isTail, handedOn, requestOf, frameAs, frameBy, frameIn, frameOf, lastBytes, payloadOf, operationOf, valuesOf, lineOf, RoundTrip}
 use Rattle.text.specs.Hex.{isHex, bytesOf}
-use Rattle.frames.specs.declared.Frame.{Frame}
+use Rattle.ledger.specs.declared.Frame.{Frame}
 use Rattle.text.proofs.Digits.{hex-hex, bytes-hex}
 use Rattle.text.proofs.Fields.{fields-in, fields-below, length-in-fields}
 use Rattle.frames.proofs.Frames.{of-size}

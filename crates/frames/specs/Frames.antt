@@ -1,5 +1,5 @@
 -- The rules F: the request or the refusal that a line gives, and the line of a request.
-use Prim.Native.Nat.{ℕ, _+_, _-_, _*_, _%_, _<_, min}
+use Prim.Native.Nat.{ℕ, _+_, _-_, _%_, _<_, min}
 use mathlib.Core.Bool.{Bool, true, cond, _&&_}
 use mathlib.Core.List.{List, [], _∷_, _++_}
 use mathlib.Core.Option.{Option, none, some}
@@ -7,22 +7,23 @@ use mathlib.Core.Path.{_≡_}
 use lib.Dec.{eqb, leb}
 use lib.ListN.{length, getD, drop}
 use Rattle.text.specs.Fields.{fieldsAt, inFields, widthOf, FitFields}
+use Rattle.text.specs.HandleBytes.{handleWidth, mostHandleBytes}
 use Rattle.text.specs.Hex.{isHex, bytesOf, hexOf}
 use Rattle.lists.specs.Blocks.{overwritten}
 use Rattle.lists.specs.Tests.{All}
-use Rattle.frames.specs.declared.Frame.{Frame}
-use Rattle.frames.specs.declared.requests.KindByte.{KindByte}
-use Rattle.frames.specs.declared.requests.KindByte.the-variants.{Known, Unknown}
+use Rattle.ledger.specs.declared.Frame.{Frame}
+use Rattle.ledger.specs.declared.KindByte.{KindByte}
+use Rattle.ledger.specs.declared.KindByte.the-variants.{Known, Unknown}
 use Rattle.ledger.specs.declared.Call.the-variants.{Join, Schedule, Make, Refresh, Read, Write, Batch, Release}
 use Rattle.ledger.specs.declared.Event.{Event}
-use Rattle.ledger.specs.declared.Share.{Share}
 use Rattle.ledger.specs.declared.Event.the-variants.{Leave, Block, Resume, Tick, View}
 use Rattle.ledger.specs.declared.Kind.{Kind}
-use Rattle.ledger.specs.declared.Kind.the-variants.{Local, Global, Pinned}
 use Rattle.ledger.specs.declared.Refusal.the-variants.{NotHexadecimal, UnknownOperation, WrongFrameLength, UnknownKind}
 use Rattle.ledger.specs.declared.Request.{Request}
 use Rattle.ledger.specs.declared.Request.the-variants.{Use, Report, Remaining}
-use Rattle.ledger.specs.Limits.{largeSize, largestBatch}
+use Rattle.ledger.specs.Limits.{largeSize}
+use Rattle.ledger.specs.Numbers.{kindOf, kindNumber}
+use Rattle.ledger.specs.Rows.{shareOf}
 
 -- the fourteen operations; five of them are the events of a task
 pub data Operation : Type 0 where
@@ -101,10 +102,6 @@ tailOf remaining = bytesUpTo 0
 tailOf batch = anyHandles
 tailOf release = bytesUpTo 0
 
--- F12: the bytes of a handle
-abbrev pub handleWidth : ℕ
-handleWidth = 4
-
 -- whether so many bytes may follow
 abbrev pub isTail : Tail → ℕ → Bool
 isTail (bytesUpTo most) count = leb count most
@@ -114,29 +111,14 @@ isTail anyHandles count = eqb (count % handleWidth) 0
 abbrev pub isSizeOf : Operation → ℕ → Bool
 isSizeOf o size = leb (headSize o) size && isTail (tailOf o) (size - headSize o)
 
--- one handle more than a batch may have: enough for R20
-abbrev pub mostHandles : ℕ
-mostHandles = largestBatch + 1
-
--- F12: and their bytes
-abbrev pub mostHandleBytes : ℕ
-mostHandleBytes = handleWidth * mostHandles
-
 -- how many of the bytes that follow are handed on: all, but of a batch no more than are enough
 abbrev pub handedOn : Tail → ℕ → ℕ
 handedOn (bytesUpTo most) count = count
 handedOn anyHandles count = min count mostHandleBytes
 
--- F21: a kind by its byte; R19 where it is unknown
-abbrev pub kindOf : ℕ → KindByte
-kindOf number = cond (eqb number 0) (Known Local) (cond (eqb number 1) (Known Global) (cond (eqb number 2) (Known Pinned) Unknown))
-
 abbrev pub withKind : KindByte → (Kind → Request) → Option Request
 withKind (Known kind) request = some (request kind)
 withKind Unknown request = none
-
-abbrev pub shareOf : ℕ → ℕ → ℕ → ℕ → Share
-shareOf a b c d = record { small = record { reserve = a; limit = b }; large = record { reserve = c; limit = d } }
 
 -- the request that the values of the fields make, or none where a kind is unknown
 abbrev pub requestOf : Operation → List ℕ → Option Request
@@ -208,11 +190,6 @@ operationOf (Use (Release task handle)) = release
 operationOf Report = report
 operationOf (Remaining task handle) = remaining
 
-abbrev pub kindNumber : Kind → ℕ
-kindNumber Local = 0
-kindNumber Global = 1
-kindNumber Pinned = 2
-
 abbrev pub valuesOf : Request → List ℕ
 valuesOf (Use (Join task share)) = task ∷ share .small .reserve ∷ share .small .limit ∷ share .large .reserve ∷ share .large .limit ∷ []
 valuesOf (Use (Schedule event task)) = task ∷ []
@@ -231,8 +208,8 @@ lineOf request bytes =
     let o = operationOf request in
     hexOf (operationNumber o ∷ inFields (widthsOf o) (valuesOf request) ++ bytes)
 
--- The round trip: from its line a request comes back with those of its bytes that are handed on, where its values fit their fields and so many
--- bytes may follow them.
+-- The round trip: from its line a request comes back with those of its bytes that are handed on, where its values fit their fields and so
+-- many bytes may follow them.
 abbrev pub RoundTrip : Type 0
 RoundTrip =
     (request : Request) (bytes : List ℕ) → let o = operationOf request in

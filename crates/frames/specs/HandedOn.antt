@@ -7,7 +7,7 @@ use Rattle.ledger.specs.Ledger.{Ledger, replyToRequest, afterRequest}
 use Rattle.ledger.specs.declared.Request.{Request}
 use Rattle.text.specs.Hex.{bytesOf}
 use Rattle.frames.specs.Frames.{headSize, frameOf, payloadOf, operationOf}
-use Rattle.frames.specs.declared.Frame.{Frame}
+use Rattle.ledger.specs.declared.Frame.{Frame}
 
 -- To the request of a line every ledger answers with the bytes handed on as with all bytes after the fields, and goes on the same.
 abbrev pub HandsOnEnough : Type 0

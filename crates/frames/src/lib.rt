@@ -1,20 +1,22 @@
 // The request of a line: the rules F, but for those of an answer.
+ghost use mathlib.Core.Path.{_≡_};
+ghost use Rattle.ledger.specs.declared.Frame.{Frame};
+ghost use Rattle.ledger.specs.declared.Refusal.{Refusal};
+use ledger::Frame;
 use ledger::Refusal;
-use ledger::Request;
 
 mod requests;
-mod words;
 
-pub use requests::KindByte;
 pub use requests::decode;
-pub use requests::kind_of;
 pub use text::hex::MOST_BYTES;
-pub use words::Handed;
-pub use words::MOST_HANDLE_BYTES;
-pub use words::handle_bytes;
 
-// What a line gives: a request and the count of the bytes that come with it, or a refusal. An enum holds no array, so the bytes stand beside it.
-pub enum Frame {
-    Request(Request, usize),
-    Refused(Refusal),
+// Why a frame yields no call; no request comes here.
+pub fn refusal_of(frame: Frame) -> Refusal
+    requires { ⌜ ((why : Refusal) × (frame ≡ Frame.Refused why)) ⌝ }
+    ensures { λ r. ⌜ frame ≡ Frame.Refused r ⌝ }
+{
+    match frame {
+        Frame::Request(_, _) => Refusal::NotHexadecimal,
+        Frame::Refused(why) => why,
+    }
 }

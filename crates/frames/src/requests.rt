@@ -1,15 +1,16 @@
 // The frame of a line. The fields of an operation stand at fixed places, and its number at place 0.
-use super::Frame;
-use super::words::HANDLE_WIDTH;
-use super::words::MOST_HANDLE_BYTES;
-use super::words::capped;
 use ledger::Call;
 use ledger::Event;
-use ledger::Kind;
+use ledger::Frame;
+use ledger::KindByte;
 use ledger::Quota;
 use ledger::Refusal;
 use ledger::Request;
 use ledger::Share;
+use ledger::kind_of;
+use text::batches::HANDLE_WIDTH;
+use text::batches::MOST_HANDLE_BYTES;
+use text::batches::capped;
 use text::hex::MOST_BYTES;
 use text::hex::byte_at;
 use text::hex::is_hex;
@@ -21,25 +22,8 @@ ghost use mathlib.Core.Bool.{true};
 ghost use mathlib.Core.Path.{_≡_};
 ghost use lib.ListN.{length};
 ghost use Rattle.ledger.specs.Limits.{largeSize};
-ghost use Rattle.frames.specs.Frames.{Decodes, kindOf, frameAs, frameIn, frameOf, join, schedule, make, refresh, read, write, report, remaining, batch, release};
+ghost use Rattle.frames.specs.Frames.{Decodes, frameAs, frameIn, frameOf, join, schedule, make, refresh, read, write, report, remaining, batch, release};
 ghost use Rattle.text.specs.Hex.{isHex, bytesOf};
-
-// F21: the kind that a byte names.
-pub enum KindByte {
-    Known(Kind),
-    Unknown,
-}
-
-pub fn kind_of(number: u8) -> KindByte
-    ensures { λ r. ⌜ r ≡ kindOf number ⌝ }
-{
-    match number {
-        0 => KindByte::Known(Kind::Local),
-        1 => KindByte::Known(Kind::Global),
-        2 => KindByte::Known(Kind::Pinned),
-        _ => KindByte::Unknown,
-    }
-}
 
 // F1: task, and reserve and limit of either store.
 fn join(line: &[u8]) -> Frame

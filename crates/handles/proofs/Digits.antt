@@ -15,7 +15,7 @@ use Rattle.lists.specs.Tables.{allFrom}
 use Rattle.lists.proofs.Cases.{by-test, same-test}
 use Rattle.lists.proofs.Tables.{allFrom-each, allFrom-within}
 use Rattle.record.specs.WellFormed.{isDistinct}
-use Rattle.handles.specs.Handles.{isAloneIn, Used, firstBits, digitBits, digitCount, radix, bitsBelow, FirstParts, Partable, Keys, keyCount, Below, Lasts, Places, Refined}
+use Rattle.handles.specs.Handles.{isAloneIn, UsedFlags, firstBits, digitBits, digitCount, radix, bitsBelow, FirstParts, Partable, Keys, keyCount, Below, Lasts, Places, Refined}
 use Rattle.handles.proofs.Apart.{distinct-by, distinct-places}
 
 -- the first i blocks stand at their keys, or later ones of that key
@@ -107,7 +107,7 @@ parted-turn {hs} {bits = bits} m r =
           let (p, q) = r .finer i j a b e in m .told i j a b p (omega (arith, above (getD hs i 0) bits, above (getD hs j 0) bits));
     }
 
-module _ (hs parts : List ℕ) {used : List Bool} (size : length hs ≡ 96) (sized : length parts ≡ 96) (u : Used hs used) where
+module _ (hs parts : List ℕ) {used : List Bool} (size : length hs ≡ 96) (sized : length parts ≡ 96) (u : UsedFlags hs used) where
   -- a block in use that is alone
   alone-at : allFrom 0 (isAloneIn used) parts ≡ true → (i : ℕ) → i < 96 → getD hs i 0 ≢ 0 → getD parts i 0 ≡ i
   alone-at e i l n =

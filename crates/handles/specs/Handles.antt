@@ -28,13 +28,13 @@ isFew count = ltb count 2
 abbrev pub isAloneIn : List Bool → ℕ → ℕ → Bool
 isAloneIn used i part = not (getD used i false) || eqb part i
 
-abbrev pub Used : List ℕ → List Bool → Type 0
-Used handles r = Filled false (λ k x. x ≡ not (eqb (getD handles k 0) 0)) blockEntries blockEntries r
+abbrev pub UsedFlags : List ℕ → List Bool → Type 0
+UsedFlags handles r = Filled false (λ k x. x ≡ not (eqb (getD handles k 0) 0)) blockEntries blockEntries r
 
 -- the handles of all blocks, and which are in use
 pub record UsedIn (handles : List ℕ) (used : List Bool) : Type 0 where
   pub size : length handles ≡ blockEntries
-  pub so : Used handles used
+  pub so : UsedFlags handles used
 
 -- the bits of a handle that the first parts go by
 abbrev pub firstBits : ℕ

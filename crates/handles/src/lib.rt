@@ -5,7 +5,7 @@ ghost use lib.ListN.{length};
 ghost use Rattle.lists.specs.Tests.{all, count};
 ghost use Rattle.record.specs.WellFormed.{isDistinct};
 ghost use Rattle.record.specs.Tables.{blockEntries};
-ghost use Rattle.handles.specs.Handles.{Used, UsedIn, Counted, isFew};
+ghost use Rattle.handles.specs.Handles.{UsedFlags, UsedIn, Counted, isFew};
 
 mod parting;
 
@@ -18,7 +18,7 @@ const REMAINDERS: usize = 256;
 // Which blocks are in use.
 pub fn used_of(handles: &[u32; BLOCK_COUNT]) -> [bool; BLOCK_COUNT]
     requires { ⌜ length (now handles) ≡ blockEntries ⌝ }
-    ensures { λ r. ⌜ Used (now (handles .entry)) r ⌝ }
+    ensures { λ r. ⌜ UsedFlags (now (handles .entry)) r ⌝ }
 {
     let mut out = [false; BLOCK_COUNT];
     for i in 0..BLOCK_COUNT {
@@ -38,7 +38,8 @@ fn free_count(used: &[bool; BLOCK_COUNT]) -> u8
     out
 }
 
-// How many blocks in use have a handle of each remainder. All are counted, and the free ones, whose handle is 0, are taken off at the end: so no turn looks whether its block is in use.
+// How many blocks in use have a handle of each remainder. All are counted, and the free ones, whose handle is 0, are taken off at the end:
+// so no turn looks whether its block is in use.
 fn counts<'a>(handles: &'a [u32; BLOCK_COUNT], used: &'a [bool; BLOCK_COUNT]) -> [u8; REMAINDERS]
     requires { ⌜ UsedIn (now handles) (now used) ⌝ }
     ensures { λ r. ⌜ Counted (now (handles .entry)) r ⌝ }

@@ -1,5 +1,5 @@
-// Handles told apart in full, on any bytes in as many steps: the blocks are parted by the last bits of their handles, then each part by the digit above.
-// A part is known by a number below the count of blocks: by its last block, once a digit was looked at.
+// Handles told apart in full, on any bytes in as many steps: the blocks are parted by the last bits of their handles, then each part by the
+// digit above. A part is known by a number below the count of blocks: by its last block, once a digit was looked at.
 ghost use mathlib.Core.Path.{_≡_};
 ghost use Prim.Native.Nat.{_<_};
 ghost use lib.Dec.{eqb};
@@ -85,7 +85,8 @@ fn lasts(keys: &[u16; BLOCK_COUNT]) -> [u8; KEYS]
 }
 
 fn places<'a>(keys: &'a [u16; BLOCK_COUNT], lasts: &'a [u8; KEYS]) -> [u8; BLOCK_COUNT]
-    requires { ⌜ Below (now keys) × (length (now lasts) ≡ keyCount) ⌝ }
+    requires { ⌜ Below (now keys)
+        × (length (now lasts) ≡ keyCount) ⌝ }
     ensures { λ r. ⌜ Places (now (keys .entry)) (now (lasts .entry)) r ⌝ }
 {
     let mut out = [0; BLOCK_COUNT];
@@ -117,7 +118,8 @@ fn is_at(part: u8, i: usize) -> bool
 
 // Each block in use is alone in its part.
 fn all_alone<'a>(used: &'a [bool; BLOCK_COUNT], parts: &'a [u8; BLOCK_COUNT]) -> bool
-    requires { ⌜ (length (now used) ≡ blockEntries) × (length (now parts) ≡ blockEntries) ⌝ }
+    requires { ⌜ (length (now used) ≡ blockEntries)
+        × (length (now parts) ≡ blockEntries) ⌝ }
     ensures { λ r. ⌜ r ≡ allFrom 0 (isAloneIn (now (used .entry))) (now (parts .entry)) ⌝ }
 {
     let mut alone = true;

@@ -1,4 +1,5 @@
--- Demand 3 of the ledger. While all use is in time and in bounds, the ledger is the heap with the book's expirations, swept of what does not stand.
+-- Demand 3 of the ledger. While all use is in time and in bounds, the ledger is the heap with the book's expirations, swept of what does
+-- not stand.
 use Prim.Native.Nat.{ℕ, _≤_}
 use native.Mathlib.Omega.{arith}
 use mathlib.Core.Bool.{Bool, true, false, true≢false, false≢true, _||_, and-eq-true-iff, and-true, Bool·not-not}

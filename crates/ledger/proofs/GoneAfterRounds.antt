@@ -1,4 +1,5 @@
--- Order 7, the second claim: no call puts a global expiration further ahead than it was, and a round in which its setter never waits brings it one nearer.
+-- Order 7, the second claim: no call puts a global expiration further ahead than it was, and a round in which its setter never waits brings
+-- it one nearer.
 use Prim.Native.Nat.{ℕ, _+_, _-_, _≤_, _<_}
 use native.Mathlib.Omega.{arith}
 use mathlib.Core.Bool.{Bool, true, false, cond, not, _&&_, _||_, and-eq-true-iff}

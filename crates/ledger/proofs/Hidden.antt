@@ -1,4 +1,5 @@
--- The bytes and the sum of one object hidden: every call but a read or a write of it is answered alike, and leaves the same ledger but for what is hidden.
+-- The bytes and the sum of one object hidden: every call but a read or a write of it is answered alike, and leaves the same ledger but for
+-- what is hidden.
 use Prim.Native.Nat.{ℕ, _+_, _≤_}
 use native.Mathlib.Omega.{arith}
 use mathlib.Core.Bool.{Bool, true, false, cond}

@@ -1,4 +1,5 @@
--- A global expiration outlives the ticks of its setter that it was set for: the setter's ticks still to come are always fewer than what is left of it.
+-- A global expiration outlives the ticks of its setter that it was set for: the setter's ticks still to come are always fewer than what is
+-- left of it.
 use Prim.Native.Nat.{ℕ, _+_, _-_, _≤_}
 use native.Mathlib.Omega.{arith}
 use mathlib.Core.Bool.{Bool, true, false, true≢false, cond, not, _&&_, _||_, and-eq-true-iff}
@@ -27,7 +28,8 @@ use Rattle.ledger.proofs.KeptTasks.{active, acting, absent-inactive}
 abbrev flag : Task → ℕ
 flag t = cond (t .ticked) 1 0
 
--- The setter is active, and so many of its ticks are still to come before the expiration is due: with each advance a ticked flag is used up, and with each flag a tick.
+-- The setter is active, and so many of its ticks are still to come before the expiration is due: with each advance a ticked flag is used
+-- up, and with each flag a tick.
 pub record Ahead (clocks : Clocks) (setter at ticks : ℕ) : Type 0 where
   pub active : isActive (taskAt clocks setter .state) ≡ true
   pub ahead : clocks .global + 1 + flag (taskAt clocks setter) + ticks ≤ at

@@ -1,4 +1,5 @@
--- Order 7, the first claim: over every list of calls a global expiration outlives the ticks of its setter that it was set for, and its object stands with it.
+-- Order 7, the first claim: over every list of calls a global expiration outlives the ticks of its setter that it was set for, and its
+-- object stands with it.
 use Prim.Native.Nat.{ℕ, _+_}
 use native.Mathlib.Omega.{arith}
 use mathlib.Core.Bool.{Bool, true, false, cond, and-false}

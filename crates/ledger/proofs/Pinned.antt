@@ -1,4 +1,5 @@
--- An object that was made pinned stands until a release of it is accepted: what is pinned loses a handle by its release alone, and has a pinned expiration.
+-- An object that was made pinned stands until a release of it is accepted: what is pinned loses a handle by its release alone, and has a
+-- pinned expiration.
 use Prim.Native.Nat.{ℕ, _+_}
 use native.Mathlib.Omega.{arith}
 use mathlib.Core.Bool.{Bool, true, false, true≢false, cond, not, and-eq-true-iff}

@@ -1,4 +1,5 @@
--- What of a store is spoken for, by the objects alone: the same of objects that differ in neither size nor maker, no more of fewer objects, and no task's objects are another's.
+-- What of a store is spoken for, by the objects alone: the same of objects that differ in neither size nor maker, no more of fewer objects,
+-- and no task's objects are another's.
 use Prim.Native.Nat.{ℕ, suc, max, _+_, _-_, _≤_, _<_}
 use native.Mathlib.Omega.{arith}
 use mathlib.Core.Bool.{Bool, false, cond, not, _&&_, and-false}

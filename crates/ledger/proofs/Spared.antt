@@ -15,7 +15,7 @@ use Rattle.ledger.specs.Expirations.{Expiration}
 use Rattle.ledger.specs.Objects.{Object, Memory, Reply, plain, isIntact}
 use Rattle.ledger.specs.Refusals.{Facts, factsOf, Test, shared, own, refusalOf, isHeld, standingTests, verdict, heapVerdict}
 use Rattle.ledger.specs.Rules.{testsOf}
-use Rattle.ledger.specs.Ledger.{Ledger, Sent, verdictOn, standingVerdictOn, reply, replyToRequest, afterSent, replies, fresh, factsIn}
+use Rattle.ledger.specs.Ledger.{Ledger, Sent, verdictOn, standingVerdictOn, reply, replyToRequest, afterSent, replies, factsIn}
 use Rattle.ledger.specs.Remaining.{remainingLife}
 use Rattle.ledger.specs.Kept.{Kept}
 use Rattle.ledger.specs.declared.Answer.{Answer}

@@ -24,7 +24,7 @@ use Rattle.ledger.specs.Refusals.{factsOf, verdict}
 use Rattle.ledger.specs.Rules.{replyTo, memoryAfter, expirationsAfter, testsOf}
 use Rattle.ledger.specs.Ledger.{Ledger, factsIn, Sent, fresh, settled, replyBy, afterBy, verdictOn, reply, next, replyToRequest, afterRequest, afterSent, replies, afterAll}
 use Rattle.ledger.specs.Kept.{ObjectsKept, Kept}
-use Rattle.ledger.specs.Veil.{veiled, veiledObject, veiledMemory, veiledIn, veiledBytes, veiledBy, veiledSent, veils, taskOf, isViewer, isViewers, toViewers, seenBytes, seen, seenIn, Discreet}
+use Rattle.ledger.specs.Veil.{veiled, veiledObject, veiledMemory, veiledIn, veiledBytes, veiledBy, veiledSent, veils, callerOf, isViewer, isViewers, toViewers, seenBytes, seen, seenIn, Discreet}
 use Rattle.ledger.specs.declared.Event.{Event}
 use Rattle.ledger.specs.declared.Event.the-variants.{Leave, Block, Resume, Tick, View}
 use Rattle.ledger.specs.declared.Call.{Call}
@@ -301,7 +301,7 @@ module _ (L : Ledger) (k : Kept L) where
       by (Remaining task handle) = refl
 
 -- of an answer to a viewer all is seen
-whole-bytes : (m : Memory) (call : Call) (bytes : List ℕ) → isViewer (m .clocks) (taskOf call) ≡ true → seenBytes m call bytes ≡ bytes
+whole-bytes : (m : Memory) (call : Call) (bytes : List ℕ) → isViewer (m .clocks) (callerOf call) ≡ true → seenBytes m call bytes ≡ bytes
 unfolding seenBytes
 whole-bytes m (Join task share) bytes e = refl
 whole-bytes m (Schedule event task) bytes e = refl

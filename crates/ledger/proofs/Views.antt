@@ -1,4 +1,4 @@
--- Order 10 on lists of calls that are written out: the checker computes them.
+-- Order 10 on lists of displayCalls that are written out: the checker computes them.
 use Prim.Native.Nat.{ℕ}
 use mathlib.Core.Bool.{true, false, true≢false}
 use mathlib.Core.List.{List, [], _∷_, map}
@@ -21,7 +21,7 @@ use Rattle.ledger.specs.Ledger.{fresh, reply, next, replies, afterAll}
 use Rattle.ledger.specs.Noticed.{disturbed, disturbedIn}
 use Rattle.ledger.specs.Rows.{read, numbers}
 use Rattle.ledger.specs.Veil.{veiled, veiledObject, veiledIn, veiledBytes, veils, toViewers}
-use Rattle.ledger.specs.Views.{headed, oneHead, viewerEdges, calls, Views}
+use Rattle.ledger.specs.Views.{headed, oneHead, viewerEdges, displayCalls, Views}
 use Rattle.ledger.proofs.Edges.{passes, passing-holds}
 
 all-pass : T (all passes viewerEdges)
@@ -38,22 +38,22 @@ told rs = map numbers rs
 differ : (rs ts : List Reply) → sameBy (sameBy eqb) (told rs) (told ts) ≡ false → sameBy (sameBy eqb) (told ts) (told ts) ≡ true → rs ≡ ts → ⊥
 differ rs ts d s e = true≢false (sym s ∙ ap (λ (qs : List Reply). sameBy (sameBy eqb) (told qs) (told ts)) (sym e) ∙ d)
 
-one-veil : veils (fresh standard) (calls 6 7 8) ≡ veils (fresh standard) (calls 9 10 11)
+one-veil : veils (fresh standard) (displayCalls 6 7 8) ≡ veils (fresh standard) (displayCalls 9 10 11)
 unfolding veils veiled veiledBytes fresh next afterAll testsOf verdict
     freshMemory objectAt written overwritten total memoryAfter expirationsAfter handlesOf setOnEach dueAfter remaining putOff deserted lasting released
     freshClocks moved allTicked tasksAfter advances clocksAfter entered makersAfter sharesAfter sumBelow made unmet isFull isShort isAtLimit
     standard lastHandle counterRange
 one-veil = refl
 
-two-answers : (sameBy (sameBy eqb) (told (replies (fresh standard) (calls 6 7 8))) (told (replies (fresh standard) (calls 9 10 11))) ≡ false)
-    × (sameBy (sameBy eqb) (told (replies (fresh standard) (calls 9 10 11))) (told (replies (fresh standard) (calls 9 10 11))) ≡ true)
+two-answers : (sameBy (sameBy eqb) (told (replies (fresh standard) (displayCalls 6 7 8))) (told (replies (fresh standard) (displayCalls 9 10 11))) ≡ false)
+    × (sameBy (sameBy eqb) (told (replies (fresh standard) (displayCalls 9 10 11))) (told (replies (fresh standard) (displayCalls 9 10 11))) ≡ true)
 unfolding told fresh reply next replies afterAll testsOf verdict
     freshMemory objectAt written overwritten total replyTo memoryAfter expirationsAfter handlesOf setOnEach usage dueAfter remaining remainingLife putOff deserted lasting released
     freshClocks moved allTicked tasksAfter advances clocksAfter entered makersAfter sharesAfter sumBelow made unmet isFull isShort isAtLimit
     standard lastHandle counterRange
 two-answers = (refl, refl)
 
-three : length (toViewers (fresh standard) (calls 6 7 8) (replies (fresh standard) (calls 6 7 8))) ≡ 3
+three : length (toViewers (fresh standard) (displayCalls 6 7 8) (replies (fresh standard) (displayCalls 6 7 8))) ≡ 3
 unfolding toViewers fresh reply next replies afterAll testsOf verdict
     freshMemory objectAt written overwritten total replyTo memoryAfter expirationsAfter handlesOf setOnEach usage dueAfter remaining remainingLife putOff deserted lasting released
     freshClocks moved allTicked tasksAfter advances clocksAfter entered makersAfter sharesAfter sumBelow made unmet isFull isShort isAtLimit
@@ -97,7 +97,7 @@ views-hold =
       seven = refl;
       rows = all→All passes passing-holds viewerEdges all-pass;
       veil = one-veil;
-      apart = λ e. differ (replies (fresh standard) (calls 6 7 8)) (replies (fresh standard) (calls 9 10 11)) (two-answers .0) (two-answers .1) e;
+      apart = λ e. differ (replies (fresh standard) (displayCalls 6 7 8)) (replies (fresh standard) (displayCalls 9 10 11)) (two-answers .0) (two-answers .1) e;
       told = three;
       twoLedgers = two-ledgers;
       twoReads = λ e. differ (replies (headed 3 4) (read 0 1 ∷ [])) (replies (headed 8 9) (read 0 1 ∷ [])) (two-reads .0) (two-reads .1) e;

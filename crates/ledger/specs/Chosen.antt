@@ -1,4 +1,5 @@
--- The rules C (order 12 of document 02): the figures that a site chooses. No call changes them, each bounds what it is named for, and these may be chosen.
+-- The rules C (order 12 of document 02): the figures that a site chooses. No call changes them, each bounds what it is named for, and these
+-- may be chosen.
 use mathlib.Core.Bool.{Bool, true, false}
 use mathlib.Core.List.{List, [], _∷_}
 use mathlib.Core.Path.{_≡_}
@@ -13,7 +14,8 @@ use Rattle.ledger.specs.declared.Limits.{Limits}
 
 unfoldable pub chosenEdges : List Row
 chosenEdges =
-    -- 1. Each of the four bounds what it is named for: the extension (R6), the blocks of either store (R9) and the expirations (R10), of a batch too.
+    -- 1. Each of the four bounds what it is named for: the extension (R6), the blocks of either store (R9) and the expirations (R10), of a
+    -- batch too.
     fresh (chosen 1 2 4 5) runs
     join 0 ⇒ done ⨾
     make 0 Local 6 32 ⇒ refused 6 ⨾

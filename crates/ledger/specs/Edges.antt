@@ -48,7 +48,8 @@ edges =
     tick 1 ⇒ advanced ⨾
     tick 0 ⇒ standsStill
     clockReads 3 ∷
-    -- 5. A block advances where all that still run have ticked (T14, T15). So does a leave, and either ends the global ones that are due (E11).
+    -- 5. A block advances where all that still run have ticked (T14, T15). So does a leave, and either ends the global ones that are due
+    -- (E11).
     fresh standard runs
     join 0 ⇒ done ⨾
     make 0 Global 0 4 ⇒ handle 1 ⨾
@@ -84,8 +85,8 @@ edges =
     make 0 Local 30 0 ⇒ refused 7 ⨾
     make 0 Local 30 257 ⇒ refused 7
     clockReads 0 ∷
-    -- 8. A full small store gives 9, and the large one still has room (O8, R9). With that 256 expirations stand, and 9 is seen to come before 10 (R40).
-    -- (The refreshes come early: with 65 objects standing they would take the check past its step limit.)
+    -- 8. A full small store gives 9, and the large one still has room (O8, R9). With that 256 expirations stand, and 9 is seen to come
+    -- before 10 (R40). (The refreshes come early: with 65 objects standing they would take the check past its step limit.)
     fresh standard runs
     join 0 ⇒ done ⨾
     makeSmall 1 1 ⨾

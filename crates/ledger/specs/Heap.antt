@@ -8,10 +8,9 @@ use mathlib.Core.Path.{_≡_}
 use lib.Dec.{eqb}
 use Rattle.ledger.specs.Numbers.{numberOf}
 use Rattle.ledger.specs.Expirations.{Expiration}
-use Rattle.ledger.specs.Objects.{Memory, Reply, freshMemory, stands, standing, handlesOf}
+use Rattle.ledger.specs.Objects.{Memory, Reply, freshMemory}
 use Rattle.ledger.specs.Refusals.{heapVerdict, factsOf}
 use Rattle.ledger.specs.Rules.{testsOf, replyTo, memoryAfter, expirationsAfter, isInTimeAndBounds}
-use Rattle.ledger.specs.Shares.{isFull, isShortOf, isAtLimit}
 use Rattle.ledger.specs.Ledger.{Sent, fresh, replies, replyBy, afterBy}
 use Rattle.ledger.specs.declared.Request.the-variants.{Use}
 use Rattle.ledger.specs.declared.Call.{Call}

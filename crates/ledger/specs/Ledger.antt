@@ -9,6 +9,7 @@ use Rattle.ledger.specs.Rules.{replyTo, memoryAfter, expirationsAfter, t
 use Rattle.ledger.specs.Remaining.{remainingLife}
 use Rattle.ledger.specs.declared.Answer.the-variants.{Refused, Counted, Lasts}
 use Rattle.ledger.specs.declared.Call.{Call}
+use Rattle.ledger.specs.declared.Frame.{Frame}
 use Rattle.ledger.specs.declared.Refusal.{Refusal}
 use Rattle.ledger.specs.declared.Request.{Request}
 use Rattle.ledger.specs.declared.Request.the-variants.{Use, Report, Remaining}
@@ -70,6 +71,15 @@ abbrev pub afterRequest : Ledger → Request → List ℕ → Ledger
 afterRequest L (Use call) new = next L call new
 afterRequest L Report new = L
 afterRequest L (Remaining task handle) new = L
+
+-- the ledger's reply to a frame with the bytes that come with it, and the ledger after it; F26: a frame that is refused is no call
+abbrev pub replyToFrame : Ledger → Frame → List ℕ → Reply
+replyToFrame L (Frame.Request request count) bytes = replyToRequest L request bytes
+replyToFrame L (Frame.Refused why) bytes = plain (Refused why)
+
+abbrev pub afterFrame : Ledger → Frame → List ℕ → Ledger
+afterFrame L (Frame.Request request count) bytes = afterRequest L request bytes
+afterFrame L (Frame.Refused why) bytes = L
 
 -- a call on its way: a write brings its bytes, a batch its handles
 pub record Sent : Type 0 where

@@ -1,10 +1,11 @@
--- Rules of documents 01 and 02 that none of the thirteen edges tries, in rows of the same kind: writing, leaving, waiting, the last handle, remaining life, batches, and refusals 1 to 6, 8, 11 and 20.
+-- Rules of documents 01 and 02 that none of the thirteen edges tries, in rows of the same kind: writing, leaving, waiting, the last handle,
+-- life life, batches, and refusals 1 to 6, 8, 11 and 20.
 use mathlib.Core.List.{List, [], _∷_}
 use lib.ListN.{replicate}
 use Rattle.lists.specs.Tests.{All}
 use Rattle.ledger.specs.Limits.{standard}
 use Rattle.ledger.specs.Ledger.{fresh}
-use Rattle.ledger.specs.Rows.{join, leave, block, resume, tick, make, refresh, read, write, batch, report, remaining, refused, done, standsStill, advanced, handle, contents, zeros, figures, lasts, _⇒_, _⨾_, Row, _runs_clockReads_, RowHolds, lateStart}
+use Rattle.ledger.specs.Rows.{join, leave, block, resume, tick, make, refresh, read, write, batch, report, life, refused, done, standsStill, advanced, handle, contents, zeros, figures, lasts, _⇒_, _⨾_, Row, _runs_clockReads_, RowHolds, lateStart}
 use Rattle.ledger.specs.declared.Kind.the-variants.{Local, Global}
 
 unfoldable pub moreEdges : List Row
@@ -53,48 +54,48 @@ moreEdges =
     read 1 1 ⇒ refused 12 ⨾
     join 0 ⇒ done
     clockReads 0 ∷
-    -- Remaining life: the longest expiration of either kind counts, a local one for its setter alone and a global one for all. Straight after it is set e + 1 ticks or e + 2
-    -- advances are left, and each goes by its own time.
+    -- Remaining life: the longest expiration of either kind counts, a local one for its setter alone and a global one for all. Straight
+    -- after it is set e + 1 ticks or e + 2 advances are left, and each goes by its own time.
     fresh standard runs
     join 0 ⇒ done ⨾
     join 1 ⇒ done ⨾
     make 0 Local 30 4 ⇒ handle 1 ⨾
-    remaining 0 1 ⇒ lasts 31 0 ⨾
-    remaining 1 1 ⇒ lasts 0 0 ⨾
+    life 0 1 ⇒ lasts 31 0 ⨾
+    life 1 1 ⇒ lasts 0 0 ⨾
     refresh 1 1 Global 30 ⇒ done ⨾
     refresh 1 1 Global 4 ⇒ done ⨾
     refresh 1 1 Local 2 ⇒ done ⨾
-    remaining 0 1 ⇒ lasts 31 32 ⨾
-    remaining 1 1 ⇒ lasts 3 32 ⨾
+    life 0 1 ⇒ lasts 31 32 ⨾
+    life 1 1 ⇒ lasts 3 32 ⨾
     tick 0 ⇒ standsStill ⨾
-    remaining 0 1 ⇒ lasts 30 32 ⨾
-    remaining 1 1 ⇒ lasts 3 32 ⨾
+    life 0 1 ⇒ lasts 30 32 ⨾
+    life 1 1 ⇒ lasts 3 32 ⨾
     tick 1 ⇒ advanced ⨾
-    remaining 1 1 ⇒ lasts 2 31
+    life 1 1 ⇒ lasts 2 31
     clockReads 1 ∷
     -- It makes the tests of a read: 1, 3, 4, 11, 12.
     fresh standard runs
-    remaining 16 0 ⇒ refused 1 ⨾
-    remaining 0 0 ⇒ refused 3 ⨾
+    life 16 0 ⇒ refused 1 ⨾
+    life 0 0 ⇒ refused 3 ⨾
     join 0 ⇒ done ⨾
     block 0 ⇒ standsStill ⨾
-    remaining 0 0 ⇒ refused 4 ⨾
+    life 0 0 ⇒ refused 4 ⨾
     resume 0 ⇒ done ⨾
     make 0 Local 0 4 ⇒ handle 1 ⨾
-    remaining 0 0 ⇒ refused 11 ⨾
-    remaining 0 2 ⇒ refused 11 ⨾
+    life 0 0 ⇒ refused 11 ⨾
+    life 0 2 ⇒ refused 11 ⨾
     tick 0 ⇒ advanced ⨾
-    remaining 0 1 ⇒ refused 12
+    life 0 1 ⇒ refused 12
     clockReads 1 ∷
-    -- A batch: each object gets its expiration, one that is named twice gets two. 20 comes before 6; one object that was never made gives 11 before another that is gone gives 12; and
-    -- then no object gets any.
+    -- A batch: each object gets its expiration, one that is named twice gets two. 20 comes before 6; one object that was never made gives
+    -- 11 before another that is gone gives 12; and then no object gets any.
     fresh standard runs
     join 0 ⇒ done ⨾
     make 0 Local 0 4 ⇒ handle 1 ⨾
     make 0 Local 30 4 ⇒ handle 2 ⨾
     batch 0 Local 1 (1 ∷ 2 ∷ 2 ∷ []) ⇒ done ⨾
     report ⇒ figures 2 0 5 2 ⨾
-    remaining 0 1 ⇒ lasts 2 0 ⨾
+    life 0 1 ⇒ lasts 2 0 ⨾
     batch 0 Local 31 [] ⇒ refused 20 ⨾
     batch 0 Local 31 (1 ∷ []) ⇒ refused 6 ⨾
     tick 0 ⇒ advanced ⨾

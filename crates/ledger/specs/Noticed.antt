@@ -1,5 +1,5 @@
--- The claim of R23 (order 6 of document 02): where one byte of an object is changed from outside, each read and write of it is refused from then on, and all else is
--- answered as if nothing had been changed.
+-- The claim of R23 (order 6 of document 02): where one byte of an object is changed from outside, each read and write of it is refused from
+-- then on, and all else is answered as if nothing had been changed.
 use Prim.Native.Nat.{ℕ, _≤_, _<_}
 use mathlib.Core.Bool.{true, cond}
 use mathlib.Core.List.{List, [], _∷_, map}
@@ -35,8 +35,8 @@ disturbedIn handle at value L =
       expirations = L .expirations;
     }
 
--- N2: such a change: the object is one of the ledger's, its sum agreed, and exactly one byte is another. The ledger is one that a well-formed record reads as: its
--- objects have handles that were given (W4), and stand (W2).
+-- N2: such a change: the object is one of the ledger's, its sum agreed, and exactly one byte is another. The ledger is one that a
+-- well-formed record reads as: its objects have handles that were given (W4), and stand (W2).
 pub record Change : Type 0 where
   pub before : Ledger
   pub handle : ℕ

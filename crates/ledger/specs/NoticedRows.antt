@@ -6,7 +6,7 @@ use Rattle.lists.specs.Tests.{All}
 use Rattle.ledger.specs.Limits.{standard}
 use Rattle.ledger.specs.Ledger.{Ledger, fresh, afterAll}
 use Rattle.ledger.specs.Noticed.{disturbedIn, Change}
-use Rattle.ledger.specs.Rows.{join, block, tick, make, refresh, read, write, batch, release, report, remaining, refused, done, standsStill, advanced, contents, zeros, figures, lasts, _⇒_, _⨾_, Row, _runs_clockReads_, RowHolds}
+use Rattle.ledger.specs.Rows.{join, block, tick, make, refresh, read, write, batch, release, report, life, refused, done, standsStill, advanced, contents, zeros, figures, lasts, _⇒_, _⨾_, Row, _runs_clockReads_, RowHolds}
 use Rattle.ledger.specs.declared.Kind.the-variants.{Local, Pinned}
 
 -- two objects of four bytes, the first with 1 2 3 4, and a pinned one of 33
@@ -17,13 +17,13 @@ threeObjects =
 
 unfoldable pub noticedEdges : List Row
 noticedEdges =
-    -- 1. The first byte of object 1 is 9: reads and writes of it are 23, a write past its end too (23 comes before 13), and so they are after a refresh; nothing else
-    -- looks at the sum. It goes at its time, and is then gone.
+    -- 1. The first byte of object 1 is 9: reads and writes of it are 23, a write past its end too (23 comes before 13), and so they are
+    -- after a refresh; nothing else looks at the sum. It goes at its time, and is then gone.
     disturbedIn 1 0 9 threeObjects runs
     read 0 1 ⇒ refused 23 ⨾
     write 0 1 0 (1 ∷ []) ⇒ refused 23 ⨾
     write 0 1 4 (1 ∷ []) ⇒ refused 23 ⨾
-    remaining 0 1 ⇒ lasts 1 0 ⨾
+    life 0 1 ⇒ lasts 1 0 ⨾
     refresh 0 1 Local 1 ⇒ done ⨾
     batch 0 Local 1 (1 ∷ 2 ∷ []) ⇒ done ⨾
     release 0 1 ⇒ refused 22 ⨾

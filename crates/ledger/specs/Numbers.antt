@@ -1,9 +1,14 @@
--- The number of documents 01 and 02 for each refusal, and the number and values of each answer.
+-- The number of documents 01 and 02 for each refusal and each kind, and the number and values of each answer.
 use Prim.Native.Nat.{ℕ}
 use mathlib.Core.Bool.{Bool, true, false, cond}
 use mathlib.Core.List.{List, [], _∷_}
+use lib.Dec.{eqb}
 use Rattle.ledger.specs.declared.Refusal.{Refusal}
 use Rattle.ledger.specs.declared.Refusal.the-variants.{NoSuchTask, TaskPresent, TaskAbsent, TaskWaiting, TaskRunning, ExtensionTooLong, LengthOutOfRange, HandlesSpent, NoFreeBlock, NoFreeExpiration, HandleNotGiven, ObjectGone, OutsideObject, WrongStoreLength, NotWellFormed, NotHexadecimal, UnknownOperation, WrongFrameLength, UnknownKind, BatchOutOfRange, OnlyMakePins, NotPinned, SumDiffers, ReserveAboveLimit, ReserveNotFree, AtLimit, OnlyViews, PrefixTooLong, LimitsOutOfRange}
+use Rattle.ledger.specs.declared.Kind.{Kind}
+use Rattle.ledger.specs.declared.Kind.the-variants.{Local, Global, Pinned}
+use Rattle.ledger.specs.declared.KindByte.{KindByte}
+use Rattle.ledger.specs.declared.KindByte.the-variants.{Known, Unknown}
 use Rattle.ledger.specs.declared.Answer.{Answer}
 use Rattle.ledger.specs.declared.Answer.the-variants.{Refused, Done, Advanced, Handle, Bytes, Counted, Lasts}
 
@@ -67,3 +72,13 @@ answerValues (Handle h) = h ∷ []
 answerValues Bytes = []
 answerValues (Counted u) = u .small ∷ u .large ∷ u .expirations ∷ u .given ∷ []
 answerValues (Lasts life) = life .local ∷ life .global ∷ []
+
+-- F21: a kind by its byte; R19 where it is unknown
+abbrev pub kindOf : ℕ → KindByte
+kindOf number = cond (eqb number 0) (Known Local) (cond (eqb number 1) (Known Global) (cond (eqb number 2) (Known Pinned) Unknown))
+
+-- and its byte
+abbrev pub kindNumber : Kind → ℕ
+kindNumber Local = 0
+kindNumber Global = 1
+kindNumber Pinned = 2

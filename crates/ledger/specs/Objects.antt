@@ -20,8 +20,8 @@ use Rattle.ledger.specs.declared.Event.the-variants.{Leave, Block, Resum
 use Rattle.ledger.specs.declared.Limits.{Limits}
 use Rattle.ledger.specs.declared.Share.{Share}
 
--- O1: an object; its handle is 01's number. O33: `bytes` are those of its whole block, and `sum` is what they are to add up to. Q3: `maker` is the task that made
--- it, or departed once that task has left. V4: `prefix` (02: head length) is how many of its bytes a viewer reads
+-- O1: an object; its handle is 01's number. O33: `bytes` are those of its whole block, and `sum` is what they are to add up to. Q3: `maker`
+-- is the task that made it, or departed once that task has left. V4: `prefix` (02: head length) is how many of its bytes a viewer reads
 pub record Object : Type 0 where
   pub handle : ℕ
   pub size : ℕ
@@ -34,11 +34,11 @@ pub record Object : Type 0 where
 abbrev pub withBytes : List ℕ → ℕ → Object → Object
 withBytes bytes sum o = record { handle = o .handle; size = o .size; bytes = bytes; sum = sum; maker = o .maker; prefix = o .prefix }
 
-abbrev pub withMaker : ℕ → Object → Object
-withMaker maker o = record { handle = o .handle; size = o .size; bytes = o .bytes; sum = o .sum; maker = maker; prefix = o .prefix }
+abbrev pub ofMaker : ℕ → Object → Object
+ofMaker maker o = record { handle = o .handle; size = o .size; bytes = o .bytes; sum = o .sum; maker = maker; prefix = o .prefix }
 
--- what the ledger and the unbounded heap both keep. C2: `limits` are the figures of the pool, which no call changes. Q1: `shares` are the reserves and limits of the tasks in their order. E23: `pinned` has the
--- handles of the objects whose pinned expiration is left
+-- what the ledger and the unbounded heap both keep. C2: `limits` are the figures of the pool, which no call changes. Q1: `shares` are the
+-- reserves and limits of the tasks in their order. E23: `pinned` has the handles of the objects whose pinned expiration is left
 pub record Memory : Type 0 where
   pub limits : Limits
   pub clocks : Clocks
@@ -110,7 +110,7 @@ written handle offset new o =
 
 -- Q3: what a task made is nobody's once it has left, for good
 abbrev pub orphaned : ℕ → Object → Object
-orphaned task o = withMaker (cond (eqb (o .maker) task) departed (o .maker)) o
+orphaned task o = ofMaker (cond (eqb (o .maker) task) departed (o .maker)) o
 
 unfoldable pub makersAfter : Event → ℕ → List Object → List Object
 makersAfter Leave task os = map (orphaned task) os

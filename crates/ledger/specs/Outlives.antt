@@ -1,4 +1,5 @@
--- The rules U, order 7 of document 02, over every list of calls: a global expiration (01: common date) outlives the ticks that it was set for, and is gone after its rounds.
+-- The rules U, order 7 of document 02, over every list of calls: a global expiration (01: common date) outlives the ticks that it was set
+-- for, and is gone after its rounds.
 use Prim.Native.Nat.{ℕ, _+_, _≤_}
 use mathlib.Core.Bool.{Bool, true, false, cond, not, _&&_, _||_}
 use mathlib.Core.List.{List, [], _∷_, _++_}
@@ -45,7 +46,8 @@ moveIn L (Use call) new = afterBy (verdictOn L call new) (moveOf call) neither
 moveIn L Report new = neither
 moveIn L (Remaining task handle) new = neither
 
--- U2: An expiration has no name, so it is followed by the ledger's rule, which comes in two parts: those that a call sets, as of a list that had none,
+-- U2: An expiration has no name, so it is followed by the ledger's rule, which comes in two parts: those that a call sets, as of a list
+-- that had none,
 unfoldable pub setIn : Ledger → Request → List ℕ → List Expiration
 setIn L (Use call) new = afterBy (verdictOn L call new) (expirationsAfter call new (L .memory) []) []
 setIn L Report new = []
@@ -111,7 +113,8 @@ unfoldable pub countOf : (Move → Bool) → Ledger → List Sent → ℕ
 countOf sort L [] = 0
 countOf sort L (s ∷ ss) = cond (sort (moveIn L (s .request) (s .bytes))) 1 0 + countOf sort (afterSent L s) ss
 
--- U5: A make, refresh or batch sets a global expiration with an extension e, after any calls from fresh on, whatever the figures; it is one of those that the call sets.
+-- U5: A make, refresh or batch sets a global expiration with an extension e, after any calls from fresh on, whatever the figures; it is one
+-- of those that the call sets.
 pub record Setting : Type 0 where
   pub limits : Limits
   pub earlier : List Sent
@@ -127,7 +130,8 @@ pub record Setting : Type 0 where
 abbrev pub whenSet : Setting → Ledger
 whenSet d = afterSent (afterAll (fresh (d .limits)) (d .earlier)) (d .call)
 
--- U6, the first claim: whatever is called then, while the setter has not left and has made at most e ticks since, this expiration stands, and its object with it.
+-- U6, the first claim: whatever is called then, while the setter has not left and has made at most e ticks since, this expiration stands,
+-- and its object with it.
 abbrev pub OutlivesTicks : Type 0
 OutlivesTicks =
     (d : Setting) (ss : List Sent) → countOf (isLeaveOf (d .setter)) (whenSet d) ss ≡ 0 → countOf (isTickOf (d .setter)) (whenSet d) ss ≤ d .extension

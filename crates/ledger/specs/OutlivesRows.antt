@@ -1,4 +1,5 @@
--- U11: order 7 on lists of calls that are written out: both claims at work, that their figures are sharp, and that under other readings they would be false.
+-- U11: order 7 on lists of calls that are written out: both claims at work, that their figures are sharp, and that under other readings
+-- they would be false.
 use Prim.Native.Nat.{ℕ, _+_}
 use mathlib.Core.Bool.{true, cond}
 use mathlib.Core.List.{List, [], _∷_, map}
@@ -13,7 +14,8 @@ use Rattle.ledger.specs.Outlives.{setIn, followed, isTickOf, isLeaveOf, 
 use Rattle.ledger.specs.Rows.{join, view, leave, block, resume, tick, make, refresh, batch, release}
 use Rattle.ledger.specs.declared.Kind.the-variants.{Local, Global, Pinned}
 
--- A part of the calls after the expiration was set: 2 for a round in which the setter never waits, 1 for one in which it does, 0 for no round.
+-- A part of the calls after the expiration was set: 2 for a round in which the setter never waits, 1 for one in which it does, 0 for no
+-- round.
 pub record Part : Type 0 where
   pub calls : List Sent
   pub sort : ℕ
@@ -27,8 +29,8 @@ waited calls = record { calls = calls; sort = 1 }
 abbrev pub loose : List Sent → Part
 loose calls = record { calls = calls; sort = 0 }
 
--- A trial: the calls before, the call of task 0 that sets the expiration or expirations, how many it sets, the parts, the ticks of task 0 since, and how many of
--- those are left.
+-- A trial: the calls before, the call of task 0 that sets the expiration or expirations, how many it sets, the parts, the ticks of task 0
+-- since, and how many of those are left.
 pub record Trial : Type 0 where
   pub earlier : List Sent
   pub call : Sent
@@ -48,7 +50,8 @@ trials =
     -- It is sharp: e 0 does not.
     trial (join 0 ∷ join 1 ∷ tick 0 ∷ []) (make 0 Global 0 4) 1
     (round (tick 1 ∷ tick 0 ∷ tick 1 ∷ []) ∷ []) 1 0 ∷
-    -- The setter's own blocks bring three advances, and none of its ticks: each puts the expiration off. Judged by the state before the block, the second would end it.
+    -- The setter's own blocks bring three advances, and none of its ticks: each puts the expiration off. Judged by the state before the
+    -- block, the second would end it.
     trial (join 0 ∷ join 1 ∷ []) (make 0 Global 0 4) 1
     (loose (tick 1 ∷ block 0 ∷ resume 0 ∷ tick 1 ∷ block 0 ∷ resume 0 ∷ tick 1 ∷ block 0 ∷ []) ∷ []) 0 1 ∷
     -- A refused tick does not count: task 0 waits.
@@ -104,7 +107,8 @@ pub record TrialsHold : Type 0 where
   pub twelve : length trials ≡ 12
   pub each : All TrialHolds trials
 
--- Neither claim is empty: there are a setting and calls that meet the premises of the first, with as many ticks as it allows, and a setting and rounds that meet those of the second.
+-- Neither claim is empty: there are a setting and calls that meet the premises of the first, with as many ticks as it allows, and a setting
+-- and rounds that meet those of the second.
 pub record ClaimsApply : Type 0 where
   pub ticks : (d : Setting) × (ss : List Sent)
       × (countOf (isLeaveOf (d .setter)) (whenSet d) ss ≡ 0) × (countOf (isTickOf (d .setter)) (whenSet d) ss ≡ d .extension)

@@ -1,4 +1,5 @@
--- The claim of E22 to E24 (order 5 of document 02), over every list of calls: an object that was made pinned (02: kept) stands until a release of it is accepted; and five rows.
+-- The claim of E22 to E24 (order 5 of document 02), over every list of calls: an object that was made pinned (02: kept) stands until a
+-- release of it is accepted; and five rows.
 use Prim.Native.Nat.{ℕ}
 use mathlib.Core.Bool.{Bool, true, false, _||_}
 use mathlib.Core.List.{List, [], _∷_, _++_}
@@ -10,7 +11,7 @@ use Rattle.ledger.specs.Limits.{standard}
 use Rattle.ledger.specs.Objects.{stands}
 use Rattle.ledger.specs.Ledger.{Ledger, Sent, fresh, reply, afterSent, afterAll}
 use Rattle.ledger.specs.Outlives.{Move, neither, joins, happens, releases, moveIn}
-use Rattle.ledger.specs.Rows.{send, join, leave, block, resume, tick, make, refresh, read, batch, release, report, remaining, refused, done, standsStill, advanced, handle, zeros, figures, lasts, _⇒_, _⨾_, _times_, Row, _runs_clockReads_, RowHolds}
+use Rattle.ledger.specs.Rows.{send, join, leave, block, resume, tick, make, refresh, read, batch, release, report, life, refused, done, standsStill, advanced, handle, zeros, figures, lasts, _⇒_, _⨾_, _times_, Row, _runs_clockReads_, RowHolds}
 use Rattle.ledger.specs.declared.Kind.the-variants.{Local, Global, Pinned}
 use Rattle.ledger.specs.declared.Answer.the-variants.{Refused, Handle}
 use Rattle.ledger.specs.declared.Call.the-variants.{Make, Read}
@@ -53,11 +54,13 @@ StandsUntilReleased =
     → (stands (afterAll (whenMade p) ss .expirations) (p .object) ≡ true)
     × ((task : ℕ) → reply (afterAll (whenMade p) ss) (Read task (p .object)) [] .answer ≡ Refused ObjectGone → ⊥)
 
--- Calls none of which is such a release of object 1: ticks, the make and the release of another object, and one of it that is refused, task 1 being absent
+-- Calls none of which is such a release of object 1: ticks, the make and the release of another object, and one of it that is refused, task
+-- 1 being absent
 unfoldable pub sparing : List Sent
 sparing = tick 0 ∷ make 0 Pinned 0 4 ∷ release 0 2 ∷ release 1 1 ∷ tick 0 ∷ []
 
--- The claim is not empty, and ends where it says: there is such a make of object 1, which stands after these calls, and after one more, its release, does not.
+-- The claim is not empty, and ends where it says: there is such a make of object 1, which stands after these calls, and after one more, its
+-- release, does not.
 pub record PinnedApplies : Type 0 where
   pub made : PinnedMake
   pub object : made .object ≡ 1
@@ -68,8 +71,8 @@ pub record PinnedApplies : Type 0 where
 
 unfoldable pub pinnedEdges : List Row
 pinnedEdges =
-    -- 1. A pinned object outlasts more ticks and advances than any extension gives, and the leave of its maker. Another task releases it: its block and its expiration are
-    -- free in the same call, and a second release finds it gone.
+    -- 1. A pinned object outlasts more ticks and advances than any extension gives, and the leave of its maker. Another task releases it:
+    -- its block and its expiration are free in the same call, and a second release finds it gone.
     fresh standard runs
     join 0 ⇒ done ⨾
     join 1 ⇒ done ⨾
@@ -128,17 +131,17 @@ pinnedEdges =
     tick 0 ⇒ advanced ⨾
     release 0 1 ⇒ refused 12
     clockReads 1 ∷
-    -- 5. It adds nothing to remaining life.
+    -- 5. It adds nothing to life life.
     fresh standard runs
     join 0 ⇒ done ⨾
     make 0 Pinned 0 4 ⇒ handle 1 ⨾
-    remaining 0 1 ⇒ lasts 0 0 ⨾
+    life 0 1 ⇒ lasts 0 0 ⨾
     refresh 0 1 Local 0 ⇒ done ⨾
     refresh 0 1 Global 0 ⇒ done ⨾
-    remaining 0 1 ⇒ lasts 1 2 ⨾
+    life 0 1 ⇒ lasts 1 2 ⨾
     tick 0 ⇒ advanced ⨾
     tick 0 ⇒ advanced ⨾
-    remaining 0 1 ⇒ lasts 0 0
+    life 0 1 ⇒ lasts 0 0
     clockReads 2 ∷
     []
 

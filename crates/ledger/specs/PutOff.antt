@@ -10,14 +10,14 @@ use Rattle.ledger.specs.Expirations.{byGlobal, departed, Expiration, rem
 use Rattle.ledger.specs.Kept.{ClocksKept}
 use Rattle.ledger.specs.Limits.{standard}
 use Rattle.ledger.specs.Ledger.{fresh}
-use Rattle.ledger.specs.Rows.{join, leave, block, resume, tick, make, read, remaining as left, refused, done, standsStill, advanced, handle, zeros, lasts, _⇒_, _⨾_, Row, _runs_clockReads_, RowHolds}
+use Rattle.ledger.specs.Rows.{join, leave, block, resume, tick, make, read, life, refused, done, standsStill, advanced, handle, zeros, lasts, _⇒_, _⨾_, Row, _runs_clockReads_, RowHolds}
 use Rattle.ledger.specs.declared.Event.{Event}
 use Rattle.ledger.specs.declared.Kind.the-variants.{Local, Global}
 
 unfoldable pub waitingEdges : List Row
 waitingEdges =
-    -- 1. The setter waits through two advances, of which a tick brings one and the leave of another task the other: its global expiration has what it had, and then
-    -- counts on. Its local one is not put off.
+    -- 1. The setter waits through two advances, of which a tick brings one and the leave of another task the other: its global expiration
+    -- has what it had, and then counts on. Its local one is not put off.
     fresh standard runs
     join 0 ⇒ done ⨾
     join 1 ⇒ done ⨾
@@ -29,14 +29,14 @@ waitingEdges =
     tick 1 ⇒ advanced ⨾
     tick 1 ⇒ standsStill ⨾
     leave 2 ⇒ advanced ⨾
-    left 1 1 ⇒ lasts 0 2 ⨾
+    life 1 1 ⇒ lasts 0 2 ⨾
     resume 0 ⇒ done ⨾
     read 0 1 ⇒ zeros 4 ⨾
-    left 0 2 ⇒ lasts 1 0 ⨾
+    life 0 2 ⇒ lasts 1 0 ⨾
     tick 0 ⇒ standsStill ⨾
     tick 1 ⇒ advanced ⨾
-    left 0 1 ⇒ lasts 0 1 ⨾
-    left 0 2 ⇒ refused 12
+    life 0 1 ⇒ lasts 0 1 ⨾
+    life 0 2 ⇒ refused 12
     clockReads 1 ∷
     -- 2. The setter's own block makes the advance at which its expiration would be due: it is put off first.
     fresh standard runs
@@ -45,10 +45,10 @@ waitingEdges =
     make 0 Global 0 4 ⇒ handle 1 ⨾
     tick 0 ⇒ standsStill ⨾
     tick 1 ⇒ advanced ⨾
-    left 1 1 ⇒ lasts 0 1 ⨾
+    life 1 1 ⇒ lasts 0 1 ⨾
     tick 1 ⇒ standsStill ⨾
     block 0 ⇒ advanced ⨾
-    left 1 1 ⇒ lasts 0 1
+    life 1 1 ⇒ lasts 0 1
     clockReads 1 ∷
     -- 3. The setter leaves while it waits: from then on its expiration counts.
     fresh standard runs
@@ -58,9 +58,9 @@ waitingEdges =
     block 0 ⇒ standsStill ⨾
     tick 1 ⇒ advanced ⨾
     leave 0 ⇒ standsStill ⨾
-    left 1 1 ⇒ lasts 0 2 ⨾
+    life 1 1 ⇒ lasts 0 2 ⨾
     tick 1 ⇒ advanced ⨾
-    left 1 1 ⇒ lasts 0 1 ⨾
+    life 1 1 ⇒ lasts 0 1 ⨾
     tick 1 ⇒ advanced ⨾
     read 1 1 ⇒ refused 12
     clockReads 0 ∷
@@ -73,7 +73,7 @@ waitingEdges =
     join 0 ⇒ done ⨾
     block 0 ⇒ standsStill ⨾
     tick 1 ⇒ advanced ⨾
-    left 1 1 ⇒ lasts 0 1 ⨾
+    life 1 1 ⇒ lasts 0 1 ⨾
     tick 1 ⇒ advanced ⨾
     read 1 1 ⇒ refused 12
     clockReads 0 ∷

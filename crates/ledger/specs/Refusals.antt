@@ -1,5 +1,5 @@
--- The rules R: each test once, and the first that holds. Rules.antt has the list of each call. (14 and 15 come with stores and record, 16 to 19
--- with frames.)
+-- The rules R: each test once, and the first that holds. Rules.antt has the list of each call. (14 and 15 come with stores and record, 16
+-- to 19 with frames.)
 use Prim.Native.Nat.{ℕ, _+_}
 use mathlib.Core.Bool.{Bool, true, false, not, cond, _||_}
 use mathlib.Core.List.{List, [], _∷_}
@@ -13,8 +13,6 @@ use Rattle.ledger.specs.Expirations.{Expiration}
 use Rattle.ledger.specs.Objects.{Memory, objectAt, isIntact, stands}
 use Rattle.ledger.specs.Shares.{isFull, isShortOf, isAtLimit}
 use Rattle.ledger.specs.declared.State.{State}
-use Rattle.ledger.specs.declared.Event.the-variants.{Leave, Block, Resume, Tick, View}
-use Rattle.ledger.specs.declared.Call.{Call}
 use Rattle.ledger.specs.declared.Quota.{Quota}
 use Rattle.ledger.specs.declared.Share.{Share}
 use Rattle.ledger.specs.declared.Kind.{Kind}

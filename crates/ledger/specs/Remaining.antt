@@ -25,7 +25,8 @@ unfoldable pub remainingLife : ℕ → ℕ → Clocks → List Expiration → Li
 remainingLife task handle clocks xs =
     record { local = mostLeft (isSetBy task) handle clocks xs; global = mostLeft isGlobal handle clocks xs }
 
--- E17: the life after the task sets one more expiration on the object: a longer one shows at once, a shorter one takes nothing away, and a pinned one adds nothing
+-- E17: the life after the task sets one more expiration on the object: a longer one shows at once, a shorter one takes nothing away, and a
+-- pinned one adds nothing
 abbrev pub extended : Kind → ℕ → Life → Life
 extended Local extension life = record { local = max (extension + 1) (life .local); global = life .global }
 extended Global extension life = record { local = life .local; global = max (extension + 2) (life .global) }

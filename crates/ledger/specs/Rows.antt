@@ -19,7 +19,8 @@ use Rattle.ledger.specs.declared.Call.{Call}
 use Rattle.ledger.specs.declared.Call.the-variants.{Join, Schedule, Make, Refresh, Read, Write, Batch, Release}
 use Rattle.ledger.specs.declared.Request.the-variants.{Use, Report, Remaining}
 
--- The calls, by their names in documents 01 and 02 and with the arguments in their order. Only a write brings bytes, and a batch its handles.
+-- The calls, by their names in documents 01 and 02 and with the arguments in their order. Only a write brings bytes, and a batch its
+-- handles.
 abbrev pub send : Call → List ℕ → Sent
 send call new = record { request = Use call; bytes = new }
 
@@ -83,8 +84,8 @@ release task handle = send (Release task handle) []
 abbrev pub report : Sent
 report = record { request = Report; bytes = [] }
 
-abbrev pub remaining : ℕ → ℕ → Sent
-remaining task handle = record { request = Remaining task handle; bytes = [] }
+abbrev pub life : ℕ → ℕ → Sent
+life task handle = record { request = Remaining task handle; bytes = [] }
 
 -- The answers as numbers: that of the refusal, or 0 and the data, the bytes of a read among them.
 abbrev pub numbers : Reply → List ℕ
@@ -168,7 +169,8 @@ pub record RowHolds (row : Row) : Type 0 where
   pub answers : answered row ≡ expected row
   pub clock : clockAfter row ≡ row .clock
 
--- A ledger of 01's figures that only a very long list of calls comes to: task 0 runs with this clock, and so many handles are given; all else is fresh.
+-- A ledger of 01's figures that only a very long list of calls comes to: task 0 runs with this clock, and so many handles are given; all
+-- else is fresh.
 abbrev pub lateStart : (clock given : ℕ) → Ledger
 lateStart clock given =
     let tasks = set (freshClocks .tasks) 0 (record { state = Running; ticked = false; clock = clock }) in

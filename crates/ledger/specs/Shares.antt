@@ -1,5 +1,5 @@
--- The rules Q4 to Q9 (order 9 of document 02): what of a store a task has, what is held back for it, and what is left for the others. Each once for either store, and for
--- any count of blocks.
+-- The rules Q4 to Q9 (order 9 of document 02): what of a store a task has, what is held back for it, and what is left for the others. Each
+-- once for either store, and for any count of blocks.
 use Prim.Native.Nat.{ℕ, _+_, _-_}
 use mathlib.Core.Bool.{Bool, true, false, cond, not, _&&_, _||_}
 use mathlib.Core.List.{List}

@@ -58,21 +58,21 @@ veils L [] = []
 veils L (s ∷ ss) = veiledSent L s ∷ veils (afterSent L s) ss
 
 -- V8: a call of a viewer, or a report
-abbrev pub taskOf : Call → ℕ
-taskOf (Join task share) = task
-taskOf (Schedule event task) = task
-taskOf (Make task kind extension size prefix) = task
-taskOf (Refresh task kind extension handle) = task
-taskOf (Read task handle) = task
-taskOf (Write task handle offset) = task
-taskOf (Batch task kind extension) = task
-taskOf (Release task handle) = task
+abbrev pub callerOf : Call → ℕ
+callerOf (Join task share) = task
+callerOf (Schedule event task) = task
+callerOf (Make task kind extension size prefix) = task
+callerOf (Refresh task kind extension handle) = task
+callerOf (Read task handle) = task
+callerOf (Write task handle offset) = task
+callerOf (Batch task kind extension) = task
+callerOf (Release task handle) = task
 
 abbrev pub isViewer : Clocks → ℕ → Bool
 isViewer clocks task = isViewing (taskAt clocks task .state)
 
 abbrev pub isViewers : Clocks → Request → Bool
-isViewers clocks (Use call) = isViewer clocks (taskOf call)
+isViewers clocks (Use call) = isViewer clocks (callerOf call)
 isViewers clocks Report = true
 isViewers clocks (Remaining task handle) = isViewer clocks task
 

@@ -1,4 +1,4 @@
--- The rules V (order 10 of document 02) on lists of calls that are written out: seven rows, and two lists with one veil.
+-- The rules V (order 10 of document 02) on lists of displayCalls that are written out: seven rows, and two lists with one veil.
 use Prim.Native.Nat.{ℕ}
 use mathlib.Core.List.{List, [], _∷_}
 use mathlib.Core.Logic.{_≢_}
@@ -9,7 +9,7 @@ use Rattle.ledger.specs.Limits.{standard}
 use Rattle.ledger.specs.Ledger.{Ledger, Sent, fresh, replies, afterAll}
 use Rattle.ledger.specs.Noticed.{disturbedIn}
 use Rattle.ledger.specs.Veil.{veiledIn, veils, toViewers}
-use Rattle.ledger.specs.Rows.{join, joinWith, shareOf, view, leave, block, resume, tick, make, makeWith, refresh, read, write, batch, release, report, remaining, refused, done, standsStill, advanced, handle, contents, zeros, figures, lasts, _⇒_, _⨾_, Row, _runs_clockReads_, RowHolds, lateStart}
+use Rattle.ledger.specs.Rows.{join, joinWith, shareOf, view, leave, block, resume, tick, make, makeWith, refresh, read, write, batch, release, report, life, refused, done, standsStill, advanced, handle, contents, zeros, figures, lasts, _⇒_, _⨾_, Row, _runs_clockReads_, RowHolds, lateStart}
 use Rattle.ledger.specs.declared.Kind.the-variants.{Local, Global, Pinned}
 
 -- task 0, viewer 1, and object 1 of four bytes, two of which are its prefix (02: head), and these two beyond it
@@ -44,7 +44,7 @@ viewerEdges =
     makeWith 0 Local 30 33 34 ⇒ refused 28 ⨾
     makeWith 0 Local 30 256 256 ⇒ handle 1
     clockReads 0 ∷
-    -- 3. All but leave, read, remaining life and report is 27 for a viewer, straight after its state: before 6, 20, 21 and 11. It is there
+    -- 3. All but leave, read, life life and report is 27 for a viewer, straight after its state: before 6, 20, 21 and 11. It is there
     -- (2) and does not wait (5).
     fresh standard runs
     view 0 ⇒ done ⨾
@@ -59,7 +59,7 @@ viewerEdges =
     batch 0 Local 0 [] ⇒ refused 27 ⨾
     release 0 0 ⇒ refused 27 ⨾
     read 0 0 ⇒ refused 11 ⨾
-    remaining 0 0 ⇒ refused 11 ⨾
+    life 0 0 ⇒ refused 11 ⨾
     report ⇒ figures 0 0 0 0 ⨾
     leave 0 ⇒ standsStill ⨾
     view 16 ⇒ refused 1 ⨾
@@ -91,7 +91,7 @@ viewerEdges =
     read 1 1 ⇒ refused 23 ⨾
     write 1 1 0 [] ⇒ refused 27 ⨾
     read 0 1 ⇒ refused 23 ⨾
-    remaining 1 1 ⇒ lasts 0 0
+    life 1 1 ⇒ lasts 0 0
     clockReads 0 ∷
     -- 7. 28 comes before 8.
     lateStart 0 4294967295 runs
@@ -101,18 +101,18 @@ viewerEdges =
     []
 
 -- two lists that differ in bytes beyond prefixes, one of them in a write that is refused
-abbrev pub calls : ℕ → ℕ → ℕ → List Sent
-calls x y z =
-    join 0 ∷ view 1 ∷ makeWith 0 Global 0 4 2 ∷ write 0 1 1 (5 ∷ x ∷ y ∷ []) ∷ read 1 1 ∷ read 0 1 ∷ write 0 2 0 (z ∷ []) ∷ tick 0 ∷ tick 0 ∷ report ∷ remaining 1 1 ∷ []
+abbrev pub displayCalls : ℕ → ℕ → ℕ → List Sent
+displayCalls x y z =
+    join 0 ∷ view 1 ∷ makeWith 0 Global 0 4 2 ∷ write 0 1 1 (5 ∷ x ∷ y ∷ []) ∷ read 1 1 ∷ read 0 1 ∷ write 0 2 0 (z ∷ []) ∷ tick 0 ∷ tick 0 ∷ report ∷ life 1 1 ∷ []
 
 pub record Views : Type 0 where
   pub seven : length viewerEdges ≡ 7
   pub rows : All RowHolds viewerEdges
   -- their veil is one, and they are not answered alike: the claim of the veil is of something
-  pub veil : veils (fresh standard) (calls 6 7 8) ≡ veils (fresh standard) (calls 9 10 11)
-  pub apart : replies (fresh standard) (calls 6 7 8) ≢ replies (fresh standard) (calls 9 10 11)
+  pub veil : veils (fresh standard) (displayCalls 6 7 8) ≡ veils (fresh standard) (displayCalls 9 10 11)
+  pub apart : replies (fresh standard) (displayCalls 6 7 8) ≢ replies (fresh standard) (displayCalls 9 10 11)
   -- each has three answers to viewers and reports
-  pub told : length (toViewers (fresh standard) (calls 6 7 8) (replies (fresh standard) (calls 6 7 8))) ≡ 3
+  pub told : length (toViewers (fresh standard) (displayCalls 6 7 8) (replies (fresh standard) (displayCalls 6 7 8))) ≡ 3
   -- two ledgers from fresh on that have one veil and are not the same, as the claim asks for two; by D8 they keep what it asks
   pub twoLedgers : veiledIn (headed 3 4) ≡ veiledIn (headed 8 9)
   pub twoReads : replies (headed 3 4) (read 0 1 ∷ []) ≢ replies (headed 8 9) (read 0 1 ∷ [])

@@ -1,9 +1,10 @@
 // What code and specifications share: document 01's figures, its calls, their answers, and the refusals with their numbers.
 ghost use mathlib.Core.Path.{_≡_};
 ghost use Rattle.ledger.specs.Limits.{isAllowed};
-ghost use Rattle.ledger.specs.Numbers.{numberOf, answerNumber};
+ghost use Rattle.ledger.specs.Numbers.{numberOf, answerNumber, kindOf};
 
-// C1: the four figures that a site chooses for the life of a pool: blocks of the small store and of the large one, expirations (01: dates), largest extension.
+// C1: the four figures that a site chooses for the life of a pool: blocks of the small store and of the large one, expirations (01: dates),
+// largest extension.
 #[repr(C)]
 pub struct Limits {
     pub small: u32,
@@ -197,6 +198,13 @@ pub enum Answer {
     Lasts(Life),
 }
 
+// What a line gives: a request and the count of the bytes that come with it, or a refusal. An enum holds no array, so the bytes stand
+// beside it.
+pub enum Frame {
+    Request(Request, usize),
+    Refused(Refusal),
+}
+
 // R45: the number of a refusal, which is its place in the list above, from 1 on.
 pub fn number_of(refusal: Refusal) -> u8
     ensures { λ r. ⌜ r ≡ numberOf refusal ⌝ }
@@ -246,5 +254,22 @@ pub fn answer_number(answer: Answer) -> u8
         Answer::Bytes => 0,
         Answer::Counted(_) => 0,
         Answer::Lasts(_) => 0,
+    }
+}
+
+// F21: the kind that a byte names.
+pub enum KindByte {
+    Known(Kind),
+    Unknown,
+}
+
+pub fn kind_of(number: u8) -> KindByte
+    ensures { λ r. ⌜ r ≡ kindOf number ⌝ }
+{
+    match number {
+        0 => KindByte::Known(Kind::Local),
+        1 => KindByte::Known(Kind::Global),
+        2 => KindByte::Known(Kind::Pinned),
+        _ => KindByte::Unknown,
     }
 }

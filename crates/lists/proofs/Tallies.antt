@@ -1,5 +1,5 @@
--- A loop that counts how many elements have each number below k: the start, the turn and the end of its invariant; one that adds what a function gives on the first
--- numbers; and one that tests each number.
+-- A loop that counts how many elements have each number below k: the start, the turn and the end of its invariant; one that adds what a
+-- function gives on the first numbers; and one that tests each number.
 use Prim.Native.Nat.{ℕ, _+_, _*_, _≤_, _<_}
 use native.Mathlib.Numerals.{add-one}
 use native.Mathlib.Omega.{arith}

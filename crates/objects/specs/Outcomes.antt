@@ -55,13 +55,13 @@ foundIf (At block life) Accepted = At block life
 foundIf (At block life) (Refused r) = RefusedFound r
 
 -- O30: a read and a write make the same finding, and go on by the length and the sum that the block has
-abbrev pub bytesOf : Found → Tables → FoundBytes
-bytesOf (RefusedFound r) p = RefusedBytes r
-bytesOf (At block life) p = AtBytes block (getD (p .blocks) block freeBlock .length) (getD (p .blocks) block freeBlock .sum)
+abbrev pub foundBytes : Found → Tables → FoundBytes
+foundBytes (RefusedFound r) p = RefusedBytes r
+foundBytes (At block life) p = AtBytes block (getD (p .blocks) block freeBlock .length) (getD (p .blocks) block freeBlock .sum)
 
 -- no life is asked for, and so it is no task's
 abbrev pub bytesBy : Verdict → ℕ → Tables → FoundBytes
-bytesBy verdict handle p = bytesOf (foundBy false verdict 0 handle p) p
+bytesBy verdict handle p = foundBytes (foundBy false verdict 0 handle p) p
 
 abbrev pub bytesIn : List ℕ → List ℕ → List Test → ℕ → Tables → FoundBytes
 bytesIn small large tests handle p = bytesBy (verdictWith small large tests p) handle p

@@ -1,4 +1,5 @@
-// What a make and a batch decide, on the tables that they read: nothing is changed here. A batch's objects are sought where no test before that refuses.
+// What a make and a batch decide, on the tables that they read: nothing is changed here. A batch's objects are sought where no test before
+// that refuses.
 ghost use Prim.Native.Nat.{_+_, _-_};
 ghost use mathlib.Core.Bool.{true};
 ghost use lib.Dec.{leb};
@@ -53,8 +54,10 @@ pub fn plan_make(
     size: u16,
     prefix: u16,
 ) -> Plan
-    requires { ⌜ (length (now handles) ≡ blockEntries) × (isAllowed (h .limits) ≡ true) ⌝ }
-    ensures { λ r. ⌜ r ≡ makePlan task kind extension size prefix h (freePlaceIn (h .limits) size (now (handles .entry))) holding standing ⌝ }
+    requires { ⌜ (length (now handles) ≡ blockEntries)
+        × (isAllowed (h .limits) ≡ true) ⌝ }
+    ensures { λ r. ⌜ r ≡ makePlan task kind extension size prefix h (freePlaceIn (h .limits) size (now (handles .entry))) holding
+        standing ⌝ }
 {
     let size = size as u32;
     let limits = h.limits;

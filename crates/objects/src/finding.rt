@@ -1,4 +1,5 @@
-// Where an object is: one finding (O30), which remaining life, refresh, release, read and write make after the tests that go before it. The record is well-formed, or its figures would not fit; `extents` are lent for that alone where no length is asked.
+// Where an object is: one finding (O30), which remaining life, refresh, release, read and write make after the tests that go before it. The
+// record is well-formed, or its figures would not fit; `extents` are lent for that alone where no length is asked.
 ghost use Prim.Native.Nat.{ℕ, _<_};
 ghost use mathlib.Core.Bool.{true, false};
 ghost use mathlib.Core.Path.{_≡_};
@@ -9,7 +10,8 @@ ghost use Rattle.record.specs.Tables.{Sized, SizedEntries, entriesOf, blockEntr
 ghost use Rattle.record.specs.WellFormed.{isWellFormed};
 ghost use Rattle.steps.specs.Remaining.{lifeIn, LifeWithin};
 ghost use mathlib.Core.List.{List, [], _∷_, _++_};
-ghost use Rattle.ledger.specs.Refusals.{sumDiffers, testsOf};
+ghost use Rattle.ledger.specs.Refusals.{sumDiffers};
+ghost use Rattle.ledger.specs.Rules.{testsOf};
 ghost use Rattle.ledger.specs.declared.Call.the-variants.{Read, Refresh, Release, Write};
 ghost use Rattle.steps.specs.Facts.{taskTests, handleTests};
 ghost use Rattle.objects.specs.Outcomes.{foundIn, foundIf, lifeIf, bytesIn, shownIn};
@@ -48,8 +50,12 @@ fn life_if<'a>(
     block: usize,
     asks: bool,
 ) -> Life
-    requires { ⌜ SizedEntries (now clocks) (now named) (now dues) × (task < taskCount) × (block < blockEntries) × LifeWithin (lifeIn task block (h .tasks) (h .global) (entriesOf (now clocks) (now named) (now dues))) ⌝ }
-    ensures { λ r. ⌜ r ≡ lifeIf asks (lifeIn task block (h .tasks) (h .global) (entriesOf (now (clocks .entry)) (now (named .entry)) (now (dues .entry)))) ⌝ }
+    requires { ⌜ SizedEntries (now clocks) (now named) (now dues)
+        × (task < taskCount)
+        × (block < blockEntries)
+        × LifeWithin (lifeIn task block (h .tasks) (h .global) (entriesOf (now clocks) (now named) (now dues))) ⌝ }
+    ensures { λ r. ⌜ r ≡ lifeIf asks
+        (lifeIn task block (h .tasks) (h .global) (entriesOf (now (clocks .entry)) (now (named .entry)) (now (dues .entry)))) ⌝ }
 {
     if asks {
         remaining_life(h, clocks, named, dues, task, block)
@@ -73,8 +79,11 @@ fn find<'a>(
     handle: u32,
     asks: bool,
 ) -> Found
-    requires { ⌜ Sized (now handles) (now extents) (now clocks) (now named) (now dues) × (isWellFormed (lent h (now handles) (now extents) (now clocks) (now named) (now dues)) ≡ true) × (task < taskCount) ⌝ }
-    ensures { λ r. ⌜ r ≡ foundIn asks (handleTests handle) task handle (lent h (now (handles .entry)) (now (extents .entry)) (now (clocks .entry)) (now (named .entry)) (now (dues .entry))) ⌝ }
+    requires { ⌜ Sized (now handles) (now extents) (now clocks) (now named) (now dues)
+        × (isWellFormed (lent h (now handles) (now extents) (now clocks) (now named) (now dues)) ≡ true)
+        × (task < taskCount) ⌝ }
+    ensures { λ r. ⌜ r ≡ foundIn asks (handleTests handle) task handle
+        (lent h (now (handles .entry)) (now (extents .entry)) (now (clocks .entry)) (now (named .entry)) (now (dues .entry))) ⌝ }
 {
     let place = locate(handles, handle);
     match found_verdict(handle, h.given, place) {
@@ -113,8 +122,10 @@ pub fn find_standing<'a>(
     acts: bool,
     asks: bool,
 ) -> Found
-    requires { ⌜ Sized (now handles) (now extents) (now clocks) (now named) (now dues) × (isWellFormed (lent h (now handles) (now extents) (now clocks) (now named) (now dues)) ≡ true) ⌝ }
-    ensures { λ r. ⌜ r ≡ foundIn asks (taskTests acts task (handleTests handle)) task handle (lent h (now (handles .entry)) (now (extents .entry)) (now (clocks .entry)) (now (named .entry)) (now (dues .entry))) ⌝ }
+    requires { ⌜ Sized (now handles) (now extents) (now clocks) (now named) (now dues)
+        × (isWellFormed (lent h (now handles) (now extents) (now clocks) (now named) (now dues)) ≡ true) ⌝ }
+    ensures { λ r. ⌜ r ≡ foundIn asks (taskTests acts task (handleTests handle)) task handle
+        (lent h (now (handles .entry)) (now (extents .entry)) (now (clocks .entry)) (now (named .entry)) (now (dues .entry))) ⌝ }
 {
     let tasks = h.tasks;
     match task_verdict(acts, task, tasks) {
@@ -137,8 +148,13 @@ fn find_bytes<'a>(
     handle: u32,
     acts: bool,
 ) -> FoundBytes
-    requires { ⌜ Sized (now handles) (now extents) (now clocks) (now named) (now dues) × (isWellFormed (lent h (now handles) (now extents) (now clocks) (now named) (now dues)) ≡ true) × (isWholeSmall (h .limits) (now small) ≡ true) × (isWholeLarge (h .limits) (now large) ≡ true) ⌝ }
-    ensures { λ r. ⌜ r ≡ bytesIn (now (small .entry)) (now (large .entry)) (taskTests acts task (handleTests handle) ++ (sumDiffers handle ∷ [])) handle (lent h (now (handles .entry)) (now (extents .entry)) (now (clocks .entry)) (now (named .entry)) (now (dues .entry))) ⌝ }
+    requires { ⌜ Sized (now handles) (now extents) (now clocks) (now named) (now dues)
+        × (isWellFormed (lent h (now handles) (now extents) (now clocks) (now named) (now dues)) ≡ true)
+        × (isWholeSmall (h .limits) (now small) ≡ true)
+        × (isWholeLarge (h .limits) (now large) ≡ true) ⌝ }
+    ensures { λ r. ⌜ r ≡ bytesIn (now (small .entry)) (now (large .entry))
+        (taskTests acts task (handleTests handle) ++ (sumDiffers handle ∷ [])) handle
+        (lent h (now (handles .entry)) (now (extents .entry)) (now (clocks .entry)) (now (named .entry)) (now (dues .entry))) ⌝ }
 {
     match find_standing(
         h,
@@ -185,7 +201,8 @@ pub fn find_for_read<'a>(
         × (isWellFormed (lent h (now handles) (now extents) (now clocks) (now named) (now dues)) ≡ true)
         × (isWholeSmall (h .limits) (now small) ≡ true)
         × (isWholeLarge (h .limits) (now large) ≡ true) ⌝ }
-    ensures { λ r. ⌜ r ≡ shownIn (now (small .entry)) (now (large .entry)) (testsOf (Read task handle) []) task handle (lent h (now (handles .entry)) (now (extents .entry)) (now (clocks .entry)) (now (named .entry)) (now (dues .entry))) ⌝ }
+    ensures { λ r. ⌜ r ≡ shownIn (now (small .entry)) (now (large .entry)) (testsOf (Read task handle) []) task handle
+        (lent h (now (handles .entry)) (now (extents .entry)) (now (clocks .entry)) (now (named .entry)) (now (dues .entry))) ⌝ }
 {
     match find_bytes(
         h,
@@ -232,7 +249,10 @@ pub fn find_for_write<'a>(
     offset: u8,
     count: usize,
 ) -> FoundBytes
-    requires { ⌜ Sized (now handles) (now extents) (now clocks) (now named) (now dues) × (isWellFormed (lent h (now handles) (now extents) (now clocks) (now named) (now dues)) ≡ true) × (isWholeSmall (h .limits) (now small) ≡ true) × (isWholeLarge (h .limits) (now large) ≡ true) ⌝ }
+    requires { ⌜ Sized (now handles) (now extents) (now clocks) (now named) (now dues)
+        × (isWellFormed (lent h (now handles) (now extents) (now clocks) (now named) (now dues)) ≡ true)
+        × (isWholeSmall (h .limits) (now small) ≡ true)
+        × (isWholeLarge (h .limits) (now large) ≡ true) ⌝ }
     ensures { λ r. ⌜ ((new : List ℕ) → length new ≡ count
         → r ≡ bytesIn (now (small .entry)) (now (large .entry)) (testsOf (Write task handle offset) new) handle (lent h (now (handles .entry)) (now (extents .entry)) (now (clocks .entry)) (now (named .entry)) (now (dues .entry)))) ⌝ }
 {
@@ -273,8 +293,10 @@ pub fn find_for_refresh<'a>(
     extension: u8,
     handle: u32,
 ) -> Found
-    requires { ⌜ Sized (now handles) (now extents) (now clocks) (now named) (now dues) × (isWellFormed (lent h (now handles) (now extents) (now clocks) (now named) (now dues)) ≡ true) ⌝ }
-    ensures { λ r. ⌜ r ≡ foundIn false (testsOf (Refresh task kind extension handle) []) task handle (lent h (now (handles .entry)) (now (extents .entry)) (now (clocks .entry)) (now (named .entry)) (now (dues .entry))) ⌝ }
+    requires { ⌜ Sized (now handles) (now extents) (now clocks) (now named) (now dues)
+        × (isWellFormed (lent h (now handles) (now extents) (now clocks) (now named) (now dues)) ≡ true) ⌝ }
+    ensures { λ r. ⌜ r ≡ foundIn false (testsOf (Refresh task kind extension handle) []) task handle
+        (lent h (now (handles .entry)) (now (extents .entry)) (now (clocks .entry)) (now (named .entry)) (now (dues .entry))) ⌝ }
 {
     let tasks = h.tasks;
     match and_then(
@@ -310,8 +332,10 @@ pub fn find_for_release<'a>(
     task: u8,
     handle: u32,
 ) -> Found
-    requires { ⌜ Sized (now handles) (now extents) (now clocks) (now named) (now dues) × (isWellFormed (lent h (now handles) (now extents) (now clocks) (now named) (now dues)) ≡ true) ⌝ }
-    ensures { λ r. ⌜ r ≡ foundIn false (testsOf (Release task handle) []) task handle (lent h (now (handles .entry)) (now (extents .entry)) (now (clocks .entry)) (now (named .entry)) (now (dues .entry))) ⌝ }
+    requires { ⌜ Sized (now handles) (now extents) (now clocks) (now named) (now dues)
+        × (isWellFormed (lent h (now handles) (now extents) (now clocks) (now named) (now dues)) ≡ true) ⌝ }
+    ensures { λ r. ⌜ r ≡ foundIn false (testsOf (Release task handle) []) task handle
+        (lent h (now (handles .entry)) (now (extents .entry)) (now (clocks .entry)) (now (named .entry)) (now (dues .entry))) ⌝ }
 {
     match find_standing(
         h,

@@ -11,7 +11,9 @@ use record::SMALL_COUNT;
 
 // The blocks in use from one place to before another.
 fn used_blocks(handles: &[u32; BLOCK_COUNT], start: usize, end: usize) -> u8
-    requires { ⌜ (length (now handles) ≡ blockEntries) × (start ≤ end) × (end ≤ blockEntries) ⌝ }
+    requires { ⌜ (length (now handles) ≡ blockEntries)
+        × (start ≤ end)
+        × (end ≤ blockEntries) ⌝ }
     ensures { λ r. ⌜ r ≡ count isGiven (drop start (take end (now (handles .entry)))) ⌝ }
 {
     let mut n: u8 = 0;

@@ -2,10 +2,10 @@
 use ledger::STANDARD;
 use libc::STDIN_FILENO;
 use libc::STDOUT_FILENO;
-use pool::LARGE_BYTES;
-use pool::SMALL_BYTES;
 use record::fresh;
 use script::run_on;
+use stores::LARGE_BYTES;
+use stores::SMALL_BYTES;
 
 // P2: the longest script that is run.
 const LONGEST_SCRIPT: usize = 65536;

@@ -18,10 +18,10 @@ use Rattle.record.specs.Reading.{isSmallBlock}
 use Rattle.record.specs.declared.Pool.{Pool}
 use Rattle.stores.specs.Places.{startOf, smallAfter, largeAfter}
 use Rattle.calls.specs.Contract.{Same, LeavesMade, LeavesWritten}
-use Rattle.frames.specs.declared.Frame.{Frame}
-use Rattle.execute.specs.Execution.{IsReplyTo}
-use Rattle.numbered.specs.Told.{Loans, Told}
-use Rattle.numbered.specs.Steps.{Asked, frameAsked, bytesAsked, isHeard, Gives, Action, asks, renews, awaits, shares, Acts}
+use Rattle.ledger.specs.declared.Frame.{Frame}
+use Rattle.calls.specs.Served.{IsReplyTo}
+use Rattle.by_value.specs.Told.{Loans, Told}
+use Rattle.ramsummer.specs.Steps.{Asked, frameAsked, bytesAsked, isHeard, Gives, Action, asks, renews, awaits, shares, Acts}
 use Rattle.ramsummer.specs.Demands.{HostRuns}
 use Rattle.ramsummer.specs.Bytes.{PutsIn, clears, writes, StoresLeft, stay, put, isReached, byteAt, Unreached, isRenewal, isLookOf, isLook, BytesStay}
 

@@ -29,13 +29,13 @@ use Rattle.record.specs.Pools.{isWellFormed, Reads}
 use Rattle.record.specs.declared.Pool.{Pool}
 use Rattle.record.proofs.FreshReads.{fresh-reads, fresh-well-formed}
 use Rattle.record.specs.Reading.{freshPool, wholeSmall, wholeLarge}
-use Rattle.calls.specs.Contract.{areWhole}
-use Rattle.pool.proofs.Demands.{limits-stay}
-use Rattle.frames.specs.declared.Frame.{Frame}
-use Rattle.execute.specs.Execution.{IsReplyTo}
-use Rattle.numbered.specs.Told.{tooShort, Loans, lent, Told, withNumber, toldBy}
-use Rattle.numbered.specs.Entries.{Renews}
-use Rattle.numbered.specs.Steps.{Asked, entry, line, frameAsked, bytesAsked, isHeard, tells, Gives, Action, asks, renews, awaits, shares, Acts}
+use Rattle.stores.specs.Lengths.{areWhole}
+use Rattle.steps.proofs.Staying.{limits-stay}
+use Rattle.ledger.specs.declared.Frame.{Frame}
+use Rattle.calls.specs.Served.{IsReplyTo}
+use Rattle.by_value.specs.Told.{tooShort, Loans, lentNumbers, Told, withNumber, toldBy}
+use Rattle.by_value.specs.Entries.{Renews}
+use Rattle.ramsummer.specs.Steps.{Asked, entry, line, frameAsked, bytesAsked, isHeard, tells, Gives, Action, asks, renews, awaits, shares, Acts}
 use Rattle.ramsummer.specs.Demands.{HostRuns, replyIn, afterIn, toldOf, afterAction, toldOfAll, afterActions, IsPoolOf, HostDemand2, Using, calls, noCall, unheard, actionOf, callsIn, heapToldAll, HostDemand3}
 
 -- A well-formed record with whole stores that reads as a ledger;
@@ -95,7 +95,7 @@ asked-follows asked loans beside b g =
 -- whatever was there before, a pool that is made is fresh, or its record is not well-formed
 renewed : (limits : Limits) (newSmall newLarge : List ℕ)
     (whole : isAllowed limits ≡ true → (length newSmall ≡ wholeSmall limits) × (length newLarge ≡ wholeLarge limits)) (beside : Option Ledger)
-    {t : Told} {p′ : Pool} {small′ large′ : List ℕ} → Renews limits (t .number) p′ × (t .loans ≡ lent []) × (small′ ≡ newSmall) × (large′ ≡ newLarge)
+    {t : Told} {p′ : Pool} {small′ large′ : List ℕ} → Renews limits (t .number) p′ × (t .loans ≡ lentNumbers []) × (small′ ≡ newSmall) × (large′ ≡ newLarge)
     → (t ≡ toldOf beside (renews limits newSmall newLarge whole)) × Beside (afterAction beside (renews limits newSmall newLarge whole)) p′ small′ large′
 renewed limits newSmall newLarge whole beside (r, shown, a, c) =
     by-test (isAllowed limits)

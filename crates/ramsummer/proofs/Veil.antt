@@ -1,4 +1,4 @@
--- A host's calls are told the ledger's answers, of which the claim of the veil holds.
+-- A host's displayCalls are told the ledger's answers, of which the claim of the veil holds.
 use Prim.Native.Nat.{ℕ, suc}
 use native.Mathlib.Omega.{arith}
 use mathlib.Core.Bool.{true≢false}
@@ -14,7 +14,7 @@ use Rattle.ledger.specs.Objects.{Reply}
 use Rattle.ledger.specs.Rules.{replyTo}
 use Rattle.ledger.specs.Ledger.{Ledger, Sent, fresh, replyBy, verdictOn, reply, replyToRequest, afterRequest, replies}
 use Rattle.ledger.specs.Numbers.{answerNumber}
-use Rattle.ledger.specs.Views.{calls}
+use Rattle.ledger.specs.Views.{displayCalls}
 use Rattle.ledger.proofs.Veil.{discreet}
 use Rattle.ledger.specs.declared.Call.{Call}
 use Rattle.ledger.specs.declared.Call.the-variants.{Join, Schedule, Make, Refresh, Read, Write, Batch, Release}
@@ -24,23 +24,23 @@ use Rattle.ledger.specs.declared.Request.{Request}
 use Rattle.ledger.specs.declared.Request.the-variants.{Use, Report, Remaining}
 use Rattle.record.specs.declared.Pool.{Pool}
 use Rattle.calls.specs.Contract.{Same, Obeys}
-use Rattle.pool.specs.Demands.{Runs}
-use Rattle.pool.proofs.Outlives.{every-list-from-fresh}
-use Rattle.frames.specs.declared.Frame.{Frame}
-use Rattle.numbered.specs.Told.{Loans, lent, Told}
-use Rattle.numbered.specs.Steps.{Asked, entry, line, bytesAsked, tells, Gives}
-use Rattle.numbered.proofs.Replies.{refusal-in}
+use Rattle.demands.specs.Demands.{Runs}
+use Rattle.demands.proofs.Outlives.{every-list-from-fresh}
+use Rattle.ledger.specs.declared.Frame.{Frame}
+use Rattle.by_value.specs.Told.{Loans, lentNumbers, Told}
+use Rattle.ramsummer.specs.Steps.{Asked, entry, line, bytesAsked, tells, Gives}
+use Rattle.by_value.proofs.Replies.{refusal-in}
 use Rattle.ramsummer.specs.Demands.{HostRuns, toldOfAll}
-use Rattle.ramsummer.specs.Veil.{HostCall, actionOf, sentOf, toldBy, HostRun, HostRunsExist, HostDiscreet}
+use Rattle.ramsummer.specs.Veil.{HostCall, actionFor, sentOf, toldAll, HostRun, HostRunsExist, HostDiscreet}
 use Rattle.ramsummer.proofs.Demands.{Held, made, framed, runs-follow}
 
 -- what the ledger tells of such a list
-all-told : (cs : List HostCall) (L : Ledger) → toldOfAll (some L) (map actionOf cs) ≡ toldBy cs (replies L (map sentOf cs))
-unfolding toldOfAll toldBy replies
+all-told : (cs : List HostCall) (L : Ledger) → toldOfAll (some L) (map actionFor cs) ≡ toldAll cs (replies L (map sentOf cs))
+unfolding toldOfAll toldAll replies
 all-told [] L = refl
 all-told (c ∷ cs) L = rw (c .heard, c .yields) (ap₂ _∷_ refl (all-told cs _))
 
-told-by : {limits : Limits} {cs : List HostCall} {ts : List Told} → HostRun limits cs ts → ts ≡ toldBy cs (replies (fresh limits) (map sentOf cs))
+told-by : {limits : Limits} {cs : List HostCall} {ts : List Told} → HostRun limits cs ts → ts ≡ toldAll cs (replies (fresh limits) (map sentOf cs))
 told-by {limits} {cs} r =
     runs-follow (r .runs) (some (fresh limits)) (record { so = made limits (r .allowed) (r .small) (r .large) (r .smallWhole) (r .largeWhole) }) .0
     ∙ all-told cs (fresh limits)
@@ -64,7 +64,7 @@ host-discreet limits cs ds ts us a b e =
       same = discreet .same limits (map sentOf cs) (map sentOf ds) e;
     }
 
--- Every list of a host's calls can be run. Of the ledger's replies only that of a read has bytes;
+-- Every list of a host's displayCalls can be run. Of the ledger's replies only that of a read has bytes;
 without-bytes : (L : Ledger) (call : Call) (new : List ℕ) → replyTo call (L .memory) .bytes ≡ [] → reply L call new .bytes ≡ []
 unfolding reply
 without-bytes L call new e = by (verdictOn L call new)
@@ -115,8 +115,8 @@ module _ {p p′ : Pool} {small large small′ large′ : List ℕ} {y : Reply} 
       }
 
 acted : (cs : List HostCall) (L : Ledger) {p p′ : Pool} {small small′ large large′ : List ℕ} {ys : List Reply} → Held L p small large
-    → Runs p small large (map sentOf cs) ys p′ small′ large′ → HostRuns p small large (map actionOf cs) (toldBy cs ys) p′ small′ large′
-unfolding toldBy
+    → Runs p small large (map sentOf cs) ys p′ small′ large′ → HostRuns p small large (map actionFor cs) (toldAll cs ys) p′ small′ large′
+unfolding toldAll
 acted [] L b Runs.done = HostRuns.done
 acted (c ∷ cs) L b (Runs.call o rest) =
     let (same, after) = framed (some L) (Frame.Request (c .request) (c .count)) (bytesAsked (c .asked)) (record { so = b }) o in
@@ -124,7 +124,7 @@ acted (c ∷ cs) L b (Runs.call o rest) =
 
 -- a call by its own entry, with no loan
 by-entry : Sent → HostCall
-by-entry s = record { asked = entry (some (s .request)) (s .bytes); loans = lent []; request = s .request; count = 0; heard = refl; yields = refl }
+by-entry s = record { asked = entry (some (s .request)) (s .bytes); loans = lentNumbers []; request = s .request; count = 0; heard = refl; yields = refl }
 
 pub host-runs-exist : HostRunsExist
 unfolding by-entry
@@ -134,7 +134,7 @@ host-runs-exist =
           let s = every-list-from-fresh limits may (map sentOf cs) in
           let r = s .run in
           record {
-            told = toldBy cs (r .replies);
+            told = toldAll cs (r .replies);
             run =
                 record {
                   allowed = may;
@@ -148,8 +148,8 @@ host-runs-exist =
                   runs = acted cs (fresh limits) (made limits may (r .small) (r .large) (r .smallWhole) (r .largeWhole)) (r .runs);
                 };
           };
-      first = map by-entry (calls 6 7 8);
-      second = map by-entry (calls 9 10 11);
+      first = map by-entry (displayCalls 6 7 8);
+      second = map by-entry (displayCalls 9 10 11);
       firstCalls = refl;
       secondCalls = refl;
     }

@@ -1,5 +1,6 @@
--- D12: which bytes of the stores a host's actions change while it makes no other pool, whatever lengths the stores have: those of the block that an accepted make takes, to zero, and those that an
--- accepted write names, to what it names. No other byte of either store changes, in use or not; and a look changes nothing at all.
+-- D12: which bytes of the stores a host's actions change while it makes no other pool, whatever lengths the stores have: those of the block
+-- that an accepted make takes, to zero, and those that an accepted write names, to what it names. No other byte of either store changes, in
+-- use or not; and a look changes nothing at all.
 use Prim.Native.Nat.{ℕ, _+_}
 use mathlib.Core.Bool.{Bool, true, false, cond, not, _&&_}
 use mathlib.Core.List.{List}
@@ -17,12 +18,13 @@ use Rattle.record.specs.declared.Pool.{Pool}
 use Rattle.stores.specs.Places.{startOf, smallAfter, largeAfter}
 use Rattle.steps.specs.Objects.{placeIn}
 use Rattle.calls.specs.Contract.{Same}
-use Rattle.frames.specs.declared.Frame.{Frame}
-use Rattle.numbered.specs.Told.{Loans, Told}
-use Rattle.numbered.specs.Steps.{Asked, frameAsked, bytesAsked, Action, asks, renews, awaits, shares, Acts}
+use Rattle.ledger.specs.declared.Frame.{Frame}
+use Rattle.by_value.specs.Told.{Loans, Told}
+use Rattle.ramsummer.specs.Steps.{Asked, frameAsked, bytesAsked, Action, asks, renews, awaits, shares, Acts}
 use Rattle.ramsummer.specs.Demands.{HostRuns}
 
--- An action puts these bytes at an offset in a block: an accepted make zeros into all of a block that was free, an accepted write its own into the block of its object.
+-- An action puts these bytes at an offset in a block: an accepted make zeros into all of a block that was free, an accepted write its own
+-- into the block of its object.
 pub data PutsIn : Action → Told → Pool → Pool → ℕ → ℕ → List ℕ → Type 0 where
   clears : {asked : Asked} {loans : Loans} {task : ℕ} {kind : Kind} {extension size prefix count : ℕ} {t : Told} {p p′ : Pool} {block : ℕ}
       → frameAsked asked ≡ Frame.Request (Use (Make task kind extension size prefix)) count → t .number ≡ 0

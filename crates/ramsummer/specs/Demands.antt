@@ -10,7 +10,7 @@ use lib.Dec.{ltb}
 use lib.ListN.{length}
 use Rattle.ledger.specs.Numbers.{numberOf}
 use Rattle.ledger.specs.Objects.{Memory, Reply, plain, freshMemory}
-use Rattle.ledger.specs.Ledger.{Ledger, fresh}
+use Rattle.ledger.specs.Ledger.{Ledger, fresh, replyToFrame, afterFrame}
 use Rattle.ledger.specs.Limits.{taskCount, isAllowed}
 use Rattle.ledger.specs.Awaited.{awaitedBits}
 use Rattle.ledger.specs.Heap.{Used, heapReply, heapNext, allInTimeAndBounds}
@@ -23,11 +23,10 @@ use Rattle.ledger.specs.declared.Request.the-variants.{Use}
 use Rattle.record.specs.Reading.{freshPool, wholeSmall, wholeLarge}
 use Rattle.record.specs.Pools.{isWellFormed, Reads}
 use Rattle.record.specs.declared.Pool.{Pool}
-use Rattle.frames.specs.declared.Frame.{Frame}
-use Rattle.execute.specs.Execution.{replyToFrame, afterFrame}
-use Rattle.numbered.specs.Told.{tooShort, Loans, lent, Told, withNumber}
-use Rattle.numbered.specs.Entries.{shareShown}
-use Rattle.numbered.specs.Steps.{Asked, frameAsked, bytesAsked, isHeard, tells, Action, asks, renews, awaits, shares, Acts}
+use Rattle.ledger.specs.declared.Frame.{Frame}
+use Rattle.by_value.specs.Told.{tooShort, Loans, lentNumbers, Told, withNumber}
+use Rattle.by_value.specs.Entries.{shareShown}
+use Rattle.ramsummer.specs.Steps.{Asked, frameAsked, bytesAsked, isHeard, tells, Action, asks, renews, awaits, shares, Acts}
 
 -- A list of actions: each gets record and stores as the last one left them.
 pub data HostRuns : Pool → List ℕ → List ℕ → List Action → List Told → Pool → List ℕ → List ℕ → Type 0 where
@@ -36,7 +35,8 @@ pub data HostRuns : Pool → List ℕ → List ℕ → List Action → List Told
       → Acts d p small large t p′ small′ large′ → HostRuns p′ small′ large′ ds ts p″ small″ large″
       → HostRuns p small large (d ∷ ds) (t ∷ ts) p″ small″ large″
 
--- The ledger beside a host's pool. There is none while the record is not well-formed: after figures that no site may choose, until a pool is made anew.
+-- The ledger beside a host's pool. There is none while the record is not well-formed: after figures that no site may choose, until a pool
+-- is made anew.
 abbrev pub replyIn : Option Ledger → Frame → List ℕ → Reply
 replyIn (some L) frame bytes = replyToFrame L frame bytes
 replyIn none (Frame.Request request count) bytes = plain (Refused NotWellFormed)
@@ -47,19 +47,19 @@ afterIn (some L) frame bytes = some (afterFrame L frame bytes)
 afterIn none frame bytes = none
 
 abbrev pub awaitedIn : Option Ledger → ℕ → Told
-awaitedIn (some L) old = withNumber 0 (lent (awaitedBits L ∷ []))
-awaitedIn none old = withNumber (numberOf NotWellFormed) (lent (old ∷ []))
+awaitedIn (some L) old = withNumber 0 (lentNumbers (awaitedBits L ∷ []))
+awaitedIn none old = withNumber (numberOf NotWellFormed) (lentNumbers (old ∷ []))
 
 abbrev pub shareIn : Option Ledger → ℕ → List ℕ → Told
 shareIn (some L) task old =
-    cond (ltb task taskCount) (withNumber 0 (lent (shareShown (L .memory) task))) (withNumber (numberOf NoSuchTask) (lent old))
-shareIn none task old = withNumber (numberOf NotWellFormed) (lent old)
+    cond (ltb task taskCount) (withNumber 0 (lentNumbers (shareShown (L .memory) task))) (withNumber (numberOf NoSuchTask) (lentNumbers old))
+shareIn none task old = withNumber (numberOf NotWellFormed) (lentNumbers old)
 
 -- what the ledger tells of an action, and the ledger after it
 abbrev pub toldOf : Option Ledger → Action → Told
 toldOf beside (asks asked loans) =
     cond (isHeard asked loans) (tells asked (replyIn beside (frameAsked asked) (bytesAsked asked)) loans) (withNumber tooShort loans)
-toldOf beside (renews limits small large whole) = withNumber (cond (isAllowed limits) 0 (numberOf LimitsOutOfRange)) (lent [])
+toldOf beside (renews limits small large whole) = withNumber (cond (isAllowed limits) 0 (numberOf LimitsOutOfRange)) (lentNumbers [])
 toldOf beside (awaits old) = awaitedIn beside old
 toldOf beside (shares task old) = shareIn beside task old
 
@@ -82,7 +82,8 @@ abbrev pub IsPoolOf : Option Ledger → Pool → List ℕ → List ℕ → Type 
 IsPoolOf (some L) p small large = (isWellFormed p ≡ true) × Reads p small large L
 IsPoolOf none p small large = isWellFormed p ≡ false
 
--- D4, demand 2 for a host: whatever record it begins with, from where it has a pool made, of any figures and with any bytes in the stores. More pools may be made on the way.
+-- D4, demand 2 for a host: whatever record it begins with, from where it has a pool made, of any figures and with any bytes in the stores.
+-- More pools may be made on the way.
 abbrev pub HostDemand2 : Type 0
 HostDemand2 =
     (limits : Limits) (small large : List ℕ) (whole : isAllowed limits ≡ true → (length small ≡ wholeSmall limits) × (length large ≡ wholeLarge limits)) (more : List Action)

@@ -1,3 +1,4 @@
+pub mod Steps
 pub mod Demands
 pub mod Bytes
 pub mod Veil

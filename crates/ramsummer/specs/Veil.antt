@@ -1,5 +1,5 @@
--- V11, order 10 for a host, over lists of calls through the entries or by lines: what is written beyond the prefix of an object (02: head)
--- shows in no answer to a viewer.
+-- V11, order 10 for a host, over lists of displayCalls through the entries or by lines: what is written beyond the prefix of an object (02:
+-- head) shows in no answer to a viewer.
 use Prim.Native.Nat.{ℕ}
 use mathlib.Core.Bool.{true}
 use mathlib.Core.List.{List, [], _∷_, map}
@@ -9,17 +9,17 @@ use Rattle.ledger.specs.Objects.{Reply}
 use Rattle.ledger.specs.Ledger.{Sent, fresh}
 use Rattle.ledger.specs.Limits.{isAllowed}
 use Rattle.ledger.specs.Veil.{veils, toViewers, seenIn}
-use Rattle.ledger.specs.Views.{calls}
+use Rattle.ledger.specs.Views.{displayCalls}
 use Rattle.ledger.specs.declared.Limits.{Limits}
 use Rattle.ledger.specs.declared.Request.{Request}
 use Rattle.record.specs.Reading.{freshPool, wholeSmall, wholeLarge}
 use Rattle.record.specs.declared.Pool.{Pool}
-use Rattle.frames.specs.declared.Frame.{Frame}
-use Rattle.numbered.specs.Told.{Loans, Told}
-use Rattle.numbered.specs.Steps.{Asked, frameAsked, bytesAsked, isHeard, tells, Action, asks}
+use Rattle.ledger.specs.declared.Frame.{Frame}
+use Rattle.by_value.specs.Told.{Loans, Told}
+use Rattle.ramsummer.specs.Steps.{Asked, frameAsked, bytesAsked, isHeard, tells, Action, asks}
 use Rattle.ramsummer.specs.Demands.{HostRuns}
 
--- one of the fourteen calls, by its own entry or by a line, with what the host lends for its answer
+-- one of the fourteen displayCalls, by its own entry or by a line, with what the host lends for its answer
 pub record HostCall : Type 0 where
   pub asked : Asked
   pub loans : Loans
@@ -28,19 +28,19 @@ pub record HostCall : Type 0 where
   pub heard : isHeard asked loans ≡ true
   pub yields : frameAsked asked ≡ Frame.Request request count
 
-abbrev pub actionOf : HostCall → Action
-actionOf c = asks (c .asked) (c .loans)
+abbrev pub actionFor : HostCall → Action
+actionFor c = asks (c .asked) (c .loans)
 
 abbrev pub sentOf : HostCall → Sent
 sentOf c = record { request = c .request; bytes = bytesAsked (c .asked) }
 
--- what the host is told of these answers to its calls
-unfoldable pub toldBy : List HostCall → List Reply → List Told
-toldBy [] ys = []
-toldBy (c ∷ cs) [] = []
-toldBy (c ∷ cs) (y ∷ ys) = tells (c .asked) y (c .loans) ∷ toldBy cs ys
+-- what the host is told of these answers to its displayCalls
+unfoldable pub toldAll : List HostCall → List Reply → List Told
+toldAll [] ys = []
+toldAll (c ∷ cs) [] = []
+toldAll (c ∷ cs) (y ∷ ys) = tells (c .asked) y (c .loans) ∷ toldAll cs ys
 
--- A host's list of calls on a fresh pool of allowed figures, with stores as long as the blocks need and any bytes in them
+-- A host's list of displayCalls on a fresh pool of allowed figures, with stores as long as the blocks need and any bytes in them
 pub record HostRun (limits : Limits) (cs : List HostCall) (ts : List Told) : Type 0 where
   pub allowed : isAllowed limits ≡ true
   pub small : List ℕ
@@ -50,10 +50,10 @@ pub record HostRun (limits : Limits) (cs : List HostCall) (ts : List Told) : Typ
   pub pool : Pool
   pub smallAfter : List ℕ
   pub largeAfter : List ℕ
-  pub runs : HostRuns (freshPool limits) small large (map actionOf cs) ts pool smallAfter largeAfter
+  pub runs : HostRuns (freshPool limits) small large (map actionFor cs) ts pool smallAfter largeAfter
 
--- There is one for every list of a host's calls and all figures that a site may choose; and the two lists of `Views`, which have one veil
--- and are not answered alike, are a host's: the claim is about something.
+-- There is one for every list of a host's displayCalls and all figures that a site may choose; and the two lists of `Views`, which have one
+-- veil and are not answered alike, are a host's: the claim is about something.
 pub record SomeHostRun (limits : Limits) (cs : List HostCall) : Type 0 where
   pub told : List Told
   pub run : HostRun limits cs told
@@ -62,16 +62,16 @@ pub record HostRunsExist : Type 0 where
   pub every : (limits : Limits) → isAllowed limits ≡ true → (cs : List HostCall) → SomeHostRun limits cs
   pub first : List HostCall
   pub second : List HostCall
-  pub firstCalls : map sentOf first ≡ calls 6 7 8
-  pub secondCalls : map sentOf second ≡ calls 9 10 11
+  pub firstCalls : map sentOf first ≡ displayCalls 6 7 8
+  pub secondCalls : map sentOf second ≡ displayCalls 9 10 11
 
--- Two lists of a host's calls that differ only in bytes written beyond prefixes:
+-- Two lists of a host's displayCalls that differ only in bytes written beyond prefixes:
 pub record Discreetly (limits : Limits) (cs ds : List HostCall) (ts us : List Told) : Type 0 where
   pub answers : List Reply
   pub others : List Reply
-  -- all that it is told in either are the answers to its calls;
-  pub told : ts ≡ toldBy cs answers
-  pub toldOthers : us ≡ toldBy ds others
+  -- all that it is told in either are the answers to its displayCalls;
+  pub told : ts ≡ toldAll cs answers
+  pub toldOthers : us ≡ toldAll ds others
   pub count : length answers ≡ length cs
   pub countOthers : length others ≡ length ds
   -- of these the ones to viewers, and all reports, are the same,

@@ -15,7 +15,7 @@ use Rattle.ledger.specs.Limits.{isAllowed, taskCount}
 use Rattle.ledger.specs.Tasks.{isAbsent, allTicked}
 use Rattle.ledger.specs.Expirations.{departed}
 use Rattle.ledger.specs.declared.Limits.{Limits}
-use Rattle.record.specs.Codes.{stateOf, taskOf, leftAt, freeBlock}
+use Rattle.record.specs.Codes.{stateOf, taskOf, unitsLeft, freeBlock}
 use Rattle.record.specs.Shares.{isShared}
 use Rattle.record.specs.WellFormed.{isFitTask, isFitDue, isFitEntry, isNaming, isSizedFor, isFitBlock, isDistinct, isPinnedOnce, handleOf, isBlock, isBlockAt, isEntryAt, isBounded, isConsistent, isWellFormed}
 use Rattle.record.specs.declared.TaskEntry.{TaskEntry}
@@ -80,7 +80,7 @@ pub record FitLocal (limits : Limits) (setter : TaskEntry) (used : Bool) (task l
   pub within : left ≤ limits .extension + 1
 
 pub fit-local : (limits : Limits) (setter : TaskEntry) (global : GlobalTime) (used : Bool) (task : ℕ) (at : LocalTime)
-    → isFitDue limits setter global used (Local task at) ≡ true → FitLocal limits setter used task (leftAt (at .0) (setter .clock .0))
+    → isFitDue limits setter global used (Local task at) ≡ true → FitLocal limits setter used task (unitsLeft (at .0) (setter .clock .0))
 unfolding isFitDue
 fit-local limits setter global used task at e =
     let (abc, d) = and-eq-true-iff _ _ .0 e in
@@ -103,7 +103,7 @@ pub record FitGlobal (limits : Limits) (setter : TaskEntry) (used : Bool) (task 
   pub within : left ≤ limits .extension + 2
 
 pub fit-global : (limits : Limits) (setter : TaskEntry) (global : GlobalTime) (used : Bool) (task : ℕ) (at : GlobalTime)
-    → isFitDue limits setter global used (Global task at) ≡ true → FitGlobal limits setter used task (leftAt (at .0) (global .0))
+    → isFitDue limits setter global used (Global task at) ≡ true → FitGlobal limits setter used task (unitsLeft (at .0) (global .0))
 unfolding isFitDue
 fit-global limits setter global used task at e =
     let (naming, there, d) = and₃ used _ _ e in

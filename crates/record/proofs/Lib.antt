@@ -6,6 +6,7 @@ pub mod Distinct
 pub mod Exists
 pub mod FreshReads
 pub mod Types
+pub mod ByValue
 pub mod States
 pub mod Times
 pub mod Awaited

@@ -11,9 +11,11 @@ use mir.Val.{Val}
 use Rattle.lists.specs.Tests.{All}
 use Rattle.ledger.specs.Limits.{counterRange}
 use Rattle.record.specs.Reading.{HeadTyped, Typed}
-use Rattle.record.specs.Tables.{blockEntries, expirationEntries, BlockEntry, ExpirationEntry, tablesBy}
+use Rattle.record.specs.Tables.{blockEntries, expirationEntries, BlockEntry, ExpirationEntry, tablesBy, Sized, headOf}
 use Rattle.record.specs.declared.Head.{Head}
+use Rattle.record.specs.declared.Pool.{Pool}
 use Rattle.record.proofs.Head.{the-row as the-head}
+use Rattle.record.proofs.Pool.{the-row}
 
 -- what each element's own type gives
 pub each-all : {A d : Type 0} (f : d → List Val → Fml) (g : A → d) (P : A → Type 0) → ((x : A) (us : List Val) → shadow (f (g x) us) → P x)
@@ -32,6 +34,32 @@ head-typed h vs t =
       clocks = each-all _ _ _ (λ x us s. omega arith) (h .tasks) _ (tasks .1 .1);
       global = omega arith;
       given = omega arith;
+    }
+
+-- the same of a whole record, and the lengths of its columns
+pub pool-head-typed : (p : Pool) (vs : List Val) → Is the-row p vs → HeadTyped (headOf p)
+unfolding counterRange
+pool-head-typed p vs t =
+    let (tasks, (global, (given, (limits, (shares, rest))))) = t .1 .1 in
+    record {
+      tasks = sym (length-map (p .tasks) _) ∙ tasks .1 .0 .1;
+      shares = sym (length-map (p .shares) _) ∙ shares .1 .0 .1;
+      clocks = each-all _ _ _ (λ x us s. omega arith) (p .tasks) _ (tasks .1 .1);
+      global = omega arith;
+      given = omega arith;
+    }
+
+pub columns-sized : (p : Pool) (vs : List Val) → Is the-row p vs → Sized (p .handles) (p .extents) (p .clocks) (p .named) (p .dues)
+columns-sized p vs t =
+    let (tasks, (global, (given, (limits, (shares, (handles, (extents, (clocks, (named, (dues, end)))))))))) = t .1 .1 in
+    record {
+      blocks = record { of-handles = sym (length-map (p .handles) _) ∙ handles .1 .0 .1; of-extents = sym (length-map (p .extents) _) ∙ extents .1 .0 .1 };
+      entries =
+          record {
+            of-clocks = sym (length-map (p .clocks) _) ∙ clocks .1 .0 .1;
+            of-named = sym (length-map (p .named) _) ∙ named .1 .0 .1;
+            of-dues = sym (length-map (p .dues) _) ∙ dues .1 .0 .1;
+          };
     }
 
 -- with tables of as many entries as the record's

@@ -27,8 +27,8 @@ isRunningEntry e = isRunning (stateOf (e .state))
 abbrev pub isPendingEntry : TaskEntry → Bool
 isPendingEntry e = isRunningEntry e && not (eqb (e .ticked) 1)
 
--- the clock of an expiration by its code: 0 none, from localCode on those of the tasks, and from globalCode on the global time, with the task that set it or
--- that it departed; pinnedCode is no clock's
+-- the clock of an expiration by its code: 0 none, from localCode on those of the tasks, and from globalCode on the global time, with the
+-- task that set it or that it departed; pinnedCode is no clock's
 abbrev pub localCode : ℕ
 localCode = 16
 
@@ -79,8 +79,8 @@ setterOf (Pinned due) = 0
 setterOf Unknown = 0
 
 -- E6: what remains (01: units left), by counters that wrap (T8)
-abbrev pub leftAt : ℕ → ℕ → ℕ
-leftAt due now = (due + (counterRange - now)) % counterRange
+abbrev pub unitsLeft : ℕ → ℕ → ℕ
+unitsLeft due now = (due + (counterRange - now)) % counterRange
 
 -- what an entry past the end of a table reads as
 abbrev pub absentEntry : TaskEntry

@@ -34,11 +34,11 @@ viewer = record { state = 3; ticked = 0; clock = record { 0 = 5 } }
 abbrev pub isFit : Due → Bool
 isFit due = isFitDue smallest runner (record { 0 = 7 }) true due
 
-abbrev pub madeBy : ℕ → BlockEntry
-madeBy task = record { handle = 1; length = 1; sum = 0; maker = task; prefix = 1 }
+abbrev pub objectBy : ℕ → BlockEntry
+objectBy task = record { handle = 1; length = 1; sum = 0; maker = task; prefix = 1 }
 
 abbrev pub object : BlockEntry
-object = madeBy 0
+object = objectBy 0
 
 abbrev pub expiring : ExpirationEntry
 expiring = record { clock = localCode; block = 0; due = 6 }
@@ -114,16 +114,16 @@ pub record FitRows : Type 0 where
   pub reserveAtLimit : isFitShare (runner ∷ []) 0 (smallQuota 1 1) ≡ true
   pub reserveAboveLimit : isFitShare (runner ∷ []) 0 (smallQuota 2 1) ≡ false
   -- W22: made by one who left, and not by a seventeenth task
-  pub madeByDeparted : isKnown (madeBy 16) ≡ true
-  pub madeByNobody : isKnown (madeBy 17) ≡ false
+  pub madeByDeparted : isKnown (objectBy 16) ≡ true
+  pub madeByNobody : isKnown (objectBy 17) ≡ false
   -- W23: a reserve of the one small block, met or unmet; and not two, or one while another's object has the block
   pub oneReserve : isSharedIn true smallest (smallQuota 1 1 ∷ []) [] ≡ true
-  pub metReserve : isSharedIn true smallest (smallQuota 1 1 ∷ []) (madeBy 0 ∷ []) ≡ true
+  pub metReserve : isSharedIn true smallest (smallQuota 1 1 ∷ []) (objectBy 0 ∷ []) ≡ true
   pub twoReserves : isSharedIn true smallest (smallQuota 1 1 ∷ smallQuota 1 1 ∷ []) [] ≡ false
-  pub takenReserve : isSharedIn true smallest (smallQuota 1 1 ∷ []) (madeBy 16 ∷ []) ≡ false
+  pub takenReserve : isSharedIn true smallest (smallQuota 1 1 ∷ []) (objectBy 16 ∷ []) ≡ false
   -- W24: as many objects as the limit, and not more
-  pub atLimit : isWithinLimit true (madeBy 0 ∷ []) 0 (smallQuota 0 1) ≡ true
-  pub aboveLimit : isWithinLimit true (madeBy 0 ∷ []) 0 (smallQuota 0 0) ≡ false
+  pub atLimit : isWithinLimit true (objectBy 0 ∷ []) 0 (smallQuota 0 1) ≡ true
+  pub aboveLimit : isWithinLimit true (objectBy 0 ∷ []) 0 (smallQuota 0 0) ≡ false
   -- W25: a prefix of the whole object, and not one byte more
   pub prefixOfAll : isPrefixed object ≡ true
   pub prefixPastTheEnd : isPrefixed (record { handle = 1; length = 1; sum = 0; maker = 0; prefix = 2 }) ≡ false

@@ -13,7 +13,7 @@ use Rattle.ledger.specs.Compared.{Shown, localLeft, globalLeft, pinnedLeft, sho
 use Rattle.ledger.specs.Kept.{Ascending, PinsKept}
 use Rattle.ledger.specs.Ledger.{Ledger}
 use Rattle.ledger.specs.declared.Limits.{Limits}
-use Rattle.record.specs.Codes.{taskOf, dueOf, leftAt, absentEntry, freeBlock}
+use Rattle.record.specs.Codes.{taskOf, dueOf, unitsLeft, absentEntry, freeBlock}
 use Rattle.record.specs.declared.TaskEntry.{TaskEntry}
 use Rattle.record.specs.Tables.{blockEntries, expirationEntries, BlockEntry, ExpirationEntry, Tables}
 use Rattle.record.specs.declared.GlobalTime.{GlobalTime}
@@ -30,8 +30,8 @@ isSmallBlock block = ltb block (capacity .small)
 unfoldable pub shownDue : List TaskEntry → GlobalTime → ℕ → Due → List Shown
 shownDue tasks global handle Free = []
 shownDue tasks global handle (Local setter at) =
-    record { handle = handle; left = localLeft setter (leftAt (at .0) (getD tasks setter absentEntry .clock .0)) } ∷ []
-shownDue tasks global handle (Global setter at) = record { handle = handle; left = globalLeft setter (leftAt (at .0) (global .0)) } ∷ []
+    record { handle = handle; left = localLeft setter (unitsLeft (at .0) (getD tasks setter absentEntry .clock .0)) } ∷ []
+shownDue tasks global handle (Global setter at) = record { handle = handle; left = globalLeft setter (unitsLeft (at .0) (global .0)) } ∷ []
 shownDue tasks global handle (Pinned due) = record { handle = handle; left = pinnedLeft } ∷ []
 shownDue tasks global handle Unknown = []
 

@@ -1,4 +1,5 @@
--- The rules Q by a record's entries (order 9 of document 02): what of a store each task has, what is held back for it, and what is asked of shares and makers: the rules W20 to W24.
+-- The rules Q by a record's entries (order 9 of document 02): what of a store each task has, what is held back for it, and what is asked of
+-- shares and makers: the rules W20 to W24.
 use Prim.Native.Nat.{ℕ, _+_, _-_}
 use mathlib.Core.Bool.{Bool, true, false, cond, not, _&&_, _||_}
 use mathlib.Core.List.{List}

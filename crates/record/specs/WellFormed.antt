@@ -10,7 +10,7 @@ use Rattle.ledger.specs.Limits.{capacity, isAllowed, taskCount, smallSize, larg
 use Rattle.ledger.specs.Tasks.{isAbsent, isRunning, allTicked}
 use Rattle.ledger.specs.Expirations.{departed}
 use Rattle.ledger.specs.declared.Limits.{Limits}
-use Rattle.record.specs.Codes.{stateOf, taskOf, dueOf, isDated, isPinnedDue, setterOf, leftAt, absentEntry, freeBlock}
+use Rattle.record.specs.Codes.{stateOf, taskOf, dueOf, isDated, isPinnedDue, setterOf, unitsLeft, absentEntry, freeBlock}
 use Rattle.record.specs.Reading.{isSmallBlock}
 use Rattle.record.specs.Shares.{isShared}
 use Rattle.record.specs.declared.TaskEntry.{TaskEntry}
@@ -33,16 +33,16 @@ isFitTask e =
 abbrev pub isAhead : ℕ → ℕ → Bool
 isAhead most left = leb 1 left && leb left most
 
--- An expiration, with the entry of its setter and whether it names a block in use, as it must (W1). W6, W8: something remains, and no more than the largest
--- extension gives; W7, W14: the setter is there, or has departed where it is a global one; W12: a code that means nothing is not fit; W15: a
--- pinned one has no time.
+-- An expiration, with the entry of its setter and whether it names a block in use, as it must (W1). W6, W8: something remains, and no more
+-- than the largest extension gives; W7, W14: the setter is there, or has departed where it is a global one; W12: a code that means nothing
+-- is not fit; W15: a pinned one has no time.
 unfoldable pub isFitDue : Limits → TaskEntry → GlobalTime → Bool → Due → Bool
 isFitDue limits setter global used Free = true
 isFitDue limits setter global used (Local task at) =
     used && ltb task taskCount && not (isAbsent (stateOf (setter .state)))
-    && isAhead (limits .extension + 1) (leftAt (at .0) (setter .clock .0))
+    && isAhead (limits .extension + 1) (unitsLeft (at .0) (setter .clock .0))
 isFitDue limits setter global used (Global task at) =
-    used && (eqb task departed || not (isAbsent (stateOf (setter .state)))) && isAhead (limits .extension + 2) (leftAt (at .0) (global .0))
+    used && (eqb task departed || not (isAbsent (stateOf (setter .state)))) && isAhead (limits .extension + 2) (unitsLeft (at .0) (global .0))
 isFitDue limits setter global used (Pinned due) = used && eqb due 0
 isFitDue limits setter global used Unknown = false
 
@@ -74,12 +74,12 @@ isDistinct [] = true
 isDistinct (h ∷ hs) = (eqb h 0 || not (any (eqb h) hs)) && isDistinct hs
 
 -- W16: no two pinned expirations name one block
-abbrev pub isPinning : ℕ → ExpirationEntry → Bool
-isPinning block e = isPinnedDue (dueOf e) && eqb (e .block) block
+abbrev pub isPinOn : ℕ → ExpirationEntry → Bool
+isPinOn block e = isPinnedDue (dueOf e) && eqb (e .block) block
 
 abbrev pub isPinnedOnce : List ExpirationEntry → Bool
 isPinnedOnce [] = true
-isPinnedOnce (e ∷ es) = (not (isPinnedDue (dueOf e)) || not (any (isPinning (e .block)) es)) && isPinnedOnce es
+isPinnedOnce (e ∷ es) = (not (isPinnedDue (dueOf e)) || not (any (isPinOn (e .block)) es)) && isPinnedOnce es
 
 abbrev pub handleOf : BlockEntry → ℕ
 handleOf b = b .handle

@@ -1,7 +1,7 @@
 // What the numbers of an entry mean, and what remains of an expiration (01: units left) by counters that wrap (T8).
 ghost use mathlib.Core.Path.{_≡_};
 ghost use Rattle.record.specs.Tables.{lengthIn, sumIn, makerIn, prefixIn, extentOf, withSum, withMaker};
-ghost use Rattle.record.specs.Codes.{stateOf, isGlobalClock, leftAt};
+ghost use Rattle.record.specs.Codes.{stateOf, isGlobalClock, unitsLeft};
 use super::GlobalTime;
 use super::LocalTime;
 use ledger::State;
@@ -16,8 +16,8 @@ pub const WAITING: u16 = 2;
 
 pub const VIEWING: u16 = 3;
 
-// The clock of an expiration entry: none, LOCAL and the number of the task whose clock it is, or for the global time GLOBAL and the number of the task that set it;
-// DEPARTED where that has left; PINNED is no clock's.
+// The clock of an expiration entry: none, LOCAL and the number of the task whose clock it is, or for the global time GLOBAL and the number
+// of the task that set it; DEPARTED where that has left; PINNED is no clock's.
 pub const FREE: u8 = 0;
 
 pub const LOCAL: u8 = 16;
@@ -112,14 +112,14 @@ pub fn is_global(clock: u8) -> bool
 
 // E6: what remains of a local expiration.
 pub fn local_left(at: LocalTime, now: LocalTime) -> u32
-    ensures { λ r. ⌜ r ≡ leftAt (at .0) (now .0) ⌝ }
+    ensures { λ r. ⌜ r ≡ unitsLeft (at .0) (now .0) ⌝ }
 {
     std::num::wrapping_sub_u32(at.0, now.0)
 }
 
 // E6: what remains of a global one.
 pub fn global_left(at: GlobalTime, now: GlobalTime) -> u32
-    ensures { λ r. ⌜ r ≡ leftAt (at .0) (now .0) ⌝ }
+    ensures { λ r. ⌜ r ≡ unitsLeft (at .0) (now .0) ⌝ }
 {
     std::num::wrapping_sub_u32(at.0, now.0)
 }

@@ -1,9 +1,11 @@
-// The pool's record: sixteen task entries, two counters, its figures, and the tables of blocks and of expirations, one array for each field. It holds nothing but numbers
-// and no padding, so every bit pattern of it is a value, which the test of well-formedness (01: a fit record) judges, and equal values are equal bytes.
+// The pool's record: sixteen task entries, two counters, its figures, and the tables of blocks and of expirations, one array for each
+// field. It holds nothing but numbers and no padding, so every bit pattern of it is a value, which the test of well-formedness (01: a fit
+// record) judges, and equal values are equal bytes.
 ghost use mathlib.Core.Path.{_≡_};
 ghost use Rattle.record.specs.Reading.{freshPool};
 ghost use Rattle.record.specs.Tables.{headOf};
 
+pub mod by_value;
 pub mod codes;
 pub mod running;
 
@@ -50,10 +52,11 @@ pub struct TaskEntry {
 // Block i has the object `handles[i]` (01: number; 0 is a free block); its word `extents[i]` has from its low end the object's length (16
 // bits), its maker (8: a task, or 16 where that has left), 8 bits that are left for later, its prefix (16; 02: head length) and at the top
 // the sum of the block's bytes (16). The small store's blocks come first, then the large one's.
-// Expiration i (01: date) goes by the clock `clocks[i]`, a code of codes.rt in which 0 is a free entry, belongs to the object in the block `named[i]`, and is due
-// when that clock reads `dues[i]`.
-// The shares (Q1: reserves and limits) stand apart from the task entries: with them these would be 12 bytes long, and each test that goes over them would cost more.
-// The figures stand behind the counters, here and in a head: in front of the tasks they would make one piece of 144 bytes with them, and the compiler, which moves 128 in place, would call a copy.
+// Expiration i (01: date) goes by the clock `clocks[i]`, a code of codes.rt in which 0 is a free entry, belongs to the object in the block
+// `named[i]`, and is due when that clock reads `dues[i]`.
+// The shares (Q1: reserves and limits) stand apart from the task entries: with them these would be 12 bytes long, and each test that goes
+// over them would cost more. The figures stand behind the counters, here and in a head: in front of the tasks they would make one piece of
+// 144 bytes with them, and the compiler, which moves 128 in place, would call a copy.
 #[repr(C)]
 pub struct Pool {
     pub tasks: [TaskEntry; TASK_COUNT],
@@ -77,7 +80,8 @@ pub struct Head {
     pub shares: [Share; TASK_COUNT],
 }
 
-// T6, E19, E22: what specifications read an entry as: when an expiration is due, and who set it. A time by one clock cannot be tested against the other; the number of a pinned one is no time.
+// T6, E19, E22: what specifications read an entry as: when an expiration is due, and who set it. A time by one clock cannot be tested
+// against the other; the number of a pinned one is no time.
 pub enum Due {
     Free,
     Local { setter: u8, at: LocalTime },

@@ -1,4 +1,5 @@
--- Laws of the table of the blocks by the last byte of their handles: the loop that makes it from the last block to the first, and what a search may take from it.
+-- Laws of the table of the blocks by the last byte of their handles: the loop that makes it from the last block to the first, and what a
+-- search may take from it.
 use Prim.Native.Nat.{ℕ, _+_, _%_, _≤_, _<_}
 use native.Mathlib.Nat.{zero-add}
 use native.Mathlib.Omega.{arith}
@@ -11,11 +12,11 @@ use lib.Seq.{getD-set-same, getD-set-other}
 use Rattle.lists.proofs.Cases.{by-test}
 use Rattle.record.specs.Tables.{blockEntries, byteValues}
 use Rattle.steps.specs.Objects.{placeIn}
-use Rattle.refusals.specs.Firsts.{FirstFor, Firsts}
+use Rattle.refusals.specs.Firsts.{FirstFor, FirstBlocks}
 use Rattle.refusals.proofs.Searching.{isOf, first-is}
 
 module _ (handles : List ℕ) where
-  pub firsts-start : {from : ℕ} → Firsts from handles (replicate byteValues 0)
+  pub firsts-start : {from : ℕ} → FirstBlocks from handles (replicate byteValues 0)
   firsts-start =
       record {
         size = length-replicate {A = ℕ} byteValues 0;
@@ -23,8 +24,8 @@ module _ (handles : List ℕ) where
       }
 
   -- a block is told for its handle's last byte, after all that follow it
-  pub firsts-turn : {from next block at : ℕ} {table : List ℕ} → Firsts from handles table → from ≤ block + 1 → block ≤ next → block < blockEntries
-      → at ≡ getD handles block 0 % byteValues → Firsts next handles (set table at block)
+  pub firsts-turn : {from next block at : ℕ} {table : List ℕ} → FirstBlocks from handles table → from ≤ block + 1 → block ≤ next → block < blockEntries
+      → at ≡ getD handles block 0 % byteValues → FirstBlocks next handles (set table at block)
   firsts-turn {from} {next} {block} {at} {table} s f n b e =
       record {
         size = simp length-set (s .size);
@@ -42,11 +43,11 @@ module _ (handles : List ℕ) where
             }));
       }
 
-  pub firsts-end : {from : ℕ} {table : List ℕ} → Firsts from handles table → from ≤ 0 → Firsts 0 handles table
+  pub firsts-end : {from : ℕ} {table : List ℕ} → FirstBlocks from handles table → from ≤ 0 → FirstBlocks 0 handles table
   firsts-end {from} s h = let same : from ≡ 0 = omega arith in rw same at s
 
   -- the block that is told for a handle's last byte is the first with the handle, if it has it
-  pub first-told : {handle at block : ℕ} {table : List ℕ} → Firsts 0 handles table → length handles ≡ blockEntries → at ≡ handle % byteValues
+  pub first-told : {handle at block : ℕ} {table : List ℕ} → FirstBlocks 0 handles table → length handles ≡ blockEntries → at ≡ handle % byteValues
       → block ≡ getD table at 0 → getD handles block 0 ≡ handle → block ≡ placeIn handle handles
   first-told {handle} {at} {block} s size a b e =
       let told : FirstFor 0 handles at block = rw b (s .so at (omega arith)) in

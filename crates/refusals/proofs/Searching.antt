@@ -1,4 +1,5 @@
--- Loops for any element type: a search that goes past a group in which none passes, a test of any that goes on to the end, and a list filled by another.
+-- Loops for any element type: a search that goes past a group in which none passes, a test of any that goes on to the end, and a list
+-- filled by another.
 use Prim.Native.Nat.{ℕ, zero, suc, _+_, _≤_, _<_}
 use native.Mathlib.Nat.{add-zero}
 use native.Mathlib.Omega.{arith}

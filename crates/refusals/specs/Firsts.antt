@@ -12,5 +12,5 @@ pub record FirstFor (from : ℕ) (handles : List ℕ) (byte block : ℕ) : Type 
   pub before : (k : ℕ) → from ≤ k → k < block → getD handles k 0 % byteValues ≢ byte
 
 -- such a block for every byte
-abbrev pub Firsts : ℕ → List ℕ → List ℕ → Type 0
-Firsts from handles table = Filled 0 (FirstFor from handles) byteValues byteValues table
+abbrev pub FirstBlocks : ℕ → List ℕ → List ℕ → Type 0
+FirstBlocks from handles table = Filled 0 (FirstFor from handles) byteValues byteValues table

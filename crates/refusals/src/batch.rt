@@ -37,7 +37,8 @@ fn handle_at(bytes: &[u8], i: usize) -> u32
 
 // All objects of a batch, where there is room for their blocks.
 pub fn find_batch(given: u32, handles: &[u32; BLOCK_COUNT], bytes: &[u8]) -> BatchFound
-    requires { ⌜ (length (now handles) ≡ blockEntries) × (length (now bytes) / 4 ≤ largestBatch) ⌝ }
+    requires { ⌜ (length (now handles) ≡ blockEntries)
+        × (length (now bytes) / 4 ≤ largestBatch) ⌝ }
     ensures { λ r. ⌜ FindsBatch given (now (handles .entry)) (handlesOf (now (bytes .entry))) r ⌝ }
 {
     let firsts = firsts(handles);

@@ -1,4 +1,5 @@
-// The tests of the rules R, each by numbers that its call has found, and the searches of the blocks that find them. A call is refused by the first that holds (R32).
+// The tests of the rules R, each by numbers that its call has found, and the searches of the blocks that find them. A call is refused by
+// the first that holds (R32).
 ghost use Prim.Native.Nat.{_+_};
 ghost use lib.Dec.{ltb};
 ghost use mathlib.Core.Path.{_≡_};

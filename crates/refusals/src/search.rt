@@ -19,7 +19,9 @@ const GROUP: usize = 8;
 
 // Whether one of the blocks from..to has this handle, with no way out before the last.
 fn is_among(handles: &[u32; BLOCK_COUNT], handle: u32, from: usize, to: usize) -> bool
-    requires { ⌜ (length (now handles) ≡ blockEntries) × (from ≤ to) × (to ≤ blockEntries) ⌝ }
+    requires { ⌜ (length (now handles) ≡ blockEntries)
+        × (from ≤ to)
+        × (to ≤ blockEntries) ⌝ }
     ensures { λ r. ⌜ r ≡ any (λ (h : ℕ). eqb h handle) (drop from (take to (now (handles .entry)))) ⌝ }
 {
     let mut found = false;
@@ -31,7 +33,9 @@ fn is_among(handles: &[u32; BLOCK_COUNT], handle: u32, from: usize, to: usize) -
 
 // The first of the blocks from..to with this handle: a group at a time while none of the group has it, then one by one.
 fn first_with(handles: &[u32; BLOCK_COUNT], handle: u32, from: usize, to: usize) -> usize
-    requires { ⌜ (length (now handles) ≡ blockEntries) × (from ≤ to) × (to ≤ blockEntries) ⌝ }
+    requires { ⌜ (length (now handles) ≡ blockEntries)
+        × (from ≤ to)
+        × (to ≤ blockEntries) ⌝ }
     ensures { λ r. ⌜ r ≡ firstFrom from (λ (h : ℕ). eqb h handle) (drop from (take to (now (handles .entry)))) ⌝ }
 {
     let mut n = from;
@@ -70,7 +74,8 @@ fn end_for(limits: Limits, size: u32) -> usize
 
 // The first free block of a size's store, and of no other (O8).
 pub fn free_place(limits: Limits, handles: &[u32; BLOCK_COUNT], size: u32) -> usize
-    requires { ⌜ (length (now handles) ≡ blockEntries) × (isAllowed limits ≡ true) ⌝ }
+    requires { ⌜ (length (now handles) ≡ blockEntries)
+        × (isAllowed limits ≡ true) ⌝ }
     ensures { λ r. ⌜ r ≡ freePlaceIn limits size (now (handles .entry)) ⌝ }
 {
     let end = end_for(limits, size);

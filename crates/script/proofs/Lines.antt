@@ -5,14 +5,15 @@ use mathlib.Core.List.{List, [], _∷_, _++_, append-assoc}
 use mathlib.Core.Path.{_≡_, refl, ap₂, _∙_}
 use lib.ListN.{length}
 use Rattle.ledger.specs.Objects.{Reply}
-use Rattle.ledger.specs.Ledger.{Ledger}
+use Rattle.ledger.specs.Ledger.{Ledger, replyToFrame, afterFrame}
 use Rattle.record.specs.Pools.{isWellFormed, Reads}
 use Rattle.record.specs.declared.Pool.{Pool}
-use Rattle.calls.specs.Contract.{areWhole, Ready}
-use Rattle.pool.proofs.Demands.{limits-stay}
+use Rattle.stores.specs.Lengths.{areWhole}
+use Rattle.calls.specs.Contract.{Ready}
+use Rattle.steps.proofs.Staying.{limits-stay}
 use Rattle.frames.specs.Frames.{frameOf}
-use Rattle.frames.specs.declared.Frame.{Frame}
-use Rattle.execute.specs.Execution.{replyToFrame, afterFrame, IsReplyTo}
+use Rattle.ledger.specs.declared.Frame.{Frame}
+use Rattle.calls.specs.Served.{IsReplyTo}
 use Rattle.script.specs.Output.{afterLine, repliesToLines, afterLines, answerLines, LinesRun, done, carried}
 
 -- A well-formed record stays so, and figures and the stores' lengths are the same.

@@ -19,19 +19,19 @@ use Rattle.record.specs.Tables.{blocksOf, tablesBy, tablesOf, headOf, pooled}
 use Rattle.record.specs.declared.Head.{Head}
 use Rattle.record.specs.declared.Pool.{Pool}
 use Rattle.record.proofs.Facts.{fit-parts}
-use Rattle.shares.specs.Holdings.{Placed}
+use Rattle.shares.specs.Holdings.{LengthsFit}
 use Rattle.shares.proofs.Placing.{placed-fit}
-use Rattle.calls.specs.Contract.{areWhole, Ready}
-use Rattle.calls.specs.Served.{Called, replyOf, Serves}
+use Rattle.stores.specs.Lengths.{areWhole}
+use Rattle.calls.specs.Contract.{Ready}
+use Rattle.calls.specs.Served.{Called, replyOf, Serves, IsReplyTo}
 use Rattle.answers.specs.Answers.{answerLine, longestAnswer}
 use Rattle.frames.specs.Frames.{frameOf, payloadOf, Decodes}
 use Rattle.text.specs.Hex.{Puts}
 use Rattle.text.specs.Lines.{linesOf, lineAt}
-use Rattle.frames.specs.declared.Frame.{Frame}
+use Rattle.ledger.specs.declared.Frame.{Frame}
 use Rattle.text.proofs.Puts.{puts-on}
 use Rattle.frames.proofs.Payloads.{payload-front}
 use Rattle.text.proofs.Scripts.{lines-on, next-within}
-use Rattle.execute.specs.Execution.{IsReplyTo}
 use Rattle.script.specs.Output.{answerLines, lineIn, Runnable, LinesRun, done, carried, Continues}
 use Rattle.script.proofs.Lines.{Keeps, lines-keep, runs-on, answer-lines-on}
 
@@ -43,7 +43,7 @@ pub ready : {p : Pool} {small large script : List ℕ} {at : ℕ} (request : Req
 ready request r = record { fit = r .fit; whole = λ e. stores-whole r }
 
 -- what is in use has a length of its block's store
-pub placed : {p : Pool} {small large script : List ℕ} {at : ℕ} → Runnable p small large script at → Placed (blocksOf (p .handles) (p .extents))
+pub placed : {p : Pool} {small large script : List ℕ} {at : ℕ} → Runnable p small large script at → LengthsFit (blocksOf (p .handles) (p .extents))
 unfolding tablesOf tablesBy
 placed {p} r = placed-fit (fit-parts (tablesOf p) (r .fit))
 

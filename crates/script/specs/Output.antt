@@ -5,14 +5,14 @@ use mathlib.Core.List.{List, [], _∷_, _++_}
 use mathlib.Core.Path.{_≡_}
 use lib.ListN.{length, take, drop}
 use Rattle.ledger.specs.Objects.{Reply}
-use Rattle.ledger.specs.Ledger.{Ledger, fresh}
+use Rattle.ledger.specs.Ledger.{Ledger, fresh, replyToFrame, afterFrame}
 use Rattle.ledger.specs.Limits.{largeSize, isAllowed}
 use Rattle.ledger.specs.declared.Limits.{Limits}
 use Rattle.answers.specs.Answers.{answerLine, longestAnswer}
 use Rattle.frames.specs.Frames.{frameOf, payloadOf, Decodes}
 use Rattle.text.specs.Lines.{linesOf, lineEnd, lineAt}
 use Rattle.text.specs.Hex.{Puts}
-use Rattle.execute.specs.Execution.{replyToFrame, afterFrame, IsReplyTo}
+use Rattle.calls.specs.Served.{IsReplyTo}
 use Rattle.record.specs.Reading.{freshPool, wholeSmall, wholeLarge}
 use Rattle.record.specs.Pools.{isWellFormed, Reads}
 use Rattle.record.specs.declared.Pool.{Pool}
@@ -63,7 +63,8 @@ pub record Steps (script : List ℕ) (at : ℕ) (old : List ℕ) (r : Step) (new
   pub next : r .next ≡ lineAt script at .next
   pub size : length new ≡ length old
 
--- A run can go on: the record is well-formed, the stores are as long as its blocks need, and the next line starts in the script or at its end.
+-- A run can go on: the record is well-formed, the stores are as long as its blocks need, and the next line starts in the script or at its
+-- end.
 pub record Runnable (p : Pool) (small large script : List ℕ) (at : ℕ) : Type 0 where
   pub fit : isWellFormed p ≡ true
   pub smallWhole : length small ≡ wholeSmall (p .limits)
@@ -98,8 +99,8 @@ pub data InParts (script : List ℕ) : Pool → List ℕ → List ℕ → ℕ �
       → (c : Continues p small large script at r small′ large′ out out′) → InParts script (r .pool) small′ large′ (r .next) rest p″ small″ large″
       → InParts script p small large at (answerLines (c .replies) ++ rest) p″ small″ large″
 
--- D5: for all figures that a site may choose, from a fresh record, with stores as long as the blocks need and any bytes in them: the whole output is this function of
--- figures and script, record and stores then read as the ledger after all lines, and the record is well-formed.
+-- D5: for all figures that a site may choose, from a fresh record, with stores as long as the blocks need and any bytes in them: the whole
+-- output is this function of figures and script, record and stores then read as the ledger after all lines, and the record is well-formed.
 abbrev pub WholeOutput : Type 0
 WholeOutput =
     (limits : Limits) → isAllowed limits ≡ true → (small large : List ℕ) → length small ≡ wholeSmall limits → length large ≡ wholeLarge limits

@@ -1,16 +1,16 @@
-// A script run from fresh, a buffer of answers at a time. Its record is well-formed from the start and stays so: no line tests that again, and its tables stay
-// where they are from the first line to the last.
+// A script run from fresh, a buffer of answers at a time. Its record is well-formed from the start and stays so: no line tests that again,
+// and its tables stay where they are from the first line to the last.
 ghost use Rattle.script.specs.Output.{Readable, Steps, Runnable, Continues};
+use answers::LONGEST_ANSWER;
+use answers::put_answer;
+use answers::show;
 use dispatch::call;
 use dispatch::needs::holdings_for;
-use execute::LONGEST_ANSWER;
-use execute::put_answer;
-use execute::refusal_of;
-use execute::show;
-use frames::Frame;
 use frames::MOST_BYTES;
 use frames::decode;
+use frames::refusal_of;
 use ledger::Answer;
+use ledger::Frame;
 use record::Pool;
 use record::head_of;
 use stores::no_part;
@@ -53,7 +53,8 @@ pub fn run_on(
     out: &mut [u8],
 ) -> Ran
     requires { ⌜ Runnable p (now small) (now large) (now script) start ⌝ }
-    ensures { λ r. ⌜ Continues p (now (small .entry)) (now (large .entry)) (now (script .entry)) start r (now (small .exit)) (now (large .exit)) (now (out .entry)) (now (out .exit)) ⌝ }
+    ensures { λ r. ⌜ Continues p (now (small .entry)) (now (large .entry)) (now (script .entry)) start r (now (small .exit))
+        (now (large .exit)) (now (out .entry)) (now (out .exit)) ⌝ }
 {
     let mut bytes = [0u8; MOST_BYTES];
     let mut at = start;

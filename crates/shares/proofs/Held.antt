@@ -22,8 +22,8 @@ use Rattle.record.specs.WellFormed.{isUsed, isSizedFor}
 use Rattle.record.proofs.Columns.{length-blocks, block-at}
 use Rattle.record.proofs.Figures.{small-block, large-block}
 use Rattle.handles.specs.Handles.{UsedIn}
-use Rattle.shares.specs.Counting.{firstBlock, endBlock, Span, Told, isUsedBy, Tallied, CountedIn, First, ofAll}
-use Rattle.shares.specs.Holdings.{Holds, Placed}
+use Rattle.shares.specs.Counting.{firstBlock, endBlock, Span, InColumns, isUsedBy, Tallied, CountedIn, First, ofAll}
+use Rattle.shares.specs.Holdings.{Holds, LengthsFit}
 use Rattle.shares.specs.Quotas.{unmetBy, HeldBy}
 use Rattle.shares.specs.declared.Holding.{Holding}
 use Rattle.shares.proofs.Between.{between, known-by}
@@ -66,7 +66,7 @@ swapped true i e = refl
 swapped false true e = refl
 swapped false false e = refl
 
-pub told-by : {handles extents : List ℕ} {used : List Bool} → UsedIn handles used → length extents ≡ 96 → Told used extents (blocksOf handles extents)
+pub told-by : {handles extents : List ℕ} {used : List Bool} → UsedIn handles used → length extents ≡ 96 → InColumns used extents (blocksOf handles extents)
 told-by {handles} {extents} u n =
     record {
       size = length-blocks handles extents (u .size) n;
@@ -74,7 +74,7 @@ told-by {handles} {extents} u n =
       maker-at = λ k l. rw (block-at handles extents (u .size) n k);
     }
 
-module _ {used : List Bool} {extents : List ℕ} {blocks : List BlockEntry} (told : Told used extents blocks) (placed : Placed blocks) (store : Bool) where
+module _ {used : List Bool} {extents : List ℕ} {blocks : List BlockEntry} (told : InColumns used extents blocks) (placed : LengthsFit blocks) (store : Bool) where
   taken-at : (k : ℕ) → isTaken store (getD blocks k freeBlock) ≡ (isUsed (getD blocks k freeBlock) && isIn store k)
   unfolding isTaken
   taken-at k =

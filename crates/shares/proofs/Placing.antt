@@ -13,11 +13,11 @@ use Rattle.record.specs.Codes.{freeBlock, taskOf}
 use Rattle.record.specs.Tables.{BlockEntry, ExpirationEntry, Tables}
 use Rattle.record.specs.WellFormed.{isUsed, isFitTask, isFitEntry, isNaming, isSizedFor, isFitBlock, isDistinct, isPinnedOnce, handleOf, isConsistent}
 use Rattle.record.proofs.Facts.{Fit}
-use Rattle.shares.specs.Holdings.{Placed}
+use Rattle.shares.specs.Holdings.{LengthsFit}
 
 pub placed-by : (test : ℕ → BlockEntry → Bool) → ((k : ℕ) → test k freeBlock ≡ true)
     → ((k : ℕ) (b : BlockEntry) → test k b ≡ true → isUsed b ≡ true → isSizedFor k (b .length) ≡ true)
-    → (blocks : List BlockEntry) → allFrom 0 test blocks ≡ true → Placed blocks
+    → (blocks : List BlockEntry) → allFrom 0 test blocks ≡ true → LengthsFit blocks
 placed-by test free shows blocks e =
     record { so = λ k u. shows k (getD blocks k freeBlock) (allFrom-at test freeBlock free blocks e k) u }
 
@@ -25,11 +25,11 @@ fit-block : (given : ℕ) (xs : List ExpirationEntry) (k : ℕ) (b : BlockEntry)
 unfolding isFitBlock
 fit-block given xs k b t u = and₃ (any (isNaming k) xs) _ _ (and-eq-true-iff _ _ .0 (rw u at t) .0) .1
 
-placed-all : (given : ℕ) (xs : List ExpirationEntry) (blocks : List BlockEntry) → allFrom 0 (isFitBlock given xs) blocks ≡ true → Placed blocks
+placed-all : (given : ℕ) (xs : List ExpirationEntry) (blocks : List BlockEntry) → allFrom 0 (isFitBlock given xs) blocks ≡ true → LengthsFit blocks
 unfolding isFitBlock
 placed-all given xs blocks e = placed-by (isFitBlock given xs) (λ k. refl) (fit-block given xs) blocks e
 
-pub placed-fit : {p : Tables} → Fit p → Placed (p .blocks)
+pub placed-fit : {p : Tables} → Fit p → LengthsFit (p .blocks)
 placed-fit {p} fit = placed-all (p .given) (p .expirations) (p .blocks) (fit .blocks)
 
 second : (a b c d : Bool) → (a && b && c && d) ≡ true → b ≡ true
@@ -37,7 +37,7 @@ second true true c d e = refl
 second true false c d e = e
 second false b c d e = absurd (false≢true e)
 
-pub placed-consistent : (p : Tables) → isConsistent p ≡ true → Placed (p .blocks)
+pub placed-consistent : (p : Tables) → isConsistent p ≡ true → LengthsFit (p .blocks)
 unfolding isConsistent
 placed-consistent p e =
     placed-all (p .given) (p .expirations) (p .blocks)

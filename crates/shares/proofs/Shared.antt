@@ -23,7 +23,7 @@ use Rattle.record.specs.Shares.{isTaken, isNothing, isOrdered, isFitShare, isKn
 use Rattle.record.specs.Tables.{BlockEntry}
 use Rattle.record.specs.declared.TaskEntry.{TaskEntry}
 use Rattle.shares.specs.Holdings.{Holds}
-use Rattle.shares.specs.Quotas.{isWithinBy, isClear, isSharedBy}
+use Rattle.shares.specs.Quotas.{isQuotaKept, isClear, isSharedBy}
 use Rattle.shares.specs.declared.Holding.{Holding}
 use Rattle.shares.proofs.Held.{isKnownIn, swapped}
 
@@ -88,8 +88,8 @@ shared-in : (store : Bool) (limits : Limits) (shares : List Share) (blocks : Lis
     → Holds store shares blocks holding → isSharedBy store limits shares holding ≡ (allOrdered store shares && isSharedIn store limits shares blocks)
 unfolding isSharedIn
 shared-in store limits shares blocks {holding} n held =
-    let within : allFrom 0 (isWithinBy store (holding .made)) shares ≡ (allOrdered store shares && allFrom 0 (isWithinLimit store blocks) shares)
-    = allFrom-same (isWithinBy store (holding .made)) _ 16 (λ k l share. rw (held .so k l)) 0 shares (omega arith)
+    let within : allFrom 0 (isQuotaKept store (holding .made)) shares ≡ (allOrdered store shares && allFrom 0 (isWithinLimit store blocks) shares)
+    = allFrom-same (isQuotaKept store (holding .made)) _ 16 (λ k l share. rw (held .so k l)) 0 shares (omega arith)
     ∙ allFrom-two (λ (k : ℕ) (share : Share). isOrdered (quotaIn store share)) (isWithinLimit store blocks) 0 shares in
     rw (within, held .spoken)
     (sym (and-assoc (leb (spokenIn store shares blocks) (blocksIn limits store)) _ _)

@@ -1,4 +1,5 @@
--- Blocks and makers counted, from one place of the table to another. All is said of prefixes: with those before the first place, there are as many as before the last.
+-- Blocks and makers counted, from one place of the table to another. All is said of prefixes: with those before the first place, there are
+-- as many as before the last.
 use Prim.Native.Nat.{ℕ, _+_, _*_, _%_, _≤_, _<_}
 use mathlib.Core.Bool.{Bool, true, false, cond, _&&_}
 use mathlib.Core.List.{List}
@@ -34,7 +35,7 @@ pub record SizedColumns (used : List Bool) (extents : List ℕ) : Type 0 where
   pub of-extents : length extents ≡ blockEntries
 
 -- blocks of which these columns tell whether they are in use, and who made them
-pub record Told (used : List Bool) (extents : List ℕ) (blocks : List BlockEntry) : Type 0 where
+pub record InColumns (used : List Bool) (extents : List ℕ) (blocks : List BlockEntry) : Type 0 where
   pub size : length blocks ≡ blockEntries
   pub use-at : (k : ℕ) → k < blockEntries → getD used k false ≡ isUsed (getD blocks k freeBlock)
   pub maker-at : (k : ℕ) → k < blockEntries → makerIn (getD extents k 0) ≡ getD blocks k freeBlock .maker
@@ -50,13 +51,13 @@ pub record Few (most : ℕ) (table : List ℕ) : Type 0 where
 -- the blocks from i up to j are counted, each for its maker
 pub record Added (used : List Bool) (extents : List ℕ) (i j : ℕ) (before after : List ℕ) : Type 0 where
   pub few : Few j after
-  pub so : (blocks : List BlockEntry) → Told used extents blocks → (k : ℕ) → k < byteValues
+  pub so : (blocks : List BlockEntry) → InColumns used extents blocks → (k : ℕ) → k < byteValues
       → getD after k 0 + count (isUsedBy k) (take i blocks) ≡ getD before k 0 + count (isUsedBy k) (take j blocks)
 
 -- those alone
 pub record Tallied (used : List Bool) (extents : List ℕ) (from to : ℕ) (table : List ℕ) : Type 0 where
   pub few : Few to table
-  pub so : (blocks : List BlockEntry) → Told used extents blocks → (k : ℕ) → k < byteValues
+  pub so : (blocks : List BlockEntry) → InColumns used extents blocks → (k : ℕ) → k < byteValues
       → getD table k 0 + count (isUsedBy k) (take from blocks) ≡ count (isUsedBy k) (take to blocks)
 
 pub record TalliedBoth (used : List Bool) (extents : List ℕ) (tallies : Tallies) : Type 0 where
@@ -66,7 +67,7 @@ pub record TalliedBoth (used : List Bool) (extents : List ℕ) (tallies : Tallie
 -- how many are in use
 pub record CountedIn (used : List Bool) (from to n : ℕ) : Type 0 where
   pub most : n ≤ to
-  pub so : (extents : List ℕ) (blocks : List BlockEntry) → Told used extents blocks → n + count isUsed (take from blocks) ≡ count isUsed (take to blocks)
+  pub so : (extents : List ℕ) (blocks : List BlockEntry) → InColumns used extents blocks → n + count isUsed (take from blocks) ≡ count isUsed (take to blocks)
 
 abbrev pub First : List ℕ → List ℕ → Type 0
 First table r = Filled 0 (λ k x. x ≡ getD table k 0) taskCount taskCount r

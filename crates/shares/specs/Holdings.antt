@@ -28,16 +28,16 @@ pub record HoldsBoth (shares : List Share) (blocks : List BlockEntry) (holdings 
   pub large : Holds false shares blocks (holdings .large)
 
 -- W3, by itself: what is in use has a length of its block's store
-pub record Placed (blocks : List BlockEntry) : Type 0 where
+pub record LengthsFit (blocks : List BlockEntry) : Type 0 where
   pub so : (block : ℕ) → isUsed (getD blocks block freeBlock) ≡ true → isSizedFor block (getD blocks block freeBlock .length) ≡ true
 
 -- of a store, by which blocks are in use: whatever their handles
 pub record HoldsIn (store : Bool) (shares : List Share) (used : List Bool) (extents : List ℕ) (holding : Holding) : Type 0 where
-  pub so : (handles : List ℕ) → UsedIn handles used → Placed (blocksOf handles extents) → Holds store shares (blocksOf handles extents) holding
+  pub so : (handles : List ℕ) → UsedIn handles used → LengthsFit (blocksOf handles extents) → Holds store shares (blocksOf handles extents) holding
 
 -- of both, with whether shares and makers are fit
-pub record Shares (h : Head) (used : List Bool) (extents : List ℕ) (sharing : Sharing) : Type 0 where
-  pub shared : (handles : List ℕ) → UsedIn handles used → Placed (blocksOf handles extents)
+pub record TellsSharing (h : Head) (used : List Bool) (extents : List ℕ) (sharing : Sharing) : Type 0 where
+  pub shared : (handles : List ℕ) → UsedIn handles used → LengthsFit (blocksOf handles extents)
       → sharing .fit ≡ isShared (h .limits) (h .tasks) (h .shares) (blocksOf handles extents)
-  pub held : (handles : List ℕ) → UsedIn handles used → Placed (blocksOf handles extents)
+  pub held : (handles : List ℕ) → UsedIn handles used → LengthsFit (blocksOf handles extents)
       → HoldsBoth (h .shares) (blocksOf handles extents) (sharing .holdings)

@@ -27,8 +27,8 @@ abbrev pub Unmets : Bool → List Share → List ℕ → List ℕ → Type 0
 Unmets store shares made r = Filled 0 (λ k x. x ≡ unmetBy store shares made k) taskCount taskCount r
 
 -- W21, W24
-abbrev pub isWithinBy : Bool → List ℕ → ℕ → Share → Bool
-isWithinBy store made k share = isOrdered (quotaIn store share) && leb (getD made k 0) (quotaIn store share .limit)
+abbrev pub isQuotaKept : Bool → List ℕ → ℕ → Share → Bool
+isQuotaKept store made k share = isOrdered (quotaIn store share) && leb (getD made k 0) (quotaIn store share .limit)
 
 -- W20, where W21 holds
 abbrev pub isClear : List TaskEntry → ℕ → Share → Bool
@@ -43,4 +43,4 @@ pub record HeldBy (store : Bool) (shares : List Share) (made : List ℕ) (taken 
 -- W23, W24, and W21 of the store
 abbrev pub isSharedBy : Bool → Limits → List Share → Holding → Bool
 isSharedBy store limits shares holding =
-    leb (holding .spoken) (blocksIn limits store) && allFrom 0 (isWithinBy store (holding .made)) shares
+    leb (holding .spoken) (blocksIn limits store) && allFrom 0 (isQuotaKept store (holding .made)) shares

@@ -1,11 +1,12 @@
-// What of a store each task has: how many objects it made, and how many blocks are spoken for, in use or held back (the rules Q4 to Q7); and the test of shares and makers (W20 to W24).
+// What of a store each task has: how many objects it made, and how many blocks are spoken for, in use or held back (the rules Q4 to Q7);
+// and the test of shares and makers (W20 to W24).
 ghost use mathlib.Core.Bool.{true, cond};
 ghost use mathlib.Core.Path.{_≡_};
 ghost use Rattle.lists.specs.Tests.{all};
 ghost use Rattle.ledger.specs.Shares.{quotaIn, blocksIn};
 ghost use Rattle.record.specs.WellFormed.{isFitTask};
 ghost use Rattle.shares.specs.Counting.{firstBlock, endBlock, SizedColumns};
-ghost use Rattle.shares.specs.Holdings.{HoldsIn, Shares};
+ghost use Rattle.shares.specs.Holdings.{HoldsIn, TellsSharing};
 ghost use Rattle.shares.specs.Quotas.{HeldBy, isSharedBy};
 
 mod makers;
@@ -136,7 +137,7 @@ pub fn sharing_of<'a>(
 ) -> Sharing
     requires { ⌜ SizedColumns (now used) (now extents)
         × (all isFitTask (h .tasks) ≡ true) ⌝ }
-    ensures { λ r. ⌜ Shares h (now (used .entry)) (now (extents .entry)) r ⌝ }
+    ensures { λ r. ⌜ TellsSharing h (now (used .entry)) (now (extents .entry)) r ⌝ }
 {
     let limits = h.limits;
     let tasks = h.tasks;

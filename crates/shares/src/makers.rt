@@ -1,5 +1,5 @@
-// Makers counted. A block adds to its maker's counter whether it is in use, so that no turn has a branch. Of a free block's maker nothing is asked: it may be
-// any byte, and there is a counter for each.
+// Makers counted. A block adds to its maker's counter whether it is in use, so that no turn has a branch. Of a free block's maker nothing
+// is asked: it may be any byte, and there is a counter for each.
 ghost use Prim.Native.Nat.{_+_, _≤_, _<_};
 ghost use mathlib.Core.Path.{_≡_};
 ghost use lib.Dec.{eqb};
@@ -20,7 +20,9 @@ fn add<'a>(
     extents: &'a [u64; BLOCK_COUNT],
     i: usize,
 )
-    requires { ⌜ Few i (now out) × SizedColumns (now used) (now extents) × (i < blockEntries) ⌝ }
+    requires { ⌜ Few i (now out)
+        × SizedColumns (now used) (now extents)
+        × (i < blockEntries) ⌝ }
     ensures { λ _. ⌜ Added (now (used .entry)) (now (extents .entry)) i (i + 1) (now (out .entry)) (now (out .exit)) ⌝ }
 {
     let maker = maker_in(extents[i]) as usize;
@@ -34,7 +36,9 @@ fn add_four<'a>(
     extents: &'a [u64; BLOCK_COUNT],
     i: usize,
 )
-    requires { ⌜ Few i (now out) × SizedColumns (now used) (now extents) × (i + 4 ≤ blockEntries) ⌝ }
+    requires { ⌜ Few i (now out)
+        × SizedColumns (now used) (now extents)
+        × (i + 4 ≤ blockEntries) ⌝ }
     ensures { λ _. ⌜ Added (now (used .entry)) (now (extents .entry)) i (i + 4) (now (out .entry)) (now (out .exit)) ⌝ }
 {
     add(out, used, extents, i);
@@ -50,7 +54,8 @@ pub fn tally<'a>(
     from: usize,
     to: usize,
 ) -> [u8; BYTE_VALUES]
-    requires { ⌜ SizedColumns (now used) (now extents) × Span from to ⌝ }
+    requires { ⌜ SizedColumns (now used) (now extents)
+        × Span from to ⌝ }
     ensures { λ r. ⌜ Tallied (now (used .entry)) (now (extents .entry)) from to r ⌝ }
 {
     let mut out = [0; BYTE_VALUES];
@@ -66,8 +71,9 @@ pub struct Tallies {
     pub large: [u8; BYTE_VALUES],
 }
 
-// Both stores are counted in one loop, in each turn eight blocks of the small one and four of the large one. (Of two loops the compiler writes the shorter one out in
-// full; with so many reads it no longer sees that the columns are only read, and calls that change them copy them once more.)
+// Both stores are counted in one loop, in each turn eight blocks of the small one and four of the large one. (Of two loops the compiler
+// writes the shorter one out in full; with so many reads it no longer sees that the columns are only read, and calls that change them copy
+// them once more.)
 const TURNS: usize = SMALL_COUNT / 8;
 
 pub fn tally_both<'a>(used: &'a [bool; BLOCK_COUNT], extents: &'a [u64; BLOCK_COUNT]) -> Tallies
@@ -100,7 +106,8 @@ pub fn first(table: [u8; BYTE_VALUES]) -> [u8; TASK_COUNT]
 
 // The blocks in use, from one place to another.
 pub fn count(used: &[bool; BLOCK_COUNT], from: usize, to: usize) -> u8
-    requires { ⌜ (length (now used) ≡ blockEntries) × Span from to ⌝ }
+    requires { ⌜ (length (now used) ≡ blockEntries)
+        × Span from to ⌝ }
     ensures { λ r. ⌜ CountedIn (now (used .entry)) from to r ⌝ }
 {
     let mut sum = 0;

@@ -9,7 +9,7 @@ ghost use Rattle.ledger.specs.Tasks.{isActive};
 ghost use Rattle.record.specs.Codes.{stateOf};
 ghost use Rattle.record.specs.Shares.{isOrdered};
 ghost use Rattle.record.specs.WellFormed.{isFitTask};
-ghost use Rattle.shares.specs.Quotas.{Unmets, isWithinBy, isClear};
+ghost use Rattle.shares.specs.Quotas.{Unmets, isQuotaKept, isClear};
 use super::quota_in;
 use ledger::Quota;
 use ledger::Share;
@@ -49,7 +49,7 @@ pub fn all_within(
     small: bool,
 ) -> bool
     requires { ⌜ Unmets small shares made unmets ⌝ }
-    ensures { λ r. ⌜ r ≡ allFrom 0 (isWithinBy small made) shares ⌝ }
+    ensures { λ r. ⌜ r ≡ allFrom 0 (isQuotaKept small made) shares ⌝ }
 {
     let mut fit = true;
     for i in 0..TASK_COUNT {

@@ -1,4 +1,5 @@
--- How expirations age at an event with an advance test: the ledger's and the record's by one rule, which looks at what is compared of them alone.
+-- How expirations age at an event with an advance test: the ledger's and the record's by one rule, which looks at what is compared of them
+-- alone.
 use Prim.Native.Nat.{ℕ, _+_, _-_, _≤_, _<_}
 use native.Mathlib.Omega.{arith}
 use mathlib.Core.Bool.{Bool, true, false, false≢true, cond, not, _&&_, _||_, and-eq-true-iff, and-true, and-false}
@@ -21,7 +22,7 @@ use Rattle.ledger.specs.Compared.{wrapped, Left, localLeft, globalLeft, pinnedL
 use Rattle.ledger.specs.declared.Event.{Event}
 use Rattle.ledger.specs.declared.Event.the-variants.{Leave, Block, Resume, Tick, View}
 use Rattle.ledger.specs.declared.Limits.{Limits}
-use Rattle.record.specs.Codes.{dueBy, dueOf, setterOf, leftAt, absentEntry, freeBlock}
+use Rattle.record.specs.Codes.{dueBy, dueOf, setterOf, unitsLeft, absentEntry, freeBlock}
 use Rattle.record.specs.Reading.{shownDue, shownEntry}
 use Rattle.record.specs.WellFormed.{isFitDue, isFitEntry}
 use Rattle.record.proofs.Facts.{fit-local, fit-global}
@@ -211,12 +212,12 @@ module _ (event : Event) (task : ℕ) (c : Clocks) (tested : isTested event ≡ 
       (readBy-same _ _ xs (all-every _ (λ x. ledger-due (x .handle) (x .due)) xs))
 
 -- by a counter that goes on from its last value to 0, one of the units left goes too
-left-steps : (due now : ℕ) → 1 ≤ leftAt due (wrapped now) → OneOff (λ n. leftAt due (wrapped n)) now
+left-steps : (due now : ℕ) → 1 ≤ unitsLeft due (wrapped now) → OneOff (λ n. unitsLeft due (wrapped n)) now
 unfolding counterRange
 left-steps due now ahead = omega arith
 
 -- and one that is put off keeps them
-stays : (due now : ℕ) → leftAt (nextTime due) (wrapped (now + 1)) ≡ leftAt due (wrapped now)
+stays : (due now : ℕ) → unitsLeft (nextTime due) (wrapped (now + 1)) ≡ unitsLeft due (wrapped now)
 unfolding counterRange
 stays due now = omega arith
 
@@ -268,12 +269,12 @@ module _ (event : Event) (task : ℕ) {tasks entries : List TaskEntry} {global t
       let now = clock-alike tasks c (same .tasks) setter in
       let ahead = left-steps (at .0) (taskAt c setter .clock) (rw now at (f .ahead)) in
       rw (leaver-ends event task setter (f .known), clock-alike entries (clocksAfter event task c) (after .tasks) setter, now, append-nil)
-      (local-ages event task c tested listed (λ n. leftAt (at .0) (wrapped n)) setter handle ahead)
+      (local-ages event task c tested listed (λ n. unitsLeft (at .0) (wrapped n)) setter handle ahead)
   record-due used handle (Global setter at) fit =
       let ahead = left-steps (at .0) (c .global) (rw (same .global) at (fit-global limits (getD tasks setter absentEntry) global used setter at fit .ahead)) in
       let left = setterAfter event task setter in
       rw (leaver-left event task setter, state-alike entries (clocksAfter event task c) (after .tasks) left, after .global, same .global, append-nil)
-      (global-ages event task c tested listed (λ put n. leftAt (cond put (nextTime (at .0)) (at .0)) (wrapped n)) setter handle ahead (stays (at .0) (c .global)))
+      (global-ages event task c tested listed (λ put n. unitsLeft (cond put (nextTime (at .0)) (at .0)) (wrapped n)) setter handle ahead (stays (at .0) (c .global)))
   record-due used handle (Pinned due) fit = refl
   record-due used handle Unknown fit = refl
 

@@ -1,5 +1,5 @@
--- What an accepted verdict shows, by the tests that passed: the task may set an expiration, and the block and the entry that are chosen are free; or the object
--- stands, its block's bytes add up to their sum, and a write lies within it.
+-- What an accepted verdict shows, by the tests that passed: the task may set an expiration, and the block and the entry that are chosen are
+-- free; or the object stands, its block's bytes add up to their sum, and a write lies within it.
 use Prim.Native.Nat.{ℕ, _+_, _≤_, _<_}
 use native.Mathlib.Nat.{zero-add, le-trans}
 use native.Mathlib.Omega.{arith}
@@ -18,7 +18,7 @@ use Rattle.ledger.specs.Limits.{capacity, taskCount, largeSize, lastHandle, isS
 use Rattle.ledger.proofs.Figures.{allowed}
 use Rattle.ledger.proofs.Passed.{AllPassed, passed, accepted-none}
 use Rattle.ledger.specs.Tasks.{isAbsent}
-use Rattle.ledger.specs.Refusals.{mostExtension, isPinning as isPinningKind, Test}
+use Rattle.ledger.specs.Refusals.{mostExtension, isPinning, Test}
 use Rattle.ledger.specs.Rules.{testsOf}
 use Rattle.ledger.specs.declared.Call.the-variants.{Make, Refresh, Read, Write, Release}
 use Rattle.ledger.specs.declared.Kind.{Kind}
@@ -165,7 +165,7 @@ make-takes task kind extension size prefix p fit types v =
 -- what a refresh that is accepted has: an object that stands, and a free entry
 pub record Renewed (task : ℕ) (kind : Kind) (extension handle : ℕ) (p : Tables) : Type 0 where
   pub may : MaySet task extension p
-  pub plain : isPinningKind kind ≡ false
+  pub plain : isPinning kind ≡ false
   pub here : isHere (p .blocks) handle ≡ true
   pub room : standingIn (p .expirations) < p .limits .expirations
   pub entry : SlotFree (p .limits) (freeSlot (p .expirations)) (p .expirations)
@@ -212,8 +212,8 @@ release-known task handle p v =
     let (known, (present, (active, (acts, (given, (gone, (pinned, end))))))) = all-passed [] [] _ p v in
     record { known = leb-false taskCount task known; here = not-false _ gone }
 
--- a read that is accepted, and a write, is one of a task that there is, and finds the object in a block whose bytes add up to the sum in its
--- entry
+-- a read that is accepted, and a write, is one of a task that there is, and finds the object in a block whose bytes add up to the sum in
+-- its entry
 pub record Intact (task handle : ℕ) (small large : List ℕ) (p : Tables) : Type 0 where
   pub known : task < taskCount
   pub here : isHere (p .blocks) handle ≡ true

@@ -1,4 +1,5 @@
--- An event on a well-formed record follows the ledger: whatever ledger the record reads as, the answer is that ledger's and what is left reads as its next.
+-- An event on a well-formed record follows the ledger: whatever ledger the record reads as, the answer is that ledger's and what is left
+-- reads as its next.
 use Prim.Native.Nat.{ℕ, _<_}
 use borrow.Author.Tests.{leb-false}
 use mathlib.Core.Bool.{Bool, true, false, cond}

@@ -16,7 +16,7 @@ use Rattle.lists.proofs.Counts.{any-map, any-set-kept, any-set-new}
 use Rattle.lists.proofs.Tests.{passes-imp, passes-set}
 use Rattle.lists.proofs.Tables.{map-set, allFrom-imp, allFrom-set}
 use Rattle.ledger.specs.Limits.{taskCount, smallSize, largeSize, isSmall}
-use Rattle.ledger.specs.Refusals.{isPinning as isPinningKind}
+use Rattle.ledger.specs.Refusals.{isPinning}
 use Rattle.ledger.specs.declared.Kind.{Kind}
 use Rattle.ledger.specs.declared.Kind.the-variants.{Local, Global, Pinned}
 use Rattle.ledger.specs.declared.Limits.{Limits}
@@ -98,7 +98,7 @@ entry-fits p types Pinned task extension place may blocks used = rw used
 
 -- it is pinned by its kind alone
 entry-pinned : (kind : Kind) (task extension place : ℕ) (p : Tables) → task < taskCount
-    → isPinnedDue (dueOf (entryFor kind task extension place p)) ≡ isPinningKind kind
+    → isPinnedDue (dueOf (entryFor kind task extension place p)) ≡ isPinning kind
 unfolding entryFor dueBy
 entry-pinned Local task extension place p known = rw (local-due task _ known)
 entry-pinned Global task extension place p known = rw (global-due task _ known)
@@ -120,7 +120,7 @@ entry-place Pinned task extension place p = refl
 -- a refresh of the object in a block
 pub fit-refreshed : (p : Tables) → Fit p → Typed p → (kind : Kind) (task extension place slot : ℕ) → MaySet task extension p
     → SlotFree (p .limits) slot (p .expirations) → isUsed (getD (p .blocks) place freeBlock) ≡ true
-    → isPinningKind kind ≡ false → Fit (withEntry slot (entryFor kind task extension place p) p)
+    → isPinning kind ≡ false → Fit (withEntry slot (entryFor kind task extension place p) p)
 fit-refreshed p fit types kind task extension place slot may entry used plain =
     fit-entry-set p fit slot _ entry (entry-fits p types kind task extension place may (p .blocks) used)
     (entry-pinned kind task extension place p (may .known) ∙ plain)

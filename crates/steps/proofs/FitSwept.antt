@@ -16,7 +16,7 @@ use Rattle.ledger.specs.Limits.{taskCount, counterRange}
 use Rattle.ledger.specs.Tasks.{isAbsent, allTicked}
 use Rattle.ledger.specs.Expirations.{departed}
 use Rattle.ledger.specs.declared.Limits.{Limits}
-use Rattle.record.specs.Codes.{stateOf, dueBy, taskOf, dueOf, isDated, isPinnedDue, setterOf, leftAt, absentEntry, freeBlock}
+use Rattle.record.specs.Codes.{stateOf, dueBy, taskOf, dueOf, isDated, isPinnedDue, setterOf, unitsLeft, absentEntry, freeBlock}
 use Rattle.record.specs.WellFormed.{isUsed, isFitTask, isAhead, isFitDue, isFitEntry, isNaming, isSizedFor, isPrefixed, isFitBlock, isDistinct, handleOf}
 use Rattle.record.specs.declared.TaskEntry.{TaskEntry}
 use Rattle.record.specs.Tables.{BlockEntry, ExpirationEntry, Tables}
@@ -34,14 +34,14 @@ use Rattle.steps.proofs.FitTasks.{Later, later-next, StaysPresent, Othe
 
 -- what is due is ahead still if it was, by no more than the most
 abbrev pub StaysAhead : ℕ → ℕ → ℕ → ℕ → Type 0
-StaysAhead most due before after = isAhead most (leftAt due before) ≡ true → isAhead most (leftAt due after) ≡ true
+StaysAhead most due before after = isAhead most (unitsLeft due before) ≡ true → isAhead most (unitsLeft due after) ≡ true
 
 -- it is while it has units left
-left-ahead : (most due before after : ℕ) → Later before after → ltb 0 (leftAt due after) ≡ true → StaysAhead most due before after
+left-ahead : (most due before after : ℕ) → Later before after → ltb 0 (unitsLeft due after) ≡ true → StaysAhead most due before after
 left-ahead most due before after l k e =
-    let left = leftAt due before in
+    let left = unitsLeft due before in
     let (least, bound) = and-eq-true-iff (leb 1 left) (leb left most) .0 e in
-    rw (k, le-leb (leftAt due after) most (omega (arith, l due (leb-true 1 left least), leb-true left most bound)))
+    rw (k, le-leb (unitsLeft due after) most (omega (arith, l due (leb-true 1 left least), leb-true left most bound)))
 
 -- an expiration by a task's clock stays fit while the task is present and it is ahead
 pub local-fits : (limits : Limits) (before after : TaskEntry) (global later : GlobalTime) (used : Bool) (setter : ℕ) (at : LocalTime)
@@ -54,14 +54,14 @@ local-fits limits before after global later used setter at f e =
     rw (named, stays, ahead left)
 
 -- one that is put off at an advance has the units that it had
-put-off-left : (at now : ℕ) → now < counterRange → leftAt (nextTime at) (nextTime now) ≡ leftAt at now
+put-off-left : (at now : ℕ) → now < counterRange → unitsLeft (nextTime at) (nextTime now) ≡ unitsLeft at now
 unfolding counterRange
 put-off-left at now r = omega arith
 
 -- by the global time, put off or not, what lasts is ahead still
 late-ahead : (most : ℕ) (advanced waits : Bool) (at : ℕ) (global : GlobalTime) → global .0 < counterRange → (let after = advancedTime advanced global in
     let due = cond (advanced && waits) (nextTime at) at in
-    ltb 0 (leftAt due (after .0)) ≡ true → isAhead most (leftAt at (global .0)) ≡ true → isAhead most (leftAt due (after .0)) ≡ true)
+    ltb 0 (unitsLeft due (after .0)) ≡ true → isAhead most (unitsLeft at (global .0)) ≡ true → isAhead most (unitsLeft due (after .0)) ≡ true)
 late-ahead most true true at global r k e = rw (put-off-left at (global .0) r) e
 late-ahead most true false at global r k e = left-ahead _ at _ _ (later-next _ r) k e
 late-ahead most false waits at global r k e = e

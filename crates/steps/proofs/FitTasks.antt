@@ -20,7 +20,7 @@ use Rattle.ledger.specs.Rules.{testsOf}
 use Rattle.ledger.specs.declared.State.{State}
 use Rattle.ledger.specs.declared.State.the-variants.{Absent, Running, Waiting, Viewing}
 use Rattle.ledger.specs.declared.Event.the-variants.{Tick, View}
-use Rattle.record.specs.Codes.{stateOf, taskOf, leftAt, absentEntry}
+use Rattle.record.specs.Codes.{stateOf, taskOf, unitsLeft, absentEntry}
 use Rattle.record.specs.WellFormed.{isFitTask}
 use Rattle.record.specs.declared.TaskEntry.{TaskEntry}
 use Rattle.steps.specs.Events.{verdictOf, nextTime, movedEntry, untickedEntry, advancedTasks}
@@ -28,7 +28,7 @@ use Rattle.ledger.specs.declared.Verdict.the-variants.{Accepted}
 
 -- What is due at some time ahead of the one is no further ahead of the other.
 abbrev pub Later : ℕ → ℕ → Type 0
-Later before after = (due : ℕ) → 1 ≤ leftAt due before → leftAt due after ≤ leftAt due before
+Later before after = (due : ℕ) → 1 ≤ unitsLeft due before → unitsLeft due after ≤ unitsLeft due before
 
 -- so are a time and itself, and a time and the next
 pub later-same : (now : ℕ) → Later now now

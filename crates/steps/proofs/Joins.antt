@@ -1,11 +1,10 @@
 -- A join on a well-formed record follows the ledger that it reads as.
 use Prim.Native.Nat.{ℕ, _<_}
-use mathlib.Core.Bool.{true, false, true≢false, not, _||_}
+use mathlib.Core.Bool.{true, false, true≢false, _||_}
 use mathlib.Core.List.{List, []}
 use mathlib.Core.Option.{none}
 use mathlib.Core.Path.{_≡_, refl, sym, ap, _∙_}
 use borrow.Author.Tests.{not-false, leb-false}
-use lib.Dec.{leb}
 use lib.ListN.{length, getD, set, length-map, length-set}
 use Rattle.lists.specs.Tables.{readFrom}
 use Rattle.lists.proofs.All.{at-set}
@@ -28,8 +27,7 @@ use Rattle.record.specs.Tables.{Tables}
 use Rattle.record.specs.WellFormed.{isFitTask, isWellFormed}
 use Rattle.record.proofs.Exists.{fit-tables-read}
 use Rattle.record.proofs.Facts.{Fit, fit-parts, shared-part, fit-whole}
-use Rattle.steps.specs.Joins.{joinVerdict, joinedEntry, joinedPool}
-use Rattle.steps.specs.Objects.{refuseIf}
+use Rattle.steps.specs.Joins.{joinedEntry, joinedPool}
 use Rattle.steps.specs.Facts.{verdictBy}
 use Rattle.steps.specs.Staying.{Stays}
 use Rattle.steps.proofs.Chosen.{all-passed}

@@ -1,4 +1,5 @@
--- What an event makes of an expiration before it is judged due: a setter that leaves is departed (E21), and where it waits at an advance one is put off (E20).
+-- What an event makes of an expiration before it is judged due: a setter that leaves is departed (E21), and where it waits at an advance
+-- one is put off (E20).
 use Prim.Native.Nat.{ℕ, _-_}
 use native.Mathlib.Omega.{arith}
 use mathlib.Core.Bool.{Bool, true, false, cond, _&&_, and-false, and-eq-true-iff}

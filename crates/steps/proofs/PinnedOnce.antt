@@ -13,7 +13,7 @@ use Rattle.lists.proofs.Counts.{any-map}
 use Rattle.lists.proofs.Implied.{any-none}
 use Rattle.record.specs.Codes.{dueOf, isDated, isPinnedDue, freeBlock}
 use Rattle.record.specs.Tables.{BlockEntry, ExpirationEntry}
-use Rattle.record.specs.WellFormed.{isUsed, isFitEntry, isPinning, isPinnedOnce}
+use Rattle.record.specs.WellFormed.{isUsed, isFitEntry, isPinOn, isPinnedOnce}
 use Rattle.record.specs.declared.TaskEntry.{TaskEntry}
 use Rattle.record.specs.declared.GlobalTime.{GlobalTime}
 use Rattle.record.specs.declared.Due.{Due}
@@ -27,38 +27,38 @@ pub once-map : (f : ExpirationEntry → ExpirationEntry) → ((e : ExpirationEnt
     → isPinnedOnce xs ≡ true → isPinnedOnce (map f xs) ≡ true
 once-map f same pins [] h = refl
 once-map f same pins (e ∷ es) h =
-    let (new, rest) = and-eq-true-iff (not (isPinnedDue (dueOf e)) || not (any (isPinning (e .block)) es)) _ .0 h in
+    let (new, rest) = and-eq-true-iff (not (isPinnedDue (dueOf e)) || not (any (isPinOn (e .block)) es)) _ .0 h in
     by-test (isPinnedDue (dueOf (f e)))
     (λ p. rw (p, same e, none (e .block) (not-true _ (rw (pins e p) at new))) (once-map f same pins es rest))
     (λ p. rw p (once-map f same pins es rest))
   where
-    none : (block : ℕ) → any (isPinning block) es ≡ false → any (isPinning block) (map f es) ≡ false
+    none : (block : ℕ) → any (isPinOn block) es ≡ false → any (isPinOn block) (map f es) ≡ false
     none block gone =
-        any-map (isPinning block) f es
-        ∙ any-none (λ (x : ExpirationEntry). isPinning block (f x)) (isPinning block)
+        any-map (isPinOn block) f es
+        ∙ any-none (λ (x : ExpirationEntry). isPinOn block (f x)) (isPinOn block)
         (λ x p. let (pinned, here) = and-eq-true-iff (isPinnedDue (dueOf (f x))) _ .0 p in rw (pins x pinned, rw (same x) at here)) es gone
 
 -- one that is set, where it is not pinned or no pinned one names its block
-pub once-set : (xs : List ExpirationEntry) (i : ℕ) (e : ExpirationEntry) → (isPinnedDue (dueOf e) ≡ true → any (isPinning (e .block)) xs ≡ false)
+pub once-set : (xs : List ExpirationEntry) (i : ℕ) (e : ExpirationEntry) → (isPinnedDue (dueOf e) ≡ true → any (isPinOn (e .block)) xs ≡ false)
     → isPinnedOnce xs ≡ true → isPinnedOnce (set xs i e) ≡ true
 once-set [] i e new h = refl
 once-set (x ∷ xs) zero e new h =
-    let (_, rest) = and-eq-true-iff (not (isPinnedDue (dueOf x)) || not (any (isPinning (x .block)) xs)) _ .0 h in
+    let (_, rest) = and-eq-true-iff (not (isPinnedDue (dueOf x)) || not (any (isPinOn (x .block)) xs)) _ .0 h in
     by-test (isPinnedDue (dueOf e))
-    (λ p. rw (p, or-false-parts (isPinning (e .block) x) _ (new p) .1) rest)
+    (λ p. rw (p, or-false-parts (isPinOn (e .block) x) _ (new p) .1) rest)
     (λ p. rw p rest)
 once-set (x ∷ xs) (suc i) e new h =
-    let (first, rest) = and-eq-true-iff (not (isPinnedDue (dueOf x)) || not (any (isPinning (x .block)) xs)) _ .0 h in
-    let later = once-set xs i e (λ p. or-false-parts (isPinning (e .block) x) _ (new p) .1) rest in
+    let (first, rest) = and-eq-true-iff (not (isPinnedDue (dueOf x)) || not (any (isPinOn (x .block)) xs)) _ .0 h in
+    let later = once-set xs i e (λ p. or-false-parts (isPinOn (e .block) x) _ (new p) .1) rest in
     by-test (isPinnedDue (dueOf x))
-    (λ p. rw (p, none-set (isPinning (x .block)) xs i e (apart p) (not-true _ (rw p at first))) later)
+    (λ p. rw (p, none-set (isPinOn (x .block)) xs i e (apart p) (not-true _ (rw p at first))) later)
     (λ p. rw p later)
   where
-    apart : isPinnedDue (dueOf x) ≡ true → isPinning (x .block) e ≡ false
+    apart : isPinnedDue (dueOf x) ≡ true → isPinOn (x .block) e ≡ false
     apart p =
         by-test (isPinnedDue (dueOf e))
         (λ q.
-        let other : eqb (x .block) (e .block) ≡ false = rw p at (or-false-parts (isPinning (e .block) x) _ (new q) .0) in
+        let other : eqb (x .block) (e .block) ≡ false = rw p at (or-false-parts (isPinOn (e .block) x) _ (new q) .0) in
         rw (q, ne-eqb (e .block) (x .block) (λ s. eqb-false (x .block) (e .block) other (sym s))))
         (λ q. rw q)
 
@@ -72,11 +72,11 @@ pinned-dated Unknown p = absurd (false≢true p)
 
 -- so none names a block that is not
 pub none-pinned : (limits : Limits) (tasks : List TaskEntry) (global : GlobalTime) (blocks : List BlockEntry) (xs : List ExpirationEntry) (place : ℕ)
-    → isUsed (getD blocks place freeBlock) ≡ false → all (isFitEntry limits tasks global blocks) xs ≡ true → any (isPinning place) xs ≡ false
+    → isUsed (getD blocks place freeBlock) ≡ false → all (isFitEntry limits tasks global blocks) xs ≡ true → any (isPinOn place) xs ≡ false
 none-pinned limits tasks global blocks xs place free fits =
     All→none _ xs
     (all-imp
-    (λ e fit. refuted (isPinning place e)
+    (λ e fit. refuted (isPinOn place e)
     (λ p.
     let (pinned, here) = and-eq-true-iff (isPinnedDue (dueOf e)) _ .0 p in
     let used = fit-used limits _ global _ (dueOf e) fit (pinned-dated (dueOf e) pinned) in

@@ -21,7 +21,7 @@ use Rattle.ledger.specs.Ledger.{Ledger}
 use Rattle.record.specs.Codes.{dueBy, dueOf, isPinnedDue}
 use Rattle.record.specs.Reading.{shownDue, shownEntry, recordView, Reads}
 use Rattle.record.specs.Tables.{ExpirationEntry, Tables}
-use Rattle.record.specs.WellFormed.{isPinning}
+use Rattle.record.specs.WellFormed.{isPinOn}
 use Rattle.record.specs.declared.TaskEntry.{TaskEntry}
 use Rattle.record.specs.declared.GlobalTime.{GlobalTime}
 use Rattle.record.specs.declared.Due.{Due}
@@ -90,10 +90,10 @@ module _ {p : Tables} (fit : Fit p) (block : ℕ) (used : handleAt (p .blocks) b
   own-block : (e : ExpirationEntry) → eqb (handleAt (p .blocks) (e .block)) handle ≡ eqb (e .block) block
   own-block e = same-handle (p .blocks) (fit .distinct) block (e .block) used
 
-  record-pins : any (isPinShown handle) (readBy (shownEntry (p .tasks) (p .global) (p .blocks)) (p .expirations)) ≡ any (isPinning block) (p .expirations)
+  record-pins : any (isPinShown handle) (readBy (shownEntry (p .tasks) (p .global) (p .blocks)) (p .expirations)) ≡ any (isPinOn block) (p .expirations)
   record-pins =
       any-readBy (isPinShown handle) (shownEntry (p .tasks) (p .global) (p .blocks)) (p .expirations)
-      ∙ any-same _ (isPinning block) (p .expirations)
+      ∙ any-same _ (isPinOn block) (p .expirations)
       (all-every _
       (λ e. shown-pins (p .tasks) (p .global) (handleAt (p .blocks) (e .block)) handle (dueOf e) ∙ ap (λ (b : Bool). isPinnedDue (dueOf e) && b) (own-block e))
       (p .expirations))
@@ -103,7 +103,7 @@ module _ {p : Tables} (fit : Fit p) (block : ℕ) (used : handleAt (p .blocks) b
       → shownEntry (p .tasks) (p .global) (p .blocks) (unpinnedEntry block e) ≡ readBy (others handle) (shownEntry (p .tasks) (p .global) (p .blocks) e)
   unfolding dueBy shownDue
   unpinned-shown e =
-      by-test (isPinning block e) (λ q. rw q) (λ q. rw q)
+      by-test (isPinOn block e) (λ q. rw q) (λ q. rw q)
       ∙ ap (λ (b : Bool). cond (isPinnedDue (dueOf e) && b) [] (shownEntry (p .tasks) (p .global) (p .blocks) e)) (sym (own-block e))
       ∙ sym (shown-others (p .tasks) (p .global) (handleAt (p .blocks) (e .block)) handle (dueOf e))
 
@@ -123,7 +123,7 @@ module _ {p : Tables} {small large : List ℕ} {L : Ledger} (fit : Fit p) (reads
   its-used = rw its-handle (eqb-false handle 0 nonzero)
 
   -- 22 comes out the same
-  pub pinned-alike : any (eqb handle) (L .memory .pinned) ≡ any (isPinning place) (p .expirations)
+  pub pinned-alike : any (eqb handle) (L .memory .pinned) ≡ any (isPinOn place) (p .expirations)
   unfolding recordView viewOf
   pinned-alike =
       reads .pins handle ∙ sym (ledger-pins (L .memory .clocks) handle (L .expirations))

@@ -34,7 +34,7 @@ use Rattle.stores.proofs.Changes.{BytesChanged, bytes-changed}
 use Rattle.steps.proofs.Finding.{objectOf}
 use Rattle.steps.proofs.StoreBytes.{whole-block}
 use Rattle.steps.proofs.Summed.{summed-shown}
-use Rattle.steps.specs.Objects.{withSum}
+use Rattle.steps.specs.Objects.{withBlockSum}
 
 -- of whole stores every object shows as it is
 pub shown-whole : (limits : Limits) (small large : List ℕ) → isWholeSmall limits small ≡ true → isWholeLarge limits large ≡ true → (o : Object)
@@ -110,14 +110,14 @@ module _ (p : Tables) (small large : List ℕ) (fit : Fit p) (small-whole : isWh
       (each : (j : ℕ) → handleAt (p .blocks) j ≢ 0 → f (objectOf small large (p .blocks) j) ≡ objectAfter p small large block offset new sum′ j) where
     entry-after : (j : ℕ)
         → let b = getD (p .blocks) j freeBlock in
-        getD (withSum block sum′ p .blocks) j freeBlock ≡ record { handle = b .handle; length = b .length; sum = cond (eqb j block) sum′ (b .sum); maker = b .maker; prefix = b .prefix }
+        getD (withBlockSum block sum′ p .blocks) j freeBlock ≡ record { handle = b .handle; length = b .length; sum = cond (eqb j block) sum′ (b .sum); maker = b .maker; prefix = b .prefix }
     entry-after j =
         by-test (eqb j block)
         (λ e. rw (e, eqb-true j block e) (getD-set-same (p .blocks) block _ freeBlock (listed block used)))
         (λ e. rw e (getD-set-other (p .blocks) block j _ freeBlock (eqb-false j block e)))
 
     object-after : (j : ℕ)
-        → objectIn small′ large′ j (getD (withSum block sum′ p .blocks) j freeBlock) ≡ map f (objectIn small large j (getD (p .blocks) j freeBlock))
+        → objectIn small′ large′ j (getD (withBlockSum block sum′ p .blocks) j freeBlock) ≡ map f (objectIn small large j (getD (p .blocks) j freeBlock))
     unfolding objectIn
     object-after j =
         rw (entry-after j)
@@ -125,14 +125,14 @@ module _ (p : Tables) (small large : List ℕ) (fit : Fit p) (small-whole : isWh
         (λ z. rw z)
         (λ z. let u = eqb-false _ 0 z in rw (z, bytes-after j u) (ap (λ (o : Object). o ∷ []) (sym (each j u)))))
 
-    objects-after : readFrom 0 (objectIn small′ large′) (withSum block sum′ p .blocks) ≡ map f (readFrom 0 (objectIn small large) (p .blocks))
+    objects-after : readFrom 0 (objectIn small′ large′) (withBlockSum block sum′ p .blocks) ≡ map f (readFrom 0 (objectIn small large) (p .blocks))
     objects-after =
         readFrom-set-same freeBlock _ (λ j b. map f (objectIn small large j b)) (p .blocks) block _ object-after
         ∙ sym (map-readFrom f 0 (objectIn small large) (p .blocks))
 
     -- the record with the new sum and the new stores reads as the ledger with the change
     pub changed-reads : {L : Ledger} → Reads p small large L
-        → Reads (withSum block sum′ p) (smallAfter block offset new small) (largeAfter block offset new large) (changedBy f L)
+        → Reads (withBlockSum block sum′ p) (smallAfter block offset new small) (largeAfter block offset new large) (changedBy f L)
     unfolding recordView viewOf
     changed-reads {L} reads =
         let os = L .memory .objects in
@@ -157,7 +157,7 @@ module _ (p : Tables) (small large : List ℕ) (fit : Fit p) (small-whole : isWh
         }
 
 -- a sum that was there already
-same-sum : (p : Tables) (block : ℕ) → withSum block (getD (p .blocks) block freeBlock .sum) p ≡ p
+same-sum : (p : Tables) (block : ℕ) → withBlockSum block (getD (p .blocks) block freeBlock .sum) p ≡ p
 same-sum p block =
     ap
     (λ (bs : List BlockEntry). record { limits = p .limits; tasks = p .tasks; global = p .global; given = p .given; shares = p .shares; blocks = bs; expirations = p .expirations })

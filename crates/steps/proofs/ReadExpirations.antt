@@ -88,7 +88,8 @@ SetterPresent c pinnedLeft = Unit
 abbrev AllPresent : Clocks → List Shown → Type 0
 AllPresent c xs = All (λ (x : Shown). SetterPresent c (x .left)) xs
 
--- Clocks that leave the time of every task that is not absent, and the global time, leave the units of every expiration whose setter is not absent.
+-- Clocks that leave the time of every task that is not absent, and the global time, leave the units of every expiration whose setter is not
+-- absent.
 module _ (c after : Clocks) (stays : (i : ℕ) → isAbsent (taskAt c i .state) ≡ false → taskAt after i .clock ≡ taskAt c i .clock) (still : after .global ≡ c .global) where
   ledger-stays : (d : DueTime) → SetterPresent c (leftOf c d) → leftOf after d ≡ leftOf c d
   unfolding leftOf remaining
@@ -142,7 +143,8 @@ module _ {tasks : List TaskEntry} {global : GlobalTime} {c : Clocks} (same : Clo
       )
       alike
 
--- An accepted event: from a record and a ledger that show the same expirations, to entries and a time that read as the ledger's clocks after it.
+-- An accepted event: from a record and a ledger that show the same expirations, to entries and a time that read as the ledger's clocks
+-- after it.
 module _ (event : Event) (task : ℕ) {tasks entries : List TaskEntry} {global time : GlobalTime} {c : Clocks}
     (same : ClocksAlike tasks global c) (after : ClocksAlike entries time (clocksAfter event task c))
     (accepted : verdictOf event (stateOf (getD tasks task absentEntry .state)) ≡ Accepted)

@@ -23,7 +23,7 @@ use Rattle.ledger.specs.Objects.{Object, zeroed, stands, standing}
 use Rattle.ledger.specs.Rules.{memoryAfter, expirationsAfter}
 use Rattle.ledger.specs.Ledger.{Ledger, settled}
 use Rattle.ledger.specs.Compared.{leftOf, shown, shownObject, viewOf}
-use Rattle.ledger.specs.Refusals.{isPinning as isPinningKind}
+use Rattle.ledger.specs.Refusals.{isPinning}
 use Rattle.ledger.specs.declared.Kind.{Kind}
 use Rattle.ledger.proofs.KeptPins.{pins-carried}
 use Rattle.ledger.specs.declared.Kind.the-variants.{Local, Global, Pinned}
@@ -88,7 +88,7 @@ module _ (p : Tables) (small large : List ℕ) (L : Ledger) (fit : Fit p) (types
       (List·Permᴰ·cons refl (reads .alike .expirations))
 
   -- a refresh of the object in a block
-  pub refreshed-reads : (handle : ℕ) → handleAt (p .blocks) place ≡ handle → isPinningKind kind ≡ false
+  pub refreshed-reads : (handle : ℕ) → handleAt (p .blocks) place ≡ handle → isPinning kind ≡ false
       → (let call = Refresh task kind extension handle in
       Reads (withEntry slot (entryFor kind task extension place p) p) small large
       (settled (memoryAfter call [] (L .memory)) (expirationsAfter call [] (L .memory) (L .expirations))))

@@ -24,7 +24,7 @@ use Rattle.stores.specs.Places.{InBlock, smallAfter, largeAfter, sumAfter}
 use Rattle.steps.proofs.Finding.{objectOf, every-object-stands}
 use Rattle.steps.proofs.StoreBytes.{used-in-block}
 use Rattle.steps.proofs.ReadChanged.{objectAfter, in-place, changed-sizes, changed-reads}
-use Rattle.steps.specs.Objects.{withSum}
+use Rattle.steps.specs.Objects.{withBlockSum}
 
 -- a write changes no handle, and so nothing of what stands
 standing-written : (handle offset : ℕ) (new : List ℕ) (ys : List Expiration) (os : List Object)
@@ -67,14 +67,14 @@ module _ (p : Tables) (small large : List ℕ) (L : Ledger) (fit : Fit p) (types
   -- the record with the new sum and the new stores reads as the ledger after the write
   pub written-reads : (task : ℕ)
       → let call = Write task (handleAt (p .blocks) block) offset in
-      Reads (withSum block (sumAfter small large block offset new) p) (smallAfter block offset new small) (largeAfter block offset new large)
+      Reads (withBlockSum block (sumAfter small large block offset new) p) (smallAfter block offset new small) (largeAfter block offset new large)
       (settled (memoryAfter call new (L .memory)) (expirationsAfter call new (L .memory) (L .expirations)))
   unfolding memoryAfter expirationsAfter written
   written-reads task =
       let m = L .memory in
       subst
       (λ (os : List Object).
-      Reads (withSum block sum′ p) (smallAfter block offset new small) (largeAfter block offset new large)
+      Reads (withBlockSum block sum′ p) (smallAfter block offset new small) (largeAfter block offset new large)
       (record { memory = withObjects os m; expirations = L .expirations }))
       all-stand
       (changed-reads p small large fit small-whole large-whole block offset new used inside sum′ rewritten (λ o. refl) each-written reads)

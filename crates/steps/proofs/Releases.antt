@@ -17,7 +17,7 @@ use Rattle.ledger.proofs.KeptPins.{pins-carried}
 use Rattle.record.specs.Codes.{dueBy, dueOf, isPinnedDue}
 use Rattle.record.specs.Reading.{recordView, Typed, Reads}
 use Rattle.record.specs.Tables.{ExpirationEntry, Tables}
-use Rattle.record.specs.WellFormed.{isFitDue, isFitEntry, isPinning, isWellFormed}
+use Rattle.record.specs.WellFormed.{isFitDue, isFitEntry, isPinOn, isWellFormed}
 use Rattle.record.proofs.Facts.{Fit, fit-parts, shared-part, fit-whole}
 use Rattle.ledger.proofs.KeptShares.{shares-filter}
 use Rattle.steps.proofs.Shares.{shared-kept, kept-shared}
@@ -38,19 +38,19 @@ use Rattle.steps.proofs.Bounded.{kept-listed, counted-map}
 -- an entry after the release of a block stays fit, on its block, and pinned only where it was
 module _ (block : ℕ) where
   unpinned-block : (e : ExpirationEntry) → unpinnedEntry block e .block ≡ e .block
-  unpinned-block e = by-test (isPinning block e) (λ q. rw q) (λ q. rw q)
+  unpinned-block e = by-test (isPinOn block e) (λ q. rw q) (λ q. rw q)
 
   unpinned-pinned : (e : ExpirationEntry) → isPinnedDue (dueOf (unpinnedEntry block e)) ≡ true → isPinnedDue (dueOf e) ≡ true
   unfolding dueBy
-  unpinned-pinned e p = by-test (isPinning block e) (λ q. absurd (false≢true (rw q at p))) (λ q. rw q at p)
+  unpinned-pinned e p = by-test (isPinOn block e) (λ q. absurd (false≢true (rw q at p))) (λ q. rw q at p)
 
   unpinned-free : (e : ExpirationEntry) → eqb (e .clock) 0 ≡ true → eqb (unpinnedEntry block e .clock) 0 ≡ true
-  unpinned-free e z = by-test (isPinning block e) (λ q. rw q) (λ q. rw q z)
+  unpinned-free e z = by-test (isPinOn block e) (λ q. rw q) (λ q. rw q z)
 
   unpinned-fits : (p : Tables) (e : ExpirationEntry) → isFitEntry (p .limits) (p .tasks) (p .global) (p .blocks) e ≡ true
       → isFitEntry (p .limits) (p .tasks) (p .global) (p .blocks) (unpinnedEntry block e) ≡ true
   unfolding isFitDue dueBy
-  unpinned-fits p e h = by-test (isPinning block e) (λ q. rw q) (λ q. rw q h)
+  unpinned-fits p e h = by-test (isPinOn block e) (λ q. rw q) (λ q. rw q h)
 
 -- the record after a release
 pub fit-released : (handle : ℕ) (p : Tables) → Fit p → Fit (releasedPool handle p)

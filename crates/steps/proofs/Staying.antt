@@ -1,4 +1,5 @@
--- Objects that stand on stay in their blocks: an event only frees blocks, a make sets one that was free, a refresh none, a write the sum of one.
+-- Objects that stand on stay in their blocks: an event only frees blocks, a make sets one that was free, a refresh none, a write the sum of
+-- one.
 use Prim.Native.Nat.{ℕ, _<_}
 use native.Mathlib.Omega.{arith}
 use mathlib.Core.Bool.{Bool}
@@ -21,7 +22,8 @@ use Rattle.record.specs.Codes.{freeBlock}
 use Rattle.record.specs.WellFormed.{isNaming}
 use Rattle.record.specs.declared.TaskEntry.{TaskEntry}
 use Rattle.record.specs.declared.GlobalTime.{GlobalTime}
-use Rattle.record.specs.Tables.{ExpirationEntry, Tables}
+use Rattle.record.specs.declared.Pool.{Pool}
+use Rattle.record.specs.Tables.{ExpirationEntry, Tables, tablesBy, tablesOf}
 use Rattle.record.proofs.Facts.{fit-parts, fit-used}
 use Rattle.record.proofs.Distinct.{handleAt, same-handle}
 use Rattle.steps.specs.Events.{verdictAt, keptBlock, swept, orphanedPool, movedPool, poolAfter, outcomeBy, scheduled}
@@ -34,6 +36,11 @@ use Rattle.steps.proofs.Summed.{summed-handle, summed-length}
 -- blocks that are the same, and no handle more
 pub same-stays : {p p′ : Tables} → p′ .limits ≡ p .limits → p′ .blocks ≡ p .blocks → p′ .given ≡ p .given → Stays p p′
 same-stays l e g = record { limits = l; given = omega (arith, g); same = λ block used given. rw e (refl, refl) }
+
+-- no call changes the figures
+pub limits-stay : (p p′ : Pool) → Stays (tablesOf p) (tablesOf p′) → p′ .limits ≡ p .limits
+unfolding tablesOf tablesBy
+limits-stay p p′ s = s .limits
 
 -- one call after another
 pub stays-on : {p p′ p″ : Tables} → Stays p p′ → Stays p′ p″ → Stays p p″

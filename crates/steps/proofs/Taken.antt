@@ -15,7 +15,7 @@ use Rattle.lists.proofs.Tables.{allFrom→All}
 use Rattle.ledger.specs.Limits.{capacity, taskCount, largeSize, counterRange, isSmall}
 use Rattle.ledger.specs.Tasks.{isAbsent}
 use Rattle.ledger.specs.declared.Limits.{Limits}
-use Rattle.record.specs.Codes.{dueBy, stateOf, dueOf, isDated, leftAt, absentEntry, freeBlock, freeEntry, localCode, globalCode, departedCode}
+use Rattle.record.specs.Codes.{dueBy, stateOf, dueOf, isDated, unitsLeft, absentEntry, freeBlock, freeEntry, localCode, globalCode, departedCode}
 use Rattle.record.specs.Reading.{isSmallBlock, Typed}
 use Rattle.record.specs.WellFormed.{isFitDue, isFitEntry, isNaming, isSizedFor, isPrefixed, isFitBlock, isBlock}
 use Rattle.record.specs.declared.TaskEntry.{TaskEntry}
@@ -71,7 +71,7 @@ global-due task due known =
     rw (ne-eqb (globalCode + task) 0 (λ e. omega arith), le-leb globalCode (globalCode + task) (omega arith), le-leb (globalCode + task) departedCode (omega arith), same)
 
 -- units left right after they are set: no counter goes round in so few
-pub units-set : (now units : ℕ) → now < counterRange → units ≤ capacity .extension + 2 → leftAt ((now + units) % counterRange) now ≡ units
+pub units-set : (now units : ℕ) → now < counterRange → units ≤ capacity .extension + 2 → unitsLeft ((now + units) % counterRange) now ≡ units
 unfolding counterRange
 units-set now units range few = omega arith
 

@@ -19,7 +19,7 @@ use Rattle.ledger.proofs.Standing.{gone-object}
 use Rattle.record.specs.Codes.{dueOf, isDated}
 use Rattle.record.specs.Reading.{isWholeSmall, isWholeLarge, recordView, Typed, Reads}
 use Rattle.record.specs.Tables.{Tables}
-use Rattle.record.specs.WellFormed.{isPinning}
+use Rattle.record.specs.WellFormed.{isPinOn}
 use Rattle.record.proofs.Facts.{Fit}
 use Rattle.steps.specs.Facts.{isHere, isSummed, factsBy, verdictWith, verdictBy}
 use Rattle.steps.specs.Objects.{placeOf, blockOf}
@@ -67,7 +67,7 @@ module _ {p : Tables} {small large : List ℕ} {L : Ledger} (typed : Typed p) (f
 
     -- 22
     pins-alike : any (eqb handle) (L .memory .pinned)
-        ≡ (isHere (p .blocks) handle && any (isPinning (placeOf handle (p .blocks))) (p .expirations))
+        ≡ (isHere (p .blocks) handle && any (isPinOn (placeOf handle (p .blocks))) (p .expirations))
     pins-alike =
         by-test (isHere (p .blocks) handle)
         (λ h. by-test (eqb handle 0) (λ z. absurd (false≢true (rw z at h)))

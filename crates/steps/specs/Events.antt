@@ -20,7 +20,7 @@ use Rattle.ledger.specs.declared.Answer.{Answer}
 use Rattle.ledger.specs.declared.Answer.the-variants.{Done, Advanced}
 use Rattle.ledger.specs.declared.Answer.the-variants.{Refused as RefusedAnswer}
 use Rattle.ledger.specs.declared.Refusal.the-variants.{NoSuchTask}
-use Rattle.record.specs.Codes.{stateOf, taskOf, globalCode, departedCode, isGlobalClock, dueOf, setterOf, leftAt, absentEntry, freedBlock, freedEntry}
+use Rattle.record.specs.Codes.{stateOf, taskOf, globalCode, departedCode, isGlobalClock, dueOf, setterOf, unitsLeft, absentEntry, freedBlock, freedEntry}
 use Rattle.record.specs.WellFormed.{isNaming}
 use Rattle.record.specs.declared.TaskEntry.{TaskEntry}
 use Rattle.record.specs.Tables.{BlockEntry, ExpirationEntry, Tables, Outcome}
@@ -100,8 +100,8 @@ lateEntry leaver advanced tasks e = putOffEntry advanced tasks (desertedEntry le
 -- whether an expiration stands on, by the entry of its setter and the global time as they are then
 abbrev pub isLasting : ℕ → TaskEntry → GlobalTime → Due → Bool
 isLasting leaver setter global Free = true
-isLasting leaver setter global (Local task at) = not (eqb task leaver) && ltb 0 (leftAt (at .0) (setter .clock .0))
-isLasting leaver setter global (Global task at) = ltb 0 (leftAt (at .0) (global .0))
+isLasting leaver setter global (Local task at) = not (eqb task leaver) && ltb 0 (unitsLeft (at .0) (setter .clock .0))
+isLasting leaver setter global (Global task at) = ltb 0 (unitsLeft (at .0) (global .0))
 isLasting leaver setter global (Pinned due) = true
 isLasting leaver setter global Unknown = true
 

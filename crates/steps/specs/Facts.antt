@@ -11,7 +11,7 @@ use Rattle.ledger.specs.declared.Share.{Share}
 use Rattle.ledger.specs.declared.Verdict.{Verdict}
 use Rattle.stores.specs.Places.{sumAt}
 use Rattle.record.specs.Shares.{takenBut, isLimited}
-use Rattle.record.specs.WellFormed.{isPinning}
+use Rattle.record.specs.WellFormed.{isPinOn}
 use Rattle.record.specs.Tables.{BlockEntry, Tables, blockEntries}
 use Rattle.steps.specs.Objects.{placeOf, blockOf, stateIn, standingIn}
 
@@ -43,7 +43,7 @@ factsBy isIntact p =
       given = p .given;
       size = λ (handle : ℕ). cond (isHere (p .blocks) handle) (blockOf handle (p .blocks) .length) 0;
       isIntact = isIntact;
-      isPinned = λ (handle : ℕ). isHere (p .blocks) handle && any (isPinning (placeOf handle (p .blocks))) (p .expirations);
+      isPinned = λ (handle : ℕ). isHere (p .blocks) handle && any (isPinOn (placeOf handle (p .blocks))) (p .expirations);
       stands = isHere (p .blocks);
       standing = standingIn (p .expirations);
       isAtLimit = λ (store : Bool) (task : ℕ). isLimited store (p .shares) (p .blocks) task;

@@ -14,7 +14,7 @@ use Rattle.ledger.specs.declared.Kind.the-variants.{Local, Global, Pinned}
 use Rattle.ledger.specs.declared.State.{State}
 use Rattle.stores.specs.Places.{sumAfter}
 use Rattle.record.specs.Codes.{stateOf, absentEntry, freeBlock, localCode, globalCode, pinnedCode, freedEntry}
-use Rattle.record.specs.WellFormed.{isPinning}
+use Rattle.record.specs.WellFormed.{isPinOn}
 use Rattle.record.specs.declared.TaskEntry.{TaskEntry}
 use Rattle.record.specs.Tables.{BlockEntry, ExpirationEntry, Tables}
 use Rattle.record.specs.declared.GlobalTime.{GlobalTime}
@@ -125,8 +125,8 @@ batchedPool task kind extension (handle ∷ handles) p =
 abbrev pub summedBlock : ℕ → BlockEntry → BlockEntry
 summedBlock sum b = record { handle = b .handle; length = b .length; sum = sum; maker = b .maker; prefix = b .prefix }
 
-abbrev pub withSum : ℕ → ℕ → Tables → Tables
-withSum place sum p =
+abbrev pub withBlockSum : ℕ → ℕ → Tables → Tables
+withBlockSum place sum p =
     record {
       limits = p .limits;
       tasks = p .tasks;
@@ -140,11 +140,11 @@ withSum place sum p =
 unfoldable pub writtenPool : ℕ → ℕ → List ℕ → List ℕ → List ℕ → Tables → Tables
 writtenPool handle offset new small large p =
     let place = placeOf handle (p .blocks) in
-    withSum place (sumAfter small large place offset new) p
+    withBlockSum place (sumAfter small large place offset new) p
 
 -- E24: an entry after the release of the object in a block
 abbrev pub unpinnedEntry : ℕ → ExpirationEntry → ExpirationEntry
-unpinnedEntry block e = cond (isPinning block e) (freedEntry e) e
+unpinnedEntry block e = cond (isPinOn block e) (freedEntry e) e
 
 -- and the record: its pinned expiration is ended, and its block free where no other names it
 unfoldable pub releasedPool : ℕ → Tables → Tables

@@ -7,7 +7,7 @@ use lib.ListN.{getD}
 use Rattle.lists.specs.Most.{most}
 use Rattle.ledger.specs.Limits.{capacity}
 use Rattle.ledger.specs.declared.Life.{Life}
-use Rattle.record.specs.Codes.{dueOf, leftAt, absentEntry}
+use Rattle.record.specs.Codes.{dueOf, unitsLeft, absentEntry}
 use Rattle.record.specs.Tables.{ExpirationEntry}
 use Rattle.record.specs.declared.TaskEntry.{TaskEntry}
 use Rattle.record.specs.declared.GlobalTime.{GlobalTime}
@@ -18,7 +18,7 @@ use Rattle.record.specs.declared.Due.the-variants.{Free, Local, Global, Pinned,
 -- the units left on an expiration that goes by this task's clock, and on one that goes by the global time
 abbrev pub leftLocal : ℕ → LocalTime → Due → ℕ
 leftLocal task now Free = 0
-leftLocal task now (Local setter at) = cond (eqb setter task) (leftAt (at .0) (now .0)) 0
+leftLocal task now (Local setter at) = cond (eqb setter task) (unitsLeft (at .0) (now .0)) 0
 leftLocal task now (Global setter at) = 0
 leftLocal task now (Pinned due) = 0
 leftLocal task now Unknown = 0
@@ -26,7 +26,7 @@ leftLocal task now Unknown = 0
 abbrev pub leftGlobal : GlobalTime → Due → ℕ
 leftGlobal now Free = 0
 leftGlobal now (Local setter at) = 0
-leftGlobal now (Global setter at) = leftAt (at .0) (now .0)
+leftGlobal now (Global setter at) = unitsLeft (at .0) (now .0)
 leftGlobal now (Pinned due) = 0
 leftGlobal now Unknown = 0
 

@@ -7,7 +7,8 @@ use Rattle.record.specs.Codes.{freeBlock}
 use Rattle.record.specs.Tables.{Tables}
 use Rattle.record.specs.WellFormed.{isWellFormed}
 
--- O29: a block that has afterwards a handle which was already given has the handle and the length that it had. The block of a new handle is left open.
+-- O29: a block that has afterwards a handle which was already given has the handle and the length that it had. The block of a new handle is
+-- left open.
 pub record Stays (p p′ : Tables) : Type 0 where
   -- C2: the figures too
   pub limits : p′ .limits ≡ p .limits
@@ -16,8 +17,8 @@ pub record Stays (p p′ : Tables) : Type 0 where
       → (getD (p′ .blocks) block freeBlock .handle ≡ getD (p .blocks) block freeBlock .handle)
       × (getD (p′ .blocks) block freeBlock .length ≡ getD (p .blocks) block freeBlock .length)
 
--- That is enough: in a well-formed record no two blocks have one handle, so an object that is in a block before and in a block afterwards is in the same one, with
--- the length that it had.
+-- That is enough: in a well-formed record no two blocks have one handle, so an object that is in a block before and in a block afterwards
+-- is in the same one, with the length that it had.
 abbrev pub OneBlock : Type 0
 OneBlock =
     (p p′ : Tables) → isWellFormed p ≡ true → Stays p p′ → (before after : ℕ) → 0 < getD (p .blocks) before freeBlock .handle

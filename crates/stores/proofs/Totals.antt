@@ -44,7 +44,8 @@ all-overwritten at new old n o =
     all-append IsByte (take at old ++ new) (drop (at + length new) old) (all-append IsByte (take at old) new (all-take IsByte at old o) n)
     (all-drop IsByte (at + length new) old o)
 
--- what a write makes of a block's sum: what is replaced is a part of it, what is new comes in its place, and the sum stays as small as a block's is
+-- what a write makes of a block's sum: what is replaced is a part of it, what is new comes in its place, and the sum stays as small as a
+-- block's is
 pub record SumChanged (sum replaced new after : ℕ) : Type 0 where
   pub part : replaced ≤ sum
   pub so : after + replaced ≡ sum + new

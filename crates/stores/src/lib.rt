@@ -1,4 +1,4 @@
-// A block's part of a lent store: cleared, written, summed, or handed back.
+// A block's part of a lent store: cleared, written, summed, or handed back; and how long the two stores are.
 ghost use mathlib.Core.Path.{_≡_};
 ghost use mathlib.Core.List.{[]};
 ghost use Prim.Native.Nat.{_+_, _≤_, _<_};
@@ -7,10 +7,14 @@ ghost use Rattle.lists.specs.Blocks.{overwritten};
 ghost use Rattle.record.specs.Reading.{blockBytes, sizeOf};
 ghost use Rattle.record.specs.Tables.{blockEntries};
 ghost use Rattle.stores.specs.Places.{startOf, InBlock, smallAfter, largeAfter};
+pub use lengths::LARGE_BYTES;
+pub use lengths::SMALL_BYTES;
+pub use lengths::are_whole;
 use record::SMALL_COUNT;
 pub use sums::block_sum;
 pub use sums::sum_after;
 
+mod lengths;
 mod sums;
 
 // The bytes of a small and of a large block.
@@ -158,7 +162,8 @@ pub fn no_part<'a>(small: &'a [u8]) -> &'a [u8]
 // A whole block to zero, in whichever store has it; the other store stays.
 pub fn clear_place(small: &mut [u8], large: &mut [u8], block: usize)
     requires { ⌜ InBlock (now small) (now large) block (sizeOf block) ⌝ }
-    ensures { λ _. ⌜ (now (small .exit) ≡ smallAfter block 0 (replicate (sizeOf block) 0) (now (small .entry))) × (now (large .exit) ≡ largeAfter block 0 (replicate (sizeOf block) 0) (now (large .entry))) ⌝ }
+    ensures { λ _. ⌜ (now (small .exit) ≡ smallAfter block 0 (replicate (sizeOf block) 0) (now (small .entry)))
+        × (now (large .exit) ≡ largeAfter block 0 (replicate (sizeOf block) 0) (now (large .entry))) ⌝ }
 {
     let start = block_start(block);
     if block < SMALL_COUNT {
@@ -171,7 +176,8 @@ pub fn clear_place(small: &mut [u8], large: &mut [u8], block: usize)
 // Bytes into a block from an offset on, in whichever store has it; the other store stays.
 pub fn write_place(small: &mut [u8], large: &mut [u8], block: usize, offset: usize, bytes: &[u8])
     requires { ⌜ InBlock (now small) (now large) block (offset + length (now bytes)) ⌝ }
-    ensures { λ _. ⌜ (now (small .exit) ≡ smallAfter block offset (now (bytes .entry)) (now (small .entry))) × (now (large .exit) ≡ largeAfter block offset (now (bytes .entry)) (now (large .entry))) ⌝ }
+    ensures { λ _. ⌜ (now (small .exit) ≡ smallAfter block offset (now (bytes .entry)) (now (small .entry)))
+        × (now (large .exit) ≡ largeAfter block offset (now (bytes .entry)) (now (large .entry))) ⌝ }
 {
     let at = block_start(block) + offset;
     if block < SMALL_COUNT {

@@ -13,7 +13,8 @@ use super::part_of;
 use super::read_turn;
 use record::SMALL_COUNT;
 
-// A turn's eight bytes, each added to the sum of its place among the eight: a machine may add them as one. No sum of a place is larger than a block's.
+// A turn's eight bytes, each added to the sum of its place among the eight: a machine may add them as one. No sum of a place is larger than
+// a block's.
 fn add_turn(sums: [u16; TURN], turn: [u8; TURN]) -> [u16; TURN]
     requires { ⌜ total sums + total turn ≤ mostSum ⌝ }
     ensures { λ r. ⌜ total r ≡ total sums + total turn ⌝ }
@@ -95,7 +96,8 @@ pub fn sum_after(
     bytes: &[u8],
     sum: u16,
 ) -> u16
-    requires { ⌜ InBlock (now small) (now large) block (offset + length (now bytes)) × (sum ≡ sumAt (now small) (now large) block) ⌝ }
+    requires { ⌜ InBlock (now small) (now large) block (offset + length (now bytes))
+        × (sum ≡ sumAt (now small) (now large) block) ⌝ }
     ensures { λ r. ⌜ r ≡ sumAfter (now (small .entry)) (now (large .entry)) block offset (now (bytes .entry)) ⌝ }
 {
     let old = part_sum(small, large, block, offset, bytes.len());

@@ -40,7 +40,8 @@ fn is_scant(blocks: u32, spoken: u32, reserve: u8) -> bool
 
 // R36: 1, 2, 24, 25, where so many blocks of either store are spoken for
 pub fn judge_join(h: Head, small: u32, large: u32, task: u8, share: Share) -> Verdict
-    ensures { λ r. ⌜ r ≡ joinVerdict h task share (ltb (h .limits .small) (small + share .small .reserve) || ltb (h .limits .large) (large + share .large .reserve)) ⌝ }
+    ensures { λ r. ⌜ r ≡ joinVerdict h task share
+        (ltb (h .limits .small) (small + share .small .reserve) || ltb (h .limits .large) (large + share .large .reserve)) ⌝ }
 {
     let at = task as usize;
     if TASK_COUNT <= at {

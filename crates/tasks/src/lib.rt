@@ -29,8 +29,8 @@ use record::TaskEntry;
 use record::codes::state_of;
 use record::running::all_ticked;
 
-// What an event decides: its answer, the task entries and the time that it leaves, and whether it may end expirations: by the local time of its task as it is
-// then, and all of the task's own where it leaves.
+// What an event decides: its answer, the task entries and the time that it leaves, and whether it may end expirations: by the local time of
+// its task as it is then, and all of the task's own where it leaves.
 pub struct Planned {
     pub answer: Answer,
     pub tasks: [TaskEntry; TASK_COUNT],

@@ -114,7 +114,8 @@ pub fn is_leave(event: Event) -> bool
     }
 }
 
-// Whether an accepted event may end expirations of a well-formed record: a leave and a tick may, a block only where the global time advances.
+// Whether an accepted event may end expirations of a well-formed record: a leave and a tick may, a block only where the global time
+// advances.
 pub fn may_end(event: Event, advanced: bool) -> bool
     ensures { λ r. ⌜ r ≡ mayEnd event advanced ⌝ }
 {

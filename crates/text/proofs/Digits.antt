@@ -13,7 +13,8 @@ use Rattle.lists.proofs.Cases.{by-test}
 use Rattle.lists.proofs.Searches.{passes-within}
 use Rattle.text.specs.Fields.{fieldAt}
 use Rattle.text.proofs.Fields.{field-one}
-use Rattle.text.specs.Hex.{isWithin, digitOf, isDigit, isHex, bytesOf, digitFor, hexOf, Spells}
+use Rattle.ledger.specs.Limits.{isWithin}
+use Rattle.text.specs.Hex.{digitOf, isDigit, isHex, bytesOf, digitFor, hexOf, Spells}
 
 within : (low high n : ℕ) → low ≤ n → n < high + 1 → isWithin low high n ≡ true
 within low high n h k = rw (le-leb low n h, le-leb n high (omega arith))

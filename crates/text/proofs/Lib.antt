@@ -3,3 +3,4 @@ pub mod Digits
 pub mod Pairs
 pub mod Puts
 pub mod Scripts
+pub mod HandleBytes

@@ -3,7 +3,8 @@ use Prim.Native.Nat.{ℕ, _+_, _*_, _/_, _%_, _≤_, _<_}
 use native.Mathlib.Omega.{arith}
 use mathlib.Core.List.{List, [], _∷_, _++_}
 use mathlib.Core.Path.{_≡_}
-use lib.ListN.{length, set, length-append}
+use lib.ListN.{length, drop, set, length-append}
+use Rattle.lists.specs.Blocks.{overwritten}
 use Rattle.lists.proofs.Blocks.{length-overwritten, overwritten-on, set-overwritten}
 use Rattle.text.specs.Hex.{digitFor, hexOf, Puts}
 use Rattle.text.proofs.Digits.{length-hex, hex-append}
@@ -44,3 +45,11 @@ puts-four xs at a b c d h =
 pub puts-hex : {at middle end : ℕ} {old between after : List ℕ} (xs ys : List ℕ) → Puts at (hexOf xs) old between middle
     → Puts middle (hexOf ys) between after end → at + 2 * length xs + 2 * length ys ≤ length old → Puts at (hexOf (xs ++ ys)) old after end
 puts-hex xs ys p q h = rw (hex-append xs ys) (puts-on p q (omega (arith, length-hex xs, length-hex ys)))
+
+-- new bytes at the start of a buffer lie in it
+pub start-within : (new old : List ℕ) → length new ≤ length (overwritten 0 new old)
+unfolding overwritten
+start-within new old = omega (arith, length-append new (drop (0 + length new) old))
+
+pub puts-within : {new old after : List ℕ} {n : ℕ} → Puts 0 new old after n → n ≤ length after
+puts-within {new} {old} p = rw (p .bytes) (omega (arith, p .next, start-within new old))

@@ -3,14 +3,11 @@ use Prim.Native.Nat.{ℕ, _+_, _-_, _*_, _/_, _%_, _≤_}
 use mathlib.Core.Bool.{Bool, true, cond, _&&_}
 use mathlib.Core.List.{List, [], _∷_}
 use mathlib.Core.Path.{_≡_}
-use lib.Dec.{eqb, leb, ltb}
+use lib.Dec.{eqb, ltb}
 use lib.ListN.{length}
 use Rattle.lists.specs.Blocks.{overwritten}
 use Rattle.lists.specs.Tests.{all}
-
--- from low to high
-abbrev pub isWithin : ℕ → ℕ → ℕ → Bool
-isWithin low high n = leb low n && leb n high
+use Rattle.ledger.specs.Limits.{isWithin}
 
 -- the value of a digit, a character from 48 to 57 or from 65 to 70; 16 for another character
 unfoldable pub digitOf : ℕ → ℕ

@@ -3,3 +3,4 @@ pub mod Pairs
 pub mod Fields
 pub mod Lines
 pub mod Reader
+pub mod HandleBytes

@@ -11,14 +11,14 @@ abbrev pub isLF : ℕ → Bool
 isLF c = eqb c 10
 
 -- a character in front of the first line; where there is no line, it is one that lacks its LF
-abbrev pub before : ℕ → List (List ℕ) → List (List ℕ)
-before c [] = (c ∷ []) ∷ []
-before c (line ∷ lines) = (c ∷ line) ∷ lines
+abbrev pub inFront : ℕ → List (List ℕ) → List (List ℕ)
+inFront c [] = (c ∷ []) ∷ []
+inFront c (line ∷ lines) = (c ∷ line) ∷ lines
 
 -- the lines of a script, without their LF
 abbrev pub linesOf : List ℕ → List (List ℕ)
 linesOf [] = []
-linesOf (c ∷ script) = cond (isLF c) ([] ∷ linesOf script) (before c (linesOf script))
+linesOf (c ∷ script) = cond (isLF c) ([] ∷ linesOf script) (inFront c (linesOf script))
 
 -- where the line that starts at a place ends: at the next LF, or the script's end
 abbrev pub lineEnd : List ℕ → ℕ → ℕ

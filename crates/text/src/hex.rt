@@ -108,7 +108,8 @@ fn spell(part: &mut [u8], pairs: &[u16; MOST_BYTES])
 
 // The last bytes that a line spells, over a part of as many. Most frames have none, and for those no array of pairs is made.
 pub fn spell_last(part: &mut [u8], line: &[u8])
-    requires { ⌜ Spells (now line) (length (now part)) × (length (now part) ≤ largeSize) ⌝ }
+    requires { ⌜ Spells (now line) (length (now part))
+        × (length (now part) ≤ largeSize) ⌝ }
     ensures { λ _. ⌜ now (part .exit) ≡ drop (length (now (line .entry)) / 2 - length (now (part .entry))) (bytesOf (now (line .entry))) ⌝ }
 {
     if part.len() == 0 {

@@ -38,14 +38,14 @@ fn proved() -> Numbers {
         ("SMALL_SIZE", value("stores", "SMALL_SIZE")),
         ("LARGE_SIZE", value("stores", "LARGE_SIZE")),
         ("LONGEST", value("ledger", "LARGE_SIZE")),
-        ("LINE", value("execute", "LONGEST_ANSWER")),
+        ("LINE", value("answers", "LONGEST_ANSWER")),
         ("RECORD", layout::size_of("Pool")),
         ("TASKS", value("ledger", "TASK_COUNT")),
         ("STORE_BLOCKS", value("record", "BLOCK_COUNT")),
         ("LARGEST_BATCH", value("ledger", "LARGEST_BATCH")),
         ("MAKER_DEPARTED", value("ledger", "TASK_COUNT")),
         ("NO_LIMIT", Quota::OPEN.limit.into()),
-        ("BUFFER_TOO_SHORT", value("numbered", "TOO_SHORT")),
+        ("BUFFER_TOO_SHORT", value("by_value", "TOO_SHORT")),
         ("CLOCK_LOCAL", value("record", "LOCAL")),
         ("CLOCK_GLOBAL", value("record", "GLOBAL")),
         ("CLOCK_DEPARTED", value("record", "DEPARTED")),
@@ -53,7 +53,7 @@ fn proved() -> Numbers {
     ]
     .map(|(name, number)| (plain(name), number))
     .into();
-    numbers.extend(arms("frames", "kind_of").into_iter().filter_map(|(number, kind)| {
+    numbers.extend(arms("ledger", "kind_of").into_iter().filter_map(|(number, kind)| {
         let kind = kind.strip_prefix("KindByte::Known(Kind::")?.strip_suffix(')')?;
         Some((plain(kind), number.parse().ok()?))
     }));

@@ -1,4 +1,5 @@
 -- By the plan: refused with nothing changed, or one expiration more on each object.
+use mathlib.Core.Path.{refl}
 use borrow.Author.Needs.{needs}
 use Rattle.record.proofs.Types.{head-typed}
 use Rattle.objects.specs.Batches.{PlansBatch}
@@ -21,6 +22,7 @@ returns c =
     rw (c .refused-by .ensures, c .before .enum-told2 .given .1) (
       start .pre .0 .entries,
       batch-kept (head-typed _ _ (start .good .0)) (start .pre .0) _ _ _ _ _ (planned p) (start .pre .1) (c .before .enum-told2 .given .1),
+      refl,
     )
 
 set-all-requires : tie.Need-set-all-requires
@@ -34,11 +36,14 @@ set-all-requires c κs =
 
 returns-2 : tie.Need-returns-2
 returns-2 c =
-    let t = c .before .before .before .before .before in
+    let set = c .before in
+    let t = set .before .before .before .before .before in
     let p = t .before .before .before in
-    let start = p .before .before .before .before in (
-      c .set-all .ensures .sized,
-      batch-set (head-typed _ _ (start .good .0)) (start .pre .0) _ _ _ _ _ (planned p) (t .enum-told .given .1) (start .pre .1) (c .set-all .ensures),
+    let start = p .before .before .before .before in
+    rw (c .answered .ensures) (
+      set .set-all .ensures .sized,
+      batch-set (head-typed _ _ (start .good .0)) (start .pre .0) _ _ _ _ _ (planned p) (t .enum-told .given .1) (start .pre .1) (set .set-all .ensures),
+      refl,
     )
 
 pub batch-spec : {M : Type 1} → statement M
@@ -52,4 +57,5 @@ batch-spec =
     (λ c κs. search needs)
     returns
     set-all-requires
+    (λ c κs. search needs)
     returns-2)

@@ -1,4 +1,5 @@
 -- By the verdict: refused with nothing changed, or the task's entry and share set.
+use mathlib.Core.Path.{refl}
 use borrow.Author.Needs.{needs}
 use Rattle.record.proofs.Types.{head-typed}
 use Rattle.calls.proofs.JoinLent.{join-refused, join-known, join-done}
@@ -9,7 +10,7 @@ returns : tie.Need-returns
 returns c =
     let p = c .before .before .before in
     rw (c .refused-by .ensures, c .before .enum-told2 .given .1)
-    (join-refused (head-typed _ _ (p .before .good .0)) _ _ _ (p .judge-join .ensures) (c .before .enum-told2 .given .1))
+    (join-refused (head-typed _ _ (p .before .good .0)) _ _ _ (p .judge-join .ensures) (c .before .enum-told2 .given .1), refl)
 
 with-joined-requires : tie.Need-with-joined-requires
 with-joined-requires c κs =
@@ -18,9 +19,9 @@ with-joined-requires c κs =
 
 returns-2 : tie.Need-returns-2
 returns-2 c =
-    let p = c .before .before .before in
-    rw (c .with-joined .ensures)
-    (join-done (head-typed _ _ (p .before .good .0)) _ _ _ (p .judge-join .ensures) (c .before .enum-told .given .1))
+    let p = c .before .before .before .before in
+    rw (c .answered .ensures, c .before .with-joined .ensures)
+    (join-done (head-typed _ _ (p .before .good .0)) _ _ _ (p .judge-join .ensures) (c .before .before .enum-told .given .1), refl)
 
 pub join-spec : {M : Type 1} → statement M
 join-spec =
@@ -32,4 +33,5 @@ join-spec =
     (λ c κs. search needs)
     returns
     with-joined-requires
+    (λ c κs. search needs)
     returns-2)

@@ -1,7 +1,7 @@
 -- By the plan: refused with nothing changed, or an object in a block that was free and is cleared, with one expiration.
 use Prim.Native.Nat.{_+_, _<_}
 use native.Mathlib.Omega.{arith}
-use mathlib.Core.Path.{_≡_}
+use mathlib.Core.Path.{_≡_, refl}
 use borrow.Author.Needs.{needs}
 use Rattle.ledger.specs.Limits.{taskCount}
 use Rattle.record.proofs.Types.{head-typed}
@@ -27,6 +27,7 @@ returns c =
     rw (c .refused-by .ensures, c .before .enum-told2 .given .1) (
       start .pre .0,
       make-refused-lent _ _ _ (head-typed _ _ (start .good .0)) (start .pre .0) (start .pre .1) (start .pre .2) (planned p) (c .before .enum-told2 .given .1),
+      refl,
     )
 
 -- where it is accepted
@@ -60,11 +61,13 @@ told c = c .before .before .before .before .before .before .before .before .befo
 
 returns-2 : tie.Need-returns-2
 returns-2 c =
-    let t = told (c .before .before) in
-    let cleared = c .before .before .before .before .before .before .before .clear-place .ensures in
-    rw (c .with-given .ensures, c .before .extent-of .ensures)
-    (make-set-lent _ _ _ (head-typed _ _ (start t .good .0)) (start t .pre .0) (start t .pre .1) (start t .pre .2) (planned (t .before .before)) (t .enum-told .given .1)
-    (c .before .before .before .before .before .before .before .before .before .before .set .ensures) (cleared .0) (cleared .1))
+    let given = c .before in
+    let t = told (given .before .before) in
+    let cleared = given .before .before .before .before .before .before .before .clear-place .ensures in
+    let made =
+    make-set-lent _ _ _ (head-typed _ _ (start t .good .0)) (start t .pre .0) (start t .pre .1) (start t .pre .2) (planned (t .before .before)) (t .enum-told .given .1)
+    (given .before .before .before .before .before .before .before .before .before .before .set .ensures) (cleared .0) (cleared .1) in
+    rw (c .answered .ensures, given .with-given .ensures, given .before .extent-of .ensures) (made .0, made .1, refl)
 
 pub make-spec : {M : Type 1} → statement M
 make-spec =
@@ -84,6 +87,7 @@ make-spec =
     (λ c κs. search needs)
     (λ c. omega (arith, may-set (told (c .before)) .2))
     (λ c. omega (arith, may-set (told (c .before)) .2))
+    (λ c κs. search needs)
     (λ c κs. search needs)
     (λ c. search needs)
     (λ c. search needs)

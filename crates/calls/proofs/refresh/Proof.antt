@@ -1,4 +1,5 @@
 -- By what was found: refused with nothing changed, or one expiration more.
+use mathlib.Core.Path.{refl}
 use borrow.Author.Needs.{needs}
 use Rattle.record.proofs.Types.{head-typed}
 use Rattle.calls.proofs.Lent.{lent-fits}
@@ -20,14 +21,14 @@ returns c =
     let found = c .before .before .before in
     let start = found .before .before .before .before in
     let a = start .args in
-    (start .pre .0 .entries, refresh-kept (head-typed _ _ (start .good .0)) (start .pre .0) (a .task) (a .kind) (a .extension) (a .handle) _ (found .find-for-refresh .ensures) (start .pre .1) (c .before .why .given .1))
+    (start .pre .0 .entries, refresh-kept (head-typed _ _ (start .good .0)) (start .pre .0) (a .task) (a .kind) (a .extension) (a .handle) _ (found .find-for-refresh .ensures) (start .pre .1) (c .before .why .given .1), refl)
 
 returns-2 : tie.Need-returns-2
 returns-2 c =
     let found = c .before .before .before .before .before .before .before in
     let start = found .before .before .before .before in
     let a = start .args in
-    (c .set .ensures .sized, refresh-set (head-typed _ _ (start .good .0)) (start .pre .0) (a .task) (a .kind) (a .extension) (a .handle) _ (found .find-for-refresh .ensures) (c .before .before .before .before .before .block .given .1) (start .pre .1) (c .set .ensures))
+    (c .set .ensures .sized, refresh-set (head-typed _ _ (start .good .0)) (start .pre .0) (a .task) (a .kind) (a .extension) (a .handle) _ (found .find-for-refresh .ensures) (c .before .before .before .before .before .block .given .1) (start .pre .1) (c .set .ensures), refl)
 
 pub refresh-spec : {M : Type 1} → statement M
 refresh-spec =

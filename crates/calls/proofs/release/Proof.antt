@@ -1,4 +1,5 @@
 -- By what was found: refused with nothing changed, or the pinned expiration ended.
+use mathlib.Core.Path.{refl}
 use borrow.Author.Needs.{needs}
 use Rattle.record.proofs.Types.{head-typed}
 use Rattle.endings.proofs.Unpins.{well-named}
@@ -17,15 +18,19 @@ release-requires c κs =
 
 returns : tie.Need-returns
 returns c =
-    let found = c .before .before .before in
+    let told = c .before .before in
+    let found = told .before .before in
     let start = found .before .before .before in
-    release-kept (head-typed _ _ (start .good .0)) (start .pre .0) (start .args .task) (start .args .handle) _ (found .find-for-release .ensures) (start .pre .1) (c .before .why .given .1)
+    let kept = release-kept (head-typed _ _ (start .good .0)) (start .pre .0) (start .args .task) (start .args .handle) _ (found .find-for-release .ensures) (start .pre .1) (told .why .given .1) in
+    rw (c .answered .ensures) (kept .0, kept .1, refl)
 
 returns-2 : tie.Need-returns-2
 returns-2 c =
-    let found = c .before .before .before .before .before .before in
+    let done = c .before in
+    let found = done .before .before .before .before .before .before in
     let start = found .before .before .before in
-    release-carried (head-typed _ _ (start .good .0)) (start .pre .0) (start .args .task) (start .args .handle) _ (found .find-for-release .ensures) (c .before .before .before .before .block .given .1) (start .pre .1) (c .release .ensures)
+    let carried = release-carried (head-typed _ _ (start .good .0)) (start .pre .0) (start .args .task) (start .args .handle) _ (found .find-for-release .ensures) (done .before .before .before .before .block .given .1) (start .pre .1) (done .release .ensures) in
+    rw (c .answered2 .ensures) (carried .0, carried .1, refl)
 
 pub release-spec : {M : Type 1} → statement M
 release-spec =
@@ -33,7 +38,9 @@ release-spec =
     (tie.spec
     (λ c κs. let start = c .before .before in (start .pre .0, lent-fits _ _ _ _ _ _ (start .pre .1)))
     (λ c. search needs)
+    (λ c κs. search needs)
     (λ c. search needs)
     release-requires
+    (λ c κs. search needs)
     returns
     returns-2)

@@ -1,4 +1,5 @@
 -- By what was planned.
+use mathlib.Core.Path.{refl}
 use borrow.Author.Needs.{needs}
 use Rattle.record.proofs.Types.{head-typed}
 use Rattle.calls.proofs.ScheduledLent.{start-alone}
@@ -7,9 +8,9 @@ use Rattle.calls.proofs.start.Tie as tie
 
 returns : tie.Need-returns
 returns c =
-    let planned = c .before .before in
+    let planned = c .before .before .before in
     let start = planned .before .before .before in
-    start-alone (head-typed _ _ (start .good .0)) _ _ (start .pre) (planned .plan-start .ensures)
+    rw (c .answered .ensures) (start-alone (head-typed _ _ (start .good .0)) _ _ (start .pre) (planned .plan-start .ensures), refl)
 
 pub start-spec : {M : Type 1} → statement M
-start-spec = tie.close (tie.spec (λ c κs. search needs) returns)
+start-spec = tie.close (tie.spec (λ c κs. search needs) (λ c κs. search needs) returns)

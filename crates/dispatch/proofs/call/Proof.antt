@@ -22,7 +22,7 @@ returns-2 c =
     let told = c .before .before .before .before .before in
     let s = told .before .before .before .before .before in
     report-arm _ (s .pre .0) (s .pre .1) (told .enum-told .given .1)
-    (rw (c .without-bytes .ensures, c .before .usage .ensures, c .before .before .standing .ensures))
+    (rw (c .answered .ensures, c .before .usage .ensures, c .before .before .standing .ensures))
 
 remaining-requires : tie.Need-remaining-requires
 remaining-requires c κs =
@@ -34,7 +34,7 @@ returns-3 c =
     let called = c .before in
     let told = called .before .before .before .before .before .before .before in
     let s = told .before .before .before .before .before in
-    life-arm _ (s .pre .0) (s .pre .1) (told .request2 .given .1) (called .remaining .ensures) (c .without-bytes2 .ensures)
+    life-arm _ (s .pre .0) (s .pre .1) (told .request2 .given .1) (called .remaining .ensures) (c .answered2 .ensures)
 
 pub call-spec : {M : Type 1} → statement M
 call-spec =

@@ -40,22 +40,24 @@ write-requires c κs =
 
 returns : tie.Need-returns
 returns c =
-    let told = c .before .before .before .before .before .before .before .before .before in
+    let told = c .before .before .before .before .before .before .before in
     let s = start (told .before .before) in
-    schedule-arm _ (s .pre .0) (s .pre .1) (told .call .given .1) (c .before .before .schedule .ensures) (c .without-bytes .ensures)
+    schedule-arm _ (s .pre .0) (s .pre .1) (told .call .given .1) (c .schedule .ensures .0) (c .schedule .ensures .1)
 
 returns-2 : tie.Need-returns-2
 returns-2 c =
-    let made = c .before .before .before .before .before .before in
+    let made = c .before .before .before .before in
     let told = made .before .before .before .before .before .before .before .before .before .before in
     let s = start (told .before .before) in
-    make-arm _ (s .pre .0) (s .pre .1) (told .call2 .given .1) (made .make .ensures) (c .without-bytes2 .ensures)
+    let m = made .make .ensures in
+    make-arm _ (s .pre .0) (s .pre .1) (told .call2 .given .1) (m .0, m .1) (m .2)
 
 returns-3 : tie.Need-returns-3
 returns-3 c =
-    let told = c .before .before .before .before .before .before .before .before .before in
+    let told = c .before .before .before .before .before .before .before in
     let s = start (told .before .before) in
-    refresh-arm _ (s .pre .0) (s .pre .1) (told .call3 .given .1) (c .before .before .refresh .ensures) (c .without-bytes3 .ensures)
+    let m = c .refresh .ensures in
+    refresh-arm _ (s .pre .0) (s .pre .1) (told .call3 .given .1) (m .0, m .1) (m .2)
 
 returns-4 : tie.Need-returns-4
 returns-4 c =
@@ -68,7 +70,7 @@ returns-5 c =
     let written = c .before .before .before .before .before in
     let told = written .before .before .before .before .before .before .before .before .before in
     let s = start (told .before .before) in
-    write-arm _ (s .pre .0) (s .pre .1) (told .call5 .given .1) (written .write .ensures) (c .without-bytes4 .ensures)
+    write-arm _ (s .pre .0) (s .pre .1) (told .call5 .given .1) (written .write .ensures) (c .answered .ensures)
 
 batch-requires : tie.Need-batch-requires
 batch-requires c κs =
@@ -77,9 +79,10 @@ batch-requires c κs =
 
 returns-6 : tie.Need-returns-6
 returns-6 c =
-    let told = c .before .before .before .before .before .before .before .before .before in
+    let told = c .before .before .before .before .before .before .before in
     let s = start (told .before .before) in
-    batch-arm _ (s .pre .0) (s .pre .1) (told .call6 .given .1) (c .before .before .batch .ensures) (c .without-bytes5 .ensures)
+    let m = c .batch .ensures in
+    batch-arm _ (s .pre .0) (s .pre .1) (told .call6 .given .1) (m .0, m .1) (m .2)
 
 release-requires : tie.Need-release-requires
 release-requires c κs =
@@ -88,15 +91,16 @@ release-requires c κs =
 
 returns-7 : tie.Need-returns-7
 returns-7 c =
-    let told = c .before .before .before .before .before .before .before .before .before in
+    let told = c .before .before .before .before .before .before .before in
     let s = start (told .before .before) in
-    release-arm _ (s .pre .0) (s .pre .1) (told .call7 .given .1) (c .before .before .release .ensures) (c .without-bytes6 .ensures)
+    let m = c .release .ensures in
+    release-arm _ (s .pre .0) (s .pre .1) (told .call7 .given .1) (m .0, m .1) (m .2)
 
 returns-8 : tie.Need-returns-8
 returns-8 c =
-    let told = c .before .before .before .before in
+    let told = c .before .before in
     let s = start (told .before .before) in
-    join-arm _ (s .pre .0) (s .pre .1) (told .call8 .given .1) (s .pre .2) (c .before .before .join .ensures) (c .without-bytes7 .ensures)
+    join-arm _ (s .pre .0) (s .pre .1) (told .call8 .given .1) (s .pre .2) (c .join .ensures .0) (c .join .ensures .1)
 
 pub serve-spec : {M : Type 1} → statement M
 serve-spec =
@@ -104,13 +108,10 @@ serve-spec =
     (tie.spec
     (λ c. search needs)
     (λ c κs. search needs)
-    (λ c κs. search needs)
     (λ c. search needs)
     (λ c κs. search needs)
     make-requires
-    (λ c κs. search needs)
     (λ c. search needs)
-    (λ c κs. search needs)
     (λ c κs. search needs)
     (λ c. search needs)
     find-for-read-requires
@@ -120,12 +121,9 @@ serve-spec =
     (λ c κs. search needs)
     (λ c. search needs)
     batch-requires
-    (λ c κs. search needs)
     (λ c. search needs)
     release-requires
-    (λ c κs. search needs)
     (λ c. search needs)
-    (λ c κs. search needs)
     (λ c κs. search needs)
     returns
     (λ c. search needs)

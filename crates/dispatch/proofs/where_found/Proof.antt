@@ -4,7 +4,7 @@ use Rattle.dispatch.proofs.where_found.Statement.{statement}
 use Rattle.dispatch.proofs.where_found.Tie as tie
 
 returns : tie.Need-returns
-returns c = rw (c .before .before .found .given .1) (c .without-bytes .ensures)
+returns c = rw (c .before .before .found .given .1) (c .answered .ensures)
 
 returns-2 : tie.Need-returns-2
 returns-2 c = rw (c .before .found2 .given .1)

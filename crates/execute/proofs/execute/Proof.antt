@@ -1,6 +1,6 @@
 -- The line on the columns.
 use borrow.Author.Needs.{needs}
-use Rattle.pool.proofs.ByValue.{out-sized}
+use Rattle.record.proofs.ByValue.{out-sized}
 use Rattle.execute.proofs.Carrying.{executes-by-value}
 use Rattle.execute.proofs.execute.Statement.{statement}
 use Rattle.execute.proofs.execute.Tie as tie

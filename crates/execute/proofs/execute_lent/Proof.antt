@@ -2,8 +2,9 @@
 use mathlib.Core.Path.{sym}
 use borrow.Author.Needs.{needs}
 use lib.Seq.{length-take-le}
-use Rattle.execute.proofs.Showing.{serves-showable, short-line}
-use Rattle.execute.proofs.Carrying.{bytes-in, refused-executes, served-executes}
+use Rattle.answers.proofs.Shown.{block-showable, short-line}
+use Rattle.frames.proofs.Payloads.{bytes-in}
+use Rattle.execute.proofs.Carrying.{refused-executes, served-executes}
 use Rattle.execute.proofs.execute_lent.Statement.{statement}
 use Rattle.execute.proofs.execute_lent.Tie as tie
 
@@ -28,7 +29,7 @@ show-requires : tie.Need-show-requires
 show-requires c κs =
     let called = c .before .before .before .before .before .before .before .before in
     let start = called .before .before .before .before .before .before .before .before .before .before .before .before .before .before .before .before .before .before .before in
-    serves-showable (called .call .ensures .1) (start .args .out .now) 0 (start .pre .1)
+    block-showable _ (called .call .ensures .1 .inside) (start .args .out .now) 0 (start .pre .1)
 
 returns-2 : tie.Need-returns-2
 returns-2 c =

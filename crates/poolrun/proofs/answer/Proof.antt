@@ -12,7 +12,7 @@ use Rattle.record.specs.Reading.{freshPool, wholeSmall, wholeLarge}
 use Rattle.record.proofs.FreshReads.{fresh-well-formed}
 use Rattle.script.specs.Output.{Runnable}
 use Rattle.script.proofs.Lines.{lines-keep}
-use Rattle.execute.proofs.Showing.{puts-within}
+use Rattle.text.proofs.Puts.{puts-within}
 use Rattle.poolrun.proofs.answer.Statement.{statement}
 use Rattle.poolrun.proofs.answer.Tie as tie
 

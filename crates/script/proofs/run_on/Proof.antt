@@ -10,12 +10,12 @@ use Rattle.ledger.specs.Objects.{Reply}
 use Rattle.ledger.specs.declared.Answer.{Answer}
 use Rattle.record.specs.Tables.{Sized, pooled}
 use Rattle.record.specs.declared.Pool.{Pool}
-use Rattle.pool.proofs.Sizes.{columns-sized}
+use Rattle.record.proofs.Types.{columns-sized}
 use Rattle.answers.specs.Answers.{answerLine, longestAnswer}
 use Rattle.text.specs.Hex.{Puts}
 use Rattle.script.specs.Output.{lineIn, LinesRun}
-use Rattle.execute.proofs.Showing.{serves-showable, short-line}
-use Rattle.execute.proofs.Carrying.{bytes-in}
+use Rattle.answers.proofs.Shown.{block-showable, short-line}
+use Rattle.frames.proofs.Payloads.{bytes-in}
 use Rattle.script.proofs.Running.{Running, ready, placed, refused-run, served-run, run-starts-lent, run-keeps, run-runnable, run-line, run-room, run-nears, run-turns, run-ends}
 use Rattle.script.proofs.run_on.Statement.{statement}
 use Rattle.script.proofs.run_on.Tie as tie
@@ -106,7 +106,7 @@ call-requires c κs =
 show-requires : tie.Need-show-requires Inv-loop μ-loop
 show-requires c κs =
     let called = c .before .before .before .before .before .before .before .before in
-    serves-showable (called .call .ensures .1) _ _ (room (line (held called)))
+    block-showable _ (called .call .ensures .1 .inside) _ _ (room (line (held called)))
 
 loop-again-2 : tie.Need-loop-again-2 Inv-loop μ-loop
 loop-again-2 c =
@@ -114,7 +114,7 @@ loop-again-2 c =
     let r = line (held called) in
     let served = called .call .ensures in
     let one = served-run (r .next-frame .ensures .decodes) (held called .before .before .before .before .frame .given .1) (served .1) in (
-      turns r one (serves-showable (served .1) (loop r .loop .out) (loop r .loop .written) (room r) .room) (c .before .before .show .ensures),
+      turns r one (block-showable _ (served .1 .inside) (loop r .loop .out) (loop r .loop .written) (room r) .room) (c .before .before .show .ensures),
       served .0,
     )
 

@@ -6,7 +6,7 @@ use borrow.Author.Needs.{needs}
 use Rattle.record.specs.Tables.{blocksOf}
 use Rattle.record.proofs.Types.{head-typed}
 use Rattle.handles.specs.Handles.{UsedIn}
-use Rattle.shares.specs.Holdings.{HoldsBoth, Placed}
+use Rattle.shares.specs.Holdings.{HoldsBoth, LengthsFit}
 use Rattle.shares.proofs.Held.{told-by, holds, known-so}
 use Rattle.shares.proofs.Shared.{shared-so}
 use Rattle.shares.proofs.sharing_of.Statement.{statement}
@@ -14,7 +14,7 @@ use Rattle.shares.proofs.sharing_of.Tie as tie
 
 held-by : (c : tie.After-holding-by2)
     → let s = c .before .before .before .before .before .before .before .before .before .before .before .before in
-    (handles : List ℕ) → UsedIn handles (s .args .used .now) → Placed (blocksOf handles (s .args .extents .now))
+    (handles : List ℕ) → UsedIn handles (s .args .used .now) → LengthsFit (blocksOf handles (s .args .extents .now))
     → HoldsBoth (s .args .h .shares) (blocksOf handles (s .args .extents .now)) (record { small = c .before .holding-by .result; large = c .holding-by2 .result })
 held-by c handles u placed =
     let counts = c .before .before in

@@ -4,13 +4,13 @@ use native.Mathlib.Omega.{arith}
 use borrow.Author.Needs.{needs}
 use Rattle.ledger.specs.Limits.{taskCount}
 use Rattle.endings.specs.Late.{isWaitingAt}
-use Rattle.expirations.specs.Places.{Asked}
+use Rattle.expirations.specs.Places.{SomeBetween}
 use Rattle.expirations.proofs.Places.{asked-start, asked-turn, asked-end}
 use Rattle.endings.proofs.late.any_waiting.Statement.{statement}
 use Rattle.endings.proofs.late.any_waiting.Tie as tie
 
 abbrev Inv-loop : tie.InvT-loop
-Inv-loop tasks some₀ i₀ some i = (i ≤ taskCount) × Asked (isWaitingAt tasks) 0 i some
+Inv-loop tasks some₀ i₀ some i = (i ≤ taskCount) × SomeBetween (isWaitingAt tasks) 0 i some
 
 abbrev μ-loop : tie.MeasureT-loop
 μ-loop tasks some₀ i₀ some i = taskCount - i

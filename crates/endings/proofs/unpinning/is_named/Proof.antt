@@ -3,14 +3,14 @@ use Prim.Native.Nat.{_*_, _≤_, _-_}
 use native.Mathlib.Omega.{arith}
 use borrow.Author.Needs.{needs}
 use Rattle.record.specs.Tables.{groupSize, groupCount}
-use Rattle.expirations.specs.Places.{Asked}
+use Rattle.expirations.specs.Places.{SomeBetween}
 use Rattle.expirations.specs.Naming.{isNamedAt}
 use Rattle.expirations.proofs.Places.{asked-start, asked-join, asked-end}
 use Rattle.endings.proofs.unpinning.is_named.Statement.{statement}
 use Rattle.endings.proofs.unpinning.is_named.Tie as tie
 
 abbrev Inv-loop : tie.InvT-loop
-Inv-loop block clocks named some₀ g₀ some g = (g ≤ groupCount) × Asked (isNamedAt clocks named block) 0 (g * groupSize) some
+Inv-loop block clocks named some₀ g₀ some g = (g ≤ groupCount) × SomeBetween (isNamedAt clocks named block) 0 (g * groupSize) some
 
 abbrev μ-loop : tie.MeasureT-loop
 μ-loop block clocks named some₀ g₀ some g = groupCount - g

@@ -4,7 +4,7 @@ use native.Mathlib.Omega.{arith}
 use mathlib.Core.Bool.{and-eq-true-iff}
 use borrow.Author.Needs.{needs}
 use borrow.Author.Tests.{not-true}
-use Rattle.expirations.specs.Places.{Asked}
+use Rattle.expirations.specs.Places.{SomeBetween}
 use Rattle.expirations.specs.Naming.{isNamedAt}
 use Rattle.expirations.specs.Standing.{isDatedAt}
 use Rattle.expirations.proofs.Places.{asked-start, asked-turn, asked-end, asked-unless}
@@ -12,7 +12,7 @@ use Rattle.endings.proofs.unpinning.names_in.Statement.{statement}
 use Rattle.endings.proofs.unpinning.names_in.Tie as tie
 
 abbrev Inv-loop : tie.InvT-loop
-Inv-loop block clocks named from some₀ i₀ i-end some i = (i ≤ i-end) × Asked (isNamedAt clocks named block) from i some
+Inv-loop block clocks named from some₀ i₀ i-end some i = (i ≤ i-end) × SomeBetween (isNamedAt clocks named block) from i some
 
 abbrev μ-loop : tie.MeasureT-loop
 μ-loop block clocks named from some₀ i₀ i-end some i = i-end - i

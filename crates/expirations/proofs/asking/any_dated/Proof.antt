@@ -2,14 +2,14 @@
 use Prim.Native.Nat.{_≤_, _-_}
 use native.Mathlib.Omega.{arith}
 use borrow.Author.Needs.{needs}
-use Rattle.expirations.specs.Places.{Asked}
+use Rattle.expirations.specs.Places.{SomeBetween}
 use Rattle.expirations.specs.Standing.{isDatedAt}
 use Rattle.expirations.proofs.Places.{asked-start, asked-turn, asked-end}
 use Rattle.expirations.proofs.asking.any_dated.Statement.{statement}
 use Rattle.expirations.proofs.asking.any_dated.Tie as tie
 
 abbrev Inv-loop : tie.InvT-loop
-Inv-loop clocks from some₀ i₀ i-end some i = (i ≤ i-end) × Asked (isDatedAt clocks) from i some
+Inv-loop clocks from some₀ i₀ i-end some i = (i ≤ i-end) × SomeBetween (isDatedAt clocks) from i some
 
 abbrev μ-loop : tie.MeasureT-loop
 μ-loop clocks from some₀ i₀ i-end some i = i-end - i

@@ -4,13 +4,13 @@ use native.Mathlib.Omega.{arith}
 use borrow.Author.Needs.{needs}
 use borrow.Author.Tests.{not-true}
 use Rattle.record.specs.Tables.{groupSize, groupCount}
-use Rattle.expirations.specs.Naming.{isSlotAt, Marks}
+use Rattle.expirations.specs.Naming.{isSlotAt, BlockMarks}
 use Rattle.expirations.proofs.Flags.{marks-start, marks-skip, marks-end, marks-same, slot-named, slot-none}
 use Rattle.expirations.proofs.naming.flags_of.Statement.{statement}
 use Rattle.expirations.proofs.naming.flags_of.Tie as tie
 
 abbrev Inv-loop : tie.InvT-loop
-Inv-loop clocks named slots flags₀ g₀ flags g = (g ≤ groupCount) × Marks (isSlotAt slots) (g * groupSize) flags
+Inv-loop clocks named slots flags₀ g₀ flags g = (g ≤ groupCount) × BlockMarks (isSlotAt slots) (g * groupSize) flags
 
 abbrev μ-loop : tie.MeasureT-loop
 μ-loop clocks named slots flags₀ g₀ flags g = groupCount - g

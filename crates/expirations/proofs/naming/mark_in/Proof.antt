@@ -2,13 +2,13 @@
 use Prim.Native.Nat.{_≤_, _-_}
 use native.Mathlib.Omega.{arith}
 use borrow.Author.Needs.{needs}
-use Rattle.expirations.specs.Naming.{isSlotAt, Marks}
+use Rattle.expirations.specs.Naming.{isSlotAt, BlockMarks}
 use Rattle.expirations.proofs.Flags.{marks-turn, marks-end}
 use Rattle.expirations.proofs.naming.mark_in.Statement.{statement}
 use Rattle.expirations.proofs.naming.mark_in.Tie as tie
 
 abbrev Inv-loop : tie.InvT-loop
-Inv-loop flags₀ slots from i₀ i-end flags i = (i ≤ i-end) × Marks (isSlotAt slots) i flags
+Inv-loop flags₀ slots from i₀ i-end flags i = (i ≤ i-end) × BlockMarks (isSlotAt slots) i flags
 
 abbrev μ-loop : tie.MeasureT-loop
 μ-loop flags₀ slots from i₀ i-end flags i = i-end - i

@@ -6,12 +6,12 @@ use lib.ListN.{getD}
 use Rattle.lists.specs.Filled.{Filled}
 use Rattle.lists.proofs.Filling.{filled-start, filled-turn, filled-end}
 use Rattle.record.specs.Tables.{expirationEntries}
-use Rattle.expirations.specs.Naming.{slotBy}
+use Rattle.expirations.specs.Naming.{namedSlot}
 use Rattle.expirations.proofs.naming.slots.Statement.{statement}
 use Rattle.expirations.proofs.naming.slots.Tie as tie
 
 abbrev Inv-loop : tie.InvT-loop
-Inv-loop clocks named out₀ i₀ out i = Filled 0 (λ k x. x ≡ slotBy (getD clocks k 0) (getD named k 0)) expirationEntries i out
+Inv-loop clocks named out₀ i₀ out i = Filled 0 (λ k x. x ≡ namedSlot (getD clocks k 0) (getD named k 0)) expirationEntries i out
 
 abbrev μ-loop : tie.MeasureT-loop
 μ-loop clocks named out₀ i₀ out i = expirationEntries - i

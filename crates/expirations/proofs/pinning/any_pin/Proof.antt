@@ -5,13 +5,13 @@ use mathlib.Core.Bool.{and-eq-true-iff}
 use borrow.Author.Needs.{needs}
 use borrow.Author.Tests.{not-true}
 use Rattle.expirations.specs.Pinning.{isPinAt}
-use Rattle.expirations.specs.Places.{Asked}
+use Rattle.expirations.specs.Places.{SomeBetween}
 use Rattle.expirations.proofs.Places.{asked-start, asked-turn, asked-end, asked-unless}
 use Rattle.expirations.proofs.pinning.any_pin.Statement.{statement}
 use Rattle.expirations.proofs.pinning.any_pin.Tie as tie
 
 abbrev Inv-loop : tie.InvT-loop
-Inv-loop block clocks named from some₀ i₀ i-end some i = (i ≤ i-end) × Asked (isPinAt block clocks named) from i some
+Inv-loop block clocks named from some₀ i₀ i-end some i = (i ≤ i-end) × SomeBetween (isPinAt block clocks named) from i some
 
 abbrev μ-loop : tie.MeasureT-loop
 μ-loop block clocks named from some₀ i₀ i-end some i = i-end - i

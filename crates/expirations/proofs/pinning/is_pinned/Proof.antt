@@ -4,14 +4,14 @@ use native.Mathlib.Omega.{arith}
 use borrow.Author.Needs.{needs}
 use Rattle.record.specs.Tables.{groupSize, groupCount}
 use Rattle.expirations.specs.Pinning.{isPinAt}
-use Rattle.expirations.specs.Places.{Asked}
+use Rattle.expirations.specs.Places.{SomeBetween}
 use Rattle.expirations.proofs.Pins.{pins-all}
 use Rattle.expirations.proofs.Places.{asked-start, asked-join, asked-end}
 use Rattle.expirations.proofs.pinning.is_pinned.Statement.{statement}
 use Rattle.expirations.proofs.pinning.is_pinned.Tie as tie
 
 abbrev Inv-loop : tie.InvT-loop
-Inv-loop clocks named block some₀ g₀ some g = (g ≤ groupCount) × Asked (isPinAt block clocks named) 0 (g * groupSize) some
+Inv-loop clocks named block some₀ g₀ some g = (g ≤ groupCount) × SomeBetween (isPinAt block clocks named) 0 (g * groupSize) some
 
 abbrev μ-loop : tie.MeasureT-loop
 μ-loop clocks named block some₀ g₀ some g = groupCount - g

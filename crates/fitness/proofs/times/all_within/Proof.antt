@@ -18,13 +18,13 @@ use Rattle.ledger.specs.Limits.{counterRange}
 use Rattle.record.specs.Codes.{freeEntry}
 use Rattle.record.specs.Tables.{ExpirationEntry, entriesOf}
 use Rattle.record.proofs.Columns.{length-entries, entry-at}
-use Rattle.fitness.specs.Checks.{isWithin}
+use Rattle.fitness.specs.Checks.{isInUnits}
 use Rattle.fitness.specs.declared.times.Time.{Time}
 use Rattle.fitness.proofs.times.all_within.Statement.{statement}
 use Rattle.fitness.proofs.times.all_within.Tie as tie
 
 abbrev isOut : List Time → List ℕ → ExpirationEntry → Bool
-isOut firsts units e = not (isWithin firsts units e)
+isOut firsts units e = not (isInUnits firsts units e)
 
 abbrev Inv-loop : tie.InvT-loop
 Inv-loop clocks dues firsts units out₀ i₀ out i =
@@ -58,7 +58,7 @@ counted c named n =
     let l = c .before .before .before .before .before in
     let s = l .before in
     let entry = entry-at (s .args .clocks .now) named (s .args .dues .now) (s .pre .codes .size) n (s .pre .of-dues) (l .loop .i) in
-    let within : c .is-within .result ≡ isWithin (s .args .t1) (s .args .t2) (getD (table s named n) (l .loop .i) freeEntry)
+    let within : c .is-within .result ≡ isInUnits (s .args .t1) (s .args .t2) (getD (table s named n) (l .loop .i) freeEntry)
     = c .is-within .ensures .so ∙ rw (c .before .before .before .code-at .ensures .so, entry) in
     count-turn (isOut (s .args .t1) (s .args .t2)) freeEntry (l .loop .out) (l .loop .inv .0 named n) (search needs) (ap not within)
 
@@ -83,7 +83,7 @@ returns c =
           ap (λ k. eqb k 0)
           (count-end (isOut (s .args .t1) (s .args .t2)) (l .loop .out) (l .loop .inv .0 named n) (search needs)
           ∙ ap (count (isOut (s .args .t1) (s .args .t2))) (take-all 256 (table s named n) (omega (arith, size s named n))))
-          ∙ none-fails (isWithin (s .args .t1) (s .args .t2)) (table s named n);
+          ∙ none-fails (isInUnits (s .args .t1) (s .args .t2)) (table s named n);
       below = λ k h. l .loop .inv .1 .so k (omega (arith, c .loop-test .left));
     }
 

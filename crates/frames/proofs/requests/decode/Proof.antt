@@ -7,7 +7,7 @@ use lib.ListN.{length}
 use lib.Seq.{length-take-le}
 use Rattle.lists.specs.Blocks.{overwritten}
 use Rattle.frames.specs.Frames.{frameOf}
-use Rattle.frames.specs.declared.Frame.{Frame}
+use Rattle.ledger.specs.declared.Frame.{Frame}
 use Rattle.frames.proofs.Payloads.{requested, payload-put, no-payload}
 use Rattle.frames.proofs.requests.decode.Statement.{statement}
 use Rattle.frames.proofs.requests.decode.Tie as tie

@@ -3,13 +3,13 @@ use Prim.Native.Nat.{_-_}
 use native.Mathlib.Omega.{arith}
 use borrow.Author.Needs.{needs}
 use Rattle.record.specs.Tables.{blockEntries}
-use Rattle.refusals.specs.Firsts.{Firsts}
+use Rattle.refusals.specs.Firsts.{FirstBlocks}
 use Rattle.refusals.proofs.Firsts.{firsts-start, firsts-turn, firsts-end}
 use Rattle.refusals.proofs.table.firsts.Statement.{statement}
 use Rattle.refusals.proofs.table.firsts.Tie as tie
 
 abbrev Inv-loop : tie.InvT-loop
-Inv-loop handles out₀ n₀ out n = Firsts (blockEntries - n) handles out
+Inv-loop handles out₀ n₀ out n = FirstBlocks (blockEntries - n) handles out
 
 abbrev μ-loop : tie.MeasureT-loop
 μ-loop handles out₀ n₀ out n = blockEntries - n

@@ -10,13 +10,13 @@ use Rattle.lists.proofs.Loops.{Scanned, scanned-start, kept-turn, kept-end}
 use Rattle.ledger.specs.Objects.{noShare}
 use Rattle.ledger.specs.declared.Quota.{Quota}
 use Rattle.record.specs.Shares.{isOrdered}
-use Rattle.shares.specs.Quotas.{isWithinBy}
+use Rattle.shares.specs.Quotas.{isQuotaKept}
 use Rattle.shares.proofs.quotas.all_within.Statement.{statement}
 use Rattle.shares.proofs.quotas.all_within.Tie as tie
 
 abbrev Inv-loop : tie.InvT-loop
 Inv-loop small shares made unmets fit₀ i₀ fit i =
-    Scanned (allFrom 0 (isWithinBy small made) shares) shares 16 i (λ ys. fit && allFrom i (isWithinBy small made) ys)
+    Scanned (allFrom 0 (isQuotaKept small made) shares) shares 16 i (λ ys. fit && allFrom i (isQuotaKept small made) ys)
 
 abbrev μ-loop : tie.MeasureT-loop
 μ-loop small shares made unmets fit₀ i₀ fit i = 16 - i
@@ -25,7 +25,7 @@ loop-again : tie.Need-loop-again Inv-loop μ-loop
 loop-again c =
     let l = c .before .before .before .before in
     let s = l .before .args in
-    kept-turn (isWithinBy (s .small) (s .t2)) noShare (l .loop .fit) (l .loop .inv) (search needs)
+    kept-turn (isQuotaKept (s .small) (s .t2)) noShare (l .loop .fit) (l .loop .inv) (search needs)
     (c .is-within .ensures ∙ ap (λ (q : Quota). isOrdered q && leb (getD (s .t2) (l .loop .i) 0) (q .limit)) (c .before .quota-in .ensures))
 
 pub all-within-spec : {M : Type 1} → statement M
@@ -34,7 +34,7 @@ all-within-spec =
     (tie.spec
     Inv-loop
     μ-loop
-    (λ c. scanned-start (allFrom 0 (isWithinBy (c .args .small) (c .args .t2))) _ 16 (search needs))
+    (λ c. scanned-start (allFrom 0 (isQuotaKept (c .args .small) (c .args .t2))) _ 16 (search needs))
     (λ c. search needs)
     (λ c. search needs)
     (λ c κs. search needs)
@@ -44,4 +44,4 @@ all-within-spec =
     (λ c. search needs)
     (λ c. search needs)
     loop-again
-    (λ c. kept-end (isWithinBy (c .before .before .args .small) (c .before .before .args .t2)) _ (c .before .loop .inv) (search needs)))
+    (λ c. kept-end (isQuotaKept (c .before .before .args .small) (c .before .before .args .t2)) _ (c .before .loop .inv) (search needs)))

@@ -1,5 +1,6 @@
--- `read_line` meets its contract: a walk of its MIR, by hand. A reader is made in a local and passed to `step`. All that the proof knows of `step` is that it meets its contract.
--- What the script owns is had twice, once in the reader and once for the exit; what the offset owns is made anew. A local's type erases the lifetime's name.
+-- `read_line` meets its contract: a walk of its MIR, by hand. A reader is made in a local and passed to `step`. All that the proof knows of
+-- `step` is that it meets its contract. What the script owns is had twice, once in the reader and once for the exit; what the offset owns
+-- is made anew. A local's type erases the lifetime's name.
 use mathlib.Core.Path.{_≡_, refl}
 use Prim.Native.Nat.{ℕ, _<_, _^_}
 use mathlib.Core.List.{List, [], _∷_}

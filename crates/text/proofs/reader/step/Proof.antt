@@ -1,6 +1,7 @@
--- `step` meets its contract: a walk of its MIR, by hand. The reader is taken apart, and `line_at` is called on the script and the offset. All that the proof knows of
--- `line_at` is that it meets its contract.
--- The reader is Copy: what it owns is had twice, once for the callee and once whole for the exit. The lifetime's token goes to the callee and comes back.
+-- `step` meets its contract: a walk of its MIR, by hand. The reader is taken apart, and `line_at` is called on the script and the offset.
+-- All that the proof knows of `line_at` is that it meets its contract.
+-- The reader is Copy: what it owns is had twice, once for the callee and once whole for the exit. The lifetime's token goes to the callee
+-- and comes back.
 use mathlib.Core.Path.{_≡_, refl}
 use mathlib.Core.List.{[], _∷_}
 use lib.Dec.{T as Holds}

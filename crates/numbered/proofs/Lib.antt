@@ -1,4 +1,0 @@
-pub mod ByValue
-pub mod Replies
-pub mod Promises
-pub mod Steps
