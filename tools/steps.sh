@@ -109,18 +109,18 @@ examples() {
     done < <(host/run-examples)
     wait $!
 }
-test_ledgers() {
-    named "tests/reference: two ledgers in Rust, frames, scripts, words and pictures" tests tests/reference
-    named "tests/plain: a pool in plain Rust against the ledgers" tests tests/plain
+test_ledger() {
+    named "tests/reference: the ledger in Rust, frames, scripts, words and pictures" tests tests/reference
+    named "tests/plain: a pool in plain Rust against the ledger" tests tests/plain
 }
 test_program() {
-    named "compare: poolrun against both ledgers on 1,000 scripts and the longest" reference compare -- target/bin/poolrun 1000
+    named "compare: poolrun against the ledger on 1,000 scripts and the longest" reference compare -- target/bin/poolrun 1000
 }
 test_library() {
     for options in "${features[@]}"; do
         named "host: the Rust crate and the headers over the library (${options:-with std})" tests host $options
     done
-    named "tests/host: the library against the ledgers, on millions of calls and damaged records" tests tests/host
+    named "tests/host: the library against ledger and plain pool, on millions of calls and damaged records" tests tests/host
 }
 # The library on other processors, where their compilers and qemu are here; what that leaves out is left out of this too.
 cross_test() {

@@ -11,7 +11,7 @@ use host_tests::reading::figures;
 use host_tests::samples::{after, after_of, full, full_of, standing_by, standing_of, Setting};
 use host_tests::sites::{with, CABLE, FIGURES};
 use plain::fit::is_well_formed;
-use plain::limits::{Limits, BLOCKS, EXPIRATIONS, LARGE_BLOCKS, SMALL_BLOCKS, TASKS};
+use plain::limits::{Limits, BLOCKS, EXPIRATIONS, GLOBAL_EXTRA, LARGE_BLOCKS, SMALL_BLOCKS, SMALL_SIZE, TASKS};
 use plain::record::{extent_of, fresh, length_in, maker_in, with_maker, with_prefix, Pool, Quota, Share, NOBODY};
 use plain::record::{ABSENT, DEPARTED, FREE, GLOBAL, LOCAL, PINNED, RECORD, RUNNING, VIEWING, WAITING};
 use plain::work::{self, Holding, Holdings};
@@ -19,6 +19,9 @@ use reference::call::{Accepted, Call, Figures, Kind, Lifetime};
 use reference::generate::Profile;
 use reference::limits;
 use reference::random::Random;
+
+/// How many extensions there are, from 0 to the largest.
+const EXTENSIONS: usize = Limits::STANDARD.extension as usize + 1;
 
 /// All values at all offsets: a report, and one of the other calls in turn.
 fn overwrite_each_byte(whole: Memory) {
@@ -43,7 +46,7 @@ fn one_byte_of_a_fresh_record() {
 
 #[test]
 fn one_byte_of_a_full_record() {
-    overwrite_each_byte(full(256));
+    overwrite_each_byte(full(EXPIRATIONS));
 }
 
 #[test]
@@ -136,7 +139,7 @@ fn with_pinned() -> Memory {
     standing_by(Limits::STANDARD, TASKS, (SMALL_BLOCKS, LARGE_BLOCKS), EXPIRATIONS, |count| Setting {
         task: (count % TASKS) as u8,
         kind: if count < BLOCKS && count % 3 == 0 { Kind::Pinned } else { Kind::Global },
-        extension: if count < BLOCKS && count % 3 == 0 { 0 } else { (count % 31) as u8 },
+        extension: if count < BLOCKS && count % 3 == 0 { 0 } else { (count % EXTENSIONS) as u8 },
         object: count % 60,
     })
 }
@@ -208,7 +211,7 @@ fn late() -> Memory {
 fn undamaged_records() {
     let mixed = (mixed(), (31, 18, 86), (1, 19), [0; 10]);
     let late = (late(), (36, 8, 86), (15, 8), [0; 10]);
-    let full = (full(256), (64, 32, 256), (0, 28), [0, 0, 0, 0, 9, 10, 22, 0, 0, 2]);
+    let full = (full(EXPIRATIONS), (64, 32, 256), (0, 28), [0, 0, 0, 0, 9, 10, 22, 0, 0, 2]);
     let pinned = (with_pinned(), (64, 32, 256), (0, 30), [0, 0, 0, 0, 9, 10, 0, 0, 0, 2]);
     for (whole, standing, (local, global), expected) in [mixed, late, full, pinned] {
         let Figures { small, large, expirations, .. } = figures(&whole.pool);
@@ -224,7 +227,7 @@ fn undamaged_records() {
 fn likely_damages() {
     let sites = [full_of(CABLE, 64), full_of(CABLE, 40), mixed_site(), smallest()];
     let shared = [with_shares(0), with_shares(1), with_viewers()];
-    let wholes = [full(256), full(96), with_pinned(), mixed(), late()];
+    let wholes = [full(EXPIRATIONS), full(BLOCKS), with_pinned(), mixed(), late()];
     let wholes = wholes.into_iter().chain(sites).chain(shared).map(Pair::of);
     let mut random = Random::new(11);
     for mut pair in wholes {
@@ -253,12 +256,12 @@ fn damage(pool: &mut Pool, random: &mut Random) {
         3 => pool.tasks[to % TASKS].clock = pool.tasks[to % TASKS].clock.wrapping_add(small),
         4 => pool.global = pool.global.wrapping_add(small),
         5 => pool.given = pool.given.wrapping_sub(small),
-        6 => pool.handles[to % 96] = pool.handles[from % 96],
-        7 => pool.handles[to % 96] = small,
-        8 => pool.extents[to % 96] = pool.extents[from % 96],
+        6 => pool.handles[to % BLOCKS] = pool.handles[from % BLOCKS],
+        7 => pool.handles[to % BLOCKS] = small,
+        8 => pool.extents[to % BLOCKS] = pool.extents[from % BLOCKS],
         9 => {
             let length = random.pick(&[0, 1, 32, 33, 256, 257, 289]);
-            pool.extents[to % 96] = pool.extents[to % 96] & !0xFFFF | length;
+            pool.extents[to % BLOCKS] = pool.extents[to % BLOCKS] & !0xFFFF | length;
         }
         10 => {
             pool.clocks[to] = pool.clocks[from];
@@ -271,11 +274,11 @@ fn damage(pool: &mut Pool, random: &mut Random) {
             pool.clocks[to] = random.pick(&codes);
         }
         12 => pool.named[to] = pool.named[from],
-        13 => pool.named[to] = random.pick(&[0, 63, 64, 95, 96, 255]),
+        13 => pool.named[to] = random.pick(&[0, SMALL_BLOCKS - 1, SMALL_BLOCKS, BLOCKS - 1, BLOCKS, 255]) as u8,
         14 => pool.dues[to] = pool.dues[from],
         15 => pool.dues[to] = 0,
         16 => (pool.clocks[to], pool.dues[to]) = (PINNED, 0),
-        17 => pool.extents[to % 96] = pool.extents[to % 96].wrapping_add(u64::from(small) << 48),
+        17 => pool.extents[to % BLOCKS] = pool.extents[to % BLOCKS].wrapping_add(u64::from(small) << 48),
         18 => {
             let (figure, ..) = random.pick(&FIGURES);
             *figure(&mut pool.limits) = figure(&mut pool.limits.clone()).wrapping_add(small).wrapping_sub(2);
@@ -294,15 +297,15 @@ fn damage(pool: &mut Pool, random: &mut Random) {
             let number = number(&mut pool.shares[to % TASKS]);
             *number = number.wrapping_add(small as u8).wrapping_sub(2);
         }
-        23 => pool.extents[to % 96] = with_maker(pool.extents[to % 96], maker_in(pool.extents[from % 96])),
+        23 => pool.extents[to % BLOCKS] = with_maker(pool.extents[to % BLOCKS], maker_in(pool.extents[from % BLOCKS])),
         24 => {
             let maker = random.pick(&[0, 1, 5, 14, 15, NOBODY, NOBODY + 1, 32, 255]);
-            pool.extents[to % 96] = with_maker(pool.extents[to % 96], maker);
+            pool.extents[to % BLOCKS] = with_maker(pool.extents[to % BLOCKS], maker);
         }
         25 => {
-            let extent = pool.extents[to % 96];
+            let extent = pool.extents[to % BLOCKS];
             let prefix = random.pick(&[0, 1, length_in(extent), length_in(extent).wrapping_add(1), 32, 256, u16::MAX]);
-            pool.extents[to % 96] = with_prefix(extent, prefix);
+            pool.extents[to % BLOCKS] = with_prefix(extent, prefix);
         }
         _ => pool.dues[to] = pool.dues[to].wrapping_add(small),
     }
@@ -346,7 +349,7 @@ fn figures_at_the_ends_of_their_ranges() {
 #[test]
 fn figures_of_full_records() {
     for (whole, used) in
-        [(full_of(CABLE, 64), [16, 4, 64, 10]), (full(256), [64, 32, 256, 30]), (smallest(), [0, 1, 1, 0])]
+        [(full_of(CABLE, 64), [16, 4, 64, 10]), (full(EXPIRATIONS), [64, 32, 256, 30]), (smallest(), [0, 1, 1, 0])]
     {
         let mut pair = Pair::of(whole);
         for ((figure, least, most), used) in FIGURES.into_iter().zip(used) {
@@ -510,7 +513,7 @@ fn the_spare_bits_of_a_block() {
 /// An object in this block with a global expiration in this entry, so many units ahead, in a pool of these figures.
 fn one_object(limits: Limits, block: usize, date: usize, units: u32) -> Pool {
     let mut pool = Pool { given: 1, ..fresh(limits) };
-    let length = if block < SMALL_BLOCKS { 32 } else { 33 };
+    let length = SMALL_SIZE as u16 + u16::from(block >= SMALL_BLOCKS);
     (pool.handles[block], pool.extents[block]) = (1, extent_of(length, 0, NOBODY));
     (pool.clocks[date], pool.named[date], pool.dues[date]) = (DEPARTED, block as u8, units);
     pool
@@ -552,7 +555,8 @@ fn blocks_in_use_or_named_past_the_figures() {
 #[test]
 fn due_times_past_the_largest_extension() {
     let mut pair = Pair::of(Memory::fresh(&mut Random::new(5)));
-    for (extension, units) in (0..=30).flat_map(|extension| (0..=34).map(move |units| (extension, units))) {
+    let extensions = 0..EXTENSIONS as u32;
+    for (extension, units) in extensions.flat_map(|extension| (0..=34).map(move |units| (extension, units))) {
         let pool = one_object(Limits { extension, ..Limits::STANDARD }, 0, 0, units);
         for (code, most) in [(LOCAL + 3, extension + 1), (GLOBAL + 3, extension + 2), (DEPARTED, extension + 2)] {
             expect(&mut pair, (1..=most).contains(&units), |damaged| {
@@ -570,13 +574,14 @@ fn due_times_past_the_largest_extension() {
 fn every_code_of_a_clock() {
     let mut pair = Pair::of(with_each_state());
     let (calls, whole) = (pair.calls, pair.whole.pool.clone());
+    let longest = whole.limits.extension + GLOBAL_EXTRA;
     for date in 0..EXPIRATIONS {
-        let is_ahead = (1..=32).contains(&whole.dues[date].wrapping_sub(whole.global));
+        let is_ahead = (1..=longest).contains(&whole.dues[date].wrapping_sub(whole.global));
         for code in 0..=255 {
             let expected = match code {
                 FREE | LOCAL..GLOBAL => None,
                 GLOBAL..DEPARTED => Some(is_ahead && whole.tasks[usize::from(code - GLOBAL)].state != ABSENT),
-                48 => Some(is_ahead),
+                DEPARTED => Some(is_ahead),
                 _ => Some(false),
             };
             let mut damaged = whole.clone();
@@ -624,16 +629,16 @@ fn pinned_in_each_entry() {
 
 /// Half the blocks of both stores are in use, each third object is pinned, and there are free entries.
 fn half_pinned() -> Memory {
-    standing_by(Limits::STANDARD, TASKS, (32, 16), 200, |count| {
-        let pins = count < 48 && count % 3 == 0;
-        let (kind, extension) = if pins { (Kind::Pinned, 0) } else { (Kind::Global, (count % 31) as u8) };
+    standing_by(Limits::STANDARD, TASKS, (SMALL_BLOCKS / 2, LARGE_BLOCKS / 2), 200, |count| {
+        let pins = count < BLOCKS / 2 && count % 3 == 0;
+        let (kind, extension) = if pins { (Kind::Pinned, 0) } else { (Kind::Global, (count % EXTENSIONS) as u8) };
         Setting { task: (count % TASKS) as u8, kind, extension, object: count % 40 }
     })
 }
 
 /// Tasks 1 and 13 wait, tasks 3 and 15 have left what they have set by global time, and the others run.
 fn with_each_state() -> Memory {
-    let mut host = Host::<Plain>::new(full(256));
+    let mut host = Host::<Plain>::new(full(EXPIRATIONS));
     for call in [1, 13].map(|task| Call::Block { task }).into_iter().chain([3, 15].map(|task| Call::Leave { task })) {
         assert!(host.call(&call).is_ok(), "{call:?}");
     }
@@ -645,7 +650,7 @@ fn with_each_state() -> Memory {
 #[test]
 fn noise() {
     let mut random = Random::new(12);
-    let mut pair = Pair::of(full(256));
+    let mut pair = Pair::of(full(EXPIRATIONS));
     let calls = pair.calls;
     for _ in 0..2_000 {
         let mut noise = pair.whole.pool.clone();

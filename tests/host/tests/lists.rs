@@ -1,8 +1,10 @@
-//! Long lists of calls, on the library, the plain pool and both ledgers at once: the same answers and, from time to
+//! Long lists of calls, on the library, the plain pool and the ledger at once: the same answers and, from time to
 //! time, the same state; of sites of all figures after each call. The lists are the reference's scripts; lines that hold no
 //! call go to the entry for frames. In some a pool is made anew on the way.
 
 mod census;
+
+use std::mem::{replace, take};
 
 use census::{is_due_across, Census, NUMBERS};
 use host_tests::entries::{Entries, Plain};
@@ -11,11 +13,11 @@ use host_tests::library::Library;
 use host_tests::memory::{bytes, bytes_mut, Memory};
 use host_tests::reading::{of_ledger, of_record, Ahead};
 use host_tests::sites;
+use plain::limits::{LARGE_SIZE, SMALL_SIZE};
 use plain::record::PINNED;
-use reference::call::{Call, Handles, Model};
+use reference::call::{Call, Handles, Model, Operation};
 use reference::frame::{decode, encode_answer};
 use reference::generate::{self, script_of, sized_script_of, Profile, PROFILES};
-use reference::indexed;
 use reference::ledger::Ledger;
 use reference::limits::Limits;
 use reference::outside::{Change, Changes, Exposed};
@@ -37,13 +39,16 @@ const ANEW: u64 = 100;
 const TIMES: usize = 6;
 const PART_SIZE: usize = 10_000;
 
+/// One call in so many is lent stores of another length.
+const OTHER_STORES: usize = 20;
+
+const WRONG_STORE_LENGTH: u8 = 14;
 const NOT_WELL_FORMED: u8 = 15;
 const LIMITS_OUT_OF_RANGE: u8 = 29;
 
 /// Everything that makes the same calls.
 struct Company {
     ledger: Ledger,
-    indexed: indexed::Ledger,
     library: Host<Library>,
     plain: Host<Plain>,
     random: Random,
@@ -70,7 +75,6 @@ impl Company {
         let ahead = Ahead { global: first_global(late, &mut random), ..Ahead::default() };
         Company {
             ledger: Ledger::of(limits),
-            indexed: indexed::Ledger::of(limits),
             library: begun(memory.clone(), ahead.global),
             plain: begun(memory, ahead.global),
             random,
@@ -96,6 +100,7 @@ impl Company {
                 self.disturb(call);
             }
             match call {
+                Ok(call) if self.random.one_in(OTHER_STORES) => self.call_with_other_stores(line, &call),
                 Ok(call) if self.random.one_in(5) => self.ask(line, Some(&call)),
                 Ok(call) => self.call(&call),
                 Err(_) => self.ask(line, None),
@@ -110,7 +115,6 @@ impl Company {
     /// A pool of these figures in the place of that which stood there: by all, or all say 29 and there is none.
     fn make_anew(&mut self, limits: Limits) -> u8 {
         let made = Ledger::sized(limits).map(|ledger| self.ledger = ledger);
-        assert_eq!(indexed::Ledger::sized(limits).map(|ledger| self.indexed = ledger), made, "{limits:?}");
         let number = made.err().map_or(0, |refusal| refusal as u8);
         let (library, plain) = (&mut self.library.memory.pool, &mut self.plain.memory.pool);
         assert_eq!(Library::fresh_sized(library, sites::of(limits)), number, "{limits:?}");
@@ -165,7 +169,6 @@ impl Company {
         for change in changes.before(call, &self.ledger) {
             let Change { handle, place, byte } = change;
             self.ledger.disturb(change);
-            self.indexed.disturb(change);
             for memory in [&mut self.library.memory, &mut self.plain.memory] {
                 let block = memory.place(handle).expect("the object has a block");
                 memory.block_mut(block)[place] = byte;
@@ -173,12 +176,42 @@ impl Company {
         }
     }
 
+    /// With stores of another length a make, a read and a write are refused with 14, by their entry and as a frame, and are
+    /// made again with the right ones; any other call is answered as ever.
+    fn call_with_other_stores(&mut self, line: &[u8], call: &Call) {
+        let looks = matches!(call, Call::Make { .. } | Call::Read { .. } | Call::Write { .. });
+        let lengths = self.other_lengths();
+        let [library, plain] = [&mut self.library.memory, &mut self.plain.memory].map(|memory| lend(memory, lengths));
+        if looks {
+            let told = (WRONG_STORE_LENGTH, &b"0E\n"[..]);
+            assert_eq!(self.library.call(call), Err(WRONG_STORE_LENGTH), "{call:?}, {lengths:?}");
+            assert_eq!(self.plain.call(call), Err(WRONG_STORE_LENGTH), "{call:?}, {lengths:?}, plain");
+            assert_eq!(self.library.line(line, Some(call)), told, "{call:?}, {lengths:?}");
+            assert_eq!(self.plain.line(line, Some(call)), told, "{call:?}, {lengths:?}, plain");
+            self.census.refused[usize::from(WRONG_STORE_LENGTH)] += 1;
+        } else {
+            self.call(call);
+        }
+        (self.library.memory.small, self.library.memory.large) = library;
+        (self.plain.memory.small, self.plain.memory.large) = plain;
+        if looks {
+            self.call(call);
+        }
+    }
+
+    /// Lengths of which one is wrong at least.
+    fn other_lengths(&mut self) -> (usize, usize) {
+        let (small, large) = (self.plain.memory.small.len(), self.plain.memory.large.len());
+        let other_small = other_length(small, SMALL_SIZE, &mut self.random);
+        let other_large = other_length(large, LARGE_SIZE, &mut self.random);
+        self.random.pick(&[(other_small, large), (small, other_large), (other_small, other_large)])
+    }
+
     /// One call by its own entry.
     fn call(&mut self, call: &Call) {
         self.census.calls += 1;
         let expected = self.ledger.call(call);
         self.census.note(call, expected);
-        assert_eq!(expected, self.indexed.call(call), "{call:?}");
         let expected: Told = expected.map_err(|refusal| refusal as u8);
         assert_eq!(self.library.call(call), expected, "{call:?}");
         assert_eq!(self.plain.call(call), expected, "{call:?}, plain");
@@ -192,10 +225,7 @@ impl Company {
         let mut room = vec![0; line.len() / 2];
         let expected = decode(line, &mut room).and_then(|call| self.ledger.call(&call));
         match call {
-            Some(call) => {
-                self.census.note(call, expected);
-                assert_eq!(expected, self.indexed.call(call), "{call:?}");
-            }
+            Some(call) => self.census.note(call, expected),
             None => self.census.note_refusal(expected),
         }
         let mut answer = Vec::new();
@@ -255,6 +285,16 @@ impl Company {
     }
 }
 
+/// Another length of a store of such blocks: by a byte, by a block, or by the whole.
+fn other_length(length: usize, block: usize, random: &mut Random) -> usize {
+    random.pick(&[0, length - 1, length + 1, length - block, length + block, 2 * length])
+}
+
+/// Stores of these lengths in the place of the memory's own.
+fn lend(memory: &mut Memory, (small, large): (usize, usize)) -> (Vec<u8>, Vec<u8>) {
+    (replace(&mut memory.small, vec![7; small]), replace(&mut memory.large, vec![7; large]))
+}
+
 /// What global time reads when a pool is made.
 fn first_global(late: bool, random: &mut Random) -> u32 {
     if late {
@@ -285,30 +325,34 @@ fn run_lists(seeds: std::ops::Range<u64>, company: impl Fn(u64) -> Company) -> C
     census
 }
 
-/// What a viewer may not, by the place of the call.
-const ONLY_RUNNING: [(usize, &str); 7] =
-    [(2, "block"), (4, "tick"), (5, "make"), (6, "refresh"), (8, "write"), (11, "batch"), (12, "release")];
+/// What a viewer may not.
+const ONLY_RUNNING: [Operation; 7] = [
+    Operation::Block,
+    Operation::Tick,
+    Operation::Make,
+    Operation::Refresh,
+    Operation::Write,
+    Operation::Batch,
+    Operation::Release,
+];
+
+/// The operation was refused with each of these numbers more than so often.
+fn check_refused(census: &Census, operation: Operation, numbers: &[usize], least: usize) {
+    for &number in numbers {
+        assert!(census.refused_by[operation as usize][number] > least, "{operation:?}, {number}");
+    }
+}
 
 fn check_all_met(census: &Census) {
     assert!(census.accepted.iter().all(|&count| count > 1_000));
-    for number in (1..=7).chain(9..=13).chain(16..=22).chain(24..=28) {
+    for number in (1..=7).chain(9..=14).chain(16..=22).chain(24..=28) {
         assert!(census.refused[number] > 500, "{number}");
     }
-    for number in [1, 3, 4, 11, 12] {
-        assert!(census.refused_by[10][number] > 100, "remaining, {number}");
-    }
-    for number in [1, 3, 4, 20, 21, 6, 11, 12, 10] {
-        assert!(census.refused_by[11][number] > 100, "batch, {number}");
-    }
-    for number in [1, 3, 4, 11, 12, 22] {
-        assert!(census.refused_by[12][number] > 50, "release, {number}");
-    }
-    for number in [1, 2] {
-        assert!(census.refused_by[13][number] > 100, "view, {number}");
-    }
-    for (operation, name) in ONLY_RUNNING {
-        assert!(census.refused_by[operation][27] > 50, "{name}, 27");
-    }
+    check_refused(census, Operation::Remaining, &[1, 3, 4, 11, 12], 100);
+    check_refused(census, Operation::Batch, &[1, 3, 4, 20, 21, 6, 11, 12, 10], 100);
+    check_refused(census, Operation::Release, &[1, 3, 4, 11, 12, 22], 50);
+    check_refused(census, Operation::View, &[1, 2], 100);
+    ONLY_RUNNING.into_iter().for_each(|operation| check_refused(census, operation, &[27], 50));
     assert!(census.viewed.iter().all(|&count| count > 200));
     assert_eq!(census.most, (64, 32, 256));
     assert!(census.put_off > 1_000 && census.most_departed > 20 && census.most_pinned >= 64);
@@ -385,7 +429,7 @@ fn of_sites_of_all_figures() {
     println!("6, 9, 10 by figures below 01's: {refused:?}");
     assert!(full.iter().all(|&count| count > 50) && refused.iter().all(|&count| count > 1_000));
     assert!(census.accepted.iter().all(|&count| count > 1_000));
-    for number in (1..=7).chain(9..=13).chain(16..=28) {
+    for number in (1..=7).chain(9..=14).chain(16..=28) {
         assert!(census.refused[number] > 500, "{number}");
     }
     assert!(census.calls + census.frames > 500_000);
@@ -401,7 +445,7 @@ fn of_pools_that_are_made_anew() {
         let mut company = at_site(limits, seed);
         for _ in 0..TIMES {
             company.go_on(&sized_script_of(limits, None, random.number(), PART_SIZE));
-            let met = std::mem::take(&mut company.census);
+            let met = take(&mut company.census);
             let (small, large, expirations) = met.most;
             assert!(usize::from(small) <= limits.small_blocks && usize::from(large) <= limits.large_blocks);
             assert!(usize::from(expirations) <= limits.expirations);
@@ -422,7 +466,7 @@ fn of_pools_that_are_made_anew() {
     println!("made anew {made} times, refused {refused} times");
     assert!(made > 500 && refused > 100 && census.refused[usize::from(NOT_WELL_FORMED)] > 5_000);
     assert!(census.accepted.iter().all(|&count| count > 500));
-    for number in (1..=7).chain(9..=13).chain(15..=28) {
+    for number in (1..=7).chain(9..=28) {
         assert!(census.refused[number] > 100, "{number}");
     }
 }
@@ -434,16 +478,13 @@ fn of_stores_that_something_outside_changes() {
     let census =
         run_lists(2_000..2_042, |seed| Company { changes: Some(Changes::new(seed)), ..Company::new(seed, false) });
     assert!(census.accepted.iter().all(|&count| count > 500));
-    for (operation, name) in [(7, "read"), (8, "write")] {
-        for number in [1, 3, 4, 11, 12, 23] {
-            assert!(census.refused_by[operation][number] > 100, "{name}, {number}");
-        }
-    }
-    assert_eq!(census.refused_by.iter().map(|numbers| numbers[23]).sum::<usize>(), census.refused[23]);
-    assert_eq!(census.refused_by[7][23] + census.refused_by[8][23], census.refused[23], "no other call looks");
+    let looking = [Operation::Read, Operation::Write];
+    looking.into_iter().for_each(|operation| check_refused(&census, operation, &[1, 3, 4, 11, 12, 23], 100));
+    let noticed = |operation: Operation| census.refused_by[operation as usize][23];
+    assert_eq!(looking.into_iter().map(noticed).sum::<usize>(), census.refused[23], "no other call looks");
 }
 
-/// Near the last handle the ledgers, which start at 0, cannot follow; library and plain pool give the same answers.
+/// Near the last handle the ledger, which starts at 0, cannot follow; library and plain pool give the same answers.
 #[test]
 fn of_records_with_nearly_all_handles_given() {
     let mut refused = [0; NUMBERS];

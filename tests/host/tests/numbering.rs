@@ -8,7 +8,7 @@ use host_tests::memory::Memory;
 use host_tests::reading::of_record;
 use host_tests::samples::{full, mixed_blocks, renumber, Numbering, NUMBERINGS};
 use plain::fit::is_well_formed;
-use plain::limits::{LARGE_SIZE, SMALL_BLOCKS, SMALL_SIZE};
+use plain::limits::{BLOCKS, EXPIRATIONS, LARGEST_BATCH, LARGE_SIZE, SMALL_BLOCKS, SMALL_SIZE};
 use plain::record::Share;
 use plain::work;
 use reference::call::{packed, Call, Handles, Kind};
@@ -22,7 +22,7 @@ fn store_of(block: usize) -> (std::ops::Range<usize>, u16) {
     if block < SMALL_BLOCKS {
         (0..SMALL_BLOCKS, SMALL_SIZE as u16)
     } else {
-        (SMALL_BLOCKS..96, LARGE_SIZE as u16)
+        (SMALL_BLOCKS..BLOCKS, LARGE_SIZE as u16)
     }
 }
 
@@ -59,7 +59,7 @@ fn reached(numbering: Numbering) -> Memory {
 #[test]
 fn the_samples_are_reached_by_calls() {
     for numbering in NUMBERINGS.into_iter().filter(|&numbering| numbering != Numbering::InTurn) {
-        let (reached, mut sample) = (reached(numbering), full(96));
+        let (reached, mut sample) = (reached(numbering), full(BLOCKS));
         renumber(&mut sample, numbering);
         assert!(is_well_formed(&reached.pool));
         assert_eq!(reached.pool.handles, sample.pool.handles, "{numbering:?}");
@@ -71,7 +71,7 @@ fn the_samples_are_reached_by_calls() {
 #[test]
 fn the_library_and_the_plain_pool_agree() {
     for numbering in NUMBERINGS {
-        let mut whole = full(256);
+        let mut whole = full(EXPIRATIONS);
         renumber(&mut whole, numbering);
         let compare = |whole: &Memory, call: &Call, refusal: Option<u8>| {
             let (mut library, mut plain) = (Host::<Library>::new(whole.clone()), Host::<Plain>::new(whole.clone()));
@@ -86,16 +86,17 @@ fn the_library_and_the_plain_pool_agree() {
         compare(&whole, &Call::Tick { task: 1 }, None);
         compare(&whole, &Call::Make { task: 1, kind: Kind::Local, extension: 0, length: 9, prefix: 0 }, Some(9));
         // The objects of each third block, with room for an expiration on each of them.
-        let mut room = full(224);
+        let mut room = full(EXPIRATIONS - LARGEST_BATCH);
         renumber(&mut room, numbering);
         let named: Vec<_> = room.pool.handles.iter().copied().step_by(3).collect();
-        let gone = [&named[..31], &[named[0] + 1_000]].concat();
-        for (handles, refusal) in [(&named, None), (&gone, Some(if room.pool.given > gone[31] { 12 } else { 11 }))] {
+        let none = named[0] + 1_000;
+        let gone = [&named[1..], &[none]].concat();
+        for (handles, refusal) in [(&named, None), (&gone, Some(if room.pool.given > none { 12 } else { 11 }))] {
             let handles = packed(handles);
             let batch = Call::Batch { task: 1, kind: Kind::Local, extension: 3, handles: Handles(&handles) };
             compare(&room, &batch, refusal);
         }
-        for (one, other) in [(0, 95), (95, 0), (40, 41), (17, 64)] {
+        for (one, other) in [(0, BLOCKS - 1), (BLOCKS - 1, 0), (40, 41), (17, SMALL_BLOCKS)] {
             let mut damaged = whole.clone();
             damaged.pool.handles[one] = damaged.pool.handles[other];
             compare(&damaged, &Call::Report, Some(15));

@@ -1,5 +1,5 @@
 //! Reserves and limits (order 9): the rows of the reference, and at each site's edges, each by its entry and as a frame; what
-//! a task has, by library and plain pool as by both ledgers, over lists of calls; and over the same lists what a reserve and a
+//! a task has, by library and plain pool as by the ledger, over lists of calls; and over the same lists what a reserve and a
 //! limit promise.
 
 #[path = "../../reference/tests/rows/mod.rs"]
@@ -19,12 +19,11 @@ use plain::work::{Holding, Holdings};
 use reference::call::{Call, Kind, Model};
 use reference::frame::decode;
 use reference::generate::{self, sized_script_of, Profile};
-use reference::indexed;
 use reference::ledger::Ledger;
 use reference::limits::{Store, STORES};
 use reference::random::Random;
 use reference::script::lines;
-use reference::share::{Maker, Quota, Share};
+use reference::share::{Quota, Share};
 use rows::check_answers;
 use share_rows::check_all;
 use std::mem::offset_of;
@@ -213,17 +212,6 @@ fn of_ledger(ledger: &Ledger, task: u8) -> Holdings {
     Holdings { small: holding(Store::Small), large: holding(Store::Large) }
 }
 
-fn of_indexed(ledger: &indexed::Ledger, task: u8) -> Holdings {
-    let (standing, share) = (ledger.standing(), ledger.entries()[usize::from(task)].share);
-    let holding = |store: Store| {
-        let is_its = |maker: Maker, length: u16| maker == Maker::Task(task) && Store::holding(length) == Ok(store);
-        let made = standing.iter().filter(|object| is_its(object.maker, object.block.length)).count();
-        let Quota { reserve, limit } = share.of(store);
-        Holding { made: made as u8, reserve, limit }
-    };
-    Holdings { small: holding(Store::Small), large: holding(Store::Large) }
-}
-
 /// How often the lists met what.
 #[derive(Debug, Default)]
 struct Census {
@@ -254,7 +242,6 @@ impl Census {
 /// The same calls on all.
 struct Company {
     ledger: Ledger,
-    indexed: indexed::Ledger,
     library: Host<Library>,
     plain: Host<Plain>,
     census: Census,
@@ -265,7 +252,6 @@ impl Company {
         let memory = Memory::sized(sites::of(limits), &mut Random::new(seed));
         Company {
             ledger: Ledger::of(limits),
-            indexed: indexed::Ledger::of(limits),
             library: Host::new(memory.clone()),
             plain: Host::new(memory),
             census: Census::default(),
@@ -276,7 +262,6 @@ impl Company {
     fn call(&mut self, call: &Call) {
         let before = self.before_make(call);
         let number = self.ledger.call(call).err().map_or(0, |refusal| refusal as u8);
-        assert_eq!(self.indexed.call(call).err().map_or(0, |refusal| refusal as u8), number, "{call:?}");
         assert_eq!(self.library.call(call).err().unwrap_or(0), number, "{call:?}");
         assert_eq!(self.plain.call(call).err().unwrap_or(0), number, "{call:?}, plain");
         let Some((below, free)) = before else { return };
@@ -295,7 +280,6 @@ impl Company {
 
     fn ask(&mut self, task: u8) -> Holdings {
         let expected = of_ledger(&self.ledger, task);
-        assert_eq!(of_indexed(&self.indexed, task), expected, "task {task}");
         assert_eq!(told(&mut self.library, task), Ok(expected), "task {task}");
         assert_eq!(told(&mut self.plain, task), Ok(expected), "task {task}, plain");
         self.census.note(expected);

@@ -1,6 +1,6 @@
 //! Viewers and prefixes (order 10): the rows of the reference; 27 and 28 against all that may be wrong besides, each by its
-//! entry and as a frame; reads of every prefix; and over lists of calls that all a viewer is told is the same, whatever was
-//! written behind prefixes.
+//! entry and as a frame; reads of every prefix; a viewer that has set expirations; and over lists of calls that all a viewer
+//! is told is the same, whatever was written behind prefixes.
 
 #[path = "../../reference/tests/rows/mod.rs"]
 mod rows;
@@ -11,10 +11,11 @@ use host_tests::entries::{Entries, Plain};
 use host_tests::host::{Host, Told};
 use host_tests::library::Library;
 use host_tests::memory::Memory;
+use host_tests::reading::of_record;
 use host_tests::sites::{self, CABLE};
 use plain::limits::Limits;
-use plain::record::{prefix_in, Quota, VIEWING};
-use reference::call::{packed, Accepted, Call, Handles, Kind};
+use plain::record::{prefix_in, Quota, GLOBAL, LOCAL, VIEWING};
+use reference::call::{packed, Accepted, Call, Handles, Kind, Lifetime};
 use reference::frame::decode;
 use reference::generate::{self, sized_script_of, Profile};
 use reference::random::Random;
@@ -203,6 +204,33 @@ fn a_viewer_is_told_of_a_byte_that_it_does_not_see() {
             host.memory.block_mut(place)[at] ^= 0x10;
             assert_eq!(host.told(&read), 0);
         }
+    }
+}
+
+/// No list of calls leads to such a record, but it is well-formed. A global one counts on, a local one goes by the viewer's
+/// clock, which stands, and ends with its leave.
+#[test]
+fn a_viewer_may_have_set_expirations() {
+    let life = |local, global| Ok(Accepted::Remaining(Lifetime { local, global }));
+    for (kind, told) in [(Kind::Local, [life(2, 0); 3]), (Kind::Global, [life(0, 2), life(0, 1), Err(12)])] {
+        let mut host = host(Limits::STANDARD);
+        host.check(&[(make(RUNS, kind, 4, 2), 0)]);
+        let mut memory = host.memory;
+        for clock in memory.pool.clocks.iter_mut().filter(|clock| [LOCAL + RUNS, GLOBAL + RUNS].contains(clock)) {
+            *clock += VIEWS - RUNS;
+        }
+        let (mut library, mut plain) = (Host::<Library>::new(memory.clone()), Host::<Plain>::new(memory));
+        let mut both = |call: &Call, expected: Told| {
+            assert_eq!(library.call(call), expected, "{call:?}");
+            assert_eq!(plain.call(call), expected, "{call:?}, plain");
+            assert_eq!(of_record(&library.memory), of_record(&plain.memory), "{call:?}");
+        };
+        for told in told {
+            both(&Call::Remaining { task: VIEWS, handle: STANDS + 1 }, told);
+            both(&Call::Tick { task: RUNS }, Ok(Accepted::Advanced(true)));
+        }
+        both(&Call::Leave { task: VIEWS }, Ok(Accepted::Advanced(false)));
+        both(&Call::Remaining { task: RUNS, handle: STANDS + 1 }, Err(12));
     }
 }
 

@@ -207,6 +207,11 @@ fn carry_out<'a>(pool: &mut Pool, small: &'a mut [u8], large: &'a mut [u8], requ
     if !is_well_formed(pool) {
         return Err(NOT_WELL_FORMED);
     }
+    serve(pool, small, large, request)
+}
+
+/// The work of a call by its request, on a record that is known to be well-formed.
+pub fn serve<'a>(pool: &mut Pool, small: &'a mut [u8], large: &'a mut [u8], request: Request) -> Result<Reply<'a>, u8> {
     match request {
         Request::Join(task, share) => work::join(pool, task, share).map(|()| Reply::Done),
         Request::Leave(task) => work::leave(pool, task).map(Reply::Advanced),

@@ -1,15 +1,17 @@
-//! The plain pool on the reference's scripts, frame by frame: the same output as both ledgers', at 01's figures and at
+//! The plain pool on the reference's scripts, frame by frame: the same output as the ledger's, at 01's figures and at
 //! others. That it tells damaged records, and leaves the same state, is tested beside the library.
 
 mod memory;
 
+use std::process::Command;
+
 use memory::{sites, Memory};
 use reference::call::Model;
-use reference::generate::sized_script;
-use reference::indexed;
+use reference::generate::{script_of, sized_script};
 use reference::ledger::Ledger;
 use reference::limits::Limits;
-use reference::script::{lines, run_from, LIMIT};
+use reference::program::run_program;
+use reference::script::{lines, run, run_from, LIMIT};
 
 fn output(limits: Limits, script: &[u8]) -> Vec<u8> {
     let mut memory = Memory::beside(limits);
@@ -17,13 +19,21 @@ fn output(limits: Limits, script: &[u8]) -> Vec<u8> {
 }
 
 #[test]
-fn the_output_of_both_ledgers() {
+fn the_output_of_the_ledger() {
     for (seed, limits) in sites(1..201) {
         let script = sized_script(limits, seed);
         if script.len() <= LIMIT {
-            let output = output(limits, &script);
-            assert!(output == run_from(Ledger::of(limits), &script), "seed {seed}, {limits:?}");
-            assert!(output == run_from(indexed::Ledger::of(limits), &script), "seed {seed}, {limits:?}, indexed");
+            assert!(output(limits, &script) == run_from(Ledger::of(limits), &script), "seed {seed}, {limits:?}");
         }
+    }
+}
+
+/// The program writes the same, also of the longest script and of one that is too long.
+#[test]
+fn the_output_of_the_program() {
+    for size in [0, 20_000, LIMIT, LIMIT + 1] {
+        let script = script_of(None, 7, size);
+        let output = run_program(&mut Command::new(env!("CARGO_BIN_EXE_plainrun")), &script[..size]).unwrap();
+        assert!(output.status.success() && output.stdout == run(&script[..size]), "{size}");
     }
 }

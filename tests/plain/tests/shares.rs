@@ -16,7 +16,7 @@ use plain::record::{
     WAITING,
 };
 use plain::work::{Holding, Holdings};
-use reference::call::{Call, Model};
+use reference::call::{Call, Model, Operation};
 use reference::frame::decode;
 use reference::generate::{sized_script_of, Profile};
 use reference::ledger::Ledger;
@@ -94,7 +94,7 @@ fn check_kept(limits: limits::Limits, profile: Profile, seed: u64, joined: &mut 
         assert!(is_well_formed(&memory.pool), "{call:?}");
         let entries = ledger.tasks().entries().iter().zip(memory.pool.shares);
         entries.for_each(|(entry, share)| assert_eq!(numbers(entry.share), share, "{call:?}"));
-        if call.place() < 6 {
+        if call.operation() <= Operation::Make {
             assert_eq!(makers_in(&memory.pool), makers_by(&ledger), "{call:?}");
             for task in 0..TASKS as u8 {
                 let mut told = UNTOLD;

@@ -28,7 +28,7 @@ impl Memory {
         calls::write(&mut self.pool, &mut self.small, &mut self.large, task, handle, offset, bytes)
     }
 
-    fn block(&mut self, block: usize) -> &mut [u8] {
+    fn block_mut(&mut self, block: usize) -> &mut [u8] {
         if block < SMALL_BLOCKS {
             &mut self.small[block * SMALL_SIZE..][..SMALL_SIZE]
         } else {
@@ -39,19 +39,18 @@ impl Memory {
     /// The block of an object that stands.
     fn block_of(&mut self, handle: u32) -> &mut [u8] {
         let block = self.pool.handles.iter().position(|&other| other == handle).expect("it stands");
-        self.block(block)
+        self.block_mut(block)
     }
 
     /// The objects in order of handle, with their blocks.
-    fn standing(&mut self) -> Vec<(u32, Block)> {
-        let used: Vec<_> = (0..BLOCKS).filter(|&block| self.pool.handles[block] != 0).collect();
-        let mut standing: Vec<_> =
-            used.into_iter().map(|block| (self.pool.handles[block], self.shown(block))).collect();
+    fn standing(&self) -> Vec<(u32, Block)> {
+        let used = (0..BLOCKS).filter(|&block| self.pool.handles[block] != 0);
+        let mut standing: Vec<_> = used.map(|block| (self.pool.handles[block], self.shown(block))).collect();
         standing.sort_by_key(|&(handle, _)| handle);
         standing
     }
 
-    fn shown(&mut self, block: usize) -> Block {
+    fn shown(&self, block: usize) -> Block {
         let extent = self.pool.extents[block];
         let (length, prefix, sum) = (length_in(extent), prefix_in(extent), sum_in(extent));
         Block { length, prefix, bytes: self.block(block).to_vec(), sum }
@@ -191,11 +190,11 @@ fn what_comes_before() {
     memory.block_of(5)[31] ^= 1;
     assert_eq!(memory.read(0, 5).0, 23);
     assert_eq!(calls::release(&mut memory.pool, 0, 5), 0);
-    memory.block(4).fill(9);
+    memory.block_mut(4).fill(9);
     assert_eq!((memory.read(0, 5).0, memory.write(0, 5, 0, &[])), (12, 12));
     assert_eq!(memory.make(2, 0, 32), 0);
     assert_eq!(memory.read(0, 97), (0, vec![0; 32]));
-    memory.block(4)[0] = 1;
+    memory.block_mut(4)[0] = 1;
     let Memory { pool, small, large } = &mut memory;
     for (small, large) in [(&small[..0], &large[..]), (&small[..], &large[..1])] {
         assert_eq!(calls::read(pool, small, large, 0, 97, &mut [0; 256], &mut 0), 14);

@@ -61,24 +61,45 @@ pub enum Call<'a> {
     View { task: u8 },
 }
 
+/// What a call does, in the order of the frames' operations; as a number it is a place in a table of them, from 0 on.
+#[derive(Clone, Copy, Debug, PartialEq, Eq, PartialOrd, Ord)]
+pub enum Operation {
+    Join,
+    Leave,
+    Block,
+    Resume,
+    Tick,
+    Make,
+    Refresh,
+    Read,
+    Write,
+    Report,
+    Remaining,
+    Batch,
+    Release,
+    View,
+}
+
+/// How many there are.
+pub const OPERATIONS: usize = 14;
+
 impl Call<'_> {
-    /// The call's place among the fourteen, in the order of their operations, from 0.
-    pub fn place(&self) -> usize {
+    pub fn operation(&self) -> Operation {
         match self {
-            Call::Join { .. } => 0,
-            Call::Leave { .. } => 1,
-            Call::Block { .. } => 2,
-            Call::Resume { .. } => 3,
-            Call::Tick { .. } => 4,
-            Call::Make { .. } => 5,
-            Call::Refresh { .. } => 6,
-            Call::Read { .. } => 7,
-            Call::Write { .. } => 8,
-            Call::Report => 9,
-            Call::Remaining { .. } => 10,
-            Call::Batch { .. } => 11,
-            Call::Release { .. } => 12,
-            Call::View { .. } => 13,
+            Call::Join { .. } => Operation::Join,
+            Call::Leave { .. } => Operation::Leave,
+            Call::Block { .. } => Operation::Block,
+            Call::Resume { .. } => Operation::Resume,
+            Call::Tick { .. } => Operation::Tick,
+            Call::Make { .. } => Operation::Make,
+            Call::Refresh { .. } => Operation::Refresh,
+            Call::Read { .. } => Operation::Read,
+            Call::Write { .. } => Operation::Write,
+            Call::Report => Operation::Report,
+            Call::Remaining { .. } => Operation::Remaining,
+            Call::Batch { .. } => Operation::Batch,
+            Call::Release { .. } => Operation::Release,
+            Call::View { .. } => Operation::View,
         }
     }
 

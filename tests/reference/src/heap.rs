@@ -13,7 +13,7 @@ use crate::share::{Maker, Room, Share};
 use crate::tasks::Tasks;
 
 /// Objects for ever, and no refusal 9, 10, 12, 25 or 26 (H3, H5). `objects[h - 1]` is the object of handle h.
-#[derive(Clone, Debug)]
+#[derive(Clone, Debug, PartialEq, Eq)]
 pub struct Heap {
     limits: Limits,
     tasks: Tasks,
@@ -22,7 +22,7 @@ pub struct Heap {
     pinned: BTreeSet<u32>,
 }
 
-#[derive(Clone, Debug)]
+#[derive(Clone, Debug, PartialEq, Eq)]
 struct Object {
     maker: Maker,
     block: Block,
@@ -166,13 +166,13 @@ impl Exposed for Heap {
 }
 
 /// The expiration book: the objects that have an expiration, and the pool's figures.
-#[derive(Clone, Debug)]
+#[derive(Clone, Debug, PartialEq, Eq)]
 struct Book {
     limits: Limits,
     objects: BTreeMap<u32, Entry>,
 }
 
-#[derive(Clone, Debug)]
+#[derive(Clone, Debug, PartialEq, Eq)]
 struct Entry {
     length: u16,
     expirations: Vec<Expiration>,
@@ -298,7 +298,7 @@ impl Told {
 }
 
 /// The heap with its book beside it.
-#[derive(Clone, Debug)]
+#[derive(Clone, Debug, PartialEq, Eq)]
 pub struct Judge {
     heap: Heap,
     book: Book,

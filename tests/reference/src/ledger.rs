@@ -9,7 +9,7 @@ use crate::outside::{Change, Exposed};
 use crate::share::{Maker, Room, Share};
 use crate::tasks::Tasks;
 
-#[derive(Clone, Debug)]
+#[derive(Clone, Debug, PartialEq, Eq)]
 pub struct Ledger {
     limits: Limits,
     /// The sixteen tasks, and global time.
@@ -20,7 +20,7 @@ pub struct Ledger {
 }
 
 /// O1, and its maker by order 9.
-#[derive(Clone, Debug)]
+#[derive(Clone, Debug, PartialEq, Eq)]
 struct Object {
     handle: u32,
     maker: Maker,
@@ -330,13 +330,14 @@ impl Exposed for Ledger {
     }
 }
 
+/// For late starts, which no script lives to see.
 #[cfg(test)]
-impl crate::late_starts::LateStart for Ledger {
-    fn clock_and_given(&mut self) -> (&mut u64, &mut u32) {
-        (self.tasks.clock_mut(0), &mut self.given)
+impl Ledger {
+    pub fn tasks_mut(&mut self) -> &mut Tasks {
+        &mut self.tasks
     }
 
-    fn global_mut(&mut self) -> &mut u64 {
-        self.tasks.global_mut()
+    pub fn given_mut(&mut self) -> &mut u32 {
+        &mut self.given
     }
 }

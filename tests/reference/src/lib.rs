@@ -1,7 +1,7 @@
-//! A reference for the short-term memory pool: its rules as a plain ledger, the same rules written for
-//! speed, the unbounded heap that the ledger is held against, the call frames, scripts to compare a
-//! pool with, bytes changed from outside, and a script explained, in words and as a picture. All of it is
-//! for pools of any figures that a site may choose (order 12); where none are given, they are the scope paper's.
+//! A reference for the short-term memory pool: its rules as a plain ledger, the unbounded heap that the ledger is held
+//! against, the call frames, scripts to compare a pool with, bytes changed from outside, and a script explained, in words
+//! and as a picture. All of it is for pools of any figures that a site may choose (order 12); where none are given, they
+//! are the scope paper's.
 //!
 //! Names and the scope paper's words for them: local time, a task's own clock; global time, the common
 //! time; ticked, marked; expiration, a date; handle, an object's number; unbounded heap, the endless heap;
@@ -18,7 +18,6 @@ pub mod explain;
 pub mod frame;
 pub mod generate;
 pub mod heap;
-pub mod indexed;
 pub mod ledger;
 pub mod limits;
 pub mod outside;

@@ -9,12 +9,7 @@ pub const LIMIT: usize = 65_536;
 
 /// The whole output of a script's run on a fresh ledger.
 pub fn run(script: &[u8]) -> Vec<u8> {
-    run_on::<Ledger>(script)
-}
-
-/// The same on a fresh model of this kind.
-pub fn run_on<M: Model>(script: &[u8]) -> Vec<u8> {
-    run_from(M::fresh(), script)
+    run_from(Ledger::fresh(), script)
 }
 
 /// The same from this model on.

@@ -164,7 +164,7 @@ impl Tasks {
         }
     }
 
-    /// For a late start, which no script lives to see.
+    /// For late starts, which no script lives to see.
     #[cfg(test)]
     pub fn clock_mut(&mut self, task: u8) -> &mut u64 {
         &mut self.entries[usize::from(task)].clock

@@ -2,7 +2,8 @@
 
 mod census;
 
-use census::{Census, OPERATIONS};
+use census::{Census, TESTS};
+use reference::call::Operation;
 use reference::generate::{limits, script, script_of, sized_script, Profile, PROFILES};
 use reference::limits::Limits;
 use reference::script::LIMIT;
@@ -15,10 +16,10 @@ const SUM_DIFFERS: usize = 23;
 
 /// Every answer of every call.
 fn check_operations(census: &Census) {
-    for (place, (name, tests)) in OPERATIONS.iter().enumerate() {
-        assert!(census.accepted[place] >= 100, "{name}");
+    for (operation, tests) in TESTS {
+        assert!(census.accepted[operation as usize] >= 100, "{operation:?}");
         for &number in tests.iter().filter(|number| ![HANDLES_SPENT, SUM_DIFFERS].contains(number)) {
-            assert!(census.refused_by[place][number] >= 50, "{name}, {number}");
+            assert!(census.refused_by[operation as usize][number] >= 50, "{operation:?}, {number}");
         }
     }
 }
@@ -98,6 +99,7 @@ fn sizes_and_ends() {
 fn each_profile_meets_its_own() {
     for profile in PROFILES {
         let census = Census::of((1..=24).map(|seed| script_of(Some(profile), seed, 30_000)));
+        let accepted = |operation: Operation| census.accepted[operation as usize];
         let least = |numbers: &[usize]| numbers.iter().map(|&number| census.refused[number]).min().unwrap_or(0);
         let met = match profile {
             Profile::Everyday => {
@@ -107,13 +109,13 @@ fn each_profile_meets_its_own() {
             Profile::SmallFlood => census.most_small == 64 && least(&[9]) > 50,
             Profile::LargeFlood => census.most_large == 32 && least(&[9]) > 50,
             Profile::ExpirationFlood => census.most_expirations == 256 && least(&[10]) > 50,
-            Profile::Lapse => least(&[12]) > 100 && census.accepted[7] > 1_000,
-            Profile::Reuse => census.accepted[8] > 1_000 && census.accepted[7] > 1_000,
+            Profile::Lapse => least(&[12]) > 100 && accepted(Operation::Read) > 1_000,
+            Profile::Reuse => accepted(Operation::Write) > 1_000 && accepted(Operation::Read) > 1_000,
             Profile::Reading => census.longest_output > 800_000,
             Profile::Remaining => census.remaining.least() > 20,
-            Profile::Batch => census.batch.least() > 5 && census.accepted[11] > 500,
+            Profile::Batch => census.batch.least() > 5 && accepted(Operation::Batch) > 500,
             Profile::Waiting => census.waiting.least() > 20,
-            Profile::Pinned => census.pinned.least() > 20 && census.accepted[12] > 500,
+            Profile::Pinned => census.pinned.least() > 20 && accepted(Operation::Release) > 500,
             Profile::Shares => census.shares.least() > 20,
             Profile::Viewers => census.viewers.least() > 20,
             Profile::Edges => least(&[1, 3, 6, 7, 11, 13]) > 100 && census.empty_writes.min(census.whole_writes) > 10,

@@ -19,11 +19,9 @@ fn compare(arguments: &[&str]) -> Output {
 #[test]
 fn reference_runs_a_script() {
     let script = script(3);
-    for arguments in [&[][..], &["--indexed"]] {
-        let output = run_program(Command::new(REFERENCE).args(arguments), &script).unwrap();
-        assert!(output.status.success());
-        assert_eq!(output.stdout, run(&script));
-    }
+    let output = run_program(&mut Command::new(REFERENCE), &script).unwrap();
+    assert!(output.status.success());
+    assert_eq!(output.stdout, run(&script));
 }
 
 #[test]
@@ -32,10 +30,9 @@ fn reference_runs_a_script_with_chosen_figures() {
     let script = sized_script(limits, 3);
     let output = run_from(Ledger::of(limits), &script);
     assert_ne!(output, run(&script));
-    for arguments in [&["--figures", "1,2,4,5"][..], &["--figures", "1,2,4,5", "--indexed"]] {
-        assert_eq!(run_program(Command::new(REFERENCE).args(arguments), &script).unwrap().stdout, output);
-    }
-    for arguments in [&["--figures", "0,2,4,5"][..], &["--indexed", "--figures", "1,2,4"], &["--figures"]] {
+    let mut program = Command::new(REFERENCE);
+    assert_eq!(run_program(program.args(["--figures", "1,2,4,5"]), &script).unwrap().stdout, output);
+    for arguments in [&["--figures", "0,2,4,5"][..], &["--figures", "1,2,4"], &["--figures"]] {
         let output = Command::new(REFERENCE).args(arguments).output().unwrap();
         assert_eq!((output.status.code(), output.stdout), (Some(1), Vec::new()), "{arguments:?}");
         assert!(output.stderr.starts_with(b"reference: refused 29: "), "{arguments:?}");
@@ -69,12 +66,11 @@ fn wrong_arguments() {
         (COMPARE, &[REFERENCE, "07"]),
         (COMPARE, &[REFERENCE, "1", "x"]),
         (COMPARE, &[REFERENCE, "1", "1", "1"]),
-        (REFERENCE, &["--index"]),
-        (REFERENCE, &["--indexed", "1"]),
-        (REFERENCE, &["--indexed", "--indexed"]),
+        (REFERENCE, &["--figure"]),
+        (REFERENCE, &["--figures", "1,1,1,0", "1"]),
         (REFERENCE, &["--figures", "1,1,1,0", "--figures", "1,1,1,0"]),
         (BENCH, &[]),
-        (BENCH, &[REFERENCE, "1"]),
+        (BENCH, &[REFERENCE]),
     ] {
         let output = Command::new(program).args(arguments).output().unwrap();
         assert_eq!(output.status.code(), Some(2), "{program} {arguments:?}");

@@ -1,4 +1,4 @@
-//! The order of refusals, and that a refused call changes nothing.
+//! The order of refusals, and that a refused call changes nothing: neither the ledger nor the heap, nor the book beside it.
 
 #[macro_use]
 mod rows;
@@ -6,6 +6,7 @@ mod rows;
 use reference::call::Model;
 use reference::frame::decode;
 use reference::generate::{limits, sized_script};
+use reference::heap::{Heap, Judge};
 use reference::ledger::Ledger;
 use reference::limits::Limits;
 use reference::script::lines;
@@ -29,12 +30,20 @@ fn a_refused_call_changes_nothing() {
 fn check_unchanged(limits: Limits, seed: u64) {
     let script = sized_script(limits, seed);
     let script = &script[..script.len().min(4_000)];
-    let (mut ledger, mut room) = (Ledger::of(limits), vec![0; script.len()]);
+    let (mut ledger, mut heap, mut judge) = (Ledger::of(limits), Heap::of(limits), Judge::of(limits));
+    let (mut room, mut in_time) = (vec![0; script.len()], true);
     for line in lines(script) {
         let Ok(call) = decode(line, &mut room) else { continue };
-        let before = (ledger.tasks().clone(), ledger.figures(), ledger.standing());
+        let before = (ledger.clone(), heap.clone(), judge.clone());
         if ledger.call(&call).is_err() {
-            assert_eq!(before, (ledger.tasks().clone(), ledger.figures(), ledger.standing()), "{call:?}");
+            assert_eq!(ledger, before.0, "{call:?}");
+        }
+        let refused = heap.call(&call).is_err();
+        // The book ends at the first use out of time or bounds.
+        in_time = in_time && judge.is_in_time(&call);
+        if refused {
+            assert_eq!(heap, before.1, "{call:?}");
+            assert!(!in_time || judge == before.2, "{call:?}");
         }
     }
 }

@@ -7,7 +7,6 @@ mod rows;
 use reference::call::{Model, Refusal};
 use reference::generate::{limits, sized_script};
 use reference::heap::Heap;
-use reference::indexed;
 use reference::ledger::Ledger;
 use reference::limits::Limits;
 use reference::script::calls;
@@ -17,10 +16,9 @@ const fn chosen(small_blocks: usize, large_blocks: usize, expirations: usize, ex
     Limits { small_blocks, large_blocks, expirations, extension }
 }
 
-/// What the two ledgers and the heap tell of figures, which is the same.
+/// What the ledger and the heap tell of figures, which is the same.
 fn told(limits: Limits) -> Result<(), Refusal> {
     let told = Ledger::sized(limits).map(|_| ());
-    assert_eq!(told, indexed::Ledger::sized(limits).map(|_| ()));
     assert_eq!(told, Heap::sized(limits).map(|_| ()));
     assert_eq!(told.is_ok(), limits.is_allowed());
     told

@@ -1,8 +1,7 @@
-//! Order 6, bytes changed from outside, by hand: on both ledgers, and on the heap while the object stands.
+//! Order 6, bytes changed from outside, by hand: on the ledger, and on the heap while the object stands.
 
 use reference::call::{packed, Accepted, Call, Handles, Kind, Lifetime, Model, Refusal};
 use reference::heap::Heap;
-use reference::indexed;
 use reference::ledger::Ledger;
 use reference::outside::{Change, Exposed};
 use reference::share::Share;
@@ -121,14 +120,14 @@ fn the_greatest_sum<M: Exposed>() {
 }
 
 /// The others answer as if nothing had changed, and the object goes when it would have gone; from then on it is 12.
-fn the_other_calls_and_the_end<M: Exposed>() {
-    let mut model: M = started(4);
+fn the_other_calls_and_the_end() {
+    let mut model: Ledger = started(4);
     model.disturb(change(0, 200));
     assert_eq!(model.remaining(0, 1), Ok(Accepted::Remaining(Lifetime { local: 3, global: 0 })));
     assert_eq!(model.refresh(0, LOCAL, 0, 1), Ok(Accepted::Done));
     assert_eq!(model.batch(0, LOCAL, 0, Handles(&packed(&[1, 1]))), Ok(Accepted::Done));
     assert_eq!(model.release(0, 1), Err(Refusal::NotPinned));
-    let report = |model: &M, objects: u8, expirations: u16, given: u32| {
+    let report = |model: &Ledger, objects: u8, expirations: u16, given: u32| {
         let figures = reference::call::Figures { small: objects, large: 0, expirations, given };
         assert_eq!(model.report(), Ok(Accepted::Report(figures)));
     };
@@ -164,7 +163,7 @@ fn the_other_objects<M: Exposed>() {
     assert_eq!(model.read(0, 1), Err(Refusal::SumDiffers));
 }
 
-/// What the ledgers and the heap have in common.
+/// What the ledger and the heap have in common.
 fn all_while_it_stands<M: Exposed>() {
     one_byte_is_noticed::<M>();
     it_stays_refused_and_changes_nothing::<M>();
@@ -177,13 +176,7 @@ fn all_while_it_stands<M: Exposed>() {
 #[test]
 fn of_the_ledger() {
     all_while_it_stands::<Ledger>();
-    the_other_calls_and_the_end::<Ledger>();
-}
-
-#[test]
-fn of_the_indexed_ledger() {
-    all_while_it_stands::<indexed::Ledger>();
-    the_other_calls_and_the_end::<indexed::Ledger>();
+    the_other_calls_and_the_end();
 }
 
 /// On the heap no object goes, so that there 23 stays where the ledger comes to 12. No list of calls tells them apart by it.

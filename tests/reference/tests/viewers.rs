@@ -7,7 +7,6 @@ mod viewer_rows;
 
 use reference::call::{Accepted, Answer, Call, Kind, Model, Refusal};
 use reference::generate::{limits, sized_script, sized_script_of, Profile};
-use reference::indexed;
 use reference::ledger::{Ledger, Standing};
 use reference::limits::Limits;
 use reference::outside::{Change, Exposed};
@@ -143,41 +142,35 @@ fn no_viewer_can_tell() {
 }
 
 /// An object of which viewers see nothing, with this byte in it, which task 0 made and which 1 views.
-fn hiding<M: Model>(byte: u8) -> M {
-    let mut model = M::fresh();
-    model.join(0, Share::OPEN).unwrap();
-    model.view(1).unwrap();
-    model.make(0, Kind::Pinned, 0, 1, 0).unwrap();
-    model.write(0, 1, 0, &[byte]).unwrap();
-    model
+fn hiding(byte: u8) -> Ledger {
+    let mut ledger = Ledger::fresh();
+    ledger.join(0, Share::OPEN).unwrap();
+    ledger.view(1).unwrap();
+    ledger.make(0, Kind::Pinned, 0, 1, 0).unwrap();
+    ledger.write(0, 1, 0, &[byte]).unwrap();
+    ledger
 }
 
 /// With a change from outside a viewer can tell by 23; without one it cannot.
-fn why_nothing_changes_from_outside<M: Exposed>() {
-    let [mut one, mut other]: [M; 2] = [0, 1].map(hiding);
+#[test]
+fn why_nothing_changes_from_outside() {
+    let [mut one, mut other] = [0, 1].map(hiding);
     assert_eq!([one.read(1, 1), other.read(1, 1)], [Ok(Accepted::Bytes(&[])); 2]);
-    for model in [&mut one, &mut other] {
-        model.disturb(Change { handle: 1, place: 0, byte: 0 });
+    for ledger in [&mut one, &mut other] {
+        ledger.disturb(Change { handle: 1, place: 0, byte: 0 });
     }
     assert_eq!([one.read(1, 1), other.read(1, 1)], [Ok(Accepted::Bytes(&[])), Err(Refusal::SumDiffers)]);
 }
 
 /// Where the counts of bytes differ, so does what is refused, and a viewer can tell.
-fn why_the_counts_are_the_same<M: Exposed>() {
+#[test]
+fn why_the_counts_are_the_same() {
     let seen = [&[7][..], &[7, 7, 7]].map(|bytes| {
-        let mut model: M = hiding(0);
-        model.make(0, Kind::Pinned, 0, 2, 1).unwrap();
-        let _ = model.write(0, 2, 0, bytes);
-        assert_eq!(model.read(1, 2).map(|_| ()), Ok(()));
-        model.read(1, 2) == Ok(Accepted::Bytes(&[7]))
+        let mut ledger = hiding(0);
+        ledger.make(0, Kind::Pinned, 0, 2, 1).unwrap();
+        let _ = ledger.write(0, 2, 0, bytes);
+        assert_eq!(ledger.read(1, 2).map(|_| ()), Ok(()));
+        ledger.read(1, 2) == Ok(Accepted::Bytes(&[7]))
     });
     assert_eq!(seen, [true, false]);
-}
-
-#[test]
-fn what_the_claim_needs() {
-    why_nothing_changes_from_outside::<Ledger>();
-    why_nothing_changes_from_outside::<indexed::Ledger>();
-    why_the_counts_are_the_same::<Ledger>();
-    why_the_counts_are_the_same::<indexed::Ledger>();
 }

@@ -5,7 +5,6 @@ mod rows;
 use reference::call::Model;
 use reference::expiration::Remaining::{self, Global, Local};
 use reference::expiration::Setter::{Departed, Task};
-use reference::indexed;
 use reference::ledger::Ledger;
 use reference::script::calls;
 use rows::{check, Row};
@@ -213,17 +212,15 @@ const ROWS: &[(&str, &[Row])] = &[
     ),
 ];
 
-/// The expirations that both ledgers keep after these frames, object by object.
+/// The expirations that the ledger keeps after these frames, object by object.
 fn kept(frames: &str) -> Vec<Vec<Remaining>> {
     let script = frames.replace(' ', "\n").into_bytes();
     let mut room = vec![0; script.len() / 2];
-    let (mut literal, mut indexed) = (Ledger::fresh(), indexed::Ledger::fresh());
+    let mut ledger = Ledger::fresh();
     for call in calls(&script, &mut room) {
-        assert!(literal.call(&call).is_ok(), "{call:?}");
-        assert!(indexed.call(&call).is_ok(), "{call:?}");
+        assert!(ledger.call(&call).is_ok(), "{call:?}");
     }
-    assert_eq!(literal.standing(), indexed.standing());
-    literal.standing().into_iter().map(|object| object.expirations).collect()
+    ledger.standing().into_iter().map(|object| object.expirations).collect()
 }
 
 #[test]

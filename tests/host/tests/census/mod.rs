@@ -4,10 +4,9 @@ use host_tests::reading::figures;
 use plain::limits::EXPIRATIONS;
 use plain::limits::TASKS;
 use plain::record::{length_in, prefix_in, Pool, DEPARTED, FREE, GLOBAL, LOCAL, PINNED, VIEWING, WAITING};
-use reference::call::{Accepted, Answer, Call};
+use reference::call::{Accepted, Answer, Call, Operation, OPERATIONS};
 
-/// The operations, and the refusals by number, 0 to 28.
-const OPERATIONS: usize = 14;
+/// The refusals by number, 0 to 28.
 pub const NUMBERS: usize = 29;
 
 #[derive(Default)]
@@ -42,10 +41,10 @@ impl Census {
         self.note_refusal(answer);
         match answer {
             Ok(accepted) => {
-                self.accepted[call.place()] += 1;
+                self.accepted[call.operation() as usize] += 1;
                 self.advances += usize::from(accepted == Accepted::Advanced(true));
             }
-            Err(refusal) => self.refused_by[call.place()][refusal as usize] += 1,
+            Err(refusal) => self.refused_by[call.operation() as usize][refusal as usize] += 1,
         }
     }
 
@@ -110,10 +109,9 @@ impl Census {
         println!("calls {}, frames {}, advances {}", self.calls, self.frames, self.advances);
         println!("accepted {:?}", self.accepted);
         println!("refused, by number, {:?}", self.refused);
-        println!("of remaining {:?}", self.refused_by[10]);
-        println!("of batches {:?}", self.refused_by[11]);
-        println!("of releases {:?}", self.refused_by[12]);
-        println!("of views {:?}", self.refused_by[13]);
+        for operation in [Operation::Remaining, Operation::Batch, Operation::Release, Operation::View] {
+            println!("of {operation:?} {:?}", self.refused_by[operation as usize]);
+        }
         println!("viewers read no byte, some, all {:?}", self.viewed);
         println!("most pinned {}, wraps of global time meanwhile {}", self.most_pinned, self.pinned_wraps);
         println!("wraps of clocks {}, of global time {}", self.clock_wraps, self.global_wraps);

@@ -6,7 +6,7 @@ use std::ops::Range;
 
 use plain::calls::{self, ANSWER_ROOM};
 use plain::fit::is_well_formed;
-use plain::limits::Limits;
+use plain::limits::{Limits, LARGE_SIZE, SMALL_BLOCKS, SMALL_SIZE};
 use plain::record::{fresh, Pool};
 use reference::{generate, limits};
 
@@ -46,6 +46,14 @@ impl Memory {
             expirations: expirations as u32,
             extension: extension as u32,
         }))
+    }
+
+    /// The block at a place of the block table.
+    pub fn block(&self, place: usize) -> &[u8] {
+        match place.checked_sub(SMALL_BLOCKS) {
+            None => &self.small[place * SMALL_SIZE..][..SMALL_SIZE],
+            Some(place) => &self.large[place * LARGE_SIZE..][..LARGE_SIZE],
+        }
     }
 
     /// By task 0.

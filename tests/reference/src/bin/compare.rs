@@ -1,6 +1,6 @@
-//! Compares a program that runs scripts with the reference, and the reference's two ledgers with each
-//! other: `compare PROGRAM COUNT [FIRST_SEED]`. After the scripts of the seeds come the longest script
-//! that is run and one that is a byte longer.
+//! Compares a program that runs scripts with the reference, and the reference's ledger with its heap:
+//! `compare PROGRAM COUNT [FIRST_SEED]`. After the scripts of the seeds come the longest script that is run
+//! and one that is a byte longer.
 
 use std::process::{Command, ExitCode};
 use std::sync::atomic::{AtomicU64, Ordering};
@@ -10,7 +10,6 @@ use std::thread;
 use reference::call::Call;
 use reference::generate;
 use reference::heap::{first_difference, first_use_out};
-use reference::indexed;
 use reference::limits::Limits;
 use reference::program::run_program;
 use reference::script::{calls, lines, run, LIMIT};
@@ -118,7 +117,6 @@ fn compare_one(program: &str, seed: u64) -> Result<(usize, bool), String> {
     check_program(program, &script, &expected)?;
     let mut room = vec![0; script.len() / 2];
     let calls = calls(&script, &mut room);
-    check_indexed(&calls)?;
     Ok((lines(&expected).count(), check_heap(&calls)?))
 }
 
@@ -168,14 +166,6 @@ fn answers(output: &[u8]) -> impl Iterator<Item = &[u8]> {
 
 fn show(line: Option<&[u8]>) -> String {
     line.map_or("none".to_string(), |line| line.escape_ascii().to_string())
-}
-
-/// The two ledgers answer alike and have the same figures after each call.
-fn check_indexed(calls: &[Call]) -> Result<(), String> {
-    match indexed::first_difference(Limits::STANDARD, calls) {
-        None => Ok(()),
-        differs => Err(format!("ledgers: first answer or figures that differ {}", show_call(calls, differs))),
-    }
 }
 
 /// Demand 3 of the reference itself: its answers are the heap's exactly when all use is in time and in

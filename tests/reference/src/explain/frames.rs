@@ -1,10 +1,10 @@
 //! The operations by name, and why a frame yields no call, in words.
 
-use crate::call::{Call, Refusal};
+use crate::call::{Call, Refusal, OPERATIONS};
 use crate::explain::phrases::{counted, shown_line};
 
 /// By operation, from 01 on: its name and its frame's size.
-const OPERATIONS: [(&str, &str); 14] = [
+const NAMES: [(&str, &str); OPERATIONS] = [
     ("join", "6 bytes"),
     ("leave", "2 bytes"),
     ("block", "2 bytes"),
@@ -26,7 +26,7 @@ const KIND: usize = 2;
 
 /// The name of a call's operation.
 pub fn operation(call: &Call) -> &'static str {
-    OPERATIONS[call.place()].0
+    NAMES[call.operation() as usize].0
 }
 
 /// The frame and its refusal 16 to 19.
@@ -34,7 +34,7 @@ pub fn refused(line: &[u8], refusal: Refusal) -> String {
     let reason = match refusal {
         Refusal::NotHexadecimal => not_hexadecimal(line),
         Refusal::UnknownOperation if line.is_empty() => "an empty line has no operation".into(),
-        Refusal::UnknownOperation => format!("operations are 01 to {:02X}", OPERATIONS.len()),
+        Refusal::UnknownOperation => format!("operations are 01 to {OPERATIONS:02X}"),
         Refusal::WrongFrameLength => wrong_size(line),
         _ => format!("kind {:02X} is none of 00, local, 01, global, and 02, pinned", byte(line, KIND)),
     };
@@ -49,7 +49,7 @@ fn not_hexadecimal(line: &[u8]) -> String {
 }
 
 fn wrong_size(line: &[u8]) -> String {
-    let (name, size) = OPERATIONS[byte(line, 0) - 1];
+    let (name, size) = NAMES[byte(line, 0) - 1];
     format!("a {name} has {size}, and not {}", line.len() / 2)
 }
 

@@ -9,7 +9,7 @@ pub mod viewers;
 pub mod waiting;
 
 use pinned::Pins;
-use reference::call::{Accepted, Answer, Call, Model, Refusal};
+use reference::call::{Accepted, Answer, Call, Model, Operation, Refusal, OPERATIONS};
 use reference::frame::decode;
 use reference::ledger::Ledger;
 use reference::limits::Limits;
@@ -20,21 +20,21 @@ use waiting::{Before, Setters};
 
 /// Each operation and the refusals that its frames and calls may give, in the order of the tests. The ledger gives neither
 /// 14 nor 15, and of a script not 23: no line changes a byte from outside.
-pub const OPERATIONS: [(&str, &[usize]); 14] = [
-    ("join", &[18, 1, 2, 24, 25]),
-    ("leave", &[18, 1, 3]),
-    ("block", &[18, 1, 3, 4, 27]),
-    ("resume", &[18, 1, 3, 5]),
-    ("tick", &[18, 1, 3, 4, 27]),
-    ("make", &[18, 19, 1, 3, 4, 27, 6, 7, 28, 8, 26, 9, 10]),
-    ("refresh", &[18, 19, 1, 3, 4, 27, 21, 6, 11, 12, 10]),
-    ("read", &[18, 1, 3, 4, 11, 12, 23]),
-    ("write", &[18, 1, 3, 4, 27, 11, 12, 23, 13]),
-    ("report", &[18]),
-    ("remaining", &[18, 1, 3, 4, 11, 12]),
-    ("batch", &[18, 19, 1, 3, 4, 27, 20, 21, 6, 11, 12, 10]),
-    ("release", &[18, 1, 3, 4, 27, 11, 12, 22]),
-    ("view", &[18, 1, 2]),
+pub const TESTS: [(Operation, &[usize]); OPERATIONS] = [
+    (Operation::Join, &[18, 1, 2, 24, 25]),
+    (Operation::Leave, &[18, 1, 3]),
+    (Operation::Block, &[18, 1, 3, 4, 27]),
+    (Operation::Resume, &[18, 1, 3, 5]),
+    (Operation::Tick, &[18, 1, 3, 4, 27]),
+    (Operation::Make, &[18, 19, 1, 3, 4, 27, 6, 7, 28, 8, 26, 9, 10]),
+    (Operation::Refresh, &[18, 19, 1, 3, 4, 27, 21, 6, 11, 12, 10]),
+    (Operation::Read, &[18, 1, 3, 4, 11, 12, 23]),
+    (Operation::Write, &[18, 1, 3, 4, 27, 11, 12, 23, 13]),
+    (Operation::Report, &[18]),
+    (Operation::Remaining, &[18, 1, 3, 4, 11, 12]),
+    (Operation::Batch, &[18, 19, 1, 3, 4, 27, 20, 21, 6, 11, 12, 10]),
+    (Operation::Release, &[18, 1, 3, 4, 27, 11, 12, 22]),
+    (Operation::View, &[18, 1, 2]),
 ];
 
 /// The refusals are 1 to 28.
@@ -73,9 +73,9 @@ impl<const N: usize> Met<N> {
 
 #[derive(Default)]
 pub struct Census {
-    pub accepted: [usize; OPERATIONS.len()],
+    pub accepted: [usize; OPERATIONS],
     /// By operation and number.
-    pub refused_by: [[usize; NUMBERS]; OPERATIONS.len()],
+    pub refused_by: [[usize; NUMBERS]; OPERATIONS],
     /// By number.
     pub refused: [usize; NUMBERS],
     pub advances: usize,
@@ -153,10 +153,10 @@ impl Census {
         match answer {
             Err(refusal) => {
                 self.refused[refusal as usize] += 1;
-                self.refused_by[call.place()][refusal as usize] += 1;
+                self.refused_by[call.operation() as usize][refusal as usize] += 1;
             }
             Ok(accepted) => {
-                self.accepted[call.place()] += 1;
+                self.accepted[call.operation() as usize] += 1;
                 self.advances += usize::from(accepted == Accepted::Advanced(true));
                 if let Call::Write { bytes, .. } = call {
                     self.empty_writes += usize::from(bytes.is_empty());
@@ -176,9 +176,10 @@ impl Census {
     }
 
     pub fn print(&self) {
-        for (place, (name, tests)) in OPERATIONS.iter().enumerate() {
-            let refused: Vec<_> = tests.iter().map(|&number| (number, self.refused_by[place][number])).collect();
-            println!("{name}: accepted {}, refused by number {refused:?}", self.accepted[place]);
+        for (operation, tests) in TESTS {
+            let (accepted, refused) = (self.accepted[operation as usize], &self.refused_by[operation as usize]);
+            let refused: Vec<_> = tests.iter().map(|&number| (number, refused[number])).collect();
+            println!("{operation:?}: accepted {accepted}, refused by number {refused:?}");
         }
         for (number, count) in self.refused.iter().enumerate().filter(|(_, &count)| count > 0) {
             println!("refused {number}: {count}");

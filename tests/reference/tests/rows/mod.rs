@@ -1,7 +1,6 @@
-//! Rows of calls: how often a line comes, the line, and its answer each time, by both ledgers or by a pool.
+//! Rows of calls: how often a line comes, the line, and its answer each time, by the ledger or by a pool.
 
 use reference::call::Model;
-use reference::indexed;
 use reference::ledger::Ledger;
 use reference::limits::Limits;
 use reference::script::run_from;
@@ -36,7 +35,6 @@ pub fn check(name: &str, rows: &[Row]) {
 pub fn check_in(limits: Limits, name: &str, rows: &[Row]) {
     let script: String = rows.iter().map(|(times, line, _)| format!("{line}\n").repeat(*times)).collect();
     let output = String::from_utf8(run_from(Ledger::of(limits), script.as_bytes())).unwrap();
-    assert_eq!(output.as_bytes(), run_from(indexed::Ledger::of(limits), script.as_bytes()), "{name}");
     let mut answers = output.lines();
     check_answers(name, rows, |_| answers.next().expect("one answer a line").to_string());
     assert_eq!(answers.next(), None, "{name}");

@@ -1,15 +1,16 @@
-//! Measures a program that runs scripts beside the reference's two ledgers: `bench PROGRAM`. For each script
-//! the instructions that callgrind counts and the best time, with the ratios; then what a call costs as the
-//! script grows. Whether the program is right is for `compare` to tell.
+//! Measures a program that runs scripts beside others that do: `bench PROGRAM OTHER...`. For each script the
+//! instructions that callgrind counts and the best time, with the ratios to the others; then what a call costs as
+//! the script grows. Whether a program is right is for `compare` to tell.
 
 mod measure;
 
+use std::fmt::Display;
 use std::fs;
 use std::io;
 use std::path::{Path, PathBuf};
 use std::process::ExitCode;
 
-use measure::{best_time, has_valgrind, instructions, Program, RUNS};
+use measure::{best_time, has_valgrind, instructions, RUNS};
 use reference::generate::{script_of, Profile, PROFILES};
 use reference::script::{lines, LIMIT};
 
@@ -26,25 +27,18 @@ struct Script {
 }
 
 fn main() -> ExitCode {
-    let mut arguments = std::env::args_os().skip(1);
-    let (Some(program), None) = (arguments.next(), arguments.next()) else {
-        eprintln!("bench PROGRAM");
+    let programs: Vec<_> = std::env::args_os().skip(1).map(PathBuf::from).collect();
+    let [_, _, ..] = programs[..] else {
+        eprintln!("bench PROGRAM OTHER...");
         return ExitCode::from(2);
     };
-    match bench(Path::new(&program)) {
+    match Folder::new().and_then(|folder| measure_all(&programs, &folder.0)) {
         Ok(()) => ExitCode::SUCCESS,
         Err(error) => {
             eprintln!("bench: {error}");
             ExitCode::FAILURE
         }
     }
-}
-
-fn bench(program: &Path) -> io::Result<()> {
-    let [literal, indexed] = Program::ledgers()?;
-    let programs = [Program::at(program), literal, indexed];
-    let folder = Folder::new()?;
-    measure_all(&programs, &folder.0)
 }
 
 /// A temporary folder, removed at the end, after a failure too.
@@ -66,11 +60,11 @@ impl Drop for Folder {
     }
 }
 
-fn measure_all(programs: &[Program; 3], folder: &Path) -> io::Result<()> {
+fn measure_all(programs: &[PathBuf], folder: &Path) -> io::Result<()> {
     let scripts = long_scripts(folder)?;
     let empty = put(folder, "empty".to_string(), b"")?;
-    let count = |program: &Program, script: &Script| instructions(program, &script.path, folder);
-    let time = |program: &Program, script: &Script| best_time(program, &script.path);
+    let count = |program: &Path, script: &Script| instructions(program, &script.path, folder);
+    let time = |program: &Path, script: &Script| best_time(program, &script.path);
     let counts = has_valgrind();
     if counts {
         println!("instructions");
@@ -106,33 +100,48 @@ fn put(folder: &Path, name: String, script: &[u8]) -> io::Result<Script> {
 
 /// A row for each script, their sum, and a script of no line, which is not in the sum.
 fn table(
-    programs: &[Program; 3],
+    programs: &[PathBuf],
     scripts: &[Script],
     empty: &Script,
-    measure: impl Fn(&Program, &Script) -> io::Result<u64>,
+    measure: impl Fn(&Path, &Script) -> io::Result<u64>,
 ) -> io::Result<()> {
-    let [program, literal, indexed] = programs;
-    let measure =
-        |script| Ok::<_, io::Error>([measure(program, script)?, measure(literal, script)?, measure(indexed, script)?]);
-    println!(
-        "{:<16}{:>8}{:>13}{:>13}{:>13}{:>10}{:>10}",
-        "script", "lines", "program", "literal", "indexed", "/literal", "/indexed"
-    );
-    let mut total = [0; 3];
+    let measure_each =
+        |script: &Script| programs.iter().map(|program| measure(program, script)).collect::<io::Result<Vec<_>>>();
+    let names: Vec<_> = programs.iter().map(|program| name(program)).collect();
+    let ratios = names[1..].iter().map(|other| format!("/{other}"));
+    print_row("script", "lines", names.clone(), ratios);
+    let mut total = vec![0; programs.len()];
     for script in scripts {
-        let measured = measure(script)?;
-        row(&script.name, script.lines, measured);
-        total = std::array::from_fn(|place| total[place] + measured[place]);
+        let measured = measure_each(script)?;
+        row(&script.name, script.lines, &measured);
+        total.iter_mut().zip(measured).for_each(|(sum, one)| *sum += one);
     }
-    row("total", scripts.iter().map(|script| script.lines).sum(), total);
-    row(&empty.name, empty.lines, measure(empty)?);
+    row("total", scripts.iter().map(|script| script.lines).sum(), &total);
+    row(&empty.name, empty.lines, &measure_each(empty)?);
     Ok(())
 }
 
-fn row(name: &str, lines: usize, [program, literal, indexed]: [u64; 3]) {
-    let ratio = |other: u64| program as f64 / other as f64;
-    let (to_literal, to_indexed) = (ratio(literal), ratio(indexed));
-    println!("{name:<16}{lines:>8}{program:>13}{literal:>13}{indexed:>13}{to_literal:>10.2}{to_indexed:>10.2}");
+/// The last part of a path.
+fn name(program: &Path) -> String {
+    program.file_name().unwrap_or_default().to_string_lossy().into_owned()
+}
+
+/// What was measured of each program, and of the first one by each other.
+fn row(script: &str, lines: usize, measured: &[u64]) {
+    let ratios = measured[1..].iter().map(|&other| format!("{:.2}", measured[0] as f64 / other as f64));
+    print_row(script, lines, measured, ratios);
+}
+
+fn print_row(
+    script: &str,
+    lines: impl Display,
+    measured: impl IntoIterator<Item = impl Display>,
+    ratios: impl Iterator<Item = String>,
+) {
+    print!("{script:<16}{lines:>8}");
+    measured.into_iter().for_each(|one| print!("{one:>13}"));
+    ratios.for_each(|ratio| print!("{ratio:>12}"));
+    println!();
 }
 
 /// What a call costs in scripts that begin alike and grow.
