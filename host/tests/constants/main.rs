@@ -112,7 +112,7 @@ fn the_header_has_the_places_of_the_proved_record() {
 #[test]
 fn the_stores_of_a_fresh_pool_are_those_of_the_proved_source() {
     if is_here() {
-        let lengths = [value("pool", "SMALL_BYTES"), value("pool", "LARGE_BYTES")];
+        let lengths = [value("stores", "SMALL_BYTES"), value("stores", "LARGE_BYTES")];
         assert_eq!(lengths, [ramsummer::SMALL, ramsummer::LARGE].map(|length| length as u64));
         assert_eq!(value("record", "EXPIRATION_COUNT"), ramsummer::EXPIRATIONS as u64);
         let standard =
