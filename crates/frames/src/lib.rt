@@ -6,8 +6,11 @@ use ledger::Frame;
 use ledger::Refusal;
 
 mod requests;
+mod scripts;
 
 pub use requests::decode;
+pub use scripts::Step;
+pub use scripts::next_frame;
 pub use text::hex::MOST_BYTES;
 
 // Why a frame yields no call; no request comes here.

@@ -33,3 +33,6 @@ pub mod NoticedRows
 pub mod Reserves
 pub mod Veil
 pub mod Views
+pub mod Aging
+pub mod Room
+pub mod RoomRows

@@ -101,7 +101,7 @@ short-so b u a own r room part =
     (λ e. rw e (lt-ltb b (u + (a - own) + r) (omega (arith, room, part, ltb-true (b - u - (a - own)) r e))))
     (λ e. rw e (le-ltb b (u + (a - own) + r) (omega (arith, room, part, ltb-false (b - u - (a - own)) r e))))
 
-figures : (limits : Limits) → fresh limits .memory .limits ≡ limits
+pub figures : (limits : Limits) → fresh limits .memory .limits ≡ limits
 unfolding fresh freshMemory
 figures limits = refl
 

@@ -74,7 +74,7 @@ module _ (store : Bool) where
   used-one : (o : Object) (os : List Object) → usedIn store (o ∷ os) ≡ cond (isIn store o) 1 0 + usedIn store os
   used-one o os = by-test (isIn store o) (λ e. rw e (omega arith)) (λ e. rw e (omega arith))
 
-  all-made : (n : ℕ) (os : List Object) → sumBelow n (made store os) ≤ usedIn store os
+  pub all-made : (n : ℕ) (os : List Object) → sumBelow n (made store os) ≤ usedIn store os
   unfolding made
   all-made n [] = omega (arith, sum-zero n)
   all-made n (o ∷ os) =

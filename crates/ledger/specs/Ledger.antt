@@ -53,11 +53,12 @@ standingVerdictOn L task handle = verdict (factsIn L) (standingTests task handle
 unfoldable pub reply : Ledger → Call → List ℕ → Reply
 reply L call new = replyBy (verdictOn L call new) (replyTo call (L .memory))
 
+-- what a call leaves that is carried out
+abbrev pub carriedOut : Ledger → Call → List ℕ → Ledger
+carriedOut L call new = settled (memoryAfter call new (L .memory)) (expirationsAfter call new (L .memory) (L .expirations))
+
 unfoldable pub next : Ledger → Call → List ℕ → Ledger
-next L call new =
-    afterBy (verdictOn L call new)
-    (settled (memoryAfter call new (L .memory)) (expirationsAfter call new (L .memory) (L .expirations)))
-    L
+next L call new = afterBy (verdictOn L call new) (carriedOut L call new) L
 
 -- all fourteen calls: report answers its figures (O24), and remaining life asks that the object stands (R46); neither changes anything
 -- (O25)

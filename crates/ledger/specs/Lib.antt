@@ -25,3 +25,5 @@ pub mod NoticedRows
 pub mod Reserves
 pub mod Veil
 pub mod Views
+pub mod Room
+pub mod RoomRows

@@ -142,6 +142,13 @@ pub struct Usage {
     pub given: u32,
 }
 
+// K4: the room that a script needs: the most standing objects of either store and expirations after any of its calls.
+pub struct Peaks {
+    pub small: u32,
+    pub large: u32,
+    pub expirations: u32,
+}
+
 // E15, E16: the remaining life of an object, in ticks of the task that asks and in advances of the global time.
 pub struct Life {
     pub local: u8,

@@ -9,13 +9,12 @@ use lib.ListN.{length, getD, set, replicate}
 use Rattle.lists.specs.Filled.{Filled}
 use Rattle.lists.specs.Tests.{any}
 use Rattle.lists.proofs.Filling.{filled-start, filled-turn, filled-map}
-use Rattle.lists.proofs.Loops.{Scanned, scanned-start}
+use Rattle.lists.proofs.Loops.{Scanned, scanned-start, any-kept, any-kept-end}
 use Rattle.ledger.specs.Limits.{largestBatch}
 use Rattle.ledger.specs.Refusals.{isNotGiven}
 use Rattle.record.specs.Tables.{blockEntries}
 use Rattle.steps.specs.Objects.{placeIn}
 use Rattle.refusals.specs.Batches.{isMissingIn, FindsBatch}
-use Rattle.refusals.proofs.Searching.{any-kept, any-kept-end}
 
 -- the pass after i of n handles: what was found of those, and what is left to find
 module _ (given : ℕ) (handles named : List ℕ) (n : ℕ) where

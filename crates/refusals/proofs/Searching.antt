@@ -1,9 +1,8 @@
--- Loops for any element type: a search that goes past a group in which none passes, a test of any that goes on to the end, and a list
--- filled by another.
+-- Loops for any element type: a search that goes past a group in which none passes, and a list filled by another.
 use Prim.Native.Nat.{ℕ, zero, suc, _+_, _≤_, _<_}
 use native.Mathlib.Nat.{add-zero}
 use native.Mathlib.Omega.{arith}
-use mathlib.Core.Bool.{Bool, true, false, _||_, or-assoc, or-false}
+use mathlib.Core.Bool.{Bool, true, false}
 use mathlib.Core.List.{List, [], _∷_, _++_}
 use mathlib.Core.Path.{_≡_, sym, ap, _∙_}
 use lib.Dec.{eqb}
@@ -12,7 +11,7 @@ use lib.Seq.{take-take, drop-append-le}
 use Rattle.lists.specs.Tests.{any}
 use Rattle.lists.specs.Tables.{firstFrom}
 use Rattle.lists.proofs.Cases.{or-false-parts}
-use Rattle.lists.proofs.Loops.{Scanned, scanned-turn, scanned-end}
+use Rattle.lists.proofs.Loops.{Scanned}
 
 -- this handle
 abbrev pub isOf : ℕ → ℕ → Bool
@@ -54,11 +53,3 @@ module _ {ℓ} {A : Type ℓ} (p : A → Bool) where
               s .so ∙ ap (firstFrom i p) (split-at xs i j n ij jn (s .size)) ∙ first-front i (drop i (take j xs)) (drop j (take n xs)) e
               ∙ ap (λ (k : ℕ). firstFrom k p (drop j (take n xs))) end;
         }
-
-    -- so far some passes or not
-    pub any-kept : {v r : Bool} (d : A) (some : Bool) → Scanned v xs n i (λ ys. some || any p ys) → i < n → r ≡ p (getD xs i d)
-        → Scanned v xs n (i + 1) (λ ys. (some || r) || any p ys)
-    any-kept d some s h e = scanned-turn _ d s h (λ ys. rw e (sym (or-assoc some (p (getD xs i d)) (any p ys))))
-
-    pub any-kept-end : {v : Bool} (some : Bool) → Scanned v xs n i (λ ys. some || any p ys) → n ≤ i → some ≡ v
-    any-kept-end some s h = sym (or-false some) ∙ scanned-end s h

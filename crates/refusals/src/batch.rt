@@ -27,7 +27,7 @@ fn joined(a: u8, b: u8, c: u8, d: u8) -> u32
 }
 
 // A batch's handle at a place.
-fn handle_at(bytes: &[u8], i: usize) -> u32
+pub fn handle_at(bytes: &[u8], i: usize) -> u32
     requires { ⌜ i < length (now bytes) / 4 ⌝ }
     ensures { λ r. ⌜ r ≡ getD (handlesOf (now (bytes .entry))) i 0 ⌝ }
 {

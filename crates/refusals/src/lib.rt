@@ -12,6 +12,7 @@ mod table;
 
 pub use batch::BatchFound;
 pub use batch::find_batch;
+pub use batch::handle_at;
 use ledger::Kind;
 use ledger::LARGE_SIZE;
 use ledger::LARGEST_BATCH;

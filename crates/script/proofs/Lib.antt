@@ -1,3 +1,4 @@
 pub mod Lines
 pub mod Running
 pub mod Demands
+pub mod Room

@@ -32,7 +32,8 @@ use Rattle.ledger.specs.declared.Frame.{Frame}
 use Rattle.text.proofs.Puts.{puts-on}
 use Rattle.frames.proofs.Payloads.{payload-front}
 use Rattle.text.proofs.Scripts.{lines-on, next-within}
-use Rattle.script.specs.Output.{answerLines, lineIn, Runnable, LinesRun, done, carried, Continues}
+use Rattle.script.specs.Output.{answerLines, Runnable, LinesRun, done, carried, Continues}
+use Rattle.frames.specs.Scripts.{lineIn}
 use Rattle.script.proofs.Lines.{Keeps, lines-keep, runs-on, answer-lines-on}
 
 -- the stores are as long as the blocks need

@@ -1,23 +1,22 @@
 -- What a script writes and leaves: the lines of the ledger's replies to its lines, from fresh on, and the ledger after them.
-use Prim.Native.Nat.{ℕ, _-_, _≤_, _<_}
+use Prim.Native.Nat.{ℕ, _≤_, _<_}
 use mathlib.Core.Bool.{true}
 use mathlib.Core.List.{List, [], _∷_, _++_}
 use mathlib.Core.Path.{_≡_}
-use lib.ListN.{length, take, drop}
+use lib.ListN.{length, drop}
 use Rattle.ledger.specs.Objects.{Reply}
 use Rattle.ledger.specs.Ledger.{Ledger, fresh, replyToFrame, afterFrame}
-use Rattle.ledger.specs.Limits.{largeSize, isAllowed}
+use Rattle.ledger.specs.Limits.{isAllowed}
 use Rattle.ledger.specs.declared.Limits.{Limits}
 use Rattle.answers.specs.Answers.{answerLine, longestAnswer}
-use Rattle.frames.specs.Frames.{frameOf, payloadOf, Decodes}
-use Rattle.text.specs.Lines.{linesOf, lineEnd, lineAt}
+use Rattle.frames.specs.Frames.{frameOf, payloadOf}
+use Rattle.text.specs.Lines.{linesOf}
 use Rattle.text.specs.Hex.{Puts}
 use Rattle.calls.specs.Served.{IsReplyTo}
 use Rattle.record.specs.Reading.{freshPool, wholeSmall, wholeLarge}
 use Rattle.record.specs.Pools.{isWellFormed, Reads}
 use Rattle.record.specs.declared.Pool.{Pool}
 use Rattle.script.specs.declared.Ran.{Ran}
-use Rattle.script.specs.declared.Step.{Step}
 
 -- the ledger's reply to a line, and the ledger after it
 abbrev pub replyToLine : Ledger → List ℕ → Reply
@@ -47,21 +46,6 @@ answersTo L lines = answerLines (repliesToLines L lines)
 -- P3: from a fresh pool of these figures on
 abbrev pub outputOf : Limits → List ℕ → List ℕ
 outputOf limits script = answersTo (fresh limits) (linesOf script)
-
--- the line that starts at a place of a script
-abbrev pub lineIn : List ℕ → ℕ → List ℕ
-lineIn script at = take (lineEnd script at - at) (drop at script)
-
--- A line starts at a place of a script, and a buffer has room for the bytes that come with it.
-pub record Readable (script : List ℕ) (at : ℕ) (bytes : List ℕ) : Type 0 where
-  pub within : at < length script
-  pub room : largeSize ≤ length bytes
-
--- The frame of the line at a place, and where the next line starts.
-pub record Steps (script : List ℕ) (at : ℕ) (old : List ℕ) (r : Step) (new : List ℕ) : Type 0 where
-  pub decodes : Decodes (lineIn script at) old (r .frame) new
-  pub next : r .next ≡ lineAt script at .next
-  pub size : length new ≡ length old
 
 -- A run can go on: the record is well-formed, the stores are as long as its blocks need, and the next line starts in the script or at its
 -- end.

@@ -1,40 +1,19 @@
 // A script run from fresh, a buffer of answers at a time. Its record is well-formed from the start and stays so: no line tests that again,
 // and its tables stay where they are from the first line to the last.
-ghost use Rattle.script.specs.Output.{Readable, Steps, Runnable, Continues};
+ghost use Rattle.script.specs.Output.{Runnable, Continues};
 use answers::LONGEST_ANSWER;
 use answers::put_answer;
 use answers::show;
 use dispatch::call;
 use dispatch::needs::holdings_for;
 use frames::MOST_BYTES;
-use frames::decode;
+use frames::next_frame;
 use frames::refusal_of;
 use ledger::Answer;
 use ledger::Frame;
 use record::Pool;
 use record::head_of;
 use stores::no_part;
-use text::read_line;
-
-// The frame of a line, and where the next line starts.
-pub struct Step {
-    pub frame: Frame,
-    pub next: usize,
-}
-
-fn next_frame(script: &[u8], at: usize, bytes: &mut [u8]) -> Step
-    requires { ⌜ Readable (now script) at (now bytes) ⌝ }
-    ensures { λ r. ⌜ Steps (now (script .entry)) at (now (bytes .entry)) r (now (bytes .exit)) ⌝ }
-{
-    let line = read_line(script, at);
-    let end = line.end;
-    let next = line.next;
-    let frame = decode(&script[at..end], bytes);
-    Step {
-        frame: frame,
-        next: next,
-    }
-}
 
 // The record after some lines of a script, where the next line starts, and how long the answers are.
 pub struct Ran {

@@ -35,7 +35,8 @@ use Rattle.steps.specs.Events.{verdictOf, leaverOf, passedEntry}
 use Rattle.ledger.specs.declared.Verdict.the-variants.{Accepted}
 use Rattle.ledger.specs.declared.Limits.{Limits}
 use Rattle.steps.proofs.ReadTasks.{ClocksAlike, state-alike, clock-alike}
-use Rattle.steps.proofs.Aging.{aged, clock-after, ledger-ages, record-ages}
+use Rattle.ledger.proofs.Aging.{aged, clock-after, ledger-ages}
+use Rattle.steps.proofs.Aging.{record-ages}
 
 -- an event with an advance test is refused to an absent task
 tested-present : (event : Event) (s : State) → isTested event ≡ true → verdictOf event s ≡ Accepted → isAbsent s ≡ false

@@ -13,9 +13,10 @@ use Rattle.record.specs.declared.Pool.{Pool}
 use Rattle.record.proofs.Types.{columns-sized}
 use Rattle.answers.specs.Answers.{answerLine, longestAnswer}
 use Rattle.text.specs.Hex.{Puts}
-use Rattle.script.specs.Output.{lineIn, LinesRun}
+use Rattle.script.specs.Output.{LinesRun}
 use Rattle.answers.proofs.Shown.{block-showable, short-line}
 use Rattle.frames.proofs.Payloads.{bytes-in}
+use Rattle.frames.specs.Scripts.{lineIn}
 use Rattle.script.proofs.Running.{Running, ready, placed, refused-run, served-run, run-starts-lent, run-keeps, run-runnable, run-line, run-room, run-nears, run-turns, run-ends}
 use Rattle.script.proofs.run_on.Statement.{statement}
 use Rattle.script.proofs.run_on.Tie as tie

@@ -6,8 +6,8 @@ use mathlib.Core.Path.{refl}
 use borrow.Author.Needs.{needs}
 use lib.ListN.{take, drop}
 use Rattle.lists.specs.Tests.{any}
-use Rattle.lists.proofs.Loops.{Scanned, scanned-from}
-use Rattle.refusals.proofs.Searching.{isOf, any-kept, any-kept-end}
+use Rattle.lists.proofs.Loops.{Scanned, scanned-from, any-kept, any-kept-end}
+use Rattle.refusals.proofs.Searching.{isOf}
 use Rattle.refusals.proofs.search.is_among.Statement.{statement}
 use Rattle.refusals.proofs.search.is_among.Tie as tie
 

@@ -2,8 +2,8 @@
 use native.Mathlib.Omega.{arith}
 use borrow.Author.Needs.{needs}
 use Rattle.text.proofs.Scripts.{end-within}
-use Rattle.script.proofs.next_frame.Statement.{statement}
-use Rattle.script.proofs.next_frame.Tie as tie
+use Rattle.frames.proofs.scripts.next_frame.Statement.{statement}
+use Rattle.frames.proofs.scripts.next_frame.Tie as tie
 
 sub-decode : tie.Need-sub-decode
 sub-decode c =

@@ -1,0 +1,4 @@
+pub mod Bounds
+pub mod Planned
+pub mod Run
+pub mod Output

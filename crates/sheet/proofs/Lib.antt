@@ -1,0 +1,11 @@
+pub mod Kept
+pub mod Columns
+pub mod Aged
+pub mod PutOff
+pub mod Swept
+pub mod Set
+pub mod Follows
+pub mod Steps
+pub mod Events
+pub mod Taking
+pub mod Whole
