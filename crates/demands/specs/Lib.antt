@@ -7,3 +7,4 @@ pub mod Noticed
 pub mod Awaited
 pub mod Veil
 pub mod Room
+pub mod Plans

@@ -36,3 +36,9 @@ pub mod Views
 pub mod Aging
 pub mod Room
 pub mod RoomRows
+pub mod Appended
+pub mod PlanFigures
+pub mod PlanHeld
+pub mod PlanTurns
+pub mod PlanCalls
+pub mod PlansHold

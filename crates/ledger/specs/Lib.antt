@@ -27,3 +27,5 @@ pub mod Veil
 pub mod Views
 pub mod Room
 pub mod RoomRows
+pub mod Plans
+pub mod PlansClaim

@@ -3,6 +3,8 @@ ghost use mathlib.Core.Path.{_≡_};
 ghost use Rattle.ledger.specs.Limits.{isAllowed};
 ghost use Rattle.ledger.specs.Numbers.{numberOf, answerNumber, kindOf};
 
+pub mod plans;
+
 // C1: the four figures that a site chooses for the life of a pool: blocks of the small store and of the large one, expirations (01: dates),
 // largest extension.
 #[repr(C)]

@@ -4,3 +4,4 @@ pub mod Fields
 pub mod Lines
 pub mod Reader
 pub mod HandleBytes
+pub mod Decimals
