@@ -111,10 +111,13 @@ examples() {
 }
 test_ledger() {
     named "tests/reference: the ledger in Rust, frames, scripts, words and pictures" tests tests/reference
-    named "tests/plain: a pool in plain Rust against the ledger" tests tests/plain
+    named "tests/plain: a pool, its plans and a sheet in plain Rust against the ledger" tests tests/plain
 }
 test_program() {
     named "compare: poolrun against the ledger on 1,000 scripts and the longest" reference compare -- target/bin/poolrun 1000
+}
+test_plans() {
+    named "compare: plan against the ledger's on 200 texts of plans" reference compare -- --plans target/bin/plan 200
 }
 test_library() {
     for options in "${features[@]}"; do

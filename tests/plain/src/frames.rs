@@ -1,4 +1,4 @@
-//! Frames: a line of hexadecimal to a request, a reply to its line.
+//! Frames: the lines of a script, a line of hexadecimal to a request, a reply to its line.
 
 use crate::limits::PINNING;
 use crate::record::{Quota, Share};
@@ -40,6 +40,12 @@ pub enum Reply<'a> {
     Bytes(&'a [u8]),
     Report(Figures),
     Remaining(Lifetime),
+}
+
+/// The lines of a script, without their LF.
+pub fn lines(script: &[u8]) -> impl Iterator<Item = &[u8]> {
+    let whole = script.split_inclusive(|&byte| byte == b'\n');
+    whole.map(|line| line.strip_suffix(b"\n").unwrap_or(line))
 }
 
 /// The request in a line without its LF, or 16, 17, 18, 19. The room is one byte more than the longest frame, so that

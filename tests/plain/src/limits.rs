@@ -16,6 +16,9 @@ pub const EXPIRATIONS: usize = 256;
 /// The most objects of a batch.
 pub const LARGEST_BATCH: usize = 32;
 
+/// The longest script that a program reads, in bytes.
+pub const LONGEST_SCRIPT: usize = 65_536;
+
 /// The number of the last kind, which pins; 0 is local and 1 global.
 pub const PINNING: u8 = 2;
 

@@ -23,7 +23,7 @@ pub struct Draft {
 
 impl Draft {
     pub fn new(random: Random, limits: Limits, in_time: bool) -> Draft {
-        Draft { random, script: Vec::new(), ledger: Ledger::of(limits), in_time }
+        Draft { random, script: Vec::new(), ledger: Ledger::with(limits), in_time }
     }
 
     pub fn limits(&self) -> Limits {

@@ -96,6 +96,27 @@ pub fn sized_script_of(limits: Limits, only: Option<Profile>, seed: u64, size: u
     whole(Draft::new(Random::new(seed), limits, false), size, only)
 }
 
+/// Order 11: the script of a seed as a planner has it, who does not know yet how large the pool is to be. Of two seeds in
+/// four it is the one for the scope paper's figures; of the next it is for figures beyond what a site may choose; and of the
+/// next it is a short one about reserves and limits, so that it is these that a pool refuses calls for.
+pub fn planned_script(seed: u64) -> Vec<u8> {
+    match seed % 4 {
+        0 | 1 => script(seed),
+        2 => sized_script(large_limits(seed), seed),
+        _ => script_of(Some(Profile::Shares), seed, 1_500),
+    }
+}
+
+fn large_limits(seed: u64) -> Limits {
+    let mut random = Random::new(seed);
+    Limits {
+        small_blocks: 1 + random.below(200),
+        large_blocks: 1 + random.below(100),
+        expirations: 1 + random.below(2_000),
+        ..Limits::STANDARD
+    }
+}
+
 /// The figures of a seed: of every sixteenth the smallest, of the next one the scope paper's, of the others any that a
 /// site may choose, small ones often.
 pub fn limits(seed: u64) -> Limits {

@@ -12,6 +12,8 @@ use crate::tasks::Tasks;
 #[derive(Clone, Debug, PartialEq, Eq)]
 pub struct Ledger {
     limits: Limits,
+    /// Order 11: whether it has room for all, so that 9, 10, 25 and 26 are never given.
+    is_roomy: bool,
     /// The sixteen tasks, and global time.
     tasks: Tasks,
     given: u32,
@@ -28,6 +30,14 @@ struct Object {
     expirations: Vec<Expiration>,
 }
 
+/// How many small objects, large objects and expirations stand; or the most of each, each by itself.
+#[derive(Clone, Copy, Debug, Default, PartialEq, Eq)]
+pub struct Usage {
+    pub small: usize,
+    pub large: usize,
+    pub expirations: usize,
+}
+
 /// A standing object as it is compared.
 #[derive(Clone, Debug, PartialEq, Eq)]
 pub struct Standing {
@@ -42,14 +52,14 @@ impl Model for Ledger {
     /// 29, else T5 and O9: nothing is there yet.
     fn sized(limits: Limits) -> Result<Ledger, Refusal> {
         limits.check()?;
-        Ok(Ledger { limits, tasks: Tasks::default(), given: 0, objects: Vec::new() })
+        Ok(Ledger::with(limits))
     }
 
     /// 1, 2, and order 9: 24, 25 in either store.
     fn join(&mut self, task: u8, share: Share) -> Answer<'static> {
         self.tasks.check_absent(task)?;
         share.check()?;
-        STORES.iter().try_for_each(|&store| self.room(store).check_reserve(task, share.of(store).reserve))?;
+        self.check_reserves(task, share)?;
         self.tasks.join(task, share)?;
         Ok(Accepted::Done)
     }
@@ -88,9 +98,7 @@ impl Model for Ledger {
         let store = Store::holding(length)?;
         check_prefix(prefix, length)?;
         self.check_handles()?;
-        let room = self.room(store);
-        room.check_limit(task)?;
-        room.check_block(task)?;
+        self.check_block(task, store)?;
         self.check_expirations(1)?;
         // One above the last, so that the new object is the last in order.
         self.given += 1;
@@ -187,6 +195,16 @@ impl Model for Ledger {
 }
 
 impl Ledger {
+    /// A fresh one of any figures, also of those that no site may choose.
+    pub fn with(limits: Limits) -> Ledger {
+        Ledger { limits, is_roomy: false, tasks: Tasks::default(), given: 0, objects: Vec::new() }
+    }
+
+    /// Order 11: a fresh one with room for all. Of the figures only the largest extension bounds it.
+    pub fn roomy(limits: Limits) -> Ledger {
+        Ledger { is_roomy: true, ..Ledger::with(limits) }
+    }
+
     // What it holds.
 
     /// Order 12: they stay as they are chosen.
@@ -198,13 +216,18 @@ impl Ledger {
         &self.tasks
     }
 
-    /// O24: what report counts.
+    /// O24: what report counts. Where there is room for all, the numbers may be cut: no report is asked for there.
     pub fn figures(&self) -> Figures {
-        Figures {
-            small: self.standing_in(Store::Small).count() as u8,
-            large: self.standing_in(Store::Large).count() as u8,
-            expirations: self.expirations() as u16,
-            given: self.given,
+        let Usage { small, large, expirations } = self.usage();
+        Figures { small: small as u8, large: large as u8, expirations: expirations as u16, given: self.given }
+    }
+
+    /// What stands.
+    pub fn usage(&self) -> Usage {
+        Usage {
+            small: self.standing_in(Store::Small).count(),
+            large: self.standing_in(Store::Large).count(),
+            expirations: self.expirations(),
         }
     }
 
@@ -285,9 +308,27 @@ impl Ledger {
         Ok(())
     }
 
+    /// 25, in either store.
+    fn check_reserves(&self, task: u8, share: Share) -> Result<(), Refusal> {
+        if self.is_roomy {
+            return Ok(());
+        }
+        STORES.iter().try_for_each(|&store| self.room(store).check_reserve(task, share.of(store).reserve))
+    }
+
+    /// 26, 9.
+    fn check_block(&self, task: u8, store: Store) -> Result<(), Refusal> {
+        if self.is_roomy {
+            return Ok(());
+        }
+        let room = self.room(store);
+        room.check_limit(task)?;
+        room.check_block(task)
+    }
+
     /// 10, by E14: no room for so many more.
     fn check_expirations(&self, more: usize) -> Result<(), Refusal> {
-        if self.expirations() + more > self.limits.expirations {
+        if !self.is_roomy && self.expirations() + more > self.limits.expirations {
             return Err(Refusal::ExpirationsFull);
         }
         Ok(())

@@ -4,6 +4,7 @@
 use std::str::FromStr;
 
 use crate::call::{Kind, Refusal};
+use crate::program::decimal;
 
 pub const TASKS: usize = 16;
 pub const LONGEST_SMALL: u16 = 32;
@@ -108,19 +109,13 @@ impl FromStr for Limits {
     type Err = Refusal;
 
     fn from_str(words: &str) -> Result<Limits, Refusal> {
-        let figures: Option<Vec<_>> = words.split(',').map(figure).collect();
+        let figures: Option<Vec<_>> = words.split(',').map(decimal).collect();
         let Some(&[small_blocks, large_blocks, expirations, extension]) = figures.as_deref() else {
             return Err(Refusal::LimitsOutOfRange);
         };
         let limits = Limits { small_blocks, large_blocks, expirations, extension };
         limits.check().map(|()| limits)
     }
-}
-
-/// A decimal number without leading zeros.
-fn figure(word: &str) -> Option<usize> {
-    let figure: usize = word.parse().ok()?;
-    (figure.to_string() == word).then_some(figure)
 }
 
 /// 28: a prefix is a part of its object, and may be all of it.

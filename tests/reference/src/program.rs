@@ -1,11 +1,14 @@
-//! Programs that run scripts, and the figures that they are given.
+//! Programs that run scripts or plans, and the figures that they are given.
 
-use std::io::{self, Write};
+use std::io::{self, Read, Write};
 use std::process::{Command, Output, Stdio};
+use std::str::FromStr;
 use std::thread;
 
 use crate::call::Refusal;
 use crate::limits::Limits;
+use crate::plan;
+use crate::script::LIMIT;
 
 /// Runs a program with the script on its standard input.
 pub fn run_program(program: &mut Command, script: &[u8]) -> io::Result<Output> {
@@ -16,6 +19,29 @@ pub fn run_program(program: &mut Command, script: &[u8]) -> io::Result<Output> {
         scope.spawn(move || input.write_all(script).ok());
         child.wait_with_output()
     })
+}
+
+/// As much of a script as tells whether it is too long.
+pub fn read_script(input: impl Read) -> io::Result<Vec<u8>> {
+    read_past(LIMIT, input)
+}
+
+/// As much of a plan.
+pub fn read_plan(input: impl Read) -> io::Result<Vec<u8>> {
+    read_past(plan::LIMIT, input)
+}
+
+/// So many bytes and one more.
+fn read_past(limit: usize, input: impl Read) -> io::Result<Vec<u8>> {
+    let mut bytes = Vec::with_capacity(limit + 1);
+    input.take(limit as u64 + 1).read_to_end(&mut bytes)?;
+    Ok(bytes)
+}
+
+/// A decimal number without leading zeros.
+pub fn decimal<T: FromStr + ToString>(word: &str) -> Option<T> {
+    let number: T = word.parse().ok()?;
+    (number.to_string() == word).then_some(number)
 }
 
 /// The figures of these words, the scope paper's where there are none; else 29, in words.

@@ -6,11 +6,13 @@ use std::fs;
 use std::path::{Path, PathBuf};
 use std::process::{Command, Output};
 
-use reference::call::{Model, Refusal};
+use reference::call::{Call, Model, Refusal};
 use reference::explain::{explain, in_words, picture, summary, table, Line, Story};
+use reference::frame::decode;
 use reference::generate::{limits, script, sized_script};
-use reference::ledger::Ledger;
+use reference::ledger::{Ledger, Usage};
 use reference::limits::Limits;
+use reference::peaks::peaks;
 use reference::program::run_program;
 use reference::script::{lines, run_from, LIMIT};
 
@@ -494,6 +496,9 @@ fn a_script_is_summed_up() {
         "small objects: at most 2 of 64, first at line 5",
         "large objects: at most 1 of 32, first at line 3",
         "expirations: at most 3 of 256, first at line 5",
+        "small objects, with room for all: peak 2, within 64",
+        "large objects, with room for all: peak 1, within 32",
+        "expirations, with room for all: peak 3, within 256",
         "1 x refusal 3: task absent, at line 6",
         "1 x refusal 11: handle not given, at line 10",
         "global time: longest at 0, 10 lines from 1 to 10, at last for task 4",
@@ -525,18 +530,79 @@ fn what_a_summary_says_of_time_and_refusals() {
     assert_eq!(nothing.lines().next_back(), Some("global time: no line"));
 }
 
+/// Order 11: beside a peak that is beyond the pool the first line at which it would pass.
+#[test]
+fn what_a_summary_says_of_room() {
+    let says = |figures: &str, frames: &str, words: [&str; 3]| {
+        let limits = figures.parse().unwrap();
+        let summary = summary(limits, &explain(limits, &script_of(frames)));
+        let (_, room) = summary.split_once("small objects, with room for all: ").expect("it tells the room");
+        let room: Vec<_> = room.lines().take(3).map(|line| line.rsplit_once(": ").map_or(line, |(_, w)| w)).collect();
+        assert_eq!(room, words, "{figures}, {frames}");
+    };
+    let standard = "64,32,256,30";
+    says(standard, "0A x", ["peak 0, within 64", "peak 0, within 32", "peak 0, within 256"]);
+    // A limit of 0 refuses all three, and a reserve above its limit the join.
+    let all = "0603020000200000 0603020000210000 0C03000000000001";
+    let needed = ["peak 1, within 64", "peak 1, within 32", "peak 3, within 256"];
+    says(standard, &format!("010300000000 {all}"), needed);
+    says(standard, &format!("010301000000 {all}"), needed);
+    // The line is of the script, with those that yield no call, and the first of several.
+    let past = ["peak 2, past 1 at line 4", "peak 0, within 1", "peak 2, past 1 at line 4"];
+    says("1,1,1,0", "010300FF00FF x 0603020000200000 0603020000200000", past);
+    let past = ["peak 1, within 1", "peak 3, past 2 at line 5", "peak 4, within 9"];
+    says("1,2,9,0", &format!("010300FF00FF 0603020000200000{}", times(3, "0603020000210000")), past);
+    // It passes, comes back and passes again.
+    let past = ["peak 3, past 1 at line 3", "peak 0, within 1", "peak 3, within 9"];
+    let script = format!("010300FF00FF{} 0503{}", times(2, "0603000000200000"), times(3, "0603000000200000"));
+    says("1,1,9,0", &script, past);
+}
+
+/// What a program or a picture tells of room is what the peaks are.
+#[test]
+fn the_room_of_generated_scripts() {
+    for seed in 0..80 {
+        let (limits, script) = (limits(seed), sized_script(limits(seed), seed));
+        let Usage { small, large, expirations } = peaks(limits, &script);
+        let lines = explain(limits, &script);
+        let summary = summary(limits, &lines);
+        for (name, peak) in [("small objects", small), ("large objects", large), ("expirations", expirations)] {
+            let words = format!("{name}, with room for all: peak {peak}, ");
+            assert!(summary.contains(&words), "seed {seed}: {words}");
+        }
+        // A line that passes is the first at which the pool, with the script read so, answers 9 or 10.
+        let passes = |line: &Line| !line.after.roomy.fits(limits);
+        let read = read_open(&script);
+        let refused = explain(limits, &read)
+            .iter()
+            .position(|line| matches!(line.refusal, Some(Refusal::NoFreeBlock | Refusal::ExpirationsFull)));
+        assert_eq!(lines.iter().position(passes), refused, "seed {seed}");
+    }
+}
+
+/// The script with every reserve as 0 and every limit as 255.
+fn read_open(script: &[u8]) -> Vec<u8> {
+    let is_join = |line: &[u8]| matches!(decode(line, &mut [0; 6]), Ok(Call::Join { .. }));
+    let read = |line: &[u8]| match line.len() == 12 && is_join(line) {
+        true => [&line[..4], b"00FF00FF"].concat(),
+        false => line.to_vec(),
+    };
+    lines(script).map(read).collect::<Vec<_>>().join(&b'\n')
+}
+
 #[test]
 fn a_script_as_a_table() {
-    let frames = "010300FF00FF x 0603010000040000 0603000000400000 0A 0503 080300000009";
+    // There is no large block for the task, as the script is written.
+    let frames = "010300FF0000 x 0603010000040000 0603000000400000 0A 0503 080300000009";
     let expected = [
-        "line,task,operation,answer,small,large,expirations,global",
-        "1,3,join,0,0,0,0,0",
-        "2,,,16,0,0,0,0",
-        "3,3,make,0,1,0,1,0",
-        "4,3,make,0,1,1,2,0",
-        "5,,report,0,1,1,2,0",
-        "6,3,tick,0,1,0,1,1",
-        "7,3,read,11,1,0,1,1",
+        "line,task,operation,answer,small,large,expirations,global,small_with_room,large_with_room,expirations_with_room",
+        "1,3,join,0,0,0,0,0,0,0,0",
+        "2,,,16,0,0,0,0,0,0,0",
+        "3,3,make,0,1,0,1,0,1,0,1",
+        "4,3,make,26,1,0,1,0,1,1,2",
+        "5,,report,0,1,0,1,0,1,1,2",
+        "6,3,tick,0,1,0,1,1,1,0,1",
+        "7,3,read,11,1,0,1,1,1,0,1",
     ];
     assert_eq!(table(&explained(&script_of(frames))).lines().collect::<Vec<_>>(), expected);
 }
@@ -580,11 +646,7 @@ const AXES: [&str; 5] = [
 /// Well-formed, with all parts, within its frame, and no text over another.
 fn check_picture(name: &str, picture: &str) {
     let tags = svg::tags(picture);
-    let ids: Vec<_> = tags.iter().filter(|tag| tag.name == "g").map(|tag| tag.attributes["id"]).collect();
-    assert_eq!(ids, GROUPS, "{name}");
-    for foreign in ["<script", "<style", "<image", "href", "font-face", "@import"] {
-        assert!(!picture.contains(foreign), "{name}: {foreign}");
-    }
+    svg::check(name, picture, &tags, &GROUPS);
     let texts = svg::texts(&tags);
     for words in LEGEND {
         assert!(texts.iter().any(|text| text.text == words), "{name}: no {words}");
@@ -593,17 +655,6 @@ fn check_picture(name: &str, picture: &str) {
         assert!(texts.iter().any(|text| text.text.starts_with(axis)), "{name}: no {axis}");
     }
     assert!(texts.iter().any(|text| text.text == "Line of the script (number)"), "{name}");
-    let described = |name: &str| tags.iter().any(|tag| tag.name == name && !tag.text.is_empty());
-    assert!(described("title") && described("desc"), "{name}");
-    let (width, height) = (tags[0].number("width"), tags[0].number("height"));
-    assert_eq!(width, 1000.0);
-    for (place, text) in texts.iter().enumerate() {
-        let is_inside = text.left >= 0.0 && text.right <= width && text.top >= 0.0 && text.bottom <= height;
-        assert!(is_inside, "{name}: {text:?}");
-        for other in &texts[..place] {
-            assert!(!text.overlaps(other), "{name}: {text:?} and {other:?}");
-        }
-    }
 }
 
 #[test]
@@ -651,6 +702,30 @@ fn pictures_go_by_the_figures() {
 fn group<'a>(picture: &'a str, id: &str) -> &'a str {
     let (_, rest) = picture.split_once(&format!("<g id=\"{id}\">")).unwrap();
     rest.split_once("</g>").unwrap().0
+}
+
+/// Under each of three curves, with a mark where the script would outgrow the pool.
+#[test]
+fn pictures_show_the_room() {
+    let under = |figures: &str, frames: &str, id: &str| {
+        let limits = figures.parse().unwrap();
+        let picture = plain_picture(limits, &explain(limits, &script_of(frames)));
+        check_picture(frames, &picture);
+        let panel = group(&picture, id).to_string();
+        let (above, words) = panel.split_once(">With room for all: ").unwrap();
+        let marks = above.matches("<path fill=\"#222222\"").count();
+        (words.split_once('<').unwrap().0.to_string(), marks)
+    };
+    let many = format!("010300000000{}", times(66, "0603020000200000"));
+    let past = |words: &str| (words.to_string(), 1);
+    let within = |words: &str| (words.to_string(), 0);
+    assert_eq!(under("64,32,256,30", &many, "small-objects"), past("peak 66, past 64 at line 66 (triangle)"));
+    assert_eq!(under("64,32,256,30", &many, "large-objects"), within("peak 0, within 32"));
+    assert_eq!(under("64,32,256,30", &many, "expirations"), within("peak 66, within 256"));
+    assert_eq!(under("64,32,60,30", &many, "expirations"), past("peak 66, past 60 at line 62 (triangle)"));
+    assert_eq!(under("1,1,1,0", "0A", "small-objects"), within("peak 0, within 1"));
+    let described = plain_picture(Limits::STANDARD, &explained(&script_of(&many)));
+    assert!(described.contains("\nsmall objects, with room for all: peak 66, past 64 at line 66.\n"));
 }
 
 /// In words where there is room for them, else in numbers.
@@ -755,7 +830,7 @@ fn the_weekend() {
     let page = fs::read_to_string(document("WEEKEND.md")).unwrap();
     let (_, words) = page.split_once("## In words").unwrap();
     let quoted: Vec<_> = words.lines().filter_map(|line| line.strip_prefix("    ")).collect();
-    assert_eq!(quoted.len(), 9);
+    assert_eq!(quoted.len(), 10);
     for line in quoted {
         assert!(text.lines().any(|written| written == line), "{line}");
     }

@@ -10,6 +10,8 @@ use reference::script::{run, run_from};
 
 const REFERENCE: &str = env!("CARGO_BIN_EXE_reference");
 const COMPARE: &str = env!("CARGO_BIN_EXE_compare");
+const LEDGERPEAKS: &str = env!("CARGO_BIN_EXE_ledgerpeaks");
+const LEDGERPLAN: &str = env!("CARGO_BIN_EXE_ledgerplan");
 const BENCH: &str = env!("CARGO_BIN_EXE_bench");
 
 fn compare(arguments: &[&str]) -> Output {
@@ -48,6 +50,47 @@ fn the_reference_is_like_itself() {
     assert!(last.starts_with("40 scripts, ") && last.ends_with(" lines: all alike"), "{text}");
 }
 
+#[test]
+fn the_peaks_of_the_ledger_are_like_themselves() {
+    let output = compare(&["--peaks", LEDGERPEAKS, "40"]);
+    let text = String::from_utf8(output.stdout).unwrap();
+    assert!(output.status.success(), "{text}");
+    assert!(text.contains(" scripts fit in a pool, ") && text.ends_with(" lines: all alike\n"), "{text}");
+}
+
+#[test]
+fn the_plans_of_the_ledger_are_like_themselves() {
+    let output = compare(&["--plans", LEDGERPLAN, "25"]);
+    let text = String::from_utf8(output.stdout).unwrap();
+    assert!(output.status.success(), "{text}");
+    assert!(
+        text.starts_with("20 plans are good, 5 are bad\n25 plans, ") && text.ends_with(" lines: all alike\n"),
+        "{text}"
+    );
+}
+
+/// Programs that answer, or write nothing, and print no plan's figures.
+#[test]
+fn other_plans_are_found_out() {
+    for program in [REFERENCE, COMPARE] {
+        let output = compare(&["--plans", program, "5", "100"]);
+        let text = String::from_utf8(output.stdout).unwrap();
+        assert_eq!(output.status.code(), Some(1));
+        assert!(text.starts_with("seed 100\nline 1\n"), "{text}");
+    }
+}
+
+/// Programs that answer, or write nothing, and print no peaks.
+#[test]
+fn other_peaks_are_found_out() {
+    for program in [REFERENCE, COMPARE] {
+        let output = compare(&["--peaks", program, "5", "100"]);
+        let text = String::from_utf8(output.stdout).unwrap();
+        assert_eq!(output.status.code(), Some(1));
+        assert!(text.starts_with("seed 100\nline 1\n"), "{text}");
+    }
+}
+
 /// This program writes nothing on standard output when it is called without arguments.
 #[test]
 fn a_silent_program_is_found_out() {
@@ -66,11 +109,16 @@ fn wrong_arguments() {
         (COMPARE, &[REFERENCE, "07"]),
         (COMPARE, &[REFERENCE, "1", "x"]),
         (COMPARE, &[REFERENCE, "1", "1", "1"]),
+        (COMPARE, &["--peaks"]),
+        (COMPARE, &["--peak", REFERENCE, "1"]),
+        (COMPARE, &["--peaks", "--plans", REFERENCE, "1"]),
         (REFERENCE, &["--figure"]),
         (REFERENCE, &["--figures", "1,1,1,0", "1"]),
         (REFERENCE, &["--figures", "1,1,1,0", "--figures", "1,1,1,0"]),
         (BENCH, &[]),
         (BENCH, &[REFERENCE]),
+        (BENCH, &["--peaks", REFERENCE]),
+        (BENCH, &["--plans", REFERENCE]),
     ] {
         let output = Command::new(program).args(arguments).output().unwrap();
         assert_eq!(output.status.code(), Some(2), "{program} {arguments:?}");

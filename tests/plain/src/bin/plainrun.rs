@@ -4,17 +4,14 @@
 use std::io::{self, Read, Write};
 
 use plain::calls::{serve, ANSWER_ROOM};
-use plain::frames::{answer, decode, LONGEST_FRAME};
-use plain::limits::Limits;
+use plain::frames::{answer, decode, lines, LONGEST_FRAME};
+use plain::limits::{Limits, LONGEST_SCRIPT};
 use plain::record::FRESH;
 
-/// The longest script that is run, in bytes.
-const LIMIT: usize = 65_536;
-
 fn main() -> io::Result<()> {
-    let mut script = Vec::with_capacity(LIMIT + 1);
-    io::stdin().lock().take(LIMIT as u64 + 1).read_to_end(&mut script)?;
-    let output = if script.len() > LIMIT { b"script too long\n".to_vec() } else { run(&script) };
+    let mut script = Vec::with_capacity(LONGEST_SCRIPT + 1);
+    io::stdin().lock().take(LONGEST_SCRIPT as u64 + 1).read_to_end(&mut script)?;
+    let output = if script.len() > LONGEST_SCRIPT { b"script too long\n".to_vec() } else { run(&script) };
     io::stdout().lock().write_all(&output)
 }
 
@@ -23,8 +20,7 @@ fn run(script: &[u8]) -> Vec<u8> {
     const LIMITS: Limits = Limits::STANDARD;
     let (mut pool, mut small, mut large) = (FRESH, [0; LIMITS.small_store()], [0; LIMITS.large_store()]);
     let (mut room, mut out, mut output) = ([0; LONGEST_FRAME + 1], [0; ANSWER_ROOM], Vec::with_capacity(script.len()));
-    for line in script.split_inclusive(|&byte| byte == b'\n') {
-        let line = line.strip_suffix(b"\n").unwrap_or(line);
+    for line in lines(script) {
         let reply = decode(line, &mut room).and_then(|request| serve(&mut pool, &mut small, &mut large, request));
         let count = answer(reply, &mut out);
         output.extend(&out[..count]);

@@ -1,6 +1,7 @@
 //! Compares a program that runs scripts with the reference, and the reference's ledger with its heap:
 //! `compare PROGRAM COUNT [FIRST_SEED]`. After the scripts of the seeds come the longest script that is run
-//! and one that is a byte longer.
+//! and one that is a byte longer. With `--peaks` before it the program is one that works out the room of a script, with
+//! `--plans` one that tries cable plans, and the seeds' are texts of plans, good and bad.
 
 use std::process::{Command, ExitCode};
 use std::sync::atomic::{AtomicU64, Ordering};
@@ -11,10 +12,24 @@ use reference::call::Call;
 use reference::generate;
 use reference::heap::{first_difference, first_use_out};
 use reference::limits::Limits;
-use reference::program::run_program;
+use reference::longest;
+use reference::peaks;
+use reference::plan;
+use reference::program::{decimal, run_program};
 use reference::script::{calls, lines, run, LIMIT};
 
+const USAGE: &str = "compare [--peaks | --plans] PROGRAM COUNT [FIRST_SEED]";
+
+/// What the program works out.
+#[derive(Clone, Copy, PartialEq, Eq)]
+enum Subject {
+    Answers,
+    Peaks,
+    Plans,
+}
+
 struct Order {
+    subject: Subject,
     program: String,
     count: u64,
     first_seed: u64,
@@ -25,14 +40,15 @@ struct Order {
 struct Tally {
     scripts: u64,
     lines: usize,
-    in_time: u64,
+    /// Scripts in time and in bounds throughout; of peaks those that fit in a pool; of plans those that are good.
+    met: u64,
     /// The lowest seed with a difference, and the difference.
     finding: Option<(u64, String)>,
 }
 
 fn main() -> ExitCode {
     let Some(order) = order() else {
-        eprintln!("compare PROGRAM COUNT [FIRST_SEED]");
+        eprintln!("{USAGE}");
         return ExitCode::from(2);
     };
     let tally = compare_all(&order);
@@ -44,25 +60,30 @@ fn main() -> ExitCode {
         println!("{finding}");
         return ExitCode::FAILURE;
     }
-    println!("scripts of {LIMIT} bytes and of one more: alike");
-    println!("{} scripts in time and in bounds throughout, {} not", tally.in_time, tally.scripts - tally.in_time);
-    println!("{} scripts, {} lines: all alike", tally.scripts, tally.lines);
+    let (met, not) = (tally.met, tally.scripts - tally.met);
+    match order.subject {
+        Subject::Answers => println!("{met} scripts in time and in bounds throughout, {not} not"),
+        Subject::Peaks => println!("{met} scripts fit in a pool, {not} do not"),
+        Subject::Plans => println!("{met} plans are good, {not} are bad"),
+    }
+    let scripts = if order.subject == Subject::Plans { "plans" } else { "scripts" };
+    println!("{} {scripts}, {} lines: all alike", tally.scripts, tally.lines);
     ExitCode::SUCCESS
 }
 
 fn order() -> Option<Order> {
-    let mut arguments = std::env::args().skip(1);
+    let mut arguments = std::env::args().skip(1).peekable();
+    let subject = match arguments.next_if(|word| word.starts_with('-')).as_deref() {
+        None => Subject::Answers,
+        Some("--peaks") => Subject::Peaks,
+        Some("--plans") => Subject::Plans,
+        Some(_) => return None,
+    };
     let program = arguments.next()?;
-    let count = number(&arguments.next()?).filter(|&count| count > 0)?;
-    let first_seed = arguments.next().map_or(Some(1), |word| number(&word))?;
+    let count = decimal(&arguments.next()?).filter(|&count| count > 0)?;
+    let first_seed: u64 = arguments.next().map_or(Some(1), |word| decimal(&word))?;
     first_seed.checked_add(count)?;
-    arguments.next().is_none().then_some(Order { program, count, first_seed })
-}
-
-/// A decimal number without leading zeros.
-fn number(word: &str) -> Option<u64> {
-    let number: u64 = word.parse().ok()?;
-    (number.to_string() == word).then_some(number)
+    arguments.next().is_none().then_some(Order { subject, program, count, first_seed })
 }
 
 /// As many workers as the machine runs at once. Seeds are handed out in order, so the lowest one with
@@ -85,7 +106,11 @@ fn work(order: &Order, next: &AtomicU64, tally: &Mutex<Tally>) {
         if seed >= order.first_seed + order.count {
             return;
         }
-        let result = compare_one(&order.program, seed);
+        let result = match order.subject {
+            Subject::Answers => compare_answers(order, seed),
+            Subject::Peaks => compare_peaks(order, seed),
+            Subject::Plans => compare_plans(order, seed),
+        };
         let mut tally = tally.lock().expect("no worker failed");
         tally.note(seed, result);
         if tally.finding.is_some() {
@@ -97,10 +122,10 @@ fn work(order: &Order, next: &AtomicU64, tally: &Mutex<Tally>) {
 impl Tally {
     fn note(&mut self, seed: u64, result: Result<(usize, bool), String>) {
         match result {
-            Ok((lines, in_time)) => {
+            Ok((lines, met)) => {
                 self.scripts += 1;
                 self.lines += lines;
-                self.in_time += u64::from(in_time);
+                self.met += u64::from(met);
             }
             Err(text) if self.finding.as_ref().is_none_or(|&(lowest, _)| seed < lowest) => {
                 self.finding = Some((seed, text));
@@ -111,22 +136,50 @@ impl Tally {
 }
 
 /// The count of answers and whether all use was in time, or what differs.
-fn compare_one(program: &str, seed: u64) -> Result<(usize, bool), String> {
+fn compare_answers(order: &Order, seed: u64) -> Result<(usize, bool), String> {
     let script = generate::script(seed);
     let expected = run(&script);
-    check_program(program, &script, &expected)?;
+    check_program(&order.program, &script, &expected)?;
     let mut room = vec![0; script.len() / 2];
     let calls = calls(&script, &mut room);
     Ok((lines(&expected).count(), check_heap(&calls)?))
 }
 
-/// The longest script that is run gives the reference's answers, and a byte more the one line.
+/// The count of lines and whether the script fits in a pool, or what differs.
+fn compare_peaks(order: &Order, seed: u64) -> Result<(usize, bool), String> {
+    let script = generate::planned_script(seed);
+    check_program(&order.program, &script, &peaks::output(&script))?;
+    let fits = peaks::peaks(Limits::STANDARD, &script).fits(Limits::STANDARD);
+    if fits != peaks::has_room(Limits::STANDARD, &script) {
+        return Err("the peaks do not tell whether the ledger answers 9 or 10".to_string());
+    }
+    Ok((lines(&script).count(), fits))
+}
+
+/// The count of lines and whether the plan is good, or what differs.
+fn compare_plans(order: &Order, seed: u64) -> Result<(usize, bool), String> {
+    let text = plan::generate::text(seed);
+    check_program(&order.program, &text, &plan::output(&text))?;
+    Ok((lines(&text).count(), plan::read(&text).is_some()))
+}
+
+/// The longest scripts that are run give what the reference gives, and a byte more the one line.
 fn compare_at_limit(order: &Order) -> Result<(), String> {
-    let mut script = generate::script_of(None, order.first_seed, LIMIT);
-    assert_eq!(script.len(), LIMIT);
-    check_program(&order.program, &script, &run(&script)).map_err(|finding| format!("longest script\n{finding}"))?;
-    script.push(b'\n');
-    check_program(&order.program, &script, b"script too long\n").map_err(|finding| format!("a byte more\n{finding}"))
+    let expected = match order.subject {
+        Subject::Answers => run,
+        Subject::Peaks => peaks::output,
+        // A plan that is too long is among the seeds'.
+        Subject::Plans => return Ok(()),
+    };
+    let any = generate::script_of(None, order.first_seed, LIMIT);
+    assert_eq!(any.len(), LIMIT);
+    let too_long = [&any[..], b"\n"].concat();
+    for (name, script) in [("any", any), ("a byte more", too_long)].into_iter().chain(longest::scripts()) {
+        check_program(&order.program, &script, &expected(&script))
+            .map_err(|finding| format!("longest: {name}\n{finding}"))?;
+    }
+    println!("scripts of {LIMIT} bytes and of one more: alike");
+    Ok(())
 }
 
 /// The program writes what is expected.
@@ -143,7 +196,7 @@ fn check_program(program: &str, script: &[u8], expected: &[u8]) -> Result<(), St
     Ok(())
 }
 
-/// The first line whose answers differ, with both.
+/// The first line whose answers differ, with both; of peaks the one line, of a plan the line of the channel.
 fn difference(script: &[u8], expected: &[u8], actual: &[u8]) -> Option<String> {
     if expected == actual {
         return None;

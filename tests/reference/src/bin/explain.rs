@@ -3,17 +3,21 @@
 //! input; with `--svg` a picture of it goes to FILE, with the title and the captions of the story where there is one, and
 //! with `--csv` a table. The figures are those of its pool: small blocks, large blocks, expirations and the largest
 //! extension; without them they are the scope paper's.
+//!
+//! Or a cable plan, what its channels do in steps 0 to 9,999 and what comes of it: `explain --plan FILE [--svg FILE]`.
 
 use std::fs::{self, File};
-use std::io::{self, Read, Write};
+use std::io::{self, Write};
 use std::process::ExitCode;
 
-use reference::explain::{explain, in_words, picture, summary, table, Line, Story};
+use reference::explain::{explain, in_words, picture, plan_picture, summary, table, Course, Line, Story};
 use reference::limits::Limits;
-use reference::program::figures;
+use reference::plan;
+use reference::program::{figures, read_plan, read_script};
 use reference::script::LIMIT;
 
-const USAGE: &str = "explain [--figures S,L,D,E] [--story FILE] [--svg FILE] [--csv FILE] [SCRIPT]";
+const USAGE: &str = "explain [--figures S,L,D,E] [--story FILE] [--svg FILE] [--csv FILE] [SCRIPT]\n\
+                     explain --plan FILE [--svg FILE]";
 
 #[derive(Default)]
 struct Order {
@@ -22,6 +26,7 @@ struct Order {
     story: Option<String>,
     picture: Option<String>,
     table: Option<String>,
+    plan: Option<String>,
 }
 
 fn main() -> ExitCode {
@@ -43,7 +48,7 @@ fn failed(told: &str) -> ExitCode {
     ExitCode::FAILURE
 }
 
-/// Each of the five at most once.
+/// Each of the six at most once. With a plan there is nothing of a script.
 fn order() -> Option<Order> {
     let (mut order, mut arguments) = (Order::default(), std::env::args().skip(1));
     while let Some(word) = arguments.next() {
@@ -52,6 +57,7 @@ fn order() -> Option<Order> {
             "--story" => order.story.replace(arguments.next()?),
             "--svg" => order.picture.replace(arguments.next()?),
             "--csv" => order.table.replace(arguments.next()?),
+            "--plan" => order.plan.replace(arguments.next()?),
             option if option.starts_with('-') => return None,
             _ => order.script.replace(word),
         };
@@ -59,11 +65,16 @@ fn order() -> Option<Order> {
             return None;
         }
     }
-    Some(order)
+    let Order { script, figures, story, table, .. } = &order;
+    let has_script = [script, figures, story, table].into_iter().any(Option::is_some);
+    (order.plan.is_none() || !has_script).then_some(order)
 }
 
 /// Writes picture and table, and gives the words. What is wrong with a file is told with its name.
 fn run(order: &Order) -> Result<String, String> {
+    if let Some(file) = &order.plan {
+        return run_plan(file, order.picture.as_deref());
+    }
     let limits = figures(order.figures.as_deref())?;
     let lines = explain(limits, &script(order.script.as_deref())?);
     let story = order.story.as_deref().map_or(Ok(Story::default()), |file| story(file, &lines))?;
@@ -74,6 +85,16 @@ fn run(order: &Order) -> Result<String, String> {
         named(file, fs::write(file, table(&lines)))?;
     }
     Ok(words(limits, &lines))
+}
+
+/// The same of a plan.
+fn run_plan(file: &str, picture: Option<&str>) -> Result<String, String> {
+    let text = named(file, File::open(file).and_then(read_plan))?;
+    let course = Course::of(&plan::read(&text).ok_or_else(|| format!("{file}: bad plan"))?);
+    if let Some(picture) = picture {
+        named(picture, fs::write(picture, plan_picture(&course)))?;
+    }
+    Ok(course.in_words())
 }
 
 fn words(limits: Limits, lines: &[Line]) -> String {
@@ -87,20 +108,13 @@ fn named<T>(name: &str, result: io::Result<T>) -> Result<T, String> {
 fn script(file: Option<&str>) -> Result<Vec<u8>, String> {
     let name = file.unwrap_or("standard input");
     let script = match file {
-        Some(file) => File::open(file).and_then(read),
-        None => read(io::stdin().lock()),
+        Some(file) => File::open(file).and_then(read_script),
+        None => read_script(io::stdin().lock()),
     };
     match named(name, script)? {
         script if script.len() > LIMIT => Err(format!("{name}: script too long, above {LIMIT} bytes")),
         script => Ok(script),
     }
-}
-
-/// As much as tells whether the script is too long.
-fn read(input: impl Read) -> io::Result<Vec<u8>> {
-    let mut script = Vec::new();
-    input.take(LIMIT as u64 + 1).read_to_end(&mut script)?;
-    Ok(script)
 }
 
 /// A story of these lines.

@@ -1,13 +1,13 @@
 //! The same program as the pool's own, by the reference: a script on standard input, answers on
 //! standard output. With `--figures S,L,D,E` it is run in a pool of these figures.
 
-use std::io::{self, Read, Write};
+use std::io::{self, Write};
 use std::process::ExitCode;
 
 use reference::call::Model;
 use reference::ledger::Ledger;
-use reference::program::figures;
-use reference::script::{run_from, LIMIT};
+use reference::program::{figures, read_script};
+use reference::script::run_from;
 
 fn main() -> io::Result<ExitCode> {
     let arguments: Vec<_> = std::env::args().skip(1).collect();
@@ -27,8 +27,7 @@ fn main() -> io::Result<ExitCode> {
             return Ok(ExitCode::FAILURE);
         }
     };
-    let mut script = Vec::with_capacity(LIMIT + 1);
-    io::stdin().lock().take(LIMIT as u64 + 1).read_to_end(&mut script)?;
+    let script = read_script(io::stdin().lock())?;
     io::stdout().lock().write_all(&run_from(Ledger::of(limits), &script))?;
     Ok(ExitCode::SUCCESS)
 }

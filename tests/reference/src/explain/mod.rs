@@ -1,11 +1,14 @@
 //! A script in words, as a picture and as a table: what each line asks and is told, why a call is refused and what would
-//! have been needed, for whom global time waits, and when and with what an object went; and all of it summed up.
+//! have been needed, for whom global time waits, and when and with what an object went; all of it summed up, with the room
+//! that the script needs. And a cable plan, in words and as a picture.
 
 mod answers;
 mod frames;
 mod phrases;
 mod picture;
+mod plan;
 mod refusals;
+mod room;
 mod story;
 mod summary;
 mod table;
@@ -14,10 +17,12 @@ mod watch;
 
 use crate::call::{Call, Figures, Refusal};
 use crate::frame::decode;
+use crate::ledger::Usage;
 use crate::limits::{Limits, TASKS};
 use crate::script::lines;
 use crate::tasks::Task;
-pub use picture::picture;
+pub use picture::{picture, plan_picture};
+pub use plan::Course;
 pub use story::Story;
 pub use summary::summary;
 pub use table::table;
@@ -41,6 +46,8 @@ pub struct Asked {
 /// What stands after a line.
 pub struct Moment {
     pub figures: Figures,
+    /// Order 11: what would stand with no reserve, no limit and room for all.
+    pub roomy: Usage,
     /// How many of the objects are pinned.
     pub pinned: Pinned,
     /// How many of the objects each task has made since it joined.

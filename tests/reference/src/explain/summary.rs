@@ -1,7 +1,8 @@
-//! A script summed up: peaks, refusals, the longest standstill of global time, and the blocks of each task.
+//! A script summed up: peaks, the room that it needs, refusals, the longest standstill of global time, and the blocks of each task.
 
 use super::phrases::{counted, listed};
 use super::refusals::name;
+use super::room::{needs, Need};
 use super::watch::awaited;
 use super::Line;
 use crate::call::Refusal;
@@ -9,7 +10,8 @@ use crate::limits::{Limits, TASKS};
 
 /// One line for each.
 pub fn summary(limits: Limits, lines: &[Line]) -> String {
-    let all = [vec![title(lines)], peaks(limits, lines), refusals(lines), vec![standstill(lines)], blocks(lines)];
+    let (title, peaks, room) = (vec![title(lines)], peaks(limits, lines), room(limits, lines));
+    let all = [title, peaks, room, refusals(lines), vec![standstill(lines)], blocks(lines)];
     all.concat().iter().map(|line| format!("{line}\n")).collect()
 }
 
@@ -35,6 +37,13 @@ fn peak(what: &str, limit: usize, values: impl Iterator<Item = usize>) -> String
         (_, 0) => format!("{what}: none of {limit}"),
         (line, most) => format!("{what}: at most {most} of {limit}, first at line {line}"),
     }
+}
+
+/// Order 11: the peaks with room for all, and where they would pass what the pool has.
+pub fn room(limits: Limits, lines: &[Line]) -> Vec<String> {
+    let names = ["small objects", "large objects", "expirations"];
+    let words = |(name, need): (&str, Need)| format!("{name}, with room for all: {}", need.words());
+    names.into_iter().zip(needs(limits, lines)).map(words).collect()
 }
 
 /// How often each refusal came, by number.

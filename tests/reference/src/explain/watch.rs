@@ -6,10 +6,13 @@ use crate::explain::trail::{Set, Trail};
 use crate::explain::{Moment, Pinned};
 use crate::ledger::Ledger;
 use crate::limits::{Limits, Store, TASKS};
+use crate::peaks::as_read;
 use crate::tasks::{State, Task};
 
 pub struct Watch {
     pub ledger: Ledger,
+    /// Order 11: the one with room for all.
+    roomy: Ledger,
     pub trail: Trail,
     /// The line that is carried out, from 1.
     pub line: usize,
@@ -33,12 +36,13 @@ pub struct Change {
 
 impl Watch {
     pub fn of(limits: Limits) -> Watch {
-        let (ledger, trail) = (Ledger::of(limits), Trail::default());
-        Watch { ledger, trail, line: 0, since: [0; TASKS], advanced: 0 }
+        let (ledger, roomy, trail) = (Ledger::of(limits), Ledger::roomy(limits), Trail::default());
+        Watch { ledger, roomy, trail, line: 0, since: [0; TASKS], advanced: 0 }
     }
 
     /// Does the call. A refusal changes nothing.
     pub fn call(&mut self, call: &Call) -> Result<Change, Refusal> {
+        _ = self.roomy.call(&as_read(call));
         let time = self.ledger.tasks().global();
         self.ledger.call(call)?;
         let advanced = self.ledger.tasks().global() != time;
@@ -125,7 +129,7 @@ impl Watch {
             }
         }
         let (figures, held) = (self.ledger.figures(), self.trail.held());
-        Moment { figures, pinned, held, global: tasks.global(), tasks: *tasks.entries() }
+        Moment { figures, roomy: self.roomy.usage(), pinned, held, global: tasks.global(), tasks: *tasks.entries() }
     }
 }
 

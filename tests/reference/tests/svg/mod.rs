@@ -91,3 +91,23 @@ impl<'a> TextBox<'a> {
 pub fn texts<'a>(tags: &[Tag<'a>]) -> Vec<TextBox<'a>> {
     tags.iter().filter(|tag| tag.name == "text").map(TextBox::of).collect()
 }
+
+/// It has these groups and needs no other file; it is described; its texts are within its frame, and none is over another.
+pub fn check(name: &str, picture: &str, tags: &[Tag], groups: &[&str]) {
+    let ids: Vec<_> = tags.iter().filter(|tag| tag.name == "g").map(|tag| tag.attributes["id"]).collect();
+    assert_eq!(ids, groups, "{name}");
+    for foreign in ["<script", "<style", "<image", "href", "font-face", "@import"] {
+        assert!(!picture.contains(foreign), "{name}: {foreign}");
+    }
+    let described = |name: &str| tags.iter().any(|tag| tag.name == name && !tag.text.is_empty());
+    assert!(described("title") && described("desc"), "{name}");
+    let (width, height, texts) = (tags[0].number("width"), tags[0].number("height"), texts(tags));
+    assert_eq!(width, 1000.0);
+    for (place, text) in texts.iter().enumerate() {
+        let is_inside = text.left >= 0.0 && text.right <= width && text.top >= 0.0 && text.bottom <= height;
+        assert!(is_inside, "{name}: {text:?}");
+        for other in &texts[..place] {
+            assert!(!text.overlaps(other), "{name}: {text:?} and {other:?}");
+        }
+    }
+}

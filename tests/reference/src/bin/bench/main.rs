@@ -1,6 +1,7 @@
-//! Measures a program that runs scripts beside others that do: `bench PROGRAM OTHER...`. For each script the
+//! Measures a program that runs scripts beside others that do: `bench [--peaks | --plans] PROGRAM OTHER...`. For each script the
 //! instructions that callgrind counts and the best time, with the ratios to the others; then what a call costs as
-//! the script grows. Whether a program is right is for `compare` to tell.
+//! the script grows. With `--peaks` the programs work out the room of a script, and the scripts are those that take the
+//! most time or tables for it; with `--plans` they try cable plans, and the scripts are plans. Whether a program is right is for `compare` to tell.
 
 mod measure;
 
@@ -12,6 +13,10 @@ use std::process::ExitCode;
 
 use measure::{best_time, has_valgrind, instructions, RUNS};
 use reference::generate::{script_of, Profile, PROFILES};
+use reference::limits::TASKS;
+use reference::longest;
+use reference::plan::generate::{plan, written, SORTS};
+use reference::plan::Channel;
 use reference::script::{lines, LIMIT};
 
 const SEED: u64 = 2010;
@@ -27,12 +32,20 @@ struct Script {
 }
 
 fn main() -> ExitCode {
-    let programs: Vec<_> = std::env::args_os().skip(1).map(PathBuf::from).collect();
+    let mut arguments = std::env::args_os().skip(1).peekable();
+    let of_peaks = arguments.next_if(|word| word == "--peaks").is_some();
+    let of_plans = !of_peaks && arguments.next_if(|word| word == "--plans").is_some();
+    let scripts = match (of_peaks, of_plans) {
+        (true, _) => planned_scripts,
+        (_, true) => plans,
+        _ => long_scripts,
+    };
+    let programs: Vec<_> = arguments.map(PathBuf::from).collect();
     let [_, _, ..] = programs[..] else {
-        eprintln!("bench PROGRAM OTHER...");
+        eprintln!("bench [--peaks | --plans] PROGRAM OTHER...");
         return ExitCode::from(2);
     };
-    match Folder::new().and_then(|folder| measure_all(&programs, &folder.0)) {
+    match Folder::new().and_then(|folder| measure_all(&programs, &scripts(), !of_plans, &folder.0)) {
         Ok(()) => ExitCode::SUCCESS,
         Err(error) => {
             eprintln!("bench: {error}");
@@ -60,9 +73,10 @@ impl Drop for Folder {
     }
 }
 
-fn measure_all(programs: &[PathBuf], folder: &Path) -> io::Result<()> {
-    let scripts = long_scripts(folder)?;
-    let empty = put(folder, "empty".to_string(), b"")?;
+/// With what a call costs as the script grows, where scripts grow.
+fn measure_all(programs: &[PathBuf], scripts: &[(String, Vec<u8>)], grow: bool, folder: &Path) -> io::Result<()> {
+    let scripts: Vec<_> = scripts.iter().map(|(name, script)| put(folder, name, script)).collect::<io::Result<_>>()?;
+    let empty = put(folder, "empty", b"")?;
     let count = |program: &Path, script: &Script| instructions(program, &script.path, folder);
     let time = |program: &Path, script: &Script| best_time(program, &script.path);
     let counts = has_valgrind();
@@ -74,7 +88,7 @@ fn measure_all(programs: &[PathBuf], folder: &Path) -> io::Result<()> {
     }
     println!("\nmicroseconds, the best of {RUNS} runs");
     table(programs, &scripts, &empty, time)?;
-    if counts {
+    if counts && grow {
         println!("\ninstructions of one call of the program, {GROWING:?}, without those of an empty script");
         growth(folder, &empty, |script| count(&programs[0], script))?;
     }
@@ -84,16 +98,30 @@ fn measure_all(programs: &[PathBuf], folder: &Path) -> io::Result<()> {
 // Scripts.
 
 /// One of each profile and one of all, at the full length.
-fn long_scripts(folder: &Path) -> io::Result<Vec<Script>> {
+fn long_scripts() -> Vec<(String, Vec<u8>)> {
     let profiles = PROFILES.iter().map(|&profile| (format!("{profile:?}"), Some(profile)));
     let all = profiles.chain([("Mixed".to_string(), None)]);
-    all.map(|(name, only)| put(folder, name, &script_of(only, SEED, LIMIT))).collect()
+    all.map(|(name, only)| (name, script_of(only, SEED, LIMIT))).collect()
 }
 
-fn put(folder: &Path, name: String, script: &[u8]) -> io::Result<Script> {
-    let path = folder.join(&name);
+/// Those that take the most time or tables for their room, and one of all profiles.
+fn planned_scripts() -> Vec<(String, Vec<u8>)> {
+    let mixed = ("mixed", script_of(None, SEED, LIMIT));
+    longest::scripts().into_iter().chain([mixed]).map(|(name, script)| (name.to_string(), script)).collect()
+}
+
+/// Sixteen channels without a pause, which is the most that a plan asks for, and a plan of each sort.
+fn plans() -> Vec<(String, Vec<u8>)> {
+    let busy = Channel { period: 1, reply: 1, silent: u16::MAX, wait: 0, extension: 30 };
+    let sorts = SORTS.iter().map(|&sort| (format!("{sort:?}"), plan(sort, SEED)));
+    let all = [("sixteen".to_string(), vec![busy; TASKS])].into_iter().chain(sorts);
+    all.map(|(name, plan)| (name, written(&plan).into_bytes())).collect()
+}
+
+fn put(folder: &Path, name: &str, script: &[u8]) -> io::Result<Script> {
+    let path = folder.join(name);
     fs::write(&path, script)?;
-    Ok(Script { name, path, lines: lines(script).count() })
+    Ok(Script { name: name.to_string(), path, lines: lines(script).count() })
 }
 
 // Tables.
@@ -149,7 +177,7 @@ fn growth(folder: &Path, empty: &Script, count: impl Fn(&Script) -> io::Result<u
     let start = count(empty)?;
     println!("{:<8}{:>8}{:>13}{:>13}", "KiB", "lines", "all", "a call");
     for size in SIZES {
-        let script = put(folder, format!("{size}-KiB"), &script_of(Some(GROWING), SEED, size * 1_024))?;
+        let script = put(folder, &format!("{size}-KiB"), &script_of(Some(GROWING), SEED, size * 1_024))?;
         let all = count(&script)?;
         let a_call = all.saturating_sub(start) / script.lines as u64;
         println!("{size:<8}{:>8}{all:>13}{a_call:>13}", script.lines);

@@ -9,7 +9,7 @@ pub const LARGE: &str = "fill=\"none\" stroke=\"#d9730d\" stroke-width=\"2.2\" s
 pub const EXPIRATIONS: &str = "fill=\"none\" stroke=\"#2b6b2b\" stroke-width=\"2.6\" stroke-dasharray=\"2 1\"";
 pub const GLOBAL: &str = "fill=\"none\" stroke=\"#9a5cc4\" stroke-width=\"3.4\"";
 pub const PINNED: &str = "fill=\"#e3c9a8\"";
-const GRID: &str = "fill=\"none\" stroke=\"#dddddd\" stroke-width=\"1\"";
+pub const GRID: &str = "fill=\"none\" stroke=\"#dddddd\" stroke-width=\"1\"";
 const FRAME: &str = "fill=\"none\" stroke=\"#888888\" stroke-width=\"1\"";
 
 /// The name above a panel, and its axis with the values of its steps.

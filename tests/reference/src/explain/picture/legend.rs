@@ -41,7 +41,7 @@ pub fn legend(svg: &mut Svg, y: f64) -> f64 {
 }
 
 /// A sample and its name. Gives where the next one starts.
-fn item(svg: &mut Svg, x: f64, y: f64, style: &str, sample: &Path, name: &str) -> f64 {
+pub fn item(svg: &mut Svg, x: f64, y: f64, style: &str, sample: &Path, name: &str) -> f64 {
     svg.path(style, sample);
     let start = x + SAMPLE + 6.0;
     svg.text(start, y + 4.0, SIZE, Anchor::Start, name);

@@ -1,21 +1,25 @@
-//! A script as a picture: an SVG file that needs nothing else, made for a width of 1,000 pixels.
+//! A script or a plan as a picture: an SVG file that needs nothing else, made for a width of 1,000 pixels.
 
 mod bars;
 mod captions;
 mod curves;
 mod legend;
 mod marks;
+mod plan;
+mod room;
 mod scale;
 mod svg;
 
 use super::phrases::counted;
+use super::room::needs;
 use super::story::Story;
-use super::summary::{peaks, refusals, standstill, title};
+use super::summary::{peaks, refusals, room, standstill, title};
 use super::Line;
 use crate::limits::Limits;
 use bars::{bars, present, ticks, HATCHED, ROW};
 use curves::{area, axis, baseline, curve, frame, grid, EXPIRATIONS, GLOBAL, LARGE, PINNED, SMALL};
 use marks::Labels;
+pub use plan::plan_picture;
 use scale::{Columns, Panel, LEFT, RIGHT};
 use svg::{Anchor, Svg};
 
@@ -28,8 +32,8 @@ pub struct Sheet<'a> {
     story: &'a Story,
 }
 
-/// Standing objects, expirations and global time after each line, the tasks' states, and the refusals. The figures are
-/// those of the script's pool; the story's lines are lines of the script.
+/// Standing objects, expirations and global time after each line, the room that is needed, the tasks' states, and the
+/// refusals. The figures are those of the script's pool; the story's lines are lines of the script.
 pub fn picture(limits: Limits, story: &Story, lines: &[Line]) -> String {
     let (mut svg, sheet) = (Svg::default(), Sheet { lines, story });
     svg.raw(HATCHED);
@@ -54,6 +58,7 @@ fn description(limits: Limits, sheet: &Sheet) -> String {
     let mut sentences = vec![title(sheet.lines)];
     sentences.extend(sheet.story.captions.iter().map(|caption| format!("Line {}: {}", caption.line, caption.words)));
     sentences.extend(peaks(limits, sheet.lines));
+    sentences.extend(room(limits, sheet.lines));
     sentences.extend(refusals(sheet.lines));
     sentences.push(standstill(sheet.lines));
     sentences.join(".\n") + "."
@@ -73,35 +78,41 @@ fn head(svg: &mut Svg, sheet: &Sheet) -> f64 {
     bottom
 }
 
-/// The four panels of figures, from `top` on.
+/// The four panels of figures, from `top` on, with the room that the script needs under three of them.
 fn figures(svg: &mut Svg, limits: Limits, sheet: &Sheet, top: f64) -> f64 {
     let after = || sheet.lines.iter().map(|line| &line.after);
     let small = || after().map(|after| u64::from(after.figures.small));
     let large = || after().map(|after| u64::from(after.figures.large));
     let expirations = || after().map(|after| u64::from(after.figures.expirations));
     let global = || after().map(|after| after.global);
+    let [small_need, large_need, expirations_need] = needs(limits, sheet.lines);
+    let columns = Columns(sheet.lines.len());
 
+    let mut bottom = top;
     let panel = Panel::within(top, 128.0, most(small()), limits.small_blocks);
     svg.group("small-objects", |svg| {
         axis(svg, sheet, &panel, &reached("Small objects (count)", most(small()), limits.small_blocks));
         area(svg, &panel, PINNED, after().map(|after| after.pinned.small.into()));
         curve(svg, &panel, SMALL, small());
+        bottom = room::under(svg, &panel, columns, &small_need);
     });
 
-    let panel = Panel::within(panel.bottom() + APART, 64.0, most(large()), limits.large_blocks);
+    let panel = Panel::within(bottom + APART, 64.0, most(large()), limits.large_blocks);
     svg.group("large-objects", |svg| {
         axis(svg, sheet, &panel, &reached("Large objects (count)", most(large()), limits.large_blocks));
         area(svg, &panel, PINNED, after().map(|after| after.pinned.large.into()));
         curve(svg, &panel, LARGE, large());
+        bottom = room::under(svg, &panel, columns, &large_need);
     });
 
-    let panel = Panel::within(panel.bottom() + APART, 80.0, most(expirations()), limits.expirations);
+    let panel = Panel::within(bottom + APART, 80.0, most(expirations()), limits.expirations);
     svg.group("expirations", |svg| {
         axis(svg, sheet, &panel, &reached("Expirations (count)", most(expirations()), limits.expirations));
         curve(svg, &panel, EXPIRATIONS, expirations());
+        bottom = room::under(svg, &panel, columns, &expirations_need);
     });
 
-    let panel = Panel::up_to(panel.bottom() + APART, 64.0, most(global()));
+    let panel = Panel::up_to(bottom + APART, 64.0, most(global()));
     svg.group("global-time", |svg| {
         axis(svg, sheet, &panel, "Global time (advances)");
         curve(svg, &panel, GLOBAL, global());
