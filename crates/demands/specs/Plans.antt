@@ -1,5 +1,6 @@
 -- G14: the claims of a cable plan (order 13 of document 02) of the pool, over the calls of its run: whatever its answers are, no write is
--- refused, nor any other call but a make; the answers are those by which the run on the ledger goes on, and what is left reads as its ledger.
+-- refused, nor any other call but a make; the answers are those by which the run on the ledger goes on, and what is left reads as its
+-- ledger.
 use Prim.Native.Nat.{ℕ, _≤_}
 use mathlib.Core.Bool.{false}
 use mathlib.Core.List.{List}

@@ -1,5 +1,5 @@
--- The claim of K (order 11 of document 02) for the pool: of every list of calls that is run from a fresh record, its stores being as long as
--- the blocks need and changed by the calls alone.
+-- The claim of K (order 11 of document 02) for the pool: of every list of calls that is run from a fresh record, its stores being as long
+-- as the blocks need and changed by the calls alone.
 use Prim.Native.Nat.{ℕ}
 use mathlib.Core.Bool.{true}
 use mathlib.Core.List.{List, map}

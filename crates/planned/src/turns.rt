@@ -46,7 +46,11 @@ fn send(
     requires { ⌜ Sized (now handles) (now extents) (now clocks) (now named) (now dues)
         × Fits (pooled h (now handles) (now extents) (now clocks) (now named) (now dues)) (now small) (now large) ⌝ }
     ensures { λ r. ⌜ Sized (now (handles .exit)) (now (extents .exit)) (now (clocks .exit)) (now (named .exit)) (now (dues .exit))
-        × Sends request (now (bytes .entry)) (pooled h (now (handles .entry)) (now (extents .entry)) (now (clocks .entry)) (now (named .entry)) (now (dues .entry))) (now (small .entry)) (now (large .entry)) (r .answer) (pooled (r .head) (now (handles .exit)) (now (extents .exit)) (now (clocks .exit)) (now (named .exit)) (now (dues .exit))) (now (small .exit)) (now (large .exit)) ⌝ }
+        × Sends request (now (bytes .entry))
+        (pooled h (now (handles .entry)) (now (extents .entry)) (now (clocks .entry)) (now (named .entry)) (now (dues .entry)))
+        (now (small .entry)) (now (large .entry)) (r .answer)
+        (pooled (r .head) (now (handles .exit)) (now (extents .exit)) (now (clocks .exit)) (now (named .exit)) (now (dues .exit)))
+        (now (small .exit)) (now (large .exit)) ⌝ }
 {
     let holdings = holdings_for(h, handles, extents, request);
     call(
@@ -88,7 +92,11 @@ fn first_calls(
     requires { ⌜ Sized (now handles) (now extents) (now clocks) (now named) (now dues)
         × Fits (pooled h (now handles) (now extents) (now clocks) (now named) (now dues)) (now small) (now large) ⌝ }
     ensures { λ r. ⌜ Sized (now (handles .exit)) (now (extents .exit)) (now (clocks .exit)) (now (named .exit)) (now (dues .exit))
-        × Opens step task channel turn (pooled h (now (handles .entry)) (now (extents .entry)) (now (clocks .entry)) (now (named .entry)) (now (dues .entry))) (now (small .entry)) (now (large .entry)) (r .poll) (pooled (r .head) (now (handles .exit)) (now (extents .exit)) (now (clocks .exit)) (now (named .exit)) (now (dues .exit))) (now (small .exit)) (now (large .exit)) ⌝ }
+        × Opens step task channel turn
+        (pooled h (now (handles .entry)) (now (extents .entry)) (now (clocks .entry)) (now (named .entry)) (now (dues .entry)))
+        (now (small .entry)) (now (large .entry)) (r .poll)
+        (pooled (r .head) (now (handles .exit)) (now (extents .exit)) (now (clocks .exit)) (now (named .exit)) (now (dues .exit)))
+        (now (small .exit)) (now (large .exit)) ⌝ }
 {
     match turn {
         Turn::Rests => Opened {
@@ -181,7 +189,11 @@ fn take_turn(
         × (Sized (now handles) (now extents) (now clocks) (now named) (now dues)
         × Fits (pooled h (now handles) (now extents) (now clocks) (now named) (now dues)) (now small) (now large)) ⌝ }
     ensures { λ r. ⌜ Sized (now (handles .exit)) (now (extents .exit)) (now (clocks .exit)) (now (named .exit)) (now (dues .exit))
-        × Takes step task t (pooled h (now (handles .entry)) (now (extents .entry)) (now (clocks .entry)) (now (named .entry)) (now (dues .entry))) (now (small .entry)) (now (large .entry)) (r .track) (pooled (r .head) (now (handles .exit)) (now (extents .exit)) (now (clocks .exit)) (now (named .exit)) (now (dues .exit))) (now (small .exit)) (now (large .exit)) ⌝ }
+        × Takes step task t
+        (pooled h (now (handles .entry)) (now (extents .entry)) (now (clocks .entry)) (now (named .entry)) (now (dues .entry)))
+        (now (small .entry)) (now (large .entry)) (r .track)
+        (pooled (r .head) (now (handles .exit)) (now (extents .exit)) (now (clocks .exit)) (now (named .exit)) (now (dues .exit)))
+        (now (small .exit)) (now (large .exit)) ⌝ }
 {
     let channel = t.channel;
     let poll = t.poll;
@@ -250,7 +262,11 @@ pub fn take_step(
         × (Sized (now handles) (now extents) (now clocks) (now named) (now dues)
         × Fits (pooled h (now handles) (now extents) (now clocks) (now named) (now dues)) (now small) (now large)) ⌝ }
     ensures { λ r. ⌜ Sized (now (handles .exit)) (now (extents .exit)) (now (clocks .exit)) (now (named .exit)) (now (dues .exit))
-        × Steps step count tracks (pooled h (now (handles .entry)) (now (extents .entry)) (now (clocks .entry)) (now (named .entry)) (now (dues .entry))) (now (small .entry)) (now (large .entry)) (r .tracks) (pooled (r .head) (now (handles .exit)) (now (extents .exit)) (now (clocks .exit)) (now (named .exit)) (now (dues .exit))) (now (small .exit)) (now (large .exit)) ⌝ }
+        × Steps step count tracks
+        (pooled h (now (handles .entry)) (now (extents .entry)) (now (clocks .entry)) (now (named .entry)) (now (dues .entry)))
+        (now (small .entry)) (now (large .entry)) (r .tracks)
+        (pooled (r .head) (now (handles .exit)) (now (extents .exit)) (now (clocks .exit)) (now (named .exit)) (now (dues .exit)))
+        (now (small .exit)) (now (large .exit)) ⌝ }
 {
     let mut head = h;
     let mut out = tracks;

@@ -16,8 +16,8 @@ use Rattle.frames.specs.Scripts.{callsOf}
 use Rattle.text.specs.Lines.{linesOf}
 use Rattle.script.specs.Output.{LinesRun}
 
--- K8: a script, and one that is written as it is read: with reserves 0 and limits 255 in every join. From a fresh pool no line of the second is
--- answered 9 or 10 exactly when the pool has the room that the first needs.
+-- K8: a script, and one that is written as it is read: with reserves 0 and limits 255 in every join. From a fresh pool no line of the
+-- second is answered 9 or 10 exactly when the pool has the room that the first needs.
 abbrev pub ScriptHasRoom : Type 0
 ScriptHasRoom =
     (limits : Limits) → isAllowed limits ≡ true → (small large : List ℕ) → length small ≡ wholeSmall limits → length large ≡ wholeLarge limits

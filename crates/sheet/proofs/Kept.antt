@@ -1,4 +1,5 @@
--- Two loops that take out what is over: one counts it down, one moves the rest to the end. Each as the start, the turn and the end of its invariant.
+-- Two loops that take out what is over: one counts it down, one moves the rest to the end. Each as the start, the turn and the end of its
+-- invariant.
 use Prim.Native.Nat.{ℕ, zero, suc, _+_, _-_, _≤_, _<_}
 use native.Mathlib.Numerals.{add-one}
 use native.Mathlib.Omega.{arith}

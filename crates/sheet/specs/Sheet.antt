@@ -1,4 +1,5 @@
--- The sheet on which a script is worked out: of an object its store alone, of an expiration what is left of it; no time, no byte. Nothing is used again.
+-- The sheet on which a script is worked out: of an object its store alone, of an expiration what is left of it; no time, no byte. Nothing
+-- is used again.
 use Prim.Native.Nat.{ℕ, suc, _+_}
 use mathlib.Core.Bool.{Bool, true, false, cond, not, _&&_, _||_}
 use mathlib.Core.List.{List, [], _∷_, _++_}

@@ -24,7 +24,8 @@ use ledger::TASK_COUNT;
 use record::TaskEntry;
 use record::running::is_waiting;
 
-// What an event does: the units that it takes of its task's local expirations, whether the task leaves, and whether the global time advances.
+// What an event does: the units that it takes of its task's local expirations, whether the task leaves, and whether the global time
+// advances.
 pub struct Passing {
     pub task: u8,
     pub cost: u8,
@@ -34,7 +35,8 @@ pub struct Passing {
 
 // E20: those of each task that waits are put off.
 fn put_off_all(tasks: [TaskEntry; TASK_COUNT], clocks: &[u8], units: &mut [u8])
-    requires { ⌜ (length (now clocks) ≡ length (now units)) × All (λ (u : ℕ). u ≤ mostUnits) (now units) ⌝ }
+    requires { ⌜ (length (now clocks) ≡ length (now units))
+        × All (λ (u : ℕ). u ≤ mostUnits) (now units) ⌝ }
     ensures { λ _. ⌜ now (units .exit) ≡ unitsBy (putOffBelow taskCount tasks) (now (clocks .entry)) (now (units .entry)) ⌝ }
 {
     for t in 0..TASK_COUNT {
@@ -48,7 +50,8 @@ fn put_off_all(tasks: [TaskEntry; TASK_COUNT], clocks: &[u8], units: &mut [u8])
 
 // E11, E20: where the global time advances.
 fn advance_all(advanced: bool, tasks: [TaskEntry; TASK_COUNT], clocks: &[u8], units: &mut [u8])
-    requires { ⌜ (length (now clocks) ≡ length (now units)) × All (λ (u : ℕ). u ≤ mostUnits) (now units) ⌝ }
+    requires { ⌜ (length (now clocks) ≡ length (now units))
+        × All (λ (u : ℕ). u ≤ mostUnits) (now units) ⌝ }
     ensures { λ _. ⌜ now (units .exit) ≡ advancedUnits advanced tasks (now (clocks .entry)) (now (units .entry)) ⌝ }
 {
     if !advanced {
@@ -71,8 +74,11 @@ fn desert_all(leaves: bool, task: u8, clocks: &mut [u8])
 
 // An event of a task, by the tasks as it leaves them.
 fn age(p: Passing, tasks: [TaskEntry; TASK_COUNT], clocks: &mut [u8], units: &mut [u8])
-    requires { ⌜ (p .task < taskCount) × (length (now clocks) ≡ length (now units)) × All (λ (u : ℕ). u ≤ mostUnits) (now units) ⌝ }
-    ensures { λ _. ⌜ (now (clocks .exit) ≡ agedClocks p (now (clocks .entry))) × (now (units .exit) ≡ agedUnits p tasks (now (clocks .entry)) (now (units .entry))) ⌝ }
+    requires { ⌜ (p .task < taskCount)
+        × (length (now clocks) ≡ length (now units))
+        × All (λ (u : ℕ). u ≤ mostUnits) (now units) ⌝ }
+    ensures { λ _. ⌜ (now (clocks .exit) ≡ agedClocks p (now (clocks .entry)))
+        × (now (units .exit) ≡ agedUnits p tasks (now (clocks .entry)) (now (units .entry))) ⌝ }
 {
     spend(p.task, p.cost, clocks, units);
     desert_all(p.leaves, p.task, clocks);
@@ -127,8 +133,11 @@ pub fn pass(
     units: &mut [u8],
     counts: &mut [u16],
 ) -> usize
-    requires { ⌜ (isTested event ≡ true) × (task < taskCount) × Table (now clocks) (now places) (now units) (now counts) ⌝ }
-    ensures { λ r. ⌜ Passes (readBy (agedBy event task advanced (waitsIn tasks))) (now (clocks .entry)) (now (places .entry)) (now (units .entry)) (now (counts .entry)) r (now (clocks .exit)) (now (places .exit)) (now (units .exit)) (now (counts .exit)) ⌝ }
+    requires { ⌜ (isTested event ≡ true)
+        × (task < taskCount)
+        × Table (now clocks) (now places) (now units) (now counts) ⌝ }
+    ensures { λ r. ⌜ Passes (readBy (agedBy event task advanced (waitsIn tasks))) (now (clocks .entry)) (now (places .entry))
+        (now (units .entry)) (now (counts .entry)) r (now (clocks .exit)) (now (places .exit)) (now (units .exit)) (now (counts .exit)) ⌝ }
 {
     age(passing_of(event, task, advanced), tasks, clocks, units);
     sweep(clocks, places, units, counts)
@@ -143,7 +152,8 @@ pub fn release(
     counts: &mut [u16],
 ) -> usize
     requires { ⌜ Table (now clocks) (now places) (now units) (now counts) ⌝ }
-    ensures { λ r. ⌜ Passes (unpinned (place + 1)) (now (clocks .entry)) (now (places .entry)) (now (units .entry)) (now (counts .entry)) r (now (clocks .exit)) (now (places .exit)) (now (units .exit)) (now (counts .exit)) ⌝ }
+    ensures { λ r. ⌜ Passes (unpinned (place + 1)) (now (clocks .entry)) (now (places .entry)) (now (units .entry)) (now (counts .entry)) r
+        (now (clocks .exit)) (now (places .exit)) (now (units .exit)) (now (counts .exit)) ⌝ }
 {
     unpin(place, clocks, places, units);
     sweep(clocks, places, units, counts)

@@ -64,7 +64,8 @@ fn added(hit: bool, units: u8) -> u8
 
 // E20: one unit more of the rows by one clock, before the global time advances.
 pub fn put_off(code: u8, clocks: &[u8], units: &mut [u8])
-    requires { ⌜ (length (now clocks) ≡ length (now units)) × All (λ (u : ℕ). u < 255) (now units) ⌝ }
+    requires { ⌜ (length (now clocks) ≡ length (now units))
+        × All (λ (u : ℕ). u < 255) (now units) ⌝ }
     ensures { λ _. ⌜ now (units .exit) ≡ unitsBy (putOffOf code) (now (clocks .entry)) (now (units .entry)) ⌝ }
 {
     for i in 0..units.len() {
@@ -105,7 +106,8 @@ fn unpinned(hit: bool, units: u8) -> u8
 
 // E24: none left of the pinned row of an object.
 pub fn unpin<'a>(place: u16, clocks: &'a [u8], places: &'a [u16], units: &mut [u8])
-    requires { ⌜ (length (now clocks) ≡ length (now units)) × (length (now places) ≡ length (now units)) ⌝ }
+    requires { ⌜ (length (now clocks) ≡ length (now units))
+        × (length (now places) ≡ length (now units)) ⌝ }
     ensures { λ _. ⌜ now (units .exit) ≡ unpinnedIn place (now (clocks .entry)) (now (places .entry)) (now (units .entry)) ⌝ }
 {
     for i in 0..units.len() {

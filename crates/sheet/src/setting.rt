@@ -22,7 +22,8 @@ pub fn put(
     left: u8,
 )
     requires { ⌜ Settable (now clocks) (now places) (now units) (now counts) at place left ⌝ }
-    ensures { λ _. ⌜ Sets (now (clocks .entry)) (now (places .entry)) (now (units .entry)) at place clock left (now (clocks .exit)) (now (places .exit)) (now (units .exit)) (now (counts .exit)) ⌝ }
+    ensures { λ _. ⌜ Sets (now (clocks .entry)) (now (places .entry)) (now (units .entry)) at place clock left (now (clocks .exit))
+        (now (places .exit)) (now (units .exit)) (now (counts .exit)) ⌝ }
 {
     clocks[at] = clock;
     places[at] = place;
@@ -52,8 +53,10 @@ pub struct Objects {
 }
 
 pub fn standing<'a>(smalls: &'a [bool], counts: &'a [u16]) -> Objects
-    requires { ⌜ (length (now smalls) ≡ length (now counts)) × (length (now counts) ≤ objectCount) ⌝ }
-    ensures { λ r. ⌜ (r .small ≡ allOf (smallIn (now (smalls .entry)) (now (counts .entry)))) × (r .large ≡ allOf (largeIn (now (smalls .entry)) (now (counts .entry)))) ⌝ }
+    requires { ⌜ (length (now smalls) ≡ length (now counts))
+        × (length (now counts) ≤ objectCount) ⌝ }
+    ensures { λ r. ⌜ (r .small ≡ allOf (smallIn (now (smalls .entry)) (now (counts .entry))))
+        × (r .large ≡ allOf (largeIn (now (smalls .entry)) (now (counts .entry)))) ⌝ }
 {
     let mut small: u32 = 0;
     let mut large: u32 = 0;

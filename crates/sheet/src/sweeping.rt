@@ -6,14 +6,16 @@ ghost use Rattle.sheet.specs.Kept.{kept, Counts, Compacts, Sweepable, Sw
 use super::passes::any_over;
 
 pub fn wide(place: u16) -> usize
-    ensures { λ r. ⌜ (r ≡ place) × (r < 65536) ⌝ }
+    ensures { λ r. ⌜ (r ≡ place)
+        × (r < 65536) ⌝ }
 {
     place as usize
 }
 
 // One row less is counted for each that is over.
 fn uncount<'a>(places: &'a [u16], units: &'a [u8], counts: &mut [u16])
-    requires { ⌜ (length (now places) ≡ length (now units)) × Counts (now places) (now counts) ⌝ }
+    requires { ⌜ (length (now places) ≡ length (now units))
+        × Counts (now places) (now counts) ⌝ }
     ensures { λ _. ⌜ Counts (kept (now (units .entry)) (now (places .entry))) (now (counts .exit)) ⌝ }
 {
     for i in 0..places.len() {
@@ -27,8 +29,10 @@ fn uncount<'a>(places: &'a [u16], units: &'a [u8], counts: &mut [u16])
 
 // From the last row down, each of which something is left is moved to the end; the place where they begin.
 fn compact(clocks: &mut [u8], places: &mut [u16], units: &mut [u8]) -> usize
-    requires { ⌜ (length (now clocks) ≡ length (now units)) × (length (now places) ≡ length (now units)) ⌝ }
-    ensures { λ r. ⌜ Compacts (now (clocks .entry)) (now (places .entry)) (now (units .entry)) r (now (clocks .exit)) (now (places .exit)) (now (units .exit)) ⌝ }
+    requires { ⌜ (length (now clocks) ≡ length (now units))
+        × (length (now places) ≡ length (now units)) ⌝ }
+    ensures { λ r. ⌜ Compacts (now (clocks .entry)) (now (places .entry)) (now (units .entry)) r (now (clocks .exit)) (now (places .exit))
+        (now (units .exit)) ⌝ }
 {
     let n = units.len();
     let mut from = n;
@@ -48,7 +52,8 @@ fn compact(clocks: &mut [u8], places: &mut [u16], units: &mut [u8]) -> usize
 // Both, where a row is over.
 pub fn sweep(clocks: &mut [u8], places: &mut [u16], units: &mut [u8], counts: &mut [u16]) -> usize
     requires { ⌜ Sweepable (now clocks) (now places) (now units) (now counts) ⌝ }
-    ensures { λ r. ⌜ Sweeps (now (clocks .entry)) (now (places .entry)) (now (units .entry)) (now (counts .entry)) r (now (clocks .exit)) (now (places .exit)) (now (units .exit)) (now (counts .exit)) ⌝ }
+    ensures { λ r. ⌜ Sweeps (now (clocks .entry)) (now (places .entry)) (now (units .entry)) (now (counts .entry)) r (now (clocks .exit))
+        (now (places .exit)) (now (units .exit)) (now (counts .exit)) ⌝ }
 {
     if !any_over(units) {
         return 0;
