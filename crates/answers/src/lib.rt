@@ -1,4 +1,6 @@
 // The rules F27 to F32: the line of an answer.
+#![tactic(auto)]
+
 ghost use Rattle.std.specs.Prelude.{◌+◌, ◌*◌, ◌≤◌, ◌≡◌, length};
 ghost use Rattle.answers.specs.Answers.{answer_head, answer_line};
 ghost use Rattle.text.specs.Fields.{in_bytes};

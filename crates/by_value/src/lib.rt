@@ -2,6 +2,8 @@
 // well-formed (15), then the stores (14) where it touches one. One that changes the record takes its columns out, has them tested and
 // changed, and puts the record together again. What an answer tells goes to numbers that the host lends. Here is what all of them share,
 // and those whose kind is given by its code (19): make, refresh and batch.
+#![tactic(auto)]
+
 ghost use Rattle.std.specs.Prelude.{[], ◌∷◌, ◌≡◌};
 ghost use Rattle.ledger.specs.Numbers.{number_of, kind_of};
 ghost use Rattle.by_value.specs.Entries.{MakesBy, RefreshesBy, RefreshesAllBy};

@@ -1,4 +1,6 @@
 // A frame on a record by value: one line carried out, whichever call it is, with the line of its answer in the host's buffer.
+#![tactic(auto)]
+
 ghost use Rattle.by_value_frame.specs.Carries.{Carries};
 
 use answers::LONGEST_ANSWER;

@@ -1,5 +1,7 @@
 // The calls on a record by value that concern the objects that stand: read, write, release, remaining life and report. Write and release
 // change the record; the others lend its columns where they are.
+#![tactic(auto)]
+
 ghost use Rattle.std.specs.Prelude.{[], ◌∷◌};
 ghost use Rattle.ledger.specs.declared.Call.TheVariants.{Release};
 ghost use Rattle.ledger.specs.declared.Request.TheVariants.{Use, Report, Remaining};

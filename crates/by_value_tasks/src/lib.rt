@@ -1,5 +1,7 @@
 // The calls on a record by value that concern tasks and times: renew and renew_sized, join, leave, block, resume, tick and view; and two
 // looks, awaited and share.
+#![tactic(auto)]
+
 ghost use Rattle.std.specs.Prelude.{[], ◌∷◌};
 ghost use Rattle.ledger.specs.declared.Call.TheVariants.{Join, Schedule};
 ghost use Rattle.ledger.specs.declared.Event.TheVariants.{Leave, Block, Resume, Tick, View};

@@ -1,6 +1,8 @@
 // Each call that changes something, and remaining life, of a well-formed record with stores as long as its blocks need: what follows the
 // tests of 15 and 14. The head goes by value, tables and stores are lent. A call decides first, by what it only reads, and then changes: a
 // refusal has touched nothing.
+#![tactic(auto)]
+
 ghost use Rattle.std.specs.Prelude.{◌<◌, true, false, ◌≡◌, length};
 ghost use Rattle.ledger.specs.Limits.{task_count, is_small};
 ghost use Rattle.ledger.specs.Tasks.{is_tested};

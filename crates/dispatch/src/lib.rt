@@ -1,4 +1,6 @@
 // The one dispatch: a call of the fourteen by its request, on a head by value and lent tables and stores.
+#![tactic(auto)]
+
 ghost use Rattle.std.specs.Prelude.{◌≡◌};
 ghost use Rattle.ledger.specs.declared.Request.TheVariants.{Use};
 ghost use Rattle.record.specs.Tables.{pooled, blocks_of, Sized};

@@ -1,4 +1,6 @@
 // What ends expirations, and frees the blocks that have none left: an event those that are over, a release the pinned one of its object.
+#![tactic(auto)]
+
 ghost use Rattle.std.specs.Prelude.{◌≡◌, ◌<◌, length};
 ghost use Rattle.ledger.specs.Limits.{task_count};
 ghost use Rattle.record.specs.Tables.{SizedEntries, block_entries};
@@ -21,7 +23,7 @@ pub use unpinning::release;
 
 // The time that an event of a task leaves: the task's local time, and whether it leaves for good; the global time, and whether that has
 // advanced.
-#[derive(Drop)]
+#[derive(Clone, Copy)]
 pub struct Passing {
     pub task: u8,
     pub leaves: bool,

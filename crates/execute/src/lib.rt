@@ -1,5 +1,7 @@
 // A line carried out on a record by value (P7) with its stores: its columns are taken out once, lent to the line, and the record is put
 // together once.
+#![tactic(auto)]
+
 ghost use Rattle.std.specs.Prelude.{◌≤◌, length};
 ghost use Rattle.record.specs.Tables.{pooled, Sized};
 ghost use Rattle.answers.specs.Answers.{longest_answer};

@@ -1,6 +1,8 @@
 // How expirations (01: dates) are kept: a table of entries, of which those with clock 0 are free. A call knows how many stand and how
 // long the object in a block has left, and sets one on a block or one on each of a batch's. Where an entry stands is known here and in
 // crates/endings, which ends them, alone.
+#![tactic(auto)]
+
 ghost use Rattle.std.specs.Prelude.{◌≡◌, ◌+◌, ◌<◌, ◌≤◌, length, take};
 ghost use Rattle.ledger.specs.Limits.{task_count, largest_batch};
 ghost use Rattle.expirations.specs.Standing.{standing_of, free_in};
@@ -29,7 +31,7 @@ pub fn standing(clocks: &[u8; EXPIRATION_COUNT]) -> u16
 }
 
 // An entry of the table.
-#[derive(Drop)]
+#[derive(Clone, Copy)]
 pub struct Entry {
     pub clock: u8,
     pub block: u8,

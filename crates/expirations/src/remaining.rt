@@ -12,7 +12,7 @@ use record::codes::{LOCAL, global_left, is_global, local_left};
 use record::{BYTE_VALUES, EXPIRATION_COUNT, GROUP, GROUP_COUNT, GlobalTime, Head, LocalTime};
 
 // What a task asks for: the object in a block, by the task's local time and by the global time.
-#[derive(Drop)]
+#[derive(Clone, Copy)]
 pub struct Query {
     pub task: u8,
     pub local: LocalTime,
@@ -21,7 +21,7 @@ pub struct Query {
 }
 
 // Units left by either time. Of an expiration that counts they fit a byte; of any other only their last byte is kept.
-#[derive(Drop)]
+#[derive(Clone, Copy)]
 pub struct Units {
     pub local: u8,
     pub global: u8,

@@ -1,5 +1,7 @@
 // The test of well-formedness (01: a fit record) on lent tables, in parts, each one pass: tasks; expirations by themselves; the pinned
 // ones; blocks by who names them; handles.
+#![tactic(auto)]
+
 ghost use Rattle.std.specs.Prelude.{◌≡◌, true};
 ghost use Rattle.ledger.specs.Limits.{is_allowed};
 ghost use Rattle.record.specs.Tables.{lent, Sized};

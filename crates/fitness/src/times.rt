@@ -33,7 +33,7 @@ const PINNED_UNITS: u64 = 1;
 
 // A time by one of the clocks, or the number of a pinned expiration, which is none. (It holds the number that a due one is held against, as
 // the others do: with no number in it the compiler makes no vector code of the fit test, which then takes 2,600 instructions more.)
-#[derive(Drop)]
+#[derive(Clone, Copy)]
 pub enum Time {
     None(u32),
     Local(LocalTime),

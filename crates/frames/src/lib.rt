@@ -1,4 +1,6 @@
 // The request of a line: the rules F, but for those of an answer.
+#![tactic(auto)]
+
 ghost use Rattle.std.specs.Prelude.{◌≡◌};
 ghost use Rattle.ledger.specs.declared.Frame.{Frame};
 ghost use Rattle.ledger.specs.declared.Refusal.{Refusal};

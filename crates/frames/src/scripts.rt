@@ -6,7 +6,7 @@ use ledger::Frame;
 use text::read_line;
 
 // The frame of a line, and where the next line starts.
-#[derive(Drop)]
+#[derive(Clone, Copy)]
 pub struct Step {
     pub frame: Frame,
     pub next: usize,

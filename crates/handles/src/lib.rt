@@ -1,4 +1,6 @@
 // Whether two blocks in use have one handle.
+#![tactic(auto)]
+
 ghost use Rattle.std.specs.Prelude.{true, not, ◌≡◌, length};
 ghost use Rattle.lists.specs.Tests.{all, count};
 ghost use Rattle.record.specs.WellFormed.{is_distinct};

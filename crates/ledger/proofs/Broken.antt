@@ -26,7 +26,7 @@ use Rattle.ledger.specs.declared.Refusal.{Refusal}
 use Rattle.ledger.specs.declared.Refusal.TheVariants.{SumDiffers}
 use Rattle.ledger.specs.declared.Request.{Request}
 use Rattle.ledger.specs.declared.Request.TheVariants.{Use, Report, Remaining}
-use Rattle.ledger.proofs.Hidden.{at_map, not_used, by_use}
+use Rattle.ledger.proofs.HiddenParts.{at_map, not_used, by_use}
 use Rattle.ledger.proofs.Passed.{Passed, passed}
 use Rattle.ledger.proofs.Standing.{at_standing, sets_on, stood}
 

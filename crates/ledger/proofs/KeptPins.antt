@@ -3,7 +3,7 @@ use Prim.Native.Nat.{ℕ, ◌+◌}
 use native.Mathlib.Nat.{le_refl, le_trans}
 use mathlib.Core.Bool.{Bool, true, false, not, and-eq-true_iff, and-true, and-false}
 use mathlib.Core.List.{List, [], ◌∷◌}
-use mathlib.Core.Path.{◌≡◌, refl, sym, ◌∙◌}
+use mathlib.Core.Path.{◌≡◌, refl, subst, sym, ◌∙◌}
 use borrow.Author.Tests.{eqb-true, eqb-false, eq-eqb, ne_eqb}
 use lib.Dec.{eqb}
 use Rattle.lists.specs.Tests.{any, filter, count}
@@ -161,7 +161,10 @@ lasting_once Tick task advanced clocks xs k = live_once advanced clocks xs k
 made_once : (x : Expiration) (xs : List Expiration) → count (is_pin_of x.handle) xs ≡ 0 → PinnedOnceKept xs → PinnedOnceKept (x ∷ xs)
 made_once x xs none k handle =
     by_test (is_pin_of handle x)
-    (λ e. rw (e, ← eqb-true x.handle handle ((and-eq-true_iff (is_of handle x) (is_pinned x.due)).0 e).0, none) (le_refl 1))
+    (λ e.
+    let same = eqb-true x.handle handle ((and-eq-true_iff (is_of handle x) (is_pinned x.due)).0 e).0 in
+    let no_other : count (is_pin_of handle) xs ≡ 0 = subst (λ (h : ℕ). count (is_pin_of h) xs ≡ 0) same none in
+    rw (e, no_other) (le_refl 1))
     (λ e. rw e (k handle))
 
 -- or one that is not pinned

@@ -25,7 +25,7 @@ pub mod OutlivesRows
 pub mod Pinned
 pub mod Batches
 pub mod LongBatches
-pub mod Hidden
+pub mod HiddenParts
 pub mod Broken
 pub mod Spared
 pub mod Noticed

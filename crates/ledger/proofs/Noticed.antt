@@ -24,7 +24,7 @@ use Rattle.ledger.specs.declared.Refusal.TheVariants.{SumDiffers}
 use Rattle.ledger.specs.declared.Request.{Request}
 use Rattle.ledger.specs.declared.Request.TheVariants.{Use, Report, Remaining}
 use Rattle.ledger.proofs.Demand3.{HeapKept}
-use Rattle.ledger.proofs.Hidden.{hidden_in, unseen_disturbed, unseen_map, answered_alike, left_alike, left_unseen, by_use}
+use Rattle.ledger.proofs.HiddenParts.{hidden_in, unseen_disturbed, unseen_map, answered_alike, left_alike, left_unseen, by_use}
 use Rattle.ledger.proofs.Kept.{kept_fresh}
 use Rattle.ledger.proofs.Standing.{Standing}
 use Rattle.ledger.proofs.Broken.{Broken, use_answered, use_left, broken_after}

@@ -5,7 +5,7 @@ use native.Mathlib.Omega.{arith}
 use mathlib.Core.Bool.{Bool, true, false, ◌&&◌}
 use mathlib.Core.List.{List, [], ◌∷◌, map}
 use mathlib.Core.Option.{none}
-use mathlib.Core.Path.{◌≡◌, refl, sym, ap, ◌∙◌}
+use mathlib.Core.Path.{◌≡◌, refl, sym, ap, ◌∙◌, subst}
 use borrow.Author.Tests.{lt-leb, le-ltb}
 use lib.ListN.{length, get_or-replicate}
 use lib.Seq.{get_or-set_same}
@@ -73,17 +73,14 @@ step_carried (t ∷ ts) L k step task l (h, hs) =
     let rest = tracks_untouched L M (suc task) (λ j g. turn_untouched task j (λ q. omega (arith, g, q)) L k (opened L step task t.channel) t.channel w)
     (suc task) (le_refl (suc task)) ts hs in
     let (passes, kept) = step_carried ts M k_m step (suc task) (omega (arith, l)) rest in
-    rw (
-      after_append calls (step_calls M step (suc task) ts) L,
-      refused_append not_make calls (step_calls M step (suc task) ts) L,
-      c.passes,
-      passes,
-    ) (
-      refl,
+    let after = after_append calls (step_calls M step (suc task) ts) L in
+    let poll = poll_untouched M (after_all M (step_calls M step (suc task) ts)) task (step_untouched ts M k_m step (suc task) task
+        (le_refl (suc task))) (after_turn L step task t).poll c.kept in
+    (
+      rw (refused_append not_make calls (step_calls M step (suc task) ts) L, c.passes, passes),
       (
-        poll_untouched M (after_all M (step_calls M step (suc task) ts)) task (step_untouched ts M k_m step (suc task) task
-            (le_refl (suc task))) (after_turn L step task t).poll c.kept,
-        kept,
+        subst (λ (N : Ledger). PollKept N task (after_turn L step task t).poll) (sym after) poll,
+        subst (λ (N : Ledger). TracksKept N (suc task) (after_step M step (suc task) ts)) (sym after) kept,
       ),
     )
 

@@ -1,4 +1,6 @@
 // What code and specifications share: document 01's figures, its calls, their answers, and the refusals with their numbers.
+#![tactic(auto)]
+
 ghost use Rattle.std.specs.Prelude.{◌≡◌};
 ghost use Rattle.ledger.specs.Limits.{is_allowed};
 ghost use Rattle.ledger.specs.Numbers.{number_of, answer_number, kind_of};
@@ -8,7 +10,7 @@ pub mod plans;
 // C1: the four figures that a site chooses for the life of a pool: blocks of the small store and of the large one, expirations (01: dates),
 // largest extension.
 #[repr(C)]
-#[derive(Drop)]
+#[derive(Clone, Copy)]
 pub struct Limits {
     pub small: u32,
     pub large: u32,
@@ -49,7 +51,7 @@ pub const LARGE_SIZE: u32 = 256;
 pub const LARGEST_BATCH: usize = 32;
 
 // T2, V1: the state of a task. A viewer reads prefixes and changes nothing.
-#[derive(Drop)]
+#[derive(Clone, Copy)]
 pub enum State {
     Absent,
     Running,
@@ -58,7 +60,7 @@ pub enum State {
 }
 
 // E2, E22: the kind of an expiration (01: date); Local is 01's own, Global its common, Pinned 02's kept.
-#[derive(Drop)]
+#[derive(Clone, Copy)]
 pub enum Kind {
     Local,
     Global,
@@ -67,7 +69,7 @@ pub enum Kind {
 
 // Q1: of one store, how many blocks are held back for a task, and how many objects it may have there.
 #[repr(C)]
-#[derive(Drop)]
+#[derive(Clone, Copy)]
 pub struct Quota {
     pub reserve: u8,
     pub limit: u8,
@@ -75,14 +77,14 @@ pub struct Quota {
 
 // Q1: what a task asks for when it joins, and has until it leaves.
 #[repr(C)]
-#[derive(Drop)]
+#[derive(Clone, Copy)]
 pub struct Share {
     pub small: Quota,
     pub large: Quota,
 }
 
 // The five calls that change a task's state or clock and name nothing but the task. V1: View (02: 0E) joins as a viewer.
-#[derive(Drop)]
+#[derive(Clone, Copy)]
 pub enum Event {
     Leave,
     Block,
@@ -93,7 +95,7 @@ pub enum Event {
 
 // The twelve calls that are compared with the unbounded heap. The bytes of a write and the handles of a batch stand beside it. V4: the
 // prefix of a make is 02's head length.
-#[derive(Drop)]
+#[derive(Clone, Copy)]
 pub enum Call {
     Join {
         task: u8,
@@ -137,7 +139,7 @@ pub enum Call {
 }
 
 // All fourteen calls.
-#[derive(Drop)]
+#[derive(Clone, Copy)]
 pub enum Request {
     Use(Call),
     Report,
@@ -145,7 +147,7 @@ pub enum Request {
 }
 
 // What report counts: standing objects of either store, expirations (01: dates), handles (01: numbers) given.
-#[derive(Drop)]
+#[derive(Clone, Copy)]
 pub struct Usage {
     pub small: u8,
     pub large: u8,
@@ -154,7 +156,7 @@ pub struct Usage {
 }
 
 // K4: the room that a script needs: the most standing objects of either store and expirations after any of its calls.
-#[derive(Drop)]
+#[derive(Clone, Copy)]
 pub struct Peaks {
     pub small: u32,
     pub large: u32,
@@ -162,14 +164,14 @@ pub struct Peaks {
 }
 
 // E15, E16: the remaining life of an object, in ticks of the task that asks and in advances of the global time.
-#[derive(Drop)]
+#[derive(Clone, Copy)]
 pub struct Life {
     pub local: u8,
     pub global: u8,
 }
 
 // R1 to R29, in the order of their numbers: 16 to 19 are of a frame, 29 of a pool that is made, the others of a call.
-#[derive(Drop)]
+#[derive(Clone, Copy)]
 pub enum Refusal {
     NoSuchTask,
     TaskPresent,
@@ -203,14 +205,14 @@ pub enum Refusal {
 }
 
 // Whether a call is carried out.
-#[derive(Drop)]
+#[derive(Clone, Copy)]
 pub enum Verdict {
     Accepted,
     Refused(Refusal),
 }
 
 // 01: an answer. The bytes of a read stand beside it.
-#[derive(Drop)]
+#[derive(Clone, Copy)]
 pub enum Answer {
     Refused(Refusal),
     Done,
@@ -223,7 +225,7 @@ pub enum Answer {
 
 // What a line gives: a request and the count of the bytes that come with it, or a refusal. An enum holds no array, so the bytes stand
 // beside it.
-#[derive(Drop)]
+#[derive(Clone, Copy)]
 pub enum Frame {
     Request(Request, usize),
     Refused(Refusal),
@@ -282,7 +284,7 @@ pub fn answer_number(answer: Answer) -> u8
 }
 
 // F21: the kind that a byte names.
-#[derive(Drop)]
+#[derive(Clone, Copy)]
 pub enum KindByte {
     Known(Kind),
     Unknown,

@@ -2,7 +2,7 @@
 
 // G1: a channel (02: a line `p r s w e`). It polls every `period` steps; the reply comes after `reply` steps, where that step is before
 // `silent`; it gives up after `wait` steps, 0 for never; its objects have this extension.
-#[derive(Drop)]
+#[derive(Clone, Copy)]
 pub struct Channel {
     pub period: u16,
     pub reply: u16,
@@ -12,14 +12,14 @@ pub struct Channel {
 }
 
 // G4: the poll of a channel: none, or one that began in a step, with its object.
-#[derive(Drop)]
+#[derive(Clone, Copy)]
 pub enum Poll {
     Closed,
     Open { begun: u32, handle: u32 },
 }
 
 // G4: a channel under way: its poll, and what it has counted. `quits` are 02's give-ups, `refusals` the makes that were refused.
-#[derive(Drop)]
+#[derive(Clone, Copy)]
 pub struct Track {
     pub channel: Channel,
     pub poll: Poll,
@@ -29,7 +29,7 @@ pub struct Track {
 }
 
 // G5: what a channel does in its turn: one of these.
-#[derive(Drop)]
+#[derive(Clone, Copy)]
 pub enum Turn {
     Rests,
     Begins,

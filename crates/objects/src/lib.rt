@@ -1,4 +1,6 @@
 // What make, refresh, read, write, batch and release decide, on a head by value and the tables of blocks and expirations that they read.
+#![tactic(auto)]
+
 mod decide;
 mod finding;
 mod report;
@@ -11,7 +13,7 @@ use ledger::{LARGEST_BATCH, Life, Refusal, Verdict};
 pub use report::usage;
 
 // The verdict of a make, and the block that it goes by.
-#[derive(Drop)]
+#[derive(Clone, Copy)]
 pub struct Plan {
     pub verdict: Verdict,
     pub place: usize,
@@ -26,14 +28,14 @@ pub struct BatchPlan {
 }
 
 // Where the object of a refresh or a release is, or that whose remaining life for the task that calls is asked for.
-#[derive(Drop)]
+#[derive(Clone, Copy)]
 pub enum Found {
     Refused(Refusal),
     At { block: usize, life: Life },
 }
 
 // Where the bytes of a read or a write are: the object's block, its length or what of it is shown, and the sum of the block's bytes.
-#[derive(Drop)]
+#[derive(Clone, Copy)]
 pub enum FoundBytes {
     Refused(Refusal),
     At { block: usize, length: u16, sum: u16 },

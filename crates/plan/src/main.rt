@@ -1,4 +1,6 @@
 // The program: a cable plan on standard input, the figures of its channels on standard output, one line a channel (G15).
+#![tactic(auto)]
+
 use libc::{STDIN_FILENO, STDOUT_FILENO};
 use planned::output::output_of;
 

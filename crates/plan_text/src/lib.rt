@@ -1,4 +1,6 @@
 // The text of a cable plan (order 13 of document 02), read a byte at a time: one to sixteen lines of five numbers.
+#![tactic(auto)]
+
 ghost use Rattle.std.specs.Prelude.{◌<◌, ◌≤◌, ◌≡◌};
 ghost use Rattle.plan_text.specs.Reading.{bad_line, new_line, stops_digit, with_digit, stops_blank, with_blank, is_whole, channel_of, is_digit, moved, with_byte, started, is_at_end, plan_in, IsRead};
 
@@ -11,7 +13,7 @@ const LARGEST: u32 = 65535;
 const LONGEST_EXTENSION: u16 = 30;
 
 // A line under way: how many of its numbers have ended, the last four of these, and the number that is being read, if a digit of it was.
-#[derive(Drop)]
+#[derive(Clone, Copy)]
 pub struct Line {
     pub ended: u8,
     pub first: u16,

@@ -1,4 +1,6 @@
 // The program: a script on standard input, one answer a line on standard output.
+#![tactic(auto)]
+
 use ledger::STANDARD;
 use libc::{STDIN_FILENO, STDOUT_FILENO};
 use record::fresh;

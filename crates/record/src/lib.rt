@@ -1,6 +1,8 @@
 // The pool's record: sixteen task entries, two counters, its figures, and the tables of blocks and of expirations, one array for each
 // field. It holds nothing but numbers and no padding, so every bit pattern of it is a value, which the test of well-formedness (01: a fit
 // record) judges, and equal values are equal bytes.
+#![tactic(auto)]
+
 ghost use Rattle.std.specs.Prelude.{◌≡◌};
 ghost use Rattle.record.specs.Reading.{fresh_pool};
 ghost use Rattle.record.specs.Tables.{head_of};
@@ -30,17 +32,17 @@ pub const BYTE_VALUES: usize = 256;
 
 // T6: a local time (01: own clock).
 #[repr(C)]
-#[derive(Drop)]
+#[derive(Clone, Copy)]
 pub struct LocalTime(pub u32);
 
 // T6: a global time (01: common time).
 #[repr(C)]
-#[derive(Drop)]
+#[derive(Clone, Copy)]
 pub struct GlobalTime(pub u32);
 
 // T3: a task entry. State 0 is absent, 1 running, 2 waiting, 3 viewing; ticked (01: mark) is 0 or 1.
 #[repr(C)]
-#[derive(Drop)]
+#[derive(Clone, Copy)]
 pub struct TaskEntry {
     pub state: u16,
     pub ticked: u16,
@@ -82,7 +84,7 @@ pub struct Head {
 
 // T6, E19, E22: what specifications read an entry as: when an expiration is due, and who set it. A time by one clock cannot be tested
 // against the other; the number of a pinned one is no time.
-#[derive(Drop)]
+#[derive(Clone, Copy)]
 pub enum Due {
     Free,
     Local { setter: u8, at: LocalTime },

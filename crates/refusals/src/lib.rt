@@ -1,5 +1,7 @@
 // The tests of the rules R, each by numbers that its call has found, and the searches of the blocks that find them. A call is refused by
 // the first that holds (R32).
+#![tactic(auto)]
+
 ghost use Rattle.std.specs.Prelude.{◌+◌, ltb, ◌≡◌};
 ghost use Rattle.ledger.specs.Refusals.{most_extension, is_pinning, is_not_given};
 ghost use Rattle.refusals.specs.Verdicts.{and_then, refuse_if, by_state, task_verdict, extension_verdict, set_verdict, found_verdict, room_verdict, make_call_verdict, taking_verdict, batch_call_verdict, batch_objects_verdict};

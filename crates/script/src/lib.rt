@@ -1,5 +1,7 @@
 // A script run from fresh, a buffer of answers at a time. Its record is well-formed from the start and stays so: no line tests that again,
 // and its tables stay where they are from the first line to the last.
+#![tactic(auto)]
+
 ghost use Rattle.script.specs.Output.{Runnable, Continues};
 
 use answers::{LONGEST_ANSWER, put_answer, show};

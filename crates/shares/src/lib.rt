@@ -1,5 +1,7 @@
 // What of a store each task has: how many objects it made, and how many blocks are spoken for, in use or held back (the rules Q4 to Q7);
 // and the test of shares and makers (W20 to W24).
+#![tactic(auto)]
+
 ghost use Rattle.std.specs.Prelude.{true, cond, ◌≡◌};
 ghost use Rattle.lists.specs.Tests.{all};
 ghost use Rattle.ledger.specs.Shares.{quota_in, blocks_in};
@@ -24,14 +26,14 @@ pub struct Holding {
 }
 
 // Of both.
-#[derive(Drop)]
+#[derive(Clone, Copy)]
 pub struct Holdings {
     pub small: Holding,
     pub large: Holding,
 }
 
 // With whether shares and makers are fit.
-#[derive(Drop)]
+#[derive(Clone, Copy)]
 pub struct Sharing {
     pub fit: bool,
     pub holdings: Holdings,

@@ -17,7 +17,7 @@ use record::running::is_waiting;
 
 // What an event does: the units that it takes of its task's local expirations, whether the task leaves, and whether the global time
 // advances.
-#[derive(Drop)]
+#[derive(Clone, Copy)]
 pub struct Passing {
     pub task: u8,
     pub cost: u8,

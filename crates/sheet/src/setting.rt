@@ -46,7 +46,7 @@ pub fn stands(counts: &[u16], handle: u32) -> bool
 }
 
 // The standing objects of either store.
-#[derive(Drop)]
+#[derive(Clone, Copy)]
 pub struct Objects {
     pub small: u32,
     pub large: u32,

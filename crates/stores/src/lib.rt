@@ -1,4 +1,6 @@
 // A block's part of a lent store: cleared, written, summed, or handed back; and how long the two stores are.
+#![tactic(auto)]
+
 ghost use Rattle.std.specs.Prelude.{◌≡◌, [], ◌+◌, ◌≤◌, ◌<◌, length, take, drop, replicate};
 ghost use Rattle.lists.specs.Blocks.{overwritten};
 ghost use Rattle.record.specs.Reading.{block_bytes, size_of};

@@ -1,4 +1,6 @@
 // What an event (leave, block, resume, tick or view of a task) and a join decide: the advance test, and whether expirations may end.
+#![tactic(auto)]
+
 ghost use Rattle.std.specs.Prelude.{◌≡◌, ◌<◌, false};
 ghost use Rattle.ledger.specs.Limits.{task_count};
 ghost use Rattle.ledger.specs.Tasks.{is_tested};

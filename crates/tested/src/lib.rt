@@ -1,5 +1,7 @@
 // The two tests before a call, on lent columns: 15 first, then 14 where a store is touched, and then the call itself: each call that
 // changes the record by its own function, and any call by its request. Who lends the columns never looks at the record again.
+#![tactic(auto)]
+
 ghost use Rattle.std.specs.Prelude.{false, ◌≡◌, length};
 ghost use Rattle.ledger.specs.declared.Call.TheVariants.{Join, Schedule, Refresh, Batch, Release};
 ghost use Rattle.ledger.specs.Tasks.{is_tested};
