@@ -12,24 +12,25 @@ use Rattle.record.specs.Reading.{HeadTyped, Typed}
 use Rattle.record.specs.Tables.{block_entries, expiration_entries, BlockEntry, ExpirationEntry, tables_by, Sized, head_of}
 use Rattle.record.specs.declared.Head.{Head}
 use Rattle.record.specs.declared.Pool.{Pool}
-use Rattle.record.specs.contracts.Head.{the_row as the-head}
+use Rattle.record.specs.contracts.Head.{the_row as the_head}
 use Rattle.record.specs.contracts.Pool.{the_row}
+use Rattle.record.specs.contracts.TaskEntry.{the_row as the_entry}
 
 -- what each element's own type gives
-pub each_all : {A d : Type 0} (f : d → List Val → Fml) (g : A → d) (P : A → Type 0) → ((x : A) (us : List Val) → shadow (f (g x) us) → P x)
-    → (xs : List A) (us : List Val) → shadow (each d f (map g xs) us) → All P xs
-each_all f g P h [] us s = tt
-each_all f g P h (x ∷ xs) [] s = absurd s
-each_all f g P h (x ∷ xs) (u ∷ us) s = (h x (u ∷ []) s.0, each_all f g P h xs us s.1)
+pub each_all : {A : Type 0} (f : A → List Val → Fml) (P : A → Type 0) → ((x : A) (us : List Val) → shadow (f x us) → P x) → (xs : List A) (us : List Val)
+    → shadow (each A f xs us) → All P xs
+each_all f P h [] us s = tt
+each_all f P h (x ∷ xs) [] s = absurd s
+each_all f P h (x ∷ xs) (u ∷ us) s = (h x (u ∷ []) s.0, each_all f P h xs us s.1)
 
-pub head_typed : (h : Head) (vs : List Val) → Is the-head h vs → HeadTyped h
+pub head_typed : (h : Head) (vs : List Val) → Is the_head h vs → HeadTyped h
 unfolding counter_range
 head_typed h vs t =
     let (tasks, (global, (given, (limits, (shares, end))))) = t.1.1 in
     record {
-      tasks = sym (length-map h.tasks _) ∙ tasks.1.0.1;
-      shares = sym (length-map h.shares _) ∙ shares.1.0.1;
-      clocks = each_all _ _ _ (λ x us s. omega arith) h.tasks _ tasks.1.1;
+      tasks = tasks.1.0.1;
+      shares = shares.1.0.1;
+      clocks = each_all the_entry.own_val _ (λ x us s. omega arith) h.tasks _ tasks.1.1;
       global = omega arith;
       given = omega arith;
     }
@@ -40,9 +41,9 @@ unfolding counter_range
 pool_head_typed p vs t =
     let (tasks, (global, (given, (limits, (shares, rest))))) = t.1.1 in
     record {
-      tasks = sym (length-map p.tasks _) ∙ tasks.1.0.1;
-      shares = sym (length-map p.shares _) ∙ shares.1.0.1;
-      clocks = each_all _ _ _ (λ x us s. omega arith) p.tasks _ tasks.1.1;
+      tasks = tasks.1.0.1;
+      shares = shares.1.0.1;
+      clocks = each_all the_entry.own_val _ (λ x us s. omega arith) p.tasks _ tasks.1.1;
       global = omega arith;
       given = omega arith;
     }
@@ -51,12 +52,12 @@ pub columns_sized : (p : Pool) (vs : List Val) → Is the_row p vs → Sized p.h
 columns_sized p vs t =
     let (tasks, (global, (given, (limits, (shares, (handles, (extents, (clocks, (named, (dues, end)))))))))) = t.1.1 in
     record {
-      blocks = record { of_handles = sym (length-map p.handles _) ∙ handles.1.0.1; of_extents = sym (length-map p.extents _) ∙ extents.1.0.1 };
+      blocks = record { of_handles = handles.1.0.1; of_extents = extents.1.0.1 };
       entries =
           record {
-            of_clocks = sym (length-map p.clocks _) ∙ clocks.1.0.1;
-            of_named = sym (length-map p.named _) ∙ named.1.0.1;
-            of_dues = sym (length-map p.dues _) ∙ dues.1.0.1;
+            of_clocks = clocks.1.0.1;
+            of_named = named.1.0.1;
+            of_dues = dues.1.0.1;
           };
     }
 

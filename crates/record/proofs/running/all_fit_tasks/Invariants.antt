@@ -1,0 +1,11 @@
+-- A test of all tasks.
+use Rattle.std.proofs.Common.{◌-◌, ◌&&◌, rules}
+use Rattle.lists.specs.Tests.{all}
+use Rattle.lists.proofs.Loops.{Scanned, scanned_start, all_kept, all_kept_end}
+use Rattle.ledger.specs.Limits.{task_count}
+use Rattle.record.specs.Codes.{absent_entry}
+use Rattle.record.specs.WellFormed.{is_fit_task}
+use Rattle.record.proofs.running.all_fit_tasks.Given as goal
+
+abbrev pub invariant-loop-i : goal.invariant-loop-i
+invariant-loop-i l = Scanned (all is_fit_task l.tasks) l.tasks task_count l.i (λ ys. l.fit && all is_fit_task ys)
