@@ -58,7 +58,7 @@ pub struct TaskEntry {
 // over them would cost more. The figures stand behind the counters, here and in a head: in front of the tasks they would make one piece of
 // 144 bytes with them, and the compiler, which moves 128 in place, would call a copy.
 #[repr(C)]
-#[derive(Drop)]
+#[derive(Clone, Copy)]
 pub struct Pool {
     pub tasks: [TaskEntry; TASK_COUNT],
     pub global: GlobalTime,
@@ -73,7 +73,7 @@ pub struct Pool {
 }
 
 // What of the record goes by value through a call; its tables are lent.
-#[derive(Drop)]
+#[derive(Clone, Copy)]
 pub struct Head {
     pub tasks: [TaskEntry; TASK_COUNT],
     pub global: GlobalTime,
