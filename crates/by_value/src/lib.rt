@@ -19,7 +19,7 @@ use record::Pool;
 pub const TOO_SHORT: u8 = 255;
 
 // The number of an answer, and the record that the call leaves: that stands first, at the boundary of a word, and is copied as such.
-#[derive(Drop)]
+#[derive(Clone, Copy)]
 pub struct Numbered {
     pub pool: Pool,
     pub number: u8,

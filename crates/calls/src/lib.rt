@@ -30,7 +30,7 @@ use tasks::{JOINED_TASK, judge_join, plan, plan_start};
 
 // What a call gives back: the head that it leaves, and its answer. The bytes of a read are the first `length` of `block`; length is 0 for
 // every other answer.
-#[derive(Drop)]
+#[derive(Clone, Copy)]
 pub struct Step {
     pub head: Head,
     pub answer: Answer,

@@ -16,7 +16,7 @@ use stores::no_part;
 use tested::call;
 
 // The record that a line leaves, the number of its answer, and how long the line of it is.
-#[derive(Drop)]
+#[derive(Clone, Copy)]
 pub struct Executed {
     pub pool: Pool,
     pub number: u8,
@@ -24,7 +24,7 @@ pub struct Executed {
 }
 
 // The same on lent columns: the head that a line leaves instead of the record.
-#[derive(Drop)]
+#[derive(Clone, Copy)]
 pub struct Carried {
     pub head: Head,
     pub number: u8,

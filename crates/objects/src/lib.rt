@@ -20,7 +20,7 @@ pub struct Plan {
 }
 
 // The verdict of a batch, and the blocks of as many objects as it has; the others say nothing.
-#[derive(Drop)]
+#[derive(Clone, Copy)]
 pub struct BatchPlan {
     pub verdict: Verdict,
     pub blocks: [u8; LARGEST_BATCH],

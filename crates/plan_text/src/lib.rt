@@ -26,7 +26,7 @@ pub struct Line {
 }
 
 // The lines that have ended, and the one under way.
-#[derive(Drop)]
+#[derive(Clone, Copy)]
 pub struct Reading {
     pub line: Line,
     pub count: usize,
@@ -34,7 +34,7 @@ pub struct Reading {
 }
 
 // G2: the channels of a plan; none where the text is bad.
-#[derive(Drop)]
+#[derive(Clone, Copy)]
 pub struct Plan {
     pub count: usize,
     pub channels: [Channel; TASK_COUNT],

@@ -17,7 +17,7 @@ use text::decimals::put_number;
 pub const LONGEST_OUTPUT: usize = 384;
 
 // What is written: the first `count` bytes.
-#[derive(Drop)]
+#[derive(Clone, Copy)]
 pub struct Output {
     pub bytes: [u8; LONGEST_OUTPUT],
     pub count: usize,

@@ -43,7 +43,7 @@ fn send(
 }
 
 // The head after the calls of a turn but its last, and the poll that is open then.
-#[derive(Drop)]
+#[derive(Clone, Copy)]
 pub struct Opened {
     pub head: Head,
     pub poll: Poll,
@@ -142,7 +142,7 @@ fn first_calls(
 }
 
 // The head after a turn, and what the channel has then.
-#[derive(Drop)]
+#[derive(Clone, Copy)]
 pub struct Turned {
     pub head: Head,
     pub track: Track,
@@ -202,7 +202,7 @@ fn take_turn(
 }
 
 // The head after a step, and what the channels have then.
-#[derive(Drop)]
+#[derive(Clone, Copy)]
 pub struct Stepped {
     pub head: Head,
     pub tracks: [Track; TASK_COUNT],

@@ -6,7 +6,7 @@ use super::{BLOCK_COUNT, EXPIRATION_COUNT, Head, Pool};
 
 // A column of bytes at the boundary of a word. Where one stands at any address, the compiler lends the record's own instead, and for that
 // keeps a second copy of the whole record on the stack.
-#[derive(Drop)]
+#[derive(Clone, Copy)]
 pub struct Aligned {
     pub bytes: [u8; EXPIRATION_COUNT],
     pub word: u32,

@@ -11,7 +11,7 @@ use ledger::LARGEST_BATCH;
 use record::BLOCK_COUNT;
 
 // What a pass over a batch's handles finds: the block of each object, whether some handle was not given and whether some object is gone.
-#[derive(Drop)]
+#[derive(Clone, Copy)]
 pub struct BatchFound {
     pub blocks: [u8; LARGEST_BATCH],
     pub ungiven: bool,

@@ -13,7 +13,7 @@ use record::{Pool, head_of};
 use stores::no_part;
 
 // The record after some lines of a script, where the next line starts, and how long the answers are.
-#[derive(Drop)]
+#[derive(Clone, Copy)]
 pub struct Ran {
     pub pool: Pool,
     pub next: usize,

@@ -19,7 +19,7 @@ use quotas::{all_clear, all_within, unmets};
 use record::{BLOCK_COUNT, Head, SMALL_COUNT};
 
 // Of one store: how many objects each task made, and the blocks that are in use or held back.
-#[derive(Drop)]
+#[derive(Clone, Copy)]
 pub struct Holding {
     pub made: [u8; TASK_COUNT],
     pub spoken: u32,

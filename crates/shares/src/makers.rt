@@ -62,7 +62,7 @@ pub fn tally<'a>(
 }
 
 // The counters of either store.
-#[derive(Drop)]
+#[derive(Clone, Copy)]
 pub struct Tallies {
     pub small: [u8; BYTE_VALUES],
     pub large: [u8; BYTE_VALUES],

@@ -18,7 +18,7 @@ use record::{GlobalTime, LocalTime, TaskEntry};
 
 // What an event decides: its answer, the task entries and the time that it leaves, and whether it may end expirations: by the local time of
 // its task as it is then, and all of the task's own where it leaves.
-#[derive(Drop)]
+#[derive(Clone, Copy)]
 pub struct Planned {
     pub answer: Answer,
     pub tasks: [TaskEntry; TASK_COUNT],

@@ -23,7 +23,7 @@ pub fn capped(count: usize, most: usize) -> usize
 }
 
 // The bytes of handles that are handed on: the first `count` here.
-#[derive(Drop)]
+#[derive(Clone, Copy)]
 pub struct Handed {
     pub bytes: [u8; MOST_HANDLE_BYTES],
     pub count: usize,

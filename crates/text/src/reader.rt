@@ -6,7 +6,7 @@ ghost use Rattle.text.specs.Reader.{next_line};
 use super::lines::{Line, line_at};
 
 // P1: a script, and where its next line starts.
-#[derive(Drop)]
+#[derive(Clone, Copy)]
 pub struct Reader<'a> {
     pub script: &'a [u8],
     pub next: usize,
