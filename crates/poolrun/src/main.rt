@@ -1,20 +1,36 @@
 // The program: a script on standard input, one answer a line on standard output.
 #![tactic(auto)]
 
+ghost use Rattle.std.specs.Prelude.{◌≡◌, IfOk, IfSome, take};
+
 use ledger::STANDARD;
-use libc::{STDIN_FILENO, STDOUT_FILENO};
 use record::fresh;
 use script::run_on;
+use std::alloc::Global;
+use std::io;
+use std::io::{Read, Write};
 use stores::{LARGE_BYTES, SMALL_BYTES};
 
 // P2: the longest script that is run.
 const LONGEST_SCRIPT: usize = 65536;
 
+// The answers of so many bytes are written at a time.
+const OUTPUT_BYTES: usize = 65536;
+
+// The first so many bytes of what a reader has left, or all where there are fewer.
+fn first_bytes<R: Read + Drop>(alloc: Global, reader: R, most: u64) -> io::Result<Vec<u8>>
+    ensures { IfOk result (λ bytes. IfSome (R.remaining reader) (λ rest. bytes.items ≡ take most rest)) }
+{
+    let mut bytes = Vec::new(alloc);
+    reader.take(most).read_to_end(&mut bytes)?;
+    Ok(bytes)
+}
+
 // From fresh, a buffer of answers at a time. A failed write ends it.
-fn answer(script: &[u8]) {
+fn answer<W: Write>(alloc: Global, script: &[u8], output: &mut W) -> io::Result<()> {
     let mut small = [0u8; SMALL_BYTES];
     let mut large = [0u8; LARGE_BYTES];
-    let mut out = io::large_buffer();
+    let mut out = vec![in alloc; 0u8; OUTPUT_BYTES]?;
     let mut p = fresh(STANDARD);
     let mut at = 0;
     while at < script.len() {
@@ -22,18 +38,15 @@ fn answer(script: &[u8]) {
         let written = ran.written;
         p = ran.pool;
         at = ran.next;
-        if !io::write_all(STDOUT_FILENO, &out[..written]) {
-            return;
-        }
+        output.write_all(&out[..written])?;
     }
+    Ok(())
 }
 
-fn main() {
-    let mut buffer = [0u8; LONGEST_SCRIPT + 1];
-    let count = io::read_full(STDIN_FILENO, &mut buffer);
-    if LONGEST_SCRIPT < count {
-        io::write_all(STDOUT_FILENO, b"script too long\n");
-        return;
+fn main(rt: HostRuntime) -> io::Result<()> {
+    let script = first_bytes(rt.alloc(), rt.stdin(), LONGEST_SCRIPT as u64 + 1)?;
+    if LONGEST_SCRIPT < script.len() {
+        return rt.stdout().write_all(b"script too long\n");
     }
-    answer(&buffer[..count]);
+    answer(rt.alloc(), &script, &mut rt.stdout())
 }

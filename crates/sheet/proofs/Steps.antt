@@ -3,8 +3,7 @@ use Prim.Native.Nat.{ℕ, ◌+◌, ◌-◌}
 use native.Mathlib.Omega.{arith}
 use mathlib.Core.Bool.{Bool, true, false, true≢false, false≢true, cond, not, ◌&&◌, and-eq-true_iff, and-true, not-not}
 use mathlib.Core.List.{List, [], ◌∷◌, ◌++◌, map, map-map, map-append}
-use mathlib.Core.Logic.{◌≢◌}
-use mathlib.Core.Path.{◌≡◌, refl, sym, ap, ◌∙◌}
+use mathlib.Core.Path.{◌≡◌, refl, sym, ap, subst, ◌∙◌}
 use borrow.Author.Tests.{eqb-true}
 use lib.Dec.{eqb, leb}
 use lib.ListN.{length, length-set}
@@ -57,7 +56,9 @@ each_shown : (clocks : Clocks) (due : DueTime) (left : Left) → left_of clocks 
     → set_each left handles (map (shown clocks) xs) ≡ map (shown clocks) (set_on_each due handles xs)
 unfolding set_on_each
 each_shown clocks due left e [] xs = refl
-each_shown clocks due left e (h ∷ hs) xs = rw (sym e) (each_shown clocks due (left_of clocks due) refl hs (record { handle = h; due = due } ∷ xs))
+each_shown clocks due left e (h ∷ hs) xs =
+    subst (λ (l : Left). set_each l hs (record { handle = h; left = l } ∷ map (shown clocks) xs) ≡ map (shown clocks) (set_on_each due (h ∷ hs) xs)) e
+    (each_shown clocks due (left_of clocks due) refl hs (record { handle = h; due = due } ∷ xs))
 
 -- A task joins that was absent: nobody's times move.
 module _ (clocks : Clocks) (task : ℕ) (t : Task) (absent : is_absent (task_at clocks task).state ≡ true) where

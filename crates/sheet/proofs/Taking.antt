@@ -1,5 +1,5 @@
 -- The sheet takes a call exactly when the roomy ledger carries it out, but for calls that leave it as it is.
-use Prim.Native.Nat.{ℕ, ◌-◌, ◌≤◌, ◌<◌}
+use Prim.Native.Nat.{ℕ, ◌≤◌, ◌<◌}
 use native.Mathlib.Omega.{arith}
 use mathlib.Core.Bool.{Bool, true, false, true≢false, false≢true, cond, not, ◌&&◌, ◌||◌, and-eq-true_iff, and-true, and-false, not-not}
 use mathlib.Core.List.{List, [], ◌∷◌, map}

@@ -1,6 +1,6 @@
 -- How the entries of a record age at an event with an advance test: by the ledger's rule, which looks at what is compared of an expiration
 -- alone.
-use Prim.Native.Nat.{ℕ, ◌+◌, ◌-◌, ◌≤◌, ◌<◌}
+use Prim.Native.Nat.{ℕ, ◌+◌, ◌≤◌, ◌<◌}
 use native.Mathlib.Omega.{arith}
 use mathlib.Core.Bool.{Bool, true, cond, ◌&&◌}
 use mathlib.Core.List.{List, [], map, append-nil}

@@ -5,7 +5,6 @@ use mathlib.Core.List.{List}
 use mathlib.Core.Path.{◌≡◌, sym, ap, fun_ext, ◌∙◌}
 use borrow.Author.Tests.{not-true, eqb-true}
 use lib.Dec.{eqb}
-use lib.ListN.{length}
 use Rattle.lists.specs.Sums.{total}
 use Rattle.lists.specs.Tests.{any}
 use Rattle.lists.proofs.All.{all_imp, all_true, All→none, none→All}

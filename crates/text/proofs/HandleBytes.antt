@@ -30,7 +30,7 @@ length_handle_bytes (h ∷ hs) = omega (arith, length_handle_bytes hs)
 pub handle_bytes_on : (handles : List ℕ) (i : ℕ) → i < length handles
     → handle_bytes (take (i + 1) handles) ≡ handle_bytes (take i handles) ++ in_bytes handle_width (get_or handles i 0)
 unfolding handle_bytes
-handle_bytes_on handles i h = rw (add-one, take-suc handles i 0 h) (read_by_append _ (take i handles) (get_or handles i 0 ∷ []))
+handle_bytes_on handles i h = rw (add-one, take-suc handles i 0 h) (read_by_append (in_bytes handle_width) (take i handles) (get_or handles i 0 ∷ []))
 
 -- a loop that stores them over a buffer, one handle a turn: those of the first i handles stand in it, up to `count`
 pub record Stored (handles start : List ℕ) (end i : ℕ) (bytes : List ℕ) (count : ℕ) : Type 0 where
