@@ -1,0 +1,8 @@
+-- The entry made once, and put on block after block from the first free place on.
+use Rattle.std.proofs.Common.{◌-◌, ◌<◌, arith, rules}
+use Rattle.record.specs.Tables.{entries_of, expiration_entries}
+use Rattle.expirations.proofs.Setting.{on_block, made_used, SetTo, set_start, set_free, set_turn, set_end}
+use Rattle.expirations.proofs.set_all.Given as goal
+
+abbrev pub invariant-loop-i : goal.invariant-loop-i
+invariant-loop-i l = SetTo (on_block l.first) l.blocks l.count (entries_of l.initial.clocks l.initial.named l.initial.dues) l.i l.from l.clocks l.named l.dues
