@@ -61,4 +61,4 @@ unfolding overwritten
 puts_from at {line} {out} p =
     let all : take (length out - at) (drop at out) ≡ drop at out = take_all (length out - at) (drop at out) (omega (arith, length-drop at out)) in
     let none : drop (length out - at) (drop at out) ≡ [] = drop_of_length-le (drop at out) {i = length out - at} (omega (arith, length-drop at out)) in
-    record { bytes = rw (none, append-nil, p.bytes, all, zero-add, drop-drop, append_assoc); next = omega (arith, p.next) }
+    record { bytes = rw (none, append-nil, p.bytes, all, zero-add, drop-drop, append_assoc, append_assoc); next = omega (arith, p.next) }
