@@ -1,5 +1,5 @@
 -- Blocks tested by flags that say which are named, which tells of the expirations too that they name blocks in use.
-use Rattle.std.proofs.Common.{◌≡◌, ℕ, ◌-◌, ◌<◌, Bool, true, false, not, ◌&&◌, ◌||◌, eqb, ltb, leb, List, length, get_or, sym, refl, ◌∙◌, true≢false, zero-add, arith, ltb-false, ltb-true, lt-ltb, eq-eqb, eqb-true}
+use Rattle.std.proofs.Common.{◌≡◌, ℕ, ◌<◌, Bool, true, false, not, ◌&&◌, ◌||◌, eqb, ltb, leb, List, length, get_or, sym, refl, ◌∙◌, true≢false, zero-add, arith, ltb-false, ltb-true, lt-ltb, eq-eqb, eqb-true}
 use mathlib.Core.Bool.{beq, false≢true, and-eq-true_iff}
 use lib.ListN.{get_or-eq_default}
 use Rattle.lists.specs.Tests.{any, all}

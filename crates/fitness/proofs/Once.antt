@@ -115,10 +115,10 @@ module _ {clocks named : List ℕ} (s : SizedCodes clocks named) where
   -- none of these is pinned
   pins_past : {i : ℕ} {flags : List Bool} {fit : Bool} (n : ℕ) → PinsTo clocks named i flags fit → i + n ≤ 256
       → ((k : ℕ) → i ≤ k → k < i + n → eqb (get_or clocks k 0) 49 ≡ false) → PinsTo clocks named (i + n) flags fit
-  pins_past {i} zero m h f = rw (add-zero i) m
-  pins_past {i} (suc n) m h f =
+  pins_past {i = i} zero m h f = rw (add-zero i) m
+  pins_past {i = i} (suc n) m h f =
       let same : i + 1 + n ≡ i + suc n = omega arith in
-      rw same at (pins_past n (pins_kept m (omega arith) (f i (omega arith) (omega arith))) (omega arith) (λ k l b. f k (omega arith) (omega arith)))
+      rw same at (pins_past {i = i + 1} n (pins_kept m (omega arith) (f i (omega arith) (omega arith))) (omega arith) (λ k l b. f k (omega arith) (omega arith)))
 
   -- nor of a group that was asked
   pub pins_none : {i : ℕ} {flags : List Bool} {fit : Bool} → PinsTo clocks named i flags fit → i + 32 ≤ 256 → all is_unpinned (drop i (take (i + 32) clocks)) ≡ true

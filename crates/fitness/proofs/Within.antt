@@ -35,7 +35,7 @@ pub firsts_end : {tasks : List TaskEntry} {global : GlobalTime} (last : Time) �
 firsts_end last e m h =
     record {
       by_task = λ t l. m.so t (omega arith);
-      by_global_lem = λ k a b.
+      by_global = λ k a b.
           m.rest k (λ t l e. absurd (omega arith))
           ∙ get_or-set_other (replicate 50 last) 49 k no_time no_time (λ e. absurd (omega arith))
           ∙ get_or-replicate 50 k last no_time (omega arith)
@@ -66,11 +66,11 @@ units_start global = set (set (set (replicate 50 0) 0 4294967296) 48 global) 49 
 pub record UnitsTo (local global : ℕ) (tasks : List TaskEntry) (i : ℕ) (out : List ℕ) : Type 0 where
   pub size : length out ≡ 50
   pub by_task : (t : ℕ) → t < i → get_or out (t + 16) 0 ≡ units_at tasks local t
-  pub by_global_lem : (t : ℕ) → t < i → get_or out (t + 32) 0 ≡ units_at tasks global t
+  pub by_global : (t : ℕ) → t < i → get_or out (t + 32) 0 ≡ units_at tasks global t
   pub rest : (k : ℕ) → ((t : ℕ) → t < 32 → k ≢ t + 16) → get_or out k 0 ≡ get_or (units_start global) k 0
 
 pub units_start_lem : {local global : ℕ} {tasks : List TaskEntry} → UnitsTo local global tasks 0 (units_start global)
-units_start_lem = record { size = refl; by_task = λ t l. absurd (omega arith); by_global_lem = λ t l. absurd (omega arith); rest = λ k o. refl }
+units_start_lem = record { size = refl; by_task = λ t l. absurd (omega arith); by_global = λ t l. absurd (omega arith); rest = λ k o. refl }
 
 module _ {local global : ℕ} {tasks : List TaskEntry} {i : ℕ} {out : List ℕ} (m : UnitsTo local global tasks i out) where
   pub units_turn : i < 16 → UnitsTo local global tasks (i + 1) (set (set out (i + 16) (units_at tasks local i)) (i + 32) (units_at tasks global i))
@@ -84,13 +84,13 @@ module _ {local global : ℕ} {tasks : List TaskEntry} {i : ℕ} {out : List ℕ
             ∙ by_test (eqb t i)
             (λ s. rw (eqb-true t i s) (get_or-set_same out (i + 16) (units_at tasks local i) 0 (omega (arith, m.size))))
             (λ s. get_or-set_other out (i + 16) (t + 16) (units_at tasks local i) 0 (λ e. eqb-false t i s (omega arith)) ∙ m.by_task t (omega (arith, eqb-false t i s)));
-        by_global_lem = λ t l.
+        by_global = λ t l.
             by_test (eqb t i)
             (λ s. rw (eqb-true t i s) (get_or-set_same locals (i + 32) (units_at tasks global i) 0 (omega (arith, size))))
             (λ s.
             get_or-set_other locals (i + 32) (t + 32) (units_at tasks global i) 0 (λ e. eqb-false t i s (omega arith))
             ∙ get_or-set_other out (i + 16) (t + 32) (units_at tasks local i) 0 (λ e. absurd (omega arith))
-            ∙ m.by_global_lem t (omega (arith, eqb-false t i s)));
+            ∙ m.by_global t (omega (arith, eqb-false t i s)));
         rest = λ k o.
             get_or-set_other locals (i + 32) k (units_at tasks global i) 0 (λ e. o (i + 16) (omega arith) (omega arith))
             ∙ get_or-set_other out (i + 16) k (units_at tasks local i) 0 (o i (omega arith))
@@ -110,7 +110,7 @@ module _ {local global : ℕ} {tasks : List TaskEntry} {i : ℕ} {out : List ℕ
             ∙ get_or-set_other (replicate 50 0) 0 k 4294967296 0 (λ e. absurd (omega arith))
             ∙ get_or-replicate 50 k 0 0 (omega arith);
         by_task = λ t b. rw (← l) (m.by_task t (omega arith));
-        by_global_lem = λ t b. rw (← g) (m.by_global_lem t (omega arith));
+        by_global = λ t b. rw (← g) (m.by_global t (omega arith));
         by_departed = rw (← g) (m.rest 48 (λ t l e. absurd (omega arith)));
         by_pinned = m.rest 49 (λ t l e. absurd (omega arith));
       }
@@ -185,16 +185,16 @@ module _ {h : Head} (typed : HeadTyped h) {firsts : List Time} {units : List ℕ
   unfolding is_fit_due due_by
   global_timely e least below =
       let place : e.clock ≡ e.clock - 32 + 32 = omega arith in
-      let unit : get_or units e.clock 0 ≡ units_of (h.limits.extension + 2) (setter e 32).state = ap (λ k. get_or units k 0) place ∙ u.by_global_lem (e.clock - 32) (omega arith) in
+      let unit : get_or units e.clock 0 ≡ units_of (h.limits.extension + 2) (setter e 32).state = ap (λ k. get_or units k 0) place ∙ u.by_global (e.clock - 32) (omega arith) in
       rw
-      (f.by_global_lem e.clock least (omega arith), unit, ne_eqb e.clock 0 (omega arith), le-leb 32 e.clock least, le-leb e.clock 48 (omega arith), ne_eqb (e.clock - 32) 16 (omega arith))
+      (f.by_global e.clock least (omega arith), unit, ne_eqb e.clock 0 (omega arith), le-leb 32 e.clock least, le-leb e.clock 48 (omega arith), ne_eqb (e.clock - 32) 16 (omega arith))
       (units_ahead e.due h.global.0 (h.limits.extension + 2) (is_absent (state_of (setter e 32).state)) typed.global (few h.limits may))
 
   -- and of a departed setter
   departed_timely : (e : ExpirationEntry) → e.clock ≡ 48 → is_in_units firsts units e ≡ is_timely h.limits h.tasks h.global e
   unfolding is_fit_due due_by
   departed_timely e d =
-      rw (d, u.by_departed, f.by_global_lem 48 (omega arith) (omega arith)) (ahead_next e.due h.global.0 (h.limits.extension + 2) typed.global (few h.limits may))
+      rw (d, u.by_departed, f.by_global 48 (omega arith) (omega arith)) (ahead_next e.due h.global.0 (h.limits.extension + 2) typed.global (few h.limits may))
 
   -- a pinned one has the number 0
   pinned_timely : (e : ExpirationEntry) → e.due < counter_range → e.clock ≡ 49 → is_in_units firsts units e ≡ is_timely h.limits h.tasks h.global e

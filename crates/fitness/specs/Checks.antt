@@ -112,7 +112,7 @@ no_time = None 0
 -- By each clock the first time that lies ahead, and 0 for a pinned expiration, which has none,
 pub record Firsts (tasks : List TaskEntry) (global : GlobalTime) (r : List Time) : Type 0 where
   pub by_task : (t : ℕ) → t < task_count → slice_index_or r (t + local_code) no_time ≡ next_local (get_or tasks t absent_entry).clock
-  pub by_global_lem : (k : ℕ) → global_code ≤ k → k ≤ departed_code → slice_index_or r k no_time ≡ next_global global
+  pub by_global : (k : ℕ) → global_code ≤ k → k ≤ departed_code → slice_index_or r k no_time ≡ next_global global
   pub by_pinned : get_or r pinned_code no_time ≡ no_time
 
 -- and the units in which its expirations may be due: all of a free entry, none of an absent task nor by a code that there is not.
@@ -124,7 +124,7 @@ pub record Units (limits : Limits) (tasks : List TaskEntry) (r : List ℕ) : Typ
   pub free : get_or r 0 0 ≡ counter_range
   pub unknown : (k : ℕ) → 0 < k → k < local_code → slice_index r k ≡ 0
   pub by_task : (t : ℕ) → t < task_count → slice_index r (t + local_code) ≡ units_of (limits.extension + 1) (get_or tasks t absent_entry).state
-  pub by_global_lem : (t : ℕ) → t < task_count → slice_index r (t + global_code) ≡ units_of (limits.extension + 2) (get_or tasks t absent_entry).state
+  pub by_global : (t : ℕ) → t < task_count → slice_index r (t + global_code) ≡ units_of (limits.extension + 2) (get_or tasks t absent_entry).state
   pub by_departed : get_or r departed_code 0 ≡ limits.extension + 2
   pub by_pinned : get_or r pinned_code 0 ≡ 1
 

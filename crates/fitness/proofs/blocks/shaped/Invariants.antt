@@ -1,0 +1,6 @@
+-- The others.
+use Rattle.fitness.specs.Checks.{ShapedTo}
+use Rattle.fitness.proofs.blocks.shaped.Given as goal
+
+abbrev pub invariant-loop-i : goal.invariant-loop-i
+invariant-loop-i l = ShapedTo l.lengths l.prefixes l.i l.out

@@ -1,0 +1,10 @@
+-- Group by group.
+use Rattle.std.proofs.Common.{arith}
+use Rattle.fitness.proofs.Once.{pins_start, pinned_end}
+use Rattle.fitness.proofs.pins.pinned_once.Goals as goal
+
+pub loop-g-init : goal.loop-g-init
+loop-g-init c = (omega arith, pins_start c.requires)
+
+pub returns : goal.returns
+returns c = pinned_end c.requires c.loop-g.invariant.1 (omega arith)
