@@ -1,5 +1,5 @@
 -- No call of a plan is refused but a make: turn by turn, from the joins on.
-use Prim.Native.Nat.{ℕ, zero, suc, ◌+◌, ◌-◌, ◌≤◌, ◌<◌}
+use Prim.Native.Nat.{ℕ, zero, suc, ◌+◌, ◌≤◌, ◌<◌}
 use native.Mathlib.Nat.{le_refl}
 use native.Mathlib.Omega.{arith}
 use mathlib.Core.Bool.{Bool, true, false, ◌&&◌}
@@ -75,8 +75,7 @@ step_carried (t ∷ ts) L k step task l (h, hs) =
     let (passes, kept) = step_carried ts M k_m step (suc task) (omega (arith, l)) rest in
     let after = after_append calls (step_calls M step (suc task) ts) L in
     let poll = poll_untouched M (after_all M (step_calls M step (suc task) ts)) task (step_untouched ts M k_m step (suc task) task
-        (le_refl (suc task))) (after_turn L step task t).poll c.kept in
-    (
+    (le_refl (suc task))) (after_turn L step task t).poll c.kept in (
       rw (refused_append not_make calls (step_calls M step (suc task) ts) L, c.passes, passes),
       (
         subst (λ (N : Ledger). PollKept N task (after_turn L step task t).poll) (sym after) poll,

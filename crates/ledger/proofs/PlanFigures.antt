@@ -8,7 +8,7 @@ use mathlib.Core.Path.{◌≡◌, refl, sym, ap, ◌∙◌}
 use lib.ListN.{length, get_or, length-map}
 use Rattle.lists.specs.Sums.{total, sum_below}
 use Rattle.lists.proofs.Cases.{by_test}
-use Rattle.ledger.specs.Ledger.{Ledger, fresh, replies, after_all}
+use Rattle.ledger.specs.Ledger.{Ledger, fresh, after_all}
 use Rattle.ledger.specs.Plans.{is_due, has_reply, is_over, turn_of, is_closed, opened, with_poll, track_after, calls_of_turn, after_turn, step_calls, after_step, ready, stepped, run, calls_of, figures, no_channel, track_of, turns}
 use Rattle.ledger.specs.declared.Limits.{Limits}
 use Rattle.ledger.specs.declared.plans.Channel.{Channel}

@@ -1,5 +1,5 @@
 -- No call of a turn is refused but a make: a channel waits exactly while its poll is open, and keeps the object of it.
-use Prim.Native.Nat.{ℕ, ◌+◌, ◌-◌, ◌≤◌, ◌<◌}
+use Prim.Native.Nat.{ℕ, ◌+◌, ◌≤◌, ◌<◌}
 use native.Mathlib.Omega.{arith}
 use mathlib.Core.Bool.{true, false, true≢false, and-eq-true_iff}
 use mathlib.Core.List.{List, [], ◌∷◌}

@@ -1,6 +1,5 @@
 -- What the types of the record's fields give of every value: the lengths of its tables and the range of its counters.
-use Rattle.std.proofs.Common.{◌≡◌, List, [], ◌∷◌, map, length, sym, ◌∙◌, arith}
-use lib.ListN.{length-map}
+use Rattle.std.proofs.Common.{◌≡◌, List, [], ◌∷◌, length, arith}
 use base.Fml.{Fml}
 use denote.Array.{each}
 use denote.Laws.{Is}

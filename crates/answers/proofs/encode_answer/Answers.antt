@@ -1,8 +1,5 @@
 -- Head, bytes and LF stand one after the other.
-use Prim.Native.Nat.{◌<◌}
 use native.Mathlib.Omega.{arith}
-use borrow.Author.Rules.{rules}
-use lib.ListN.{length, length-set}
 use Rattle.answers.proofs.AnswerLines.{length_line, room_after_head, room_after_bytes, puts_line}
 use Rattle.answers.proofs.encode_answer.Goals as goal
 

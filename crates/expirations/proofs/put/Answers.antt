@@ -1,5 +1,4 @@
 -- The entry in all columns.
-use Rattle.std.proofs.Common.{arith}
 use Rattle.expirations.proofs.Counting.{put_entry}
 use Rattle.expirations.proofs.put.Goals as goal
 

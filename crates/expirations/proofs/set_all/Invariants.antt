@@ -1,7 +1,6 @@
 -- The entry made once, and put on block after block from the first free place on.
-use Rattle.std.proofs.Common.{◌-◌, ◌<◌, arith, rules}
-use Rattle.record.specs.Tables.{entries_of, expiration_entries}
-use Rattle.expirations.proofs.Setting.{on_block, made_used, SetTo, set_start, set_free, set_turn, set_end}
+use Rattle.record.specs.Tables.{entries_of}
+use Rattle.expirations.proofs.Setting.{on_block, SetTo}
 use Rattle.expirations.proofs.set_all.Given as goal
 
 abbrev pub invariant-loop-i : goal.invariant-loop-i

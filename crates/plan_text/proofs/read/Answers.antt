@@ -1,10 +1,6 @@
 -- What is read of the whole is what is read of the rest.
-use Prim.Native.Nat.{◌-◌}
-use mathlib.Core.Path.{refl, sym, ◌∙◌}
-use borrow.Author.Rules.{rules}
-use lib.ListN.{length}
-use Rattle.lists.proofs.Loops.{Scanned, scanned_start, scanned_turn, scanned_end}
-use Rattle.plan_text.specs.Reading.{read_from, started}
+use mathlib.Core.Path.{sym, ◌∙◌}
+use Rattle.lists.proofs.Loops.{scanned_turn, scanned_end}
 use Rattle.plan_text.proofs.Steps.{read_next, read_none}
 use Rattle.plan_text.proofs.Sound.{is_read}
 use Rattle.plan_text.proofs.read.Goals as goal

@@ -1,5 +1,4 @@
 -- The line goes to the part from the place on.
-use borrow.Author.Rules.{rules}
 use Rattle.answers.proofs.Shown.{puts_from}
 use Rattle.answers.proofs.showing.put_answer.Goals as goal
 

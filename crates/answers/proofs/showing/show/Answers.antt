@@ -1,6 +1,4 @@
 -- No bytes, or those of a block: the line has room.
-use native.Mathlib.Omega.{arith}
-use borrow.Author.Rules.{rules}
 use Rattle.answers.proofs.Shown.{shows_none}
 use Rattle.answers.proofs.showing.show.Goals as goal
 

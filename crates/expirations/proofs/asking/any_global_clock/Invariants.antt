@@ -1,8 +1,7 @@
 -- Clock by clock, to the end of the group.
-use Rattle.std.proofs.Common.{◌-◌, ◌≤◌, arith, rules}
+use Rattle.std.proofs.Common.{◌≤◌}
 use Rattle.expirations.specs.Places.{SomeBetween}
 use Rattle.expirations.specs.Standing.{is_global_clock_at}
-use Rattle.expirations.proofs.Places.{asked_start, asked_turn, asked_end}
 use Rattle.expirations.proofs.asking.any_global_clock.Given as goal
 
 abbrev pub invariant-loop-i : goal.invariant-loop-i

@@ -1,9 +1,8 @@
 -- Sixteen at a time while none of them is free, then the search from there.
-use Rattle.std.proofs.Common.{◌-◌, arith, rules}
+use Rattle.std.proofs.Common.{rules}
 use Rattle.lists.specs.Tables.{first_from}
-use Rattle.lists.proofs.Loops.{Scanned, scanned_start}
+use Rattle.lists.proofs.Loops.{scanned_start}
 use Rattle.record.specs.Tables.{expiration_entries}
-use Rattle.expirations.specs.Standing.{free_in}
 use Rattle.expirations.proofs.Counting.{is_free}
 use Rattle.expirations.proofs.Places.{first_past, first_beyond}
 use Rattle.expirations.proofs.asking.free_entry.Goals as goal

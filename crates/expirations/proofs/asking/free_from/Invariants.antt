@@ -1,11 +1,9 @@
 -- A search for the first free entry, from a place up to which there is none.
-use Rattle.std.proofs.Common.{◌-◌, arith, rules, eq-eqb, ne_eqb}
 use Rattle.lists.specs.Tables.{first_from}
-use Rattle.lists.proofs.Loops.{Scanned, first_turn, first_stop, first_end}
+use Rattle.lists.proofs.Loops.{Scanned}
 use Rattle.record.specs.Tables.{expiration_entries}
 use Rattle.expirations.specs.Standing.{free_in}
 use Rattle.expirations.proofs.Counting.{is_free}
-use Rattle.expirations.proofs.Places.{first_from_lem}
 use Rattle.expirations.proofs.asking.free_from.Given as goal
 
 abbrev pub invariant-loop-i : goal.invariant-loop-i

@@ -1,8 +1,7 @@
 -- Byte by byte, to the end of the range.
-use Rattle.std.proofs.Common.{◌-◌, ◌≤◌, refl, arith}
+use Rattle.std.proofs.Common.{◌≤◌}
 use Rattle.expirations.specs.Places.{SomeBetween}
 use Rattle.expirations.specs.Standing.{is_byte_at}
-use Rattle.expirations.proofs.Places.{asked_start, asked_turn, asked_end}
 use Rattle.expirations.proofs.asking.has_byte.Given as goal
 
 abbrev pub invariant-loop-i : goal.invariant-loop-i

@@ -1,8 +1,7 @@
 -- A count of one half, which a byte can hold.
-use Rattle.std.proofs.Common.{◌+◌, ◌-◌, take, drop, refl, arith, rules}
-use Rattle.lists.proofs.Loops.{Scanned, count_from, count_turn, count_end}
-use Rattle.expirations.specs.Standing.{is_used_clock, standing_of, half_size}
-use Rattle.expirations.proofs.Counting.{part_within}
+use Rattle.std.proofs.Common.{◌+◌, take, drop}
+use Rattle.lists.proofs.Loops.{Scanned}
+use Rattle.expirations.specs.Standing.{standing_of}
 use Rattle.expirations.proofs.asking.standing_in.Given as goal
 
 abbrev pub invariant-loop-i : goal.invariant-loop-i

@@ -1,9 +1,6 @@
 -- Group by group.
-use Rattle.std.proofs.Common.{◌-◌, ◌*◌, ◌≤◌, arith, rules}
-use borrow.Author.Tests.{not-true}
-use Rattle.record.specs.Tables.{group_size, group_count}
-use Rattle.expirations.specs.Naming.{is_slot_at, BlockMarks}
-use Rattle.expirations.proofs.Flags.{marks_start, marks_skip, marks_end, marks_same, slot_named, slot_none}
+use Rattle.std.proofs.Common.{arith}
+use Rattle.expirations.proofs.Flags.{marks_start}
 use Rattle.expirations.proofs.naming.flags_of.Goals as goal
 
 pub loop-g-init : goal.loop-g-init

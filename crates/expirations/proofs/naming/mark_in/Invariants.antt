@@ -1,7 +1,6 @@
 -- Flag by flag.
-use Rattle.std.proofs.Common.{◌-◌, ◌≤◌, arith, rules}
+use Rattle.std.proofs.Common.{◌≤◌}
 use Rattle.expirations.specs.Naming.{is_slot_at, BlockMarks}
-use Rattle.expirations.proofs.Flags.{marks_turn, marks_end}
 use Rattle.expirations.proofs.naming.mark_in.Given as goal
 
 abbrev pub invariant-loop-i : goal.invariant-loop-i

@@ -1,7 +1,6 @@
 -- The flag of each entry.
-use Rattle.std.proofs.Common.{◌≡◌, ◌-◌, get_or, rules}
+use Rattle.std.proofs.Common.{◌≡◌, get_or}
 use Rattle.lists.specs.Filled.{Filled}
-use Rattle.lists.proofs.Filling.{filled_start, filled_turn, filled_end}
 use Rattle.record.specs.Tables.{expiration_entries}
 use Rattle.expirations.specs.Naming.{named_slot}
 use Rattle.expirations.proofs.naming.slots.Given as goal

@@ -1,10 +1,7 @@
 -- None is it where no clock is a pinned one's; else entry by entry.
-use Rattle.std.proofs.Common.{◌-◌, ◌≤◌, arith, rules}
-use mathlib.Core.Bool.{and-eq-true_iff}
-use borrow.Author.Tests.{not-true}
+use Rattle.std.proofs.Common.{◌≤◌}
 use Rattle.expirations.specs.Pinning.{is_pin_at}
 use Rattle.expirations.specs.Places.{SomeBetween}
-use Rattle.expirations.proofs.Places.{asked_start, asked_turn, asked_end, asked_unless}
 use Rattle.expirations.proofs.pinning.any_pin.Given as goal
 
 abbrev pub invariant-loop-i : goal.invariant-loop-i

@@ -1,10 +1,8 @@
 -- Group by group.
-use Rattle.std.proofs.Common.{◌-◌, ◌*◌, ◌≤◌, arith, rules}
+use Rattle.std.proofs.Common.{◌*◌, ◌≤◌}
 use Rattle.record.specs.Tables.{group_size, group_count}
 use Rattle.expirations.specs.Pinning.{is_pin_at}
 use Rattle.expirations.specs.Places.{SomeBetween}
-use Rattle.expirations.proofs.Pins.{pins_all}
-use Rattle.expirations.proofs.Places.{asked_start, asked_join, asked_end}
 use Rattle.expirations.proofs.pinning.is_pinned.Given as goal
 
 abbrev pub invariant-loop-g : goal.invariant-loop-g

@@ -1,7 +1,4 @@
 -- The last byte of each difference.
-use Rattle.std.proofs.Common.{◌-◌, arith, rules}
-use Rattle.record.specs.Tables.{group_size}
-use Rattle.lists.proofs.Filling.{filled_start, filled_turn, filled_end}
 use Rattle.expirations.specs.Remaining.{Lefts}
 use Rattle.expirations.proofs.remaining.local_lefts.Given as goal
 

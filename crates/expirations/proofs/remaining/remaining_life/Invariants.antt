@@ -1,8 +1,7 @@
 -- Group by group, to figures that fit a byte.
-use Rattle.std.proofs.Common.{◌≡◌, ◌+◌, ◌-◌, ◌*◌, ◌≤◌, take, refl, arith, rules}
+use Rattle.std.proofs.Common.{◌≡◌, ◌*◌, ◌≤◌, take}
 use Rattle.record.specs.Tables.{entries_of, group_size, group_count}
 use Rattle.expirations.specs.Remaining.{units_in}
-use Rattle.expirations.proofs.Longest.{groups_turn, life_end}
 use Rattle.expirations.proofs.remaining.remaining_life.Given as goal
 
 abbrev pub invariant-loop-g : goal.invariant-loop-g

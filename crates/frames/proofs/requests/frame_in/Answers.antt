@@ -1,7 +1,5 @@
 -- By the number of the operation.
 use mathlib.Core.Path.{◌∙◌}
-use borrow.Author.Rules.{rules}
-use Rattle.text.proofs.Digits.{spells_one}
 use Rattle.frames.proofs.Frames.{by_number, unknown_operation, no_operation}
 use Rattle.frames.proofs.requests.frame_in.Goals as goal
 

@@ -1,6 +1,5 @@
 -- By the test of the line.
 use mathlib.Core.Path.{sym, ◌∙◌}
-use borrow.Author.Rules.{rules}
 use Rattle.frames.specs.Frames.{frame_of}
 use Rattle.frames.proofs.requests.frame_of.Goals as goal
 

@@ -1,6 +1,5 @@
 -- By the size, then the kind.
 use mathlib.Core.Path.{refl}
-use borrow.Author.Rules.{rules}
 use Rattle.frames.specs.Frames.{make}
 use Rattle.frames.proofs.Frames.{other_size, wrong_kind, own_size}
 use Rattle.frames.proofs.requests.make.Goals as goal

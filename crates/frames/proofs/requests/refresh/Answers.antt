@@ -1,6 +1,5 @@
 -- By the size, then the kind.
 use mathlib.Core.Path.{refl}
-use borrow.Author.Rules.{rules}
 use Rattle.frames.specs.Frames.{refresh}
 use Rattle.frames.proofs.Frames.{other_size, wrong_kind, own_size}
 use Rattle.frames.proofs.requests.refresh.Goals as goal

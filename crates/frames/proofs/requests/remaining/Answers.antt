@@ -1,6 +1,5 @@
 -- By the size.
 use mathlib.Core.Path.{refl}
-use borrow.Author.Rules.{rules}
 use Rattle.frames.specs.Frames.{remaining}
 use Rattle.frames.proofs.Frames.{other_size, own_size}
 use Rattle.frames.proofs.requests.remaining.Goals as goal

@@ -1,9 +1,8 @@
 -- A test of all tasks.
-use Rattle.std.proofs.Common.{◌-◌, ◌&&◌, rules}
+use Rattle.std.proofs.Common.{◌&&◌}
 use Rattle.lists.specs.Tests.{all}
-use Rattle.lists.proofs.Loops.{Scanned, scanned_start, all_kept, all_kept_end}
+use Rattle.lists.proofs.Loops.{Scanned}
 use Rattle.ledger.specs.Limits.{task_count}
-use Rattle.record.specs.Codes.{absent_entry}
 use Rattle.record.specs.WellFormed.{is_fit_task}
 use Rattle.record.proofs.running.all_fit_tasks.Given as goal
 

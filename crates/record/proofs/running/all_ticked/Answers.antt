@@ -1,9 +1,8 @@
 -- A search for a pending task that notes whether one runs.
-use Rattle.std.proofs.Common.{◌-◌, sym, ◌∙◌, rules}
-use Rattle.lists.proofs.Loops.{Scanned, scanned_start, scanned_turn, scanned_stop, scanned_end}
-use Rattle.ledger.specs.Limits.{task_count}
+use Rattle.std.proofs.Common.{sym, ◌∙◌, rules}
+use Rattle.lists.proofs.Loops.{scanned_turn, scanned_stop, scanned_end}
 use Rattle.record.specs.Codes.{absent_entry}
-use Rattle.record.proofs.States.{ticked_from, ticked_start, ticked_turn, ticked_stop, ticked_end}
+use Rattle.record.proofs.States.{ticked_start, ticked_turn, ticked_stop, ticked_end}
 use Rattle.record.proofs.running.all_ticked.Goals as goal
 
 pub returns-then-is_pending : goal.returns-then-is_pending

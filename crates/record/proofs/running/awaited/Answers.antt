@@ -1,9 +1,8 @@
 -- A bit for each task, gathered from the last one down.
-use Rattle.std.proofs.Common.{◌-◌, false, sym, ◌∙◌, arith, rules}
-use Rattle.lists.proofs.Bits.{bits_map, Gathered, gathered_start, gathered_turn, gathered_room, gathered_end}
+use Rattle.std.proofs.Common.{false, sym, ◌∙◌, arith, rules}
+use Rattle.lists.proofs.Bits.{bits_map, gathered_room, gathered_end}
 use Rattle.ledger.specs.Awaited.{is_awaited}
-use Rattle.ledger.specs.Limits.{task_count}
-use Rattle.record.specs.Codes.{task_of, is_pending_entry, absent_entry}
+use Rattle.record.specs.Codes.{task_of, is_pending_entry}
 use Rattle.record.proofs.running.awaited.Goals as goal
 
 pub overflow_mul-bits : goal.overflow_mul-bits

@@ -1,5 +1,4 @@
 -- Clause by clause, by what is_running and is_absent ensure.
-use Rattle.std.proofs.Common.{rules}
 use Rattle.record.specs.WellFormed.{is_fit_task}
 use Rattle.record.proofs.running.fits_task.Goals as goal
 

@@ -1,8 +1,7 @@
 -- The loop stores the handles' bytes one after the other.
-use Prim.Native.Nat.{◌-◌}
-use mathlib.Core.Path.{refl, sym}
+use mathlib.Core.Path.{refl}
 use borrow.Author.Rules.{rules}
-use Rattle.text.proofs.HandleBytes.{Stored, stored_start, stored_size, stored_room, stored_turn, stored_end}
+use Rattle.text.proofs.HandleBytes.{stored_start, stored_room, stored_turn, stored_end}
 use Rattle.text.proofs.batches.handle_bytes.Goals as goal
 
 pub loop-i-init : goal.loop-i-init

@@ -1,7 +1,4 @@
 -- Four stores, one after the other.
-use native.Mathlib.Omega.{arith}
-use borrow.Author.Rules.{rules}
-use lib.ListN.{length-set}
 use Rattle.text.proofs.Puts.{puts_four}
 use Rattle.text.proofs.batches.store_handle.Goals as goal
 

@@ -1,6 +1,6 @@
 -- A number is what its tenth is, and a digit more.
 use native.Mathlib.Omega.{arith}
-use Rattle.std.proofs.Common.{ℕ, ◌-◌, ◌/◌}
+use Rattle.std.proofs.Common.{◌-◌, ◌/◌}
 use Rattle.text.proofs.Numerals.{room_left, puts_none, puts_digit, puts_more}
 use Rattle.text.proofs.decimals.+put_numeral.Goals as goal
 

@@ -1,6 +1,5 @@
 -- The pair at the byte's place spells it.
-use borrow.Author.Rules.{rules}
-use Rattle.text.proofs.Pairs.{pair_digits, pair_spelled}
+use Rattle.text.proofs.Pairs.{pair_spelled}
 use Rattle.text.proofs.hex.byte_at.Goals as goal
 
 pub returns : goal.returns

@@ -1,6 +1,5 @@
 -- By the one test.
 use native.Mathlib.Omega.{arith}
-use borrow.Author.Rules.{rules}
 use borrow.Author.Tests.{lt-ltb, le-ltb}
 use Rattle.text.specs.Hex.{digit_for}
 use Rattle.text.proofs.hex.digit_for.Goals as goal

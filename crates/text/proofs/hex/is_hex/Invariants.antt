@@ -1,11 +1,7 @@
 -- The loop tests what is left of the line.
-use Prim.Native.Nat.{◌-◌}
 use mathlib.Core.Bool.{◌&&◌}
-use mathlib.Core.Path.{refl}
-use borrow.Author.Rules.{rules}
 use Rattle.lists.specs.Tests.{all}
-use Rattle.lists.proofs.Loops.{Scanned, scanned_start}
-use Rattle.lists.proofs.Searches.{all_on, all_end}
+use Rattle.lists.proofs.Loops.{Scanned}
 use Rattle.text.specs.Hex.{is_digit, is_hex}
 use Rattle.text.proofs.hex.is_hex.Given as goal
 

@@ -1,9 +1,6 @@
 -- The pair at each place.
-use Prim.Native.Nat.{◌-◌}
 use mathlib.Core.Path.{◌≡◌}
-use borrow.Author.Rules.{rules}
 use Rattle.lists.specs.Filled.{Filled}
-use Rattle.lists.proofs.Filling.{filled_start, filled_turn, filled_end}
 use Rattle.ledger.specs.Limits.{large_size}
 use Rattle.text.specs.Pairs.{pair_at}
 use Rattle.text.proofs.hex.pairs.Given as goal

@@ -1,7 +1,4 @@
 -- The two digits stand one after the other.
-use native.Mathlib.Omega.{arith}
-use borrow.Author.Rules.{rules}
-use lib.ListN.{length-set}
 use Rattle.text.proofs.Puts.{puts_byte}
 use Rattle.text.proofs.hex.put_byte.Goals as goal
 

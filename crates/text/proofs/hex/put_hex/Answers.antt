@@ -1,5 +1,4 @@
 -- The part that comes back is the digits.
-use borrow.Author.Rules.{rules}
 use Rattle.lists.proofs.Blocks.{put_back}
 use Rattle.text.proofs.Digits.{length_hex}
 use Rattle.text.proofs.hex.put_hex.Goals as goal

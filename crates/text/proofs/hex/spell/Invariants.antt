@@ -1,11 +1,7 @@
 -- The byte of each pair.
-use Prim.Native.Nat.{◌-◌}
-use native.Mathlib.Omega.{arith}
-use mathlib.Core.Path.{◌≡◌, refl}
-use borrow.Author.Rules.{rules}
+use mathlib.Core.Path.{◌≡◌}
 use lib.ListN.{get_or}
 use Rattle.lists.specs.Filled.{Filled}
-use Rattle.lists.proofs.Filling.{filled_turn, filled_end}
 use Rattle.text.specs.Pairs.{spelled_by}
 use Rattle.text.proofs.hex.spell.Given as goal
 

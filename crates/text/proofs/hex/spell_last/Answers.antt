@@ -1,6 +1,5 @@
 -- The line's last pairs spell its last bytes, where there are any.
-use borrow.Author.Rules.{rules}
-use Rattle.text.proofs.Pairs.{last_pairs, last_spelled, last_none}
+use Rattle.text.proofs.Pairs.{last_spelled, last_none}
 use Rattle.text.proofs.hex.spell_last.Goals as goal
 
 pub returns-then-part-eq0 : goal.returns-then-part-eq0

@@ -1,11 +1,7 @@
 -- The loop copies the digits, two a turn.
-use Prim.Native.Nat.{◌*◌, ◌-◌}
-use native.Mathlib.Omega.{arith}
 use mathlib.Core.Path.{sym, ◌∙◌}
 use borrow.Author.Rules.{rules}
-use lib.ListN.{length-set}
-use Rattle.lists.proofs.Copies.{Copied, copied_start, copied_turn, copied_end}
-use Rattle.text.specs.Hex.{hex_of}
+use Rattle.lists.proofs.Copies.{copied_start, copied_turn}
 use Rattle.text.proofs.Digits.{length_hex, high_digit, low_digit, next_pair}
 use Rattle.text.proofs.hex.spell_out.Goals as goal
 

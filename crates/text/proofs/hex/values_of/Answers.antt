@@ -1,5 +1,4 @@
 -- By the bits of both characters.
-use borrow.Author.Rules.{rules}
 use Rattle.text.proofs.Pairs.{pair_bits}
 use Rattle.text.proofs.hex.values_of.Goals as goal
 

@@ -1,11 +1,8 @@
 -- The loop searches from the place on.
 use Prim.Native.Nat.{◌-◌}
-use mathlib.Core.Path.{◌≡◌, refl, sym, ◌∙◌}
-use borrow.Author.Rules.{rules}
-use borrow.Author.Tests.{eq-eqb, ne_eqb}
+use mathlib.Core.Path.{◌≡◌}
 use lib.ListN.{length}
-use Rattle.lists.proofs.Searches.{first_here, first_on, first_past}
-use Rattle.text.specs.Lines.{is_lf, line_end}
+use Rattle.text.specs.Lines.{line_end}
 use Rattle.text.proofs.lines.line_end.Given as goal
 
 abbrev pub invariant-loop-end : goal.invariant-loop-end

@@ -1,0 +1,9 @@
+-- Every handle left or given up in its place, by its flag.
+use Rattle.std.proofs.Common.{◌≤◌}
+use Rattle.record.specs.Tables.{block_entries}
+use Rattle.expirations.specs.Places.{Changed}
+use Rattle.endings.specs.Releasing.{kept_by_flag}
+use Rattle.endings.proofs.releasing.keep_named.Given as goal
+
+abbrev pub invariant-loop-i : goal.invariant-loop-i
+invariant-loop-i l = (l.i ≤ block_entries) × Changed 0 (kept_by_flag l.flags) 0 l.i l.initial.handles l.handles
