@@ -12,13 +12,13 @@ find_for_refresh-requires c = (c.requires.0, lent_fits _ _ _ _ _ _ c.requires.1)
 pub set-requires : goal.set-requires
 set-requires c = let a = c.args in
     let (room, known, block) = refresh_may_set (head_typed _ _ c.well_formed.0) c.requires.0 a.task a.kind a.extension
-    a.handle _ c.find_for_refresh.ensures c.block-1.given.1 c.requires.1 in
+    a.handle _ c.find_for_refresh.ensures c.in-At.is c.requires.1 in
     (c.requires.0.entries, room, known, block)
 
 pub returns-in-Refused : goal.returns-in-Refused
 returns-in-Refused c = let a = c.args in
-    (c.requires.0.entries, refresh_kept (head_typed _ _ c.well_formed.0) c.requires.0 a.task a.kind a.extension a.handle _ c.find_for_refresh.ensures c.requires.1 c.why-1.given.1, refl)
+    (c.requires.0.entries, refresh_kept (head_typed _ _ c.well_formed.0) c.requires.0 a.task a.kind a.extension a.handle _ c.find_for_refresh.ensures c.requires.1 c.in-Refused.is, refl)
 
 pub returns-in-At : goal.returns-in-At
 returns-in-At c = let a = c.args in
-    (c.set.ensures.sized, refresh_set (head_typed _ _ c.well_formed.0) c.requires.0 a.task a.kind a.extension a.handle _ c.find_for_refresh.ensures c.block-1.given.1 c.requires.1 c.set.ensures, refl)
+    (c.set.ensures.sized, refresh_set (head_typed _ _ c.well_formed.0) c.requires.0 a.task a.kind a.extension a.handle _ c.find_for_refresh.ensures c.in-At.is c.requires.1 c.set.ensures, refl)

@@ -12,7 +12,7 @@ find_for_release-requires c = (c.requires.0, lent_fits _ _ _ _ _ _ c.requires.1)
 
 pub release-requires : goal.release-requires
 release-requires c = let sized = c.requires.0 in
-    let known = release_known (head_typed _ _ c.well_formed.0) sized c.args.task c.args.handle _ c.find_for_release.ensures c.block-1.given.1 in
+    let known = release_known (head_typed _ _ c.well_formed.0) sized c.args.task c.args.handle _ c.find_for_release.ensures c.in-At.is in
     (known, sized.blocks.of_handles, sized.entries.of_clocks, sized.entries.of_named, well_named _ sized (lent_fits _ _ _ _ _ _ c.requires.1))
 
 pub returns-in-Refused : goal.returns-in-Refused
@@ -20,5 +20,5 @@ returns-in-Refused c = let kept = release_kept (head_typed _ _ c.well_formed.0) 
     rw c.answered.ensures (kept.0, kept.1, refl)
 
 pub returns-in-At : goal.returns-in-At
-returns-in-At c = let carried = release_carried (head_typed _ _ c.well_formed.0) c.requires.0 c.args.task c.args.handle _ c.find_for_release.ensures c.block-1.given.1 c.requires.1 c.release.ensures in
+returns-in-At c = let carried = release_carried (head_typed _ _ c.well_formed.0) c.requires.0 c.args.task c.args.handle _ c.find_for_release.ensures c.in-At.is c.requires.1 c.release.ensures in
     rw c.answered-in-At.ensures (carried.0, carried.1, refl)
