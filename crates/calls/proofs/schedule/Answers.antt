@@ -16,7 +16,7 @@ end-requires c = (ends_known _ _ _ _ c.plan-planned.ensures (not-false _ c.if-no
 
 pub returns : goal.returns
 returns c = rw (c.answered-2.ensures, c.shares_left.ensures) (
-      schedule_ended (head_typed _ _ c.well_formed.0) c.requires _ _ c.plan-planned.ensures (not-false _ c.if-not-planned.false)
-          c.end.ensures c.orphan.ensures,
-      refl,
-    )
+  schedule_ended (head_typed _ _ c.well_formed.0) c.requires _ _ c.plan-planned.ensures (not-false _ c.if-not-planned.false)
+      c.end.ensures c.orphan.ensures,
+  refl,
+)
