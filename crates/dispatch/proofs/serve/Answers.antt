@@ -7,50 +7,45 @@ use Rattle.record.proofs.Types.{head_typed}
 use Rattle.calls.proofs.Lent.{lent_fits}
 use Rattle.calls.proofs.Meets.{halves}
 use Rattle.dispatch.proofs.Arms.{ready_for, holds_made, join_arm, schedule_arm, refresh_arm, make_arm, read_arm, write_arm, batch_arm, release_arm}
-use Rattle.dispatch.proofs.serve.Lts as lts
 use Rattle.dispatch.proofs.serve.Goals as goal
 
--- where the arms begin
-abbrev start : lts.After-shared_slice_known-1 → lts.Start
-start c = c.before.before.before
-
 pub find_for_read-requires : goal.find_for_read-requires
-find_for_read-requires c = let s = start c.before.before in
-    let (small_whole_lem, large_whole_lem) = halves s.args.h.limits s.args.small.now s.args.large.now ((ready_for s.pre.1 (ap Use c.call4.given.1)).whole refl) in
-    (s.pre.0, lent_fits _ _ _ _ _ _ s.pre.1.fit, small_whole_lem, large_whole_lem)
+find_for_read-requires c =
+    let (small_whole, large_whole) = halves c.args.h.limits c.args.small.now c.args.large.now ((ready_for c.requires.1 (ap Use c.in-Read.is)).whole refl) in
+    (c.requires.0, lent_fits _ _ _ _ _ _ c.requires.1.fit, small_whole, large_whole)
 
 pub returns-in-Schedule : goal.returns-in-Schedule
-returns-in-Schedule c = let s = start c.before.before in
-    schedule_arm _ s.pre.0 s.pre.1 c.in-Schedule.is c.schedule.ensures.0 c.schedule.ensures.1
+returns-in-Schedule c =
+    schedule_arm _ c.requires.0 c.requires.1 c.in-Schedule.is c.schedule.ensures.0 c.schedule.ensures.1
 
 pub returns-in-Make : goal.returns-in-Make
-returns-in-Make c = let s = start c.before.before in
+returns-in-Make c =
     let m = c.make.ensures in
-    make_arm _ s.pre.0 s.pre.1 c.in-Make.is (m.0, m.1) m.2
+    make_arm _ c.requires.0 c.requires.1 c.in-Make.is (m.0, m.1) m.2
 
 pub returns-in-Refresh : goal.returns-in-Refresh
-returns-in-Refresh c = let s = start c.before.before in
+returns-in-Refresh c =
     let m = c.refresh.ensures in
-    refresh_arm _ s.pre.0 s.pre.1 c.in-Refresh.is (m.0, m.1) m.2
+    refresh_arm _ c.requires.0 c.requires.1 c.in-Refresh.is (m.0, m.1) m.2
 
 pub returns-in-Read : goal.returns-in-Read
-returns-in-Read c = let s = start c.before.before in
-    read_arm _ s.pre.0 s.pre.1 (head_typed _ _ s.good.0) c.call4.given.1 c.find_for_read.ensures c.where_found.ensures
+returns-in-Read c =
+    read_arm _ c.requires.0 c.requires.1 (head_typed _ _ c.well_formed.0) c.in-Read.is c.find_for_read.ensures c.where_found.ensures
 
 pub returns-in-Write : goal.returns-in-Write
-returns-in-Write c = let s = start c.before.before in
-    write_arm _ s.pre.0 s.pre.1 c.in-Write.is c.write.ensures c.answered.ensures
+returns-in-Write c =
+    write_arm _ c.requires.0 c.requires.1 c.in-Write.is c.write.ensures c.answered.ensures
 
 pub returns-in-Batch : goal.returns-in-Batch
-returns-in-Batch c = let s = start c.before.before in
+returns-in-Batch c =
     let m = c.batch.ensures in
-    batch_arm _ s.pre.0 s.pre.1 c.in-Batch.is (m.0, m.1) m.2
+    batch_arm _ c.requires.0 c.requires.1 c.in-Batch.is (m.0, m.1) m.2
 
 pub returns-in-Release : goal.returns-in-Release
-returns-in-Release c = let s = start c.before.before in
+returns-in-Release c =
     let m = c.release.ensures in
-    release_arm _ s.pre.0 s.pre.1 c.in-Release.is (m.0, m.1) m.2
+    release_arm _ c.requires.0 c.requires.1 c.in-Release.is (m.0, m.1) m.2
 
 pub returns-in-Join : goal.returns-in-Join
-returns-in-Join c = let s = start c.before.before in
-    join_arm _ s.pre.0 s.pre.1 c.in-Join.is s.pre.2 c.join.ensures.0 c.join.ensures.1
+returns-in-Join c =
+    join_arm _ c.requires.0 c.requires.1 c.in-Join.is c.requires.2 c.join.ensures.0 c.join.ensures.1
