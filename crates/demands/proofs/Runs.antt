@@ -40,7 +40,7 @@ use Rattle.record.specs.declared.Pool.{Pool}
 use Rattle.record.specs.declared.TaskEntry.{TaskEntry}
 use Rattle.record.proofs.Columns.{block_at, entry_of}
 use Rattle.record.proofs.Facts.{fit_parts}
-use Rattle.stores.specs.Places.{small_after, large_after, sum_after}
+use Rattle.stores.specs.Places.{sum_after}
 use Rattle.steps.specs.Events.{verdict_at, leaver_of, kept_block, swept, orphaned_block, orphaned_pool, moved_pool, pool_after, answer_after, outcome_by, scheduled}
 use Rattle.steps.specs.Facts.{verdict_by}
 use Rattle.steps.specs.Joins.{joined_pool}

@@ -1,0 +1,10 @@
+-- 15, or the release itself.
+use borrow.Author.Rules.{rules}
+use Rattle.tested.proofs.Tested.{unfit_lent, lent_fit}
+use Rattle.tested.proofs.release.Goals as goal
+
+pub returns-then-not-is_well_formed : goal.returns-then-not-is_well_formed
+returns-then-not-is_well_formed c = rw c.refused.ensures (unfit_lent c.requires c.is_well_formed.ensures (rw c.if-not-is_well_formed.true))
+
+pub release-requires : goal.release-requires
+release-requires c = (c.requires, lent_fit c.args.h _ _ _ _ _ c.is_well_formed.ensures (rw c.if-not-is_well_formed.false))
