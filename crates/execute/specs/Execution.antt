@@ -1,5 +1,5 @@
 -- D1, demand 1: a line of any bytes is carried out or refused, on any record with any stores; and what the ledger makes of a frame.
-use Rattle.std.specs.Prelude.{ℕ, ◌≤◌, List, ◌≡◌, length}
+use Rattle.std.specs.Prelude.{ℕ, ◌≤◌, List, ◌≡◌}
 use Rattle.ledger.specs.Numbers.{answer_number}
 use Rattle.ledger.specs.Objects.{Reply}
 use Rattle.ledger.specs.declared.Answer.TheVariants.{Refused}
