@@ -15,7 +15,7 @@ pub fn library(root: &str) -> PathBuf {
     println!("cargo:rerun-if-changed={}", archive.display());
     if !archive.is_file() {
         let archive = archive.display();
-        eprintln!("{archive} is missing: run `rt staticlib ramsummer` first, or set RAMSUMMER_LIB to its folder");
+        eprintln!("{archive} is missing: run `tools/set-up` first, or set RAMSUMMER_LIB to its folder");
         process::exit(1);
     }
     println!("cargo:rustc-link-search=native={}", folder.display());

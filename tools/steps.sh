@@ -40,44 +40,53 @@ lints() { cargo clippy --quiet --offline --all-targets --manifest-path "$1/Cargo
 reference() { cargo run --quiet --release --offline --manifest-path tests/reference/Cargo.toml --bin "$@"; }
 measure() { cargo run --quiet --release --offline --manifest-path tests/host/Cargo.toml --bin "$@"; }
 
-# progress COUNT: of what rt writes a line for each crate, numbered, and what else rt itself says; none of the prover's notes, which are in
-# target/log.
-progress() {
-    local line number=0
-    while IFS= read -r line; do
-        case $line in
-        "rt: "*" NOT PROVED (exit "*) echo "${line#rt: }: target/log/$(name_in "$line").out has what the prover says" ;;
-        "rt: "*" proved ("*) number=$((number + 1)) && echo "[$number/$1] ${line#rt: }" ;;
-        "rt: "*) echo "${line#rt: }" ;;
-        esac
+# in_crate NAME COMMAND...: rt works on the crate in whose folder it is called.
+in_crate() { (cd "crates/$1" && "${@:2}"); }
+
+# prove NAME...: these libraries and what they depend on, lowest first.
+prove() {
+    local crates number=0 crate
+    mapfile -t crates < <(reached "$@")
+    echo "proving ${#crates[@]} crates; what is unchanged since it was last proved is not proved again"
+    for crate in "${crates[@]}"; do
+        number=$((number + 1))
+        named "[$number/${#crates[@]}] $crate" in_crate "$crate" rt lib
     done
 }
-name_in() { set -- $1 && echo "$2"; }
-# prove NAME...: these crates and what they depend on.
-prove() {
-    local count
-    count=$(reached "$@" | wc -l)
-    echo "proving $count crates; what is unchanged since it was last proved is not proved again"
-    rt check "$@" 2>&1 | progress "$count" || fail "not proved"
-}
-# The crates that are named and all that they stand on, one a line. A line of crates.txt has what a crate names itself, and comes after the
-# lines of those.
+# The crates that are named and all that they stand on, one a line, each after those that it stands on. A line of crates.txt has what a
+# crate names itself, and comes after the lines of those.
 reached() {
     awk -F': *' -v wanted="$*" '
-        /^[^#]/ { name[++count] = $1; knows[$1] = $2 }
+        /^[^#]/ { name[++count] = $1; sub(/ .*/, "", name[count]); knows[name[count]] = $2 }
         END {
             split(wanted, first, " ")
             for (i in first) is_wanted[first[i]] = 1
             for (i = count; i > 0; i--) if (name[i] in is_wanted) {
-                print name[i]
                 split(knows[name[i]], known, " ")
                 for (k in known) is_wanted[known[k]] = 1
             }
+            for (i = 1; i <= count; i++) if (name[i] in is_wanted) print name[i]
         }' crates.txt
 }
+# below NAME...: what these crates stand on, without themselves.
+below() { reached "$@" | grep -vxF "$(printf '%s\n' "$@")"; }
 
-# `rt staticlib` proves its crate each time. So a stamp beside the library tells from what it was made: where that is as it was, so is the
-# library.
+# The programs in target/bin. rt builds no program that it does not run: each is run on nothing, which takes no time.
+programs() {
+    local name
+    mkdir -p target/bin
+    for name in poolrun plan; do
+        named "proving $name and building target/bin/$name" in_crate "$name" rt run </dev/null
+        cp "crates/$name/out/$name" target/bin/
+    done
+}
+# The programs as the gate built and ran them.
+programs_of_gate() {
+    mkdir -p target/bin
+    cp crates/poolrun/out/poolrun crates/plan/out/plan target/bin/
+}
+
+# A stamp beside the library tells from what it was made: where that is as it was, so is the library.
 library() {
     local made=target/staticlib/ramsummer.made
     if [ -f "$made" ] && [ "$(cat "$made")" = "$(library_stamp)" ]; then
@@ -85,14 +94,17 @@ library() {
         return
     fi
     rm -f "$made"
-    named "proving ramsummer and building target/staticlib/libramsummer.a" rt staticlib ramsummer
+    prove $(below ramsummer)
+    named "proving ramsummer and building target/staticlib/libramsummer.a" in_crate ramsummer rt lib
+    mkdir -p target/staticlib
+    cp crates/ramsummer/out/libramsummer.a target/staticlib/
     library_stamp >"$made"
 }
 # The kit, every file that is proved, and the library itself.
 library_stamp() {
     {
         rt version
-        find crates.txt crates -name must-fail -prune -o -type f -print0 | sort -z | xargs -0 sha256sum
+        find crates.txt crates \( -name must-fail -o -name out \) -prune -o -type f -print0 | sort -z | xargs -0 sha256sum
         sha256sum target/staticlib/libramsummer.a
     } 2>&1 | sha256sum
 }

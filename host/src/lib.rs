@@ -199,7 +199,7 @@
 //! [`LimitsOutOfRange`](Refusal::LimitsOutOfRange) themselves; a test holds them to the library's entry. [`Pool::put`] is two
 //! calls, and [`Pool::get`] refuses what is too short itself.
 //!
-//! The build links `libramsummer.a` from the repository's `target/staticlib`, where `rt staticlib ramsummer` writes it,
+//! The build links `libramsummer.a` from the repository's `target/staticlib`, where `tools/set-up` writes it,
 //! or from the folder that the environment variable `RAMSUMMER_LIB` names (README.md has the rule).
 
 #![no_std]

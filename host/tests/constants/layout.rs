@@ -10,7 +10,10 @@ fn text() -> String {
 /// The fields of one of the record's structs, with their types.
 fn fields(name: &str) -> Vec<(String, String)> {
     let text = text();
-    let body = between(&text, &format!("#[repr(C)]\npub struct {name} {{\n"), "\n}").unwrap();
+    let (above, body) = text.split_once(&format!("\npub struct {name} {{\n")).unwrap();
+    let mut attributes = above.lines().rev().take_while(|line| line.starts_with("#["));
+    assert!(attributes.any(|line| line == "#[repr(C)]"), "{name} is not laid out as in C");
+    let (body, _) = body.split_once("\n}").unwrap();
     let fields =
         body.lines().filter_map(|line| line.trim().strip_prefix("pub ")?.trim_end_matches(',').split_once(": "));
     fields.map(|(field, kind)| (field.into(), kind.into())).collect()

@@ -121,8 +121,9 @@ fn named(krate: &str, name: &str) -> u64 {
     }
 }
 
-/// `use ledger::STANDARD;` names the crate of a constant.
+/// `use ledger::STANDARD;` or `use ledger::{CAPACITY, STANDARD};` names the crate of a constant.
 fn origin<'a>(text: &'a str, constant: &str) -> Option<&'a str> {
-    let line = text.lines().find(|line| line.starts_with("use ") && line.ends_with(&format!("::{constant};")))?;
-    between(line, "use ", "::")
+    let uses = text.split("\nuse ").skip(1).filter_map(|rest| rest.split_once(';')?.0.split_once("::"));
+    let mut uses = uses.filter(|(_, names)| names.split(['{', '}', ',', ':']).any(|name| name.trim() == constant));
+    Some(uses.next()?.0)
 }
