@@ -5,11 +5,9 @@ use native.Mathlib.Omega.{arith}
 use mathlib.Core.List.{List, [], ◌∷◌}
 use mathlib.Core.Path.{◌≡◌, refl, sym, ap, ◌∙◌}
 use borrow.Author.Tests.{le-ltb, lt-ltb}
-use denote.Enum.Declared.{tag_of}
 use denote.Laws.{Is}
 use lib.ListN.{length}
 use mir.Val.{Val}
-use types.Run.{OneOf, miss}
 use Rattle.lists.specs.Blocks.{overwritten}
 use Rattle.ledger.specs.Numbers.{number_of, answer_number}
 use Rattle.ledger.specs.Rules.{reply_to}
@@ -22,7 +20,6 @@ use Rattle.ledger.specs.declared.Refusal.TheVariants.{NoSuchTask, TaskPresent, T
 use Rattle.ledger.specs.declared.Request.{Request}
 use Rattle.ledger.specs.declared.Request.TheVariants.{Use, Remaining}
 use Rattle.ledger.specs.declared.Usage.{Usage}
-use Rattle.ledger.specs.contracts.Answer.{the_type}
 use Rattle.record.specs.declared.Pool.{Pool}
 use Rattle.record.specs.contracts.Pool.{the_row}
 use Rattle.calls.specs.Contract.{Follows, Writes, ReadsBack, ReadsTo}
@@ -66,11 +63,11 @@ tells_life e = record { now = rw e }
 
 -- remaining life, where it gives none: it was refused
 pub no_life : {p : Pool} {vs : List Val} → Is the_row p vs → {answer : Answer} {p' : Pool} {task handle : ℕ} → Follows (Remaining task handle) p answer p'
-    → OneOf (0 ∷ 1 ∷ 2 ∷ 3 ∷ 4 ∷ 5 ∷ []) (tag_of the_type answer) → (numbers : List ℕ) → Tells answer numbers numbers
+    → ((life : Life) → answer ≡ Lasts life → ⊥) → (numbers : List ℕ) → Tells answer numbers numbers
 unfolding overwritten
-no_life is f k numbers =
+no_life is f none numbers =
     by_reply is (f [] []) (λ why e. tells_by (λ (a : Answer). numbers) (answered e) refl)
-    (λ L e. absurd (miss (0 ∷ 1 ∷ 2 ∷ 3 ∷ 4 ∷ 5 ∷ []) 6 tt (rw (answered e) at k)))
+    (λ L e. absurd (none _ (answered e)))
 
 -- the three ends of a read: refused,
 module _ {task handle : ℕ} {p : Pool} {small large : List ℕ} {number : ℕ} where

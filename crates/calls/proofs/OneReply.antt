@@ -1,5 +1,5 @@
 -- A call has one reply: by 15, by 14, or by the ledger that a fit record reads as.
-use mathlib.Core.Bool.{true, false, false≢true}
+use mathlib.Core.Bool.{true, false≢true}
 use mathlib.Core.Path.{◌≡◌, sym, ◌∙◌}
 use Rattle.lists.proofs.Cases.{by_test}
 use Rattle.record.specs.Pools.{is_well_formed}

@@ -1,6 +1,5 @@
 -- By the verdict: refused with nothing changed, or the task's entry and share set.
 use mathlib.Core.Path.{refl}
-use borrow.Author.Rules.{rules}
 use Rattle.record.proofs.Types.{head_typed}
 use Rattle.calls.proofs.JoinLent.{join_refused, join_known, join_done}
 use Rattle.calls.proofs.join.Goals as goal

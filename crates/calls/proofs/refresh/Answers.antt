@@ -1,6 +1,5 @@
 -- By what was found: refused with nothing changed, or one expiration more.
 use mathlib.Core.Path.{refl}
-use borrow.Author.Rules.{rules}
 use Rattle.record.proofs.Types.{head_typed}
 use Rattle.calls.proofs.Lent.{lent_fits}
 use Rattle.calls.proofs.RefreshLent.{refresh_kept, refresh_set, refresh_may_set}

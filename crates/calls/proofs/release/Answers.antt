@@ -1,6 +1,5 @@
 -- By what was found: refused with nothing changed, or the pinned expiration ended.
 use mathlib.Core.Path.{refl}
-use borrow.Author.Rules.{rules}
 use Rattle.record.proofs.Types.{head_typed}
 use Rattle.endings.proofs.Unpins.{well_named}
 use Rattle.calls.proofs.Lent.{lent_fits}

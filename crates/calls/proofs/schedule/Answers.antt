@@ -1,6 +1,5 @@
 -- By what was planned: nothing may end, or what is over has ended.
 use mathlib.Core.Path.{refl}
-use borrow.Author.Rules.{rules}
 use borrow.Author.Tests.{not-true, not-false}
 use Rattle.record.proofs.Types.{head_typed}
 use Rattle.calls.proofs.Scheduled.{ends_known}

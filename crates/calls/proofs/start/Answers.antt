@@ -1,6 +1,5 @@
 -- By what was planned.
 use mathlib.Core.Path.{refl}
-use borrow.Author.Rules.{rules}
 use Rattle.record.proofs.Types.{head_typed}
 use Rattle.calls.proofs.ScheduledLent.{start_alone}
 use Rattle.calls.proofs.start.Goals as goal

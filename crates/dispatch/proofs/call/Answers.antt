@@ -1,6 +1,5 @@
 -- One of the twelve, report, or remaining life.
-use borrow.Author.Rules.{rules}
-use Rattle.dispatch.proofs.Arms.{ready_for, report_arm, life_arm, use_arm}
+use Rattle.dispatch.proofs.Arms.{report_arm, life_arm}
 use Rattle.dispatch.proofs.call.Goals as goal
 
 pub returns-in-Report : goal.returns-in-Report

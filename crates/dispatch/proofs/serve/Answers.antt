@@ -1,12 +1,10 @@
 -- Each arm by what its call promises.
 use mathlib.Core.Path.{refl, ap}
-use borrow.Author.Rules.{rules}
 use Rattle.ledger.specs.declared.Request.TheVariants.{Use}
-use Rattle.record.specs.Tables.{blocks_of}
 use Rattle.record.proofs.Types.{head_typed}
 use Rattle.calls.proofs.Lent.{lent_fits}
 use Rattle.calls.proofs.Meets.{halves}
-use Rattle.dispatch.proofs.Arms.{ready_for, holds_made, join_arm, schedule_arm, refresh_arm, make_arm, read_arm, write_arm, batch_arm, release_arm}
+use Rattle.dispatch.proofs.Arms.{ready_for, join_arm, schedule_arm, refresh_arm, make_arm, read_arm, write_arm, batch_arm, release_arm}
 use Rattle.dispatch.proofs.serve.Goals as goal
 
 pub find_for_read-requires : goal.find_for_read-requires

@@ -1,5 +1,4 @@
 -- 15, or the batch itself.
-use borrow.Author.Rules.{rules}
 use Rattle.tested.proofs.Tested.{unfit_entries, lent_fit}
 use Rattle.tested.proofs.batch.Goals as goal
 

@@ -1,5 +1,4 @@
 -- 15, or the join itself.
-use borrow.Author.Rules.{rules}
 use Rattle.tested.proofs.Tested.{unfit_lent, fit_alone, held_lent}
 use Rattle.tested.proofs.join.Goals as goal
 

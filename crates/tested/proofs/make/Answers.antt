@@ -1,6 +1,5 @@
 -- 15, 14, or the make itself.
 use mathlib.Core.Path.{refl}
-use borrow.Author.Rules.{rules}
 use Rattle.ledger.specs.declared.Call.TheVariants.{Make}
 use Rattle.ledger.specs.declared.Request.TheVariants.{Use}
 use Rattle.shares.proofs.Either.{held_in}

@@ -1,5 +1,4 @@
 -- 15, or the refresh itself.
-use borrow.Author.Rules.{rules}
 use Rattle.tested.proofs.Tested.{unfit_entries, lent_fit}
 use Rattle.tested.proofs.refresh.Goals as goal
 

@@ -1,5 +1,4 @@
 -- 15, or the release itself.
-use borrow.Author.Rules.{rules}
 use Rattle.tested.proofs.Tested.{unfit_lent, lent_fit}
 use Rattle.tested.proofs.release.Goals as goal
 

@@ -1,5 +1,4 @@
 -- 15, or the event itself.
-use borrow.Author.Rules.{rules}
 use Rattle.tested.proofs.Tested.{unfit_lent, fit_lent}
 use Rattle.tested.proofs.schedule.Goals as goal
 

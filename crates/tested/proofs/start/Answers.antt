@@ -1,5 +1,4 @@
 -- 15, or the event itself.
-use borrow.Author.Rules.{rules}
 use Rattle.tested.proofs.Tested.{unfit_lent, fit_alone}
 use Rattle.tested.proofs.start.Goals as goal
 

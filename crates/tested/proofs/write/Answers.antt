@@ -1,6 +1,5 @@
 -- 15, 14, or the write itself.
 use mathlib.Core.Path.{refl}
-use borrow.Author.Rules.{rules}
 use Rattle.ledger.specs.declared.Call.TheVariants.{Write}
 use Rattle.ledger.specs.declared.Request.TheVariants.{Use}
 use Rattle.tested.proofs.Tested.{unfit_written, wrong_written, ready_lent}

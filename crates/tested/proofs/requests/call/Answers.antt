@@ -1,5 +1,4 @@
 -- 15, 14, or the call itself.
-use borrow.Author.Rules.{rules}
 use Rattle.tested.proofs.Tested.{unfit_served, bare_ready, wrong_served, stored_ready, lent_holds}
 use Rattle.tested.proofs.requests.call.Goals as goal
 
