@@ -1,7 +1,9 @@
 // The program: a cable plan on standard input, the figures of its channels on standard output, one line a channel (G15).
 #![tactic(auto)]
 
-ghost use Rattle.std.specs.Prelude.{◌≡◌, IfOk, IfSome, take};
+ghost use Rattle.std.specs.Prelude.{◌≡◌, IfOk, IfSome, OnOk, take};
+ghost use Rattle.std.specs.Io.KnownBytes.{Appends};
+ghost use Rattle.plan.specs.Program.{written_for};
 
 use planned::output::output_of;
 use std::alloc::Global;
@@ -20,8 +22,16 @@ fn first_bytes<R: Read + Drop>(alloc: Global, reader: R, most: u64) -> io::Resul
     Ok(bytes)
 }
 
+// G15: the program over any reader and writer.
+fn run<R: Read + Drop, W: Write>(alloc: Global, input: R, output: &mut W) -> io::Result<()>
+    ensures { OnOk result (IfSome (R.remaining input) (λ text.
+        Appends (W.contents output.old) (W.contents output.new) (written_for text))) }
+{
+    let text = first_bytes(alloc, input, LONGEST_PLAN + 1)?;
+    let shown = output_of(&text);
+    output.write_all(&shown.bytes[..shown.count])
+}
+
 fn main(rt: HostRuntime) -> io::Result<()> {
-    let text = first_bytes(rt.alloc(), rt.stdin(), LONGEST_PLAN + 1)?;
-    let output = output_of(&text);
-    rt.stdout().write_all(&output.bytes[..output.count])
+    run(rt.alloc(), rt.stdin(), &mut rt.stdout())
 }

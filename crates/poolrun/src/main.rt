@@ -1,7 +1,11 @@
 // The program: a script on standard input, one answer a line on standard output.
 #![tactic(auto)]
 
-ghost use Rattle.std.specs.Prelude.{◌≡◌, IfOk, IfSome, take};
+ghost use Rattle.std.specs.Prelude.{◌≡◌, IfOk, IfSome, OnOk, take};
+ghost use Rattle.std.specs.Io.KnownBytes.{Appends};
+ghost use Rattle.ledger.specs.Limits.{standard};
+ghost use Rattle.script.specs.Output.{output_of};
+ghost use Rattle.poolrun.specs.Program.{written_for};
 
 use ledger::STANDARD;
 use record::fresh;
@@ -26,8 +30,10 @@ fn first_bytes<R: Read + Drop>(alloc: Global, reader: R, most: u64) -> io::Resul
     Ok(bytes)
 }
 
-// From fresh, a buffer of answers at a time. A failed write ends it.
-fn answer<W: Write>(alloc: Global, script: &[u8], output: &mut W) -> io::Result<()> {
+// D5: from fresh, a buffer of answers at a time. A failed write ends it.
+fn answer<W: Write>(alloc: Global, script: &[u8], output: &mut W) -> io::Result<()>
+    ensures { OnOk result (Appends (W.contents output.old) (W.contents output.new) (output_of standard script.now)) }
+{
     let mut small = [0u8; SMALL_BYTES];
     let mut large = [0u8; LARGE_BYTES];
     let mut out = vec![in alloc; 0u8; OUTPUT_BYTES]?;
@@ -43,10 +49,18 @@ fn answer<W: Write>(alloc: Global, script: &[u8], output: &mut W) -> io::Result<
     Ok(())
 }
 
-fn main(rt: HostRuntime) -> io::Result<()> {
-    let script = first_bytes(rt.alloc(), rt.stdin(), LONGEST_SCRIPT as u64 + 1)?;
+// P2, P3, P4: the program over any reader and writer.
+fn run<R: Read + Drop, W: Write>(alloc: Global, input: R, output: &mut W) -> io::Result<()>
+    ensures { OnOk result (IfSome (R.remaining input) (λ text.
+        Appends (W.contents output.old) (W.contents output.new) (written_for text))) }
+{
+    let script = first_bytes(alloc, input, LONGEST_SCRIPT as u64 + 1)?;
     if LONGEST_SCRIPT < script.len() {
-        return rt.stdout().write_all(b"script too long\n");
+        return output.write_all(b"script too long\n");
     }
-    answer(rt.alloc(), &script, &mut rt.stdout())
+    answer(alloc, &script, output)
+}
+
+fn main(rt: HostRuntime) -> io::Result<()> {
+    run(rt.alloc(), rt.stdin(), &mut rt.stdout())
 }
