@@ -1,3 +1,4 @@
 pub mod ByValue
 pub mod Replies
 pub mod Promises
+pub mod UnknownKinds
