@@ -26,14 +26,12 @@ pub struct Numbered {
 }
 
 // A call that is refused leaves the record.
-fn refused(why: Refusal, p: Pool) -> Numbered
-    ensures { (result.number ≡ number_of why)
-        × (result.pool ≡ p) }
+fn refused(why: Refusal, p: Pool, left: &mut Pool) -> u8
+    ensures { (result ≡ number_of why)
+        × (left.new ≡ p) }
 {
-    Numbered {
-        number: number_of(why),
-        pool: p,
-    }
+    *left = p;
+    number_of(why)
 }
 
 pub fn make(
@@ -46,32 +44,40 @@ pub fn make(
     size: u16,
     prefix: u16,
     handle: &mut u32,
-) -> Numbered
+    left: &mut Pool,
+) -> u8
     ensures { MakesBy (kind_of kind) task extension size prefix p small.old large.old (handle.old ∷ [])
-        result.number result.pool small.new large.new (handle.new ∷ []) }
+        result left.new small.new large.new (handle.new ∷ []) }
 {
     let KindByte::Known(known) = kind_of(kind) else {
-        return refused(Refusal::UnknownKind, p);
+        return refused(Refusal::UnknownKind, p, left);
     };
     make_one(
-        p, small, large, task, known, extension, size, prefix, handle,
+        p, small, large, task, known, extension, size, prefix, handle, left,
     )
 }
 
-pub fn refresh(p: Pool, task: u8, kind: u8, extension: u8, handle: u32) -> Numbered
-    ensures { RefreshesBy (kind_of kind) task extension handle p result.number result.pool }
+pub fn refresh(p: Pool, task: u8, kind: u8, extension: u8, handle: u32, left: &mut Pool) -> u8
+    ensures { RefreshesBy (kind_of kind) task extension handle p result left.new }
 {
     let KindByte::Known(known) = kind_of(kind) else {
-        return refused(Refusal::UnknownKind, p);
+        return refused(Refusal::UnknownKind, p, left);
     };
-    refresh_one(p, task, known, extension, handle)
+    refresh_one(p, task, known, extension, handle, left)
 }
 
-pub fn refresh_all(p: Pool, task: u8, kind: u8, extension: u8, objects: &[u32]) -> Numbered
-    ensures { RefreshesAllBy (kind_of kind) task extension objects.now p result.number result.pool }
+pub fn refresh_all(
+    p: Pool,
+    task: u8,
+    kind: u8,
+    extension: u8,
+    objects: &[u32],
+    left: &mut Pool,
+) -> u8
+    ensures { RefreshesAllBy (kind_of kind) task extension objects.now p result left.new }
 {
     let KindByte::Known(known) = kind_of(kind) else {
-        return refused(Refusal::UnknownKind, p);
+        return refused(Refusal::UnknownKind, p, left);
     };
-    refresh_each(p, task, known, extension, objects)
+    refresh_each(p, task, known, extension, objects, left)
 }

@@ -57,3 +57,14 @@ pub fn give_back_head(p: Pool, step: Step) -> Numbered
         pool: with_head(p, head),
     }
 }
+
+// The same, stored into a record that is lent. A record that is given back and stored then would be one copy more on the stack.
+pub fn store(p: Pool, step: Step, left: &mut Pool) -> u8
+    ensures { (result ≡ answer_number step.answer)
+        × (left.new ≡ pooled step.head p.handles p.extents p.clocks p.named p.dues) }
+{
+    let answer = step.answer;
+    let head = step.head;
+    *left = with_head(p, head);
+    answer_number(answer)
+}

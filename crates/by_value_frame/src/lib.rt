@@ -4,7 +4,7 @@
 ghost use Rattle.by_value_frame.specs.Carries.{Carries};
 
 use answers::LONGEST_ANSWER;
-use by_value::{Numbered, TOO_SHORT};
+use by_value::TOO_SHORT;
 use execute::execute;
 use record::Pool;
 
@@ -15,21 +15,16 @@ pub fn frame(
     line: &[u8],
     out: &mut [u8],
     count: &mut usize,
-) -> Numbered
+    left: &mut Pool,
+) -> u8
     ensures { Carries line.now p small.old large.old out.old count.old
-        result.number result.pool small.new large.new out.new count.new }
+        result left.new small.new large.new out.new count.new }
 {
+    *left = p;
     if out.len() < LONGEST_ANSWER {
-        return Numbered {
-            number: TOO_SHORT,
-            pool: p,
-        };
+        return TOO_SHORT;
     }
-    let done = execute(p, small, large, line, out);
-    let pool = done.pool;
+    let done = execute(*left, small, large, line, out, left);
     *count = done.length;
-    Numbered {
-        number: done.number,
-        pool: pool,
-    }
+    done.number
 }

@@ -10,8 +10,8 @@ ghost use Rattle.by_value.specs.Entries.{Does, CopiesOut, WritesTo};
 
 mod reading;
 
-use by_value::taking::{clocks_of, give_back, named_of};
-use by_value::{Numbered, TOO_SHORT};
+use by_value::TOO_SHORT;
+use by_value::taking::store;
 use calls;
 use expirations::standing;
 use fitness::is_well_formed;
@@ -49,30 +49,26 @@ pub fn read<'a>(
 }
 
 pub fn write(
-    p: Pool,
+    mut p: Pool,
     small: &mut [u8],
     large: &mut [u8],
     task: u8,
     handle: u32,
     offset: u8,
     bytes: &[u8],
-) -> Numbered
-    ensures { WritesTo task handle offset bytes.now p small.old large.old result.number result.pool
+    left: &mut Pool,
+) -> u8
+    ensures { WritesTo task handle offset bytes.now p small.old large.old result left.new
         small.new large.new }
 {
     let h = head_of(p);
-    let handles = p.handles;
-    let mut extents = p.extents;
-    let clocks = clocks_of(p);
-    let named = named_of(p);
-    let dues = p.dues;
     let step = tested::write(
         h,
-        &handles,
-        &mut extents,
-        &clocks.bytes,
-        &named.bytes,
-        &dues,
+        &p.handles,
+        &mut p.extents,
+        &p.clocks,
+        &p.named,
+        &p.dues,
         small,
         large,
         task,
@@ -80,29 +76,24 @@ pub fn write(
         offset,
         bytes,
     );
-    give_back(step, handles, extents, clocks, named, dues)
+    store(p, step, left)
 }
 
-pub fn release(p: Pool, task: u8, handle: u32) -> Numbered
-    ensures { Does (Use (Release task handle)) p [] result.number result.pool [] }
+pub fn release(mut p: Pool, task: u8, handle: u32, left: &mut Pool) -> u8
+    ensures { Does (Use (Release task handle)) p [] result left.new [] }
 {
     let h = head_of(p);
-    let mut handles = p.handles;
-    let extents = p.extents;
-    let mut clocks = clocks_of(p);
-    let named = named_of(p);
-    let dues = p.dues;
     let step = tested::release(
         h,
-        &mut handles,
-        &extents,
-        &mut clocks.bytes,
-        &named.bytes,
-        &dues,
+        &mut p.handles,
+        &p.extents,
+        &mut p.clocks,
+        &p.named,
+        &p.dues,
         task,
         handle,
     );
-    give_back(step, handles, extents, clocks, named, dues)
+    store(p, step, left)
 }
 
 pub fn report(p: Pool, small: &mut u8, large: &mut u8, expirations: &mut u16, given: &mut u32) -> u8

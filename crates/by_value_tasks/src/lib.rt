@@ -14,7 +14,7 @@ mod advancing;
 
 use advancing::advance_or;
 use by_value::Numbered;
-use by_value::taking::{clocks_of, give_back, give_back_head, named_of};
+use by_value::taking::store;
 use fitness::{fitness_of, is_well_formed};
 use ledger::{Event, Limits, Quota, Refusal, STANDARD, Share, TASK_COUNT, is_allowed, number_of};
 use record::{Pool, fresh, head_of, running};
@@ -54,8 +54,16 @@ pub fn renew_sized(p: Pool, small: u32, large: u32, expirations: u32, extension:
 }
 
 // Join, resume and view change no column: the record lends its own, and gets another head.
-pub fn join(p: Pool, task: u8, reserve: u8, limit: u8, largereserve: u8, largelimit: u8) -> Numbered
-    ensures { Does (Use (Join task (share_of reserve limit largereserve largelimit))) p [] result.number result.pool [] }
+pub fn join(
+    p: Pool,
+    task: u8,
+    reserve: u8,
+    limit: u8,
+    largereserve: u8,
+    largelimit: u8,
+    left: &mut Pool,
+) -> u8
+    ensures { Does (Use (Join task (share_of reserve limit largereserve largelimit))) p [] result left.new [] }
 {
     let h = head_of(p);
     let small = Quota {
@@ -73,59 +81,49 @@ pub fn join(p: Pool, task: u8, reserve: u8, limit: u8, largereserve: u8, largeli
     let step = tested::join(
         h, &p.handles, &p.extents, &p.clocks, &p.named, &p.dues, task, share,
     );
-    give_back_head(p, step)
+    store(p, step, left)
 }
 
-pub fn leave(p: Pool, task: u8, advanced: &mut u8) -> Numbered
-    ensures { Does (Use (Schedule Leave task)) p (advanced.old ∷ []) result.number result.pool (advanced.new ∷ []) }
+pub fn leave(mut p: Pool, task: u8, advanced: &mut u8, left: &mut Pool) -> u8
+    ensures { Does (Use (Schedule Leave task)) p (advanced.old ∷ []) result left.new (advanced.new ∷ []) }
 {
     let h = head_of(p);
-    let mut handles = p.handles;
-    let mut extents = p.extents;
-    let mut clocks = clocks_of(p);
-    let named = named_of(p);
-    let mut dues = p.dues;
     let step = schedule(
         h,
-        &mut handles,
-        &mut extents,
-        &mut clocks.bytes,
-        &named.bytes,
-        &mut dues,
+        &mut p.handles,
+        &mut p.extents,
+        &mut p.clocks,
+        &p.named,
+        &mut p.dues,
         Event::Leave,
         task,
     );
     let answer = step.answer;
     *advanced = advance_or(*advanced, answer);
-    give_back(step, handles, extents, clocks, named, dues)
+    store(p, step, left)
 }
 
-pub fn block(p: Pool, task: u8, advanced: &mut u8) -> Numbered
-    ensures { Does (Use (Schedule Block task)) p (advanced.old ∷ []) result.number result.pool (advanced.new ∷ []) }
+pub fn block(mut p: Pool, task: u8, advanced: &mut u8, left: &mut Pool) -> u8
+    ensures { Does (Use (Schedule Block task)) p (advanced.old ∷ []) result left.new (advanced.new ∷ []) }
 {
     let h = head_of(p);
-    let mut handles = p.handles;
-    let mut extents = p.extents;
-    let mut clocks = clocks_of(p);
-    let named = named_of(p);
-    let mut dues = p.dues;
     let step = schedule(
         h,
-        &mut handles,
-        &mut extents,
-        &mut clocks.bytes,
-        &named.bytes,
-        &mut dues,
+        &mut p.handles,
+        &mut p.extents,
+        &mut p.clocks,
+        &p.named,
+        &mut p.dues,
         Event::Block,
         task,
     );
     let answer = step.answer;
     *advanced = advance_or(*advanced, answer);
-    give_back(step, handles, extents, clocks, named, dues)
+    store(p, step, left)
 }
 
-pub fn resume(p: Pool, task: u8) -> Numbered
-    ensures { Does (Use (Schedule Resume task)) p [] result.number result.pool [] }
+pub fn resume(p: Pool, task: u8, left: &mut Pool) -> u8
+    ensures { Does (Use (Schedule Resume task)) p [] result left.new [] }
 {
     let h = head_of(p);
     let step = tested::start(
@@ -138,36 +136,31 @@ pub fn resume(p: Pool, task: u8) -> Numbered
         Event::Resume,
         task,
     );
-    give_back_head(p, step)
+    store(p, step, left)
 }
 
-pub fn tick(p: Pool, task: u8, advanced: &mut u8) -> Numbered
-    ensures { Does (Use (Schedule Tick task)) p (advanced.old ∷ []) result.number result.pool (advanced.new ∷ []) }
+pub fn tick(mut p: Pool, task: u8, advanced: &mut u8, left: &mut Pool) -> u8
+    ensures { Does (Use (Schedule Tick task)) p (advanced.old ∷ []) result left.new (advanced.new ∷ []) }
 {
     let h = head_of(p);
-    let mut handles = p.handles;
-    let mut extents = p.extents;
-    let mut clocks = clocks_of(p);
-    let named = named_of(p);
-    let mut dues = p.dues;
     let step = schedule(
         h,
-        &mut handles,
-        &mut extents,
-        &mut clocks.bytes,
-        &named.bytes,
-        &mut dues,
+        &mut p.handles,
+        &mut p.extents,
+        &mut p.clocks,
+        &p.named,
+        &mut p.dues,
         Event::Tick,
         task,
     );
     let answer = step.answer;
     *advanced = advance_or(*advanced, answer);
-    give_back(step, handles, extents, clocks, named, dues)
+    store(p, step, left)
 }
 
 // V1: joins as a viewer (02: 0E).
-pub fn view(p: Pool, task: u8) -> Numbered
-    ensures { Does (Use (Schedule View task)) p [] result.number result.pool [] }
+pub fn view(p: Pool, task: u8, left: &mut Pool) -> u8
+    ensures { Does (Use (Schedule View task)) p [] result left.new [] }
 {
     let h = head_of(p);
     let step = tested::start(
@@ -180,7 +173,7 @@ pub fn view(p: Pool, task: u8) -> Numbered
         Event::View,
         task,
     );
-    give_back_head(p, step)
+    store(p, step, left)
 }
 
 // For whom the global time waits. It is no call of the ledger: it changes nothing, and no frame asks it.

@@ -34,6 +34,10 @@ pub record Executes (line : List ℕ) (p : Pool) (small large out : List ℕ) (r
 abbrev pub executed_of : Carried → List ℕ → List ℕ → List ℕ → List ℕ → List ℕ → Executed
 executed_of r handles extents clocks named dues = record { pool = pooled r.head handles extents clocks named dues; number = r.number; length = r.length }
 
+-- what a caller is given that lends the record to store into
+abbrev pub executed_by : Carried → Pool → Executed
+executed_by r left = record { pool = left; number = r.number; length = r.length }
+
 -- The contract settles the answer: any two results that it allows for one line on one record with its stores and buffer have the same
 -- number, length and buffer. `Typed` is what the record's type gives of every value.
 abbrev pub OneAnswer : Type 0

@@ -5,12 +5,12 @@
 ghost use Rattle.std.specs.Prelude.{◌≤◌, length};
 ghost use Rattle.record.specs.Tables.{pooled, Sized};
 ghost use Rattle.answers.specs.Answers.{longest_answer};
-ghost use Rattle.execute.specs.Execution.{executed_of, Executes};
+ghost use Rattle.execute.specs.Execution.{executed_of, executed_by, Executes};
 
 use answers::{put_answer, show};
 use frames::{MOST_BYTES, decode, refusal_of};
 use ledger::{Answer, Frame, answer_number};
-use record::by_value::{put_together, taken_out};
+use record::by_value::with_head;
 use record::{BLOCK_COUNT, EXPIRATION_COUNT, Head, Pool, head_of};
 use stores::no_part;
 use tested::call;
@@ -86,38 +86,33 @@ fn execute_lent(
     }
 }
 
-// The same on any record.
-pub fn execute(p: Pool, small: &mut [u8], large: &mut [u8], line: &[u8], out: &mut [u8]) -> Executed
+// The same on any record, stored into one that is lent.
+pub fn execute(
+    mut p: Pool,
+    small: &mut [u8],
+    large: &mut [u8],
+    line: &[u8],
+    out: &mut [u8],
+    left: &mut Pool,
+) -> Carried
     requires { longest_answer ≤ length out.old }
-    ensures { Executes line.now p small.old large.old out.old result small.new
+    ensures { Executes line.now p small.old large.old out.old (executed_by result left.new) small.new
         large.new out.new }
 {
     let h = head_of(p);
-    let mut handles = p.handles;
-    let mut extents = p.extents;
-    let clock_bytes = p.clocks;
-    let mut clocks = taken_out(clock_bytes);
-    let named_bytes = p.named;
-    let mut named = taken_out(named_bytes);
-    let mut dues = p.dues;
     let done = execute_lent(
         h,
-        &mut handles,
-        &mut extents,
-        &mut clocks.bytes,
-        &mut named.bytes,
-        &mut dues,
+        &mut p.handles,
+        &mut p.extents,
+        &mut p.clocks,
+        &mut p.named,
+        &mut p.dues,
         small,
         large,
         line,
         out,
     );
     let head = done.head;
-    let clocks_left = clocks.bytes;
-    let named_left = named.bytes;
-    Executed {
-        pool: put_together(head, handles, extents, clocks_left, named_left, dues),
-        number: done.number,
-        length: done.length,
-    }
+    *left = with_head(p, head);
+    done
 }

@@ -51,9 +51,7 @@ pub extern "C" fn ramsummer_join(
 ) -> u8
     ensures { Does (Use (Join task (share_of reserve limit largereserve largelimit))) p.old [] result p.new [] }
 {
-    let r = by_value_tasks::join(*p, task, reserve, limit, largereserve, largelimit);
-    *p = r.pool;
-    r.number
+    by_value_tasks::join(*p, task, reserve, limit, largereserve, largelimit, p)
 }
 
 #[unsafe(no_mangle)]
@@ -61,9 +59,7 @@ pub extern "C" fn ramsummer_leave(p: &mut Pool, task: u8, advanced: &mut u8) -> 
     ensures { Does (Use (Schedule Leave task)) p.old (advanced.old ∷ []) result p.new
         (advanced.new ∷ []) }
 {
-    let r = by_value_tasks::leave(*p, task, advanced);
-    *p = r.pool;
-    r.number
+    by_value_tasks::leave(*p, task, advanced, p)
 }
 
 #[unsafe(no_mangle)]
@@ -71,18 +67,14 @@ pub extern "C" fn ramsummer_block(p: &mut Pool, task: u8, advanced: &mut u8) -> 
     ensures { Does (Use (Schedule Block task)) p.old (advanced.old ∷ []) result p.new
         (advanced.new ∷ []) }
 {
-    let r = by_value_tasks::block(*p, task, advanced);
-    *p = r.pool;
-    r.number
+    by_value_tasks::block(*p, task, advanced, p)
 }
 
 #[unsafe(no_mangle)]
 pub extern "C" fn ramsummer_resume(p: &mut Pool, task: u8) -> u8
     ensures { Does (Use (Schedule Resume task)) p.old [] result p.new [] }
 {
-    let r = by_value_tasks::resume(*p, task);
-    *p = r.pool;
-    r.number
+    by_value_tasks::resume(*p, task, p)
 }
 
 #[unsafe(no_mangle)]
@@ -90,9 +82,7 @@ pub extern "C" fn ramsummer_tick(p: &mut Pool, task: u8, advanced: &mut u8) -> u
     ensures { Does (Use (Schedule Tick task)) p.old (advanced.old ∷ []) result p.new
         (advanced.new ∷ []) }
 {
-    let r = by_value_tasks::tick(*p, task, advanced);
-    *p = r.pool;
-    r.number
+    by_value_tasks::tick(*p, task, advanced, p)
 }
 
 // V1: joins as a viewer (02: 0E).
@@ -100,9 +90,7 @@ pub extern "C" fn ramsummer_tick(p: &mut Pool, task: u8, advanced: &mut u8) -> u
 pub extern "C" fn ramsummer_view(p: &mut Pool, task: u8) -> u8
     ensures { Does (Use (Schedule View task)) p.old [] result p.new [] }
 {
-    let r = by_value_tasks::view(*p, task);
-    *p = r.pool;
-    r.number
+    by_value_tasks::view(*p, task, p)
 }
 
 #[unsafe(no_mangle)]
@@ -120,11 +108,9 @@ pub extern "C" fn ramsummer_make(
     ensures { MakesBy (kind_of kind) task extension size prefix p.old small.old large.old
         (handle.old ∷ []) result p.new small.new large.new (handle.new ∷ []) }
 {
-    let r = by_value::make(
-        *p, small, large, task, kind, extension, size, prefix, handle,
-    );
-    *p = r.pool;
-    r.number
+    by_value::make(
+        *p, small, large, task, kind, extension, size, prefix, handle, p,
+    )
 }
 
 #[unsafe(no_mangle)]
@@ -137,9 +123,7 @@ pub extern "C" fn ramsummer_refresh(
 ) -> u8
     ensures { RefreshesBy (kind_of kind) task extension handle p.old result p.new }
 {
-    let r = by_value::refresh(*p, task, kind, extension, handle);
-    *p = r.pool;
-    r.number
+    by_value::refresh(*p, task, kind, extension, handle, p)
 }
 
 // All these objects, or none.
@@ -153,9 +137,7 @@ pub extern "C" fn ramsummer_refresh_all(
 ) -> u8
     ensures { RefreshesAllBy (kind_of kind) task extension handles.now p.old result p.new }
 {
-    let r = by_value::refresh_all(*p, task, kind, extension, handles);
-    *p = r.pool;
-    r.number
+    by_value::refresh_all(*p, task, kind, extension, handles, p)
 }
 
 // Ends the pinned expiration of an object.
@@ -163,9 +145,7 @@ pub extern "C" fn ramsummer_refresh_all(
 pub extern "C" fn ramsummer_release(p: &mut Pool, task: u8, handle: u32) -> u8
     ensures { Does (Use (Release task handle)) p.old [] result p.new [] }
 {
-    let r = by_value_objects::release(*p, task, handle);
-    *p = r.pool;
-    r.number
+    by_value_objects::release(*p, task, handle, p)
 }
 
 // The object's bytes go to the start of a buffer, and how many to `count`. The record stays, and so it is not stored back.
@@ -200,9 +180,7 @@ pub extern "C" fn ramsummer_write(
     ensures { WritesTo task handle offset bytes.now p.old small.old large.old result
         p.new small.new large.new }
 {
-    let r = by_value_objects::write(*p, small, large, task, handle, offset, bytes);
-    *p = r.pool;
-    r.number
+    by_value_objects::write(*p, small, large, task, handle, offset, bytes, p)
 }
 
 // The record stays.
@@ -293,7 +271,5 @@ pub extern "C" fn ramsummer_frame(
     ensures { Carries line.now p.old small.old large.old out.old
         count.old result p.new small.new large.new out.new count.new }
 {
-    let r = by_value_frame::frame(*p, small, large, line, out, count);
-    *p = r.pool;
-    r.number
+    by_value_frame::frame(*p, small, large, line, out, count, p)
 }

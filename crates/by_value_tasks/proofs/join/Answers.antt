@@ -6,4 +6,4 @@ use Rattle.by_value_tasks.proofs.Events.{join_silent}
 use Rattle.by_value_tasks.proofs.join.Goals as goal
 
 pub returns : goal.returns
-returns c = join_silent c.well_formed.0 (out_whole c.args.p refl refl c.head_of-h.ensures) c.give_back_head.ensures c.join-step.ensures
+returns c = join_silent c.well_formed.0 (out_whole c.args.p refl refl c.head_of-h.ensures) {r = record { number = c.store.result; pool = c.store.new.left }} c.store.ensures c.join-step.ensures

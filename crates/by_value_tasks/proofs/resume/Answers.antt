@@ -6,4 +6,4 @@ use Rattle.by_value_tasks.proofs.Events.{event_silent}
 use Rattle.by_value_tasks.proofs.resume.Goals as goal
 
 pub returns : goal.returns
-returns c = event_silent c.well_formed.0 (out_whole c.args.p refl refl c.head_of-h.ensures) c.give_back_head.ensures c.start-step.ensures refl
+returns c = event_silent c.well_formed.0 (out_whole c.args.p refl refl c.head_of-h.ensures) {r = record { number = c.store.result; pool = c.store.new.left }} c.store.ensures c.start-step.ensures refl

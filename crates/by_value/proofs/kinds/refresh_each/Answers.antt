@@ -1,5 +1,5 @@
 -- The batch on the columns, with the host's handles as bytes.
-use mathlib.Core.Path.{sym}
+use mathlib.Core.Path.{refl, sym}
 use borrow.Author.Rules.{rules}
 use lib.Seq.{length-take-le}
 use Rattle.record.proofs.ByValue.{out_sized, out_whole}
@@ -8,5 +8,5 @@ use Rattle.by_value.proofs.Promises.{refreshes_each}
 use Rattle.by_value.proofs.kinds.refresh_each.Goals as goal
 
 pub returns : goal.returns
-returns c = let whole = out_whole c.args.p c.clocks_of-clocks.ensures c.named_of-named.ensures c.head_of-h.ensures in
-    refreshes_each c.well_formed.0 whole c.give_back.ensures (handles_sent c.handle_bytes-handed.ensures c.batch-step.ensures.1)
+returns c = let whole = out_whole c.args.p refl refl c.head_of-h.ensures in
+    refreshes_each c.well_formed.0 whole {r = record { number = c.store.result; pool = c.store.new.left }} c.store.ensures (handles_sent c.handle_bytes-handed.ensures c.batch-step.ensures.1)
