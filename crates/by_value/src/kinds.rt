@@ -6,6 +6,7 @@ ghost use Rattle.text.specs.HandleBytes.{handle_bytes};
 ghost use Rattle.by_value.specs.Told.{handle_or};
 ghost use Rattle.by_value.specs.Entries.{Does, DoesWith, MakesOne};
 
+use super::Numbered;
 use super::taking::store;
 use ledger::{Answer, Kind};
 use record::{Pool, head_of};
@@ -27,7 +28,7 @@ fn handle_or(old: u32, answer: Answer) -> u32
     }
 }
 
-pub fn make_one(
+pub fn make_one_into(
     mut p: Pool,
     small: &mut [u8],
     large: &mut [u8],
@@ -63,7 +64,32 @@ pub fn make_one(
     store(p, step, left)
 }
 
-pub fn refresh_one(
+// The same, given back.
+pub fn make_one(
+    p: Pool,
+    small: &mut [u8],
+    large: &mut [u8],
+    task: u8,
+    kind: Kind,
+    extension: u8,
+    size: u16,
+    prefix: u16,
+    handle: &mut u32,
+) -> Numbered
+    ensures { MakesOne task kind extension size prefix p small.old large.old (handle.old ∷ [])
+        result.number result.pool small.new large.new (handle.new ∷ []) }
+{
+    let mut left = p;
+    let number = make_one_into(
+        p, small, large, task, kind, extension, size, prefix, handle, &mut left,
+    );
+    Numbered {
+        number: number,
+        pool: left,
+    }
+}
+
+pub fn refresh_one_into(
     mut p: Pool,
     task: u8,
     kind: Kind,
@@ -89,8 +115,20 @@ pub fn refresh_one(
     store(p, step, left)
 }
 
+// The same, given back.
+pub fn refresh_one(p: Pool, task: u8, kind: Kind, extension: u8, handle: u32) -> Numbered
+    ensures { Does (Use (Refresh task kind extension handle)) p [] result.number result.pool [] }
+{
+    let mut left = p;
+    let number = refresh_one_into(p, task, kind, extension, handle, &mut left);
+    Numbered {
+        number: number,
+        pool: left,
+    }
+}
+
 // The host's handles go on as bytes, which is what a batch brings.
-pub fn refresh_each(
+pub fn refresh_each_into(
     mut p: Pool,
     task: u8,
     kind: Kind,
@@ -117,4 +155,16 @@ pub fn refresh_each(
         &bytes[..count],
     );
     store(p, step, left)
+}
+
+// The same, given back.
+pub fn refresh_each(p: Pool, task: u8, kind: Kind, extension: u8, objects: &[u32]) -> Numbered
+    ensures { DoesWith (Use (Batch task kind extension)) (handle_bytes objects.now) p [] result.number result.pool [] }
+{
+    let mut left = p;
+    let number = refresh_each_into(p, task, kind, extension, objects, &mut left);
+    Numbered {
+        number: number,
+        pool: left,
+    }
 }

@@ -4,11 +4,11 @@
 ghost use Rattle.by_value_frame.specs.Carries.{Carries};
 
 use answers::LONGEST_ANSWER;
-use by_value::TOO_SHORT;
-use execute::execute;
+use by_value::{Numbered, TOO_SHORT};
+use execute::execute_into;
 use record::Pool;
 
-pub fn frame(
+pub fn frame_into(
     p: Pool,
     small: &mut [u8],
     large: &mut [u8],
@@ -24,7 +24,27 @@ pub fn frame(
     if out.len() < LONGEST_ANSWER {
         return TOO_SHORT;
     }
-    let done = execute(*left, small, large, line, out, left);
+    let done = execute_into(*left, small, large, line, out, left);
     *count = done.length;
     done.number
+}
+
+// The same, given back.
+pub fn frame(
+    p: Pool,
+    small: &mut [u8],
+    large: &mut [u8],
+    line: &[u8],
+    out: &mut [u8],
+    count: &mut usize,
+) -> Numbered
+    ensures { Carries line.now p small.old large.old out.old count.old
+        result.number result.pool small.new large.new out.new count.new }
+{
+    let mut left = p;
+    let number = frame_into(p, small, large, line, out, count, &mut left);
+    Numbered {
+        number: number,
+        pool: left,
+    }
 }

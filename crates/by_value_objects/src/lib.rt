@@ -10,8 +10,8 @@ ghost use Rattle.by_value.specs.Entries.{Does, CopiesOut, WritesTo};
 
 mod reading;
 
-use by_value::TOO_SHORT;
 use by_value::taking::store;
+use by_value::{Numbered, TOO_SHORT};
 use calls;
 use expirations::standing;
 use fitness::is_well_formed;
@@ -48,7 +48,7 @@ pub fn read<'a>(
     0
 }
 
-pub fn write(
+pub fn write_into(
     mut p: Pool,
     small: &mut [u8],
     large: &mut [u8],
@@ -79,7 +79,28 @@ pub fn write(
     store(p, step, left)
 }
 
-pub fn release(mut p: Pool, task: u8, handle: u32, left: &mut Pool) -> u8
+// The same, given back.
+pub fn write(
+    p: Pool,
+    small: &mut [u8],
+    large: &mut [u8],
+    task: u8,
+    handle: u32,
+    offset: u8,
+    bytes: &[u8],
+) -> Numbered
+    ensures { WritesTo task handle offset bytes.now p small.old large.old result.number result.pool
+        small.new large.new }
+{
+    let mut left = p;
+    let number = write_into(p, small, large, task, handle, offset, bytes, &mut left);
+    Numbered {
+        number: number,
+        pool: left,
+    }
+}
+
+pub fn release_into(mut p: Pool, task: u8, handle: u32, left: &mut Pool) -> u8
     ensures { Does (Use (Release task handle)) p [] result left.new [] }
 {
     let h = head_of(p);
@@ -94,6 +115,18 @@ pub fn release(mut p: Pool, task: u8, handle: u32, left: &mut Pool) -> u8
         handle,
     );
     store(p, step, left)
+}
+
+// The same, given back.
+pub fn release(p: Pool, task: u8, handle: u32) -> Numbered
+    ensures { Does (Use (Release task handle)) p [] result.number result.pool [] }
+{
+    let mut left = p;
+    let number = release_into(p, task, handle, &mut left);
+    Numbered {
+        number: number,
+        pool: left,
+    }
 }
 
 pub fn report(p: Pool, small: &mut u8, large: &mut u8, expirations: &mut u16, given: &mut u32) -> u8

@@ -54,7 +54,7 @@ pub fn renew_sized(p: Pool, small: u32, large: u32, expirations: u32, extension:
 }
 
 // Join, resume and view change no column: the record lends its own, and gets another head.
-pub fn join(
+pub fn join_into(
     p: Pool,
     task: u8,
     reserve: u8,
@@ -84,7 +84,19 @@ pub fn join(
     store(p, step, left)
 }
 
-pub fn leave(mut p: Pool, task: u8, advanced: &mut u8, left: &mut Pool) -> u8
+// The same, given back.
+pub fn join(p: Pool, task: u8, reserve: u8, limit: u8, largereserve: u8, largelimit: u8) -> Numbered
+    ensures { Does (Use (Join task (share_of reserve limit largereserve largelimit))) p [] result.number result.pool [] }
+{
+    let mut left = p;
+    let number = join_into(p, task, reserve, limit, largereserve, largelimit, &mut left);
+    Numbered {
+        number: number,
+        pool: left,
+    }
+}
+
+pub fn leave_into(mut p: Pool, task: u8, advanced: &mut u8, left: &mut Pool) -> u8
     ensures { Does (Use (Schedule Leave task)) p (advanced.old ∷ []) result left.new (advanced.new ∷ []) }
 {
     let h = head_of(p);
@@ -103,7 +115,19 @@ pub fn leave(mut p: Pool, task: u8, advanced: &mut u8, left: &mut Pool) -> u8
     store(p, step, left)
 }
 
-pub fn block(mut p: Pool, task: u8, advanced: &mut u8, left: &mut Pool) -> u8
+// The same, given back.
+pub fn leave(p: Pool, task: u8, advanced: &mut u8) -> Numbered
+    ensures { Does (Use (Schedule Leave task)) p (advanced.old ∷ []) result.number result.pool (advanced.new ∷ []) }
+{
+    let mut left = p;
+    let number = leave_into(p, task, advanced, &mut left);
+    Numbered {
+        number: number,
+        pool: left,
+    }
+}
+
+pub fn block_into(mut p: Pool, task: u8, advanced: &mut u8, left: &mut Pool) -> u8
     ensures { Does (Use (Schedule Block task)) p (advanced.old ∷ []) result left.new (advanced.new ∷ []) }
 {
     let h = head_of(p);
@@ -122,7 +146,19 @@ pub fn block(mut p: Pool, task: u8, advanced: &mut u8, left: &mut Pool) -> u8
     store(p, step, left)
 }
 
-pub fn resume(p: Pool, task: u8, left: &mut Pool) -> u8
+// The same, given back.
+pub fn block(p: Pool, task: u8, advanced: &mut u8) -> Numbered
+    ensures { Does (Use (Schedule Block task)) p (advanced.old ∷ []) result.number result.pool (advanced.new ∷ []) }
+{
+    let mut left = p;
+    let number = block_into(p, task, advanced, &mut left);
+    Numbered {
+        number: number,
+        pool: left,
+    }
+}
+
+pub fn resume_into(p: Pool, task: u8, left: &mut Pool) -> u8
     ensures { Does (Use (Schedule Resume task)) p [] result left.new [] }
 {
     let h = head_of(p);
@@ -139,7 +175,19 @@ pub fn resume(p: Pool, task: u8, left: &mut Pool) -> u8
     store(p, step, left)
 }
 
-pub fn tick(mut p: Pool, task: u8, advanced: &mut u8, left: &mut Pool) -> u8
+// The same, given back.
+pub fn resume(p: Pool, task: u8) -> Numbered
+    ensures { Does (Use (Schedule Resume task)) p [] result.number result.pool [] }
+{
+    let mut left = p;
+    let number = resume_into(p, task, &mut left);
+    Numbered {
+        number: number,
+        pool: left,
+    }
+}
+
+pub fn tick_into(mut p: Pool, task: u8, advanced: &mut u8, left: &mut Pool) -> u8
     ensures { Does (Use (Schedule Tick task)) p (advanced.old ∷ []) result left.new (advanced.new ∷ []) }
 {
     let h = head_of(p);
@@ -158,8 +206,20 @@ pub fn tick(mut p: Pool, task: u8, advanced: &mut u8, left: &mut Pool) -> u8
     store(p, step, left)
 }
 
+// The same, given back.
+pub fn tick(p: Pool, task: u8, advanced: &mut u8) -> Numbered
+    ensures { Does (Use (Schedule Tick task)) p (advanced.old ∷ []) result.number result.pool (advanced.new ∷ []) }
+{
+    let mut left = p;
+    let number = tick_into(p, task, advanced, &mut left);
+    Numbered {
+        number: number,
+        pool: left,
+    }
+}
+
 // V1: joins as a viewer (02: 0E).
-pub fn view(p: Pool, task: u8, left: &mut Pool) -> u8
+pub fn view_into(p: Pool, task: u8, left: &mut Pool) -> u8
     ensures { Does (Use (Schedule View task)) p [] result left.new [] }
 {
     let h = head_of(p);
@@ -174,6 +234,18 @@ pub fn view(p: Pool, task: u8, left: &mut Pool) -> u8
         task,
     );
     store(p, step, left)
+}
+
+// The same, given back.
+pub fn view(p: Pool, task: u8) -> Numbered
+    ensures { Does (Use (Schedule View task)) p [] result.number result.pool [] }
+{
+    let mut left = p;
+    let number = view_into(p, task, &mut left);
+    Numbered {
+        number: number,
+        pool: left,
+    }
 }
 
 // For whom the global time waits. It is no call of the ledger: it changes nothing, and no frame asks it.

@@ -1,5 +1,5 @@
-// A line carried out on a record by value (P7) with its stores: its columns are taken out once, lent to the line, and the record is put
-// together once.
+// A line carried out on a record by value (P7) with its stores: its columns are lent to the line, and what the line leaves is stored into a
+// record that is lent, or given back.
 #![tactic(auto)]
 
 ghost use Rattle.std.specs.Prelude.{◌≤◌, length};
@@ -87,7 +87,7 @@ fn execute_lent(
 }
 
 // The same on any record, stored into one that is lent.
-pub fn execute(
+pub fn execute_into(
     mut p: Pool,
     small: &mut [u8],
     large: &mut [u8],
@@ -115,4 +115,19 @@ pub fn execute(
     let head = done.head;
     *left = with_head(p, head);
     done
+}
+
+// The same, given back.
+pub fn execute(p: Pool, small: &mut [u8], large: &mut [u8], line: &[u8], out: &mut [u8]) -> Executed
+    requires { longest_answer ≤ length out.old }
+    ensures { Executes line.now p small.old large.old out.old result small.new
+        large.new out.new }
+{
+    let mut left = p;
+    let done = execute_into(p, small, large, line, out, &mut left);
+    Executed {
+        pool: left,
+        number: done.number,
+        length: done.length,
+    }
 }

@@ -1,6 +1,6 @@
-// The pool for a host, by a loan of the record and the stores: what a logger in C or Rust links. An entry calls the by-value call, stores
-// the record back and gives the answer's number: 0, a refusal of 01, or 255 for a buffer too short. There is none with a condition:
-// whatever a host passes is carried out or refused.
+// The pool for a host, by a loan of the record and the stores: what a logger in C or Rust links. An entry hands the record by value to the
+// call, lends it for what the call leaves, and gives the answer's number: 0, a refusal of 01, or 255 for a buffer too short. There is none
+// with a condition: whatever a host passes is carried out or refused.
 #![tactic(auto)]
 
 ghost use Rattle.std.specs.Prelude.{[], ◌∷◌, ◌≡◌};
@@ -51,7 +51,7 @@ pub extern "C" fn ramsummer_join(
 ) -> u8
     ensures { Does (Use (Join task (share_of reserve limit largereserve largelimit))) p.old [] result p.new [] }
 {
-    by_value_tasks::join(*p, task, reserve, limit, largereserve, largelimit, p)
+    by_value_tasks::join_into(*p, task, reserve, limit, largereserve, largelimit, p)
 }
 
 #[unsafe(no_mangle)]
@@ -59,7 +59,7 @@ pub extern "C" fn ramsummer_leave(p: &mut Pool, task: u8, advanced: &mut u8) -> 
     ensures { Does (Use (Schedule Leave task)) p.old (advanced.old ∷ []) result p.new
         (advanced.new ∷ []) }
 {
-    by_value_tasks::leave(*p, task, advanced, p)
+    by_value_tasks::leave_into(*p, task, advanced, p)
 }
 
 #[unsafe(no_mangle)]
@@ -67,14 +67,14 @@ pub extern "C" fn ramsummer_block(p: &mut Pool, task: u8, advanced: &mut u8) -> 
     ensures { Does (Use (Schedule Block task)) p.old (advanced.old ∷ []) result p.new
         (advanced.new ∷ []) }
 {
-    by_value_tasks::block(*p, task, advanced, p)
+    by_value_tasks::block_into(*p, task, advanced, p)
 }
 
 #[unsafe(no_mangle)]
 pub extern "C" fn ramsummer_resume(p: &mut Pool, task: u8) -> u8
     ensures { Does (Use (Schedule Resume task)) p.old [] result p.new [] }
 {
-    by_value_tasks::resume(*p, task, p)
+    by_value_tasks::resume_into(*p, task, p)
 }
 
 #[unsafe(no_mangle)]
@@ -82,7 +82,7 @@ pub extern "C" fn ramsummer_tick(p: &mut Pool, task: u8, advanced: &mut u8) -> u
     ensures { Does (Use (Schedule Tick task)) p.old (advanced.old ∷ []) result p.new
         (advanced.new ∷ []) }
 {
-    by_value_tasks::tick(*p, task, advanced, p)
+    by_value_tasks::tick_into(*p, task, advanced, p)
 }
 
 // V1: joins as a viewer (02: 0E).
@@ -90,7 +90,7 @@ pub extern "C" fn ramsummer_tick(p: &mut Pool, task: u8, advanced: &mut u8) -> u
 pub extern "C" fn ramsummer_view(p: &mut Pool, task: u8) -> u8
     ensures { Does (Use (Schedule View task)) p.old [] result p.new [] }
 {
-    by_value_tasks::view(*p, task, p)
+    by_value_tasks::view_into(*p, task, p)
 }
 
 #[unsafe(no_mangle)]
@@ -108,7 +108,7 @@ pub extern "C" fn ramsummer_make(
     ensures { MakesBy (kind_of kind) task extension size prefix p.old small.old large.old
         (handle.old ∷ []) result p.new small.new large.new (handle.new ∷ []) }
 {
-    by_value::make(
+    by_value::make_into(
         *p, small, large, task, kind, extension, size, prefix, handle, p,
     )
 }
@@ -123,7 +123,7 @@ pub extern "C" fn ramsummer_refresh(
 ) -> u8
     ensures { RefreshesBy (kind_of kind) task extension handle p.old result p.new }
 {
-    by_value::refresh(*p, task, kind, extension, handle, p)
+    by_value::refresh_into(*p, task, kind, extension, handle, p)
 }
 
 // All these objects, or none.
@@ -137,7 +137,7 @@ pub extern "C" fn ramsummer_refresh_all(
 ) -> u8
     ensures { RefreshesAllBy (kind_of kind) task extension handles.now p.old result p.new }
 {
-    by_value::refresh_all(*p, task, kind, extension, handles, p)
+    by_value::refresh_all_into(*p, task, kind, extension, handles, p)
 }
 
 // Ends the pinned expiration of an object.
@@ -145,7 +145,7 @@ pub extern "C" fn ramsummer_refresh_all(
 pub extern "C" fn ramsummer_release(p: &mut Pool, task: u8, handle: u32) -> u8
     ensures { Does (Use (Release task handle)) p.old [] result p.new [] }
 {
-    by_value_objects::release(*p, task, handle, p)
+    by_value_objects::release_into(*p, task, handle, p)
 }
 
 // The object's bytes go to the start of a buffer, and how many to `count`. The record stays, and so it is not stored back.
@@ -180,7 +180,7 @@ pub extern "C" fn ramsummer_write(
     ensures { WritesTo task handle offset bytes.now p.old small.old large.old result
         p.new small.new large.new }
 {
-    by_value_objects::write(*p, small, large, task, handle, offset, bytes, p)
+    by_value_objects::write_into(*p, small, large, task, handle, offset, bytes, p)
 }
 
 // The record stays.
@@ -271,5 +271,5 @@ pub extern "C" fn ramsummer_frame(
     ensures { Carries line.now p.old small.old large.old out.old
         count.old result p.new small.new large.new out.new count.new }
 {
-    by_value_frame::frame(*p, small, large, line, out, count, p)
+    by_value_frame::frame_into(*p, small, large, line, out, count, p)
 }

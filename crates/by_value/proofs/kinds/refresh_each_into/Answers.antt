@@ -5,7 +5,7 @@ use lib.Seq.{length-take-le}
 use Rattle.record.proofs.ByValue.{out_sized, out_whole}
 use Rattle.by_value.proofs.ByValue.{handles_sent}
 use Rattle.by_value.proofs.Promises.{refreshes_each}
-use Rattle.by_value.proofs.kinds.refresh_each.Goals as goal
+use Rattle.by_value.proofs.kinds.refresh_each_into.Goals as goal
 
 pub returns : goal.returns
 returns c = let whole = out_whole c.args.p refl refl c.head_of-h.ensures in

@@ -2,7 +2,7 @@
 use mathlib.Core.Path.{refl}
 use Rattle.record.proofs.ByValue.{out_whole}
 use Rattle.by_value_objects.proofs.Promises.{releases}
-use Rattle.by_value_objects.proofs.release.Goals as goal
+use Rattle.by_value_objects.proofs.release_into.Goals as goal
 
 pub returns : goal.returns
 returns c = let whole = out_whole c.args.p refl refl c.head_of-h.ensures in

@@ -3,7 +3,7 @@ use mathlib.Core.Path.{refl}
 use borrow.Author.Rules.{rules}
 use Rattle.record.proofs.ByValue.{out_sized, out_whole}
 use Rattle.by_value_tasks.proofs.Events.{event_told}
-use Rattle.by_value_tasks.proofs.block.Goals as goal
+use Rattle.by_value_tasks.proofs.tick_into.Goals as goal
 
 pub returns : goal.returns
 returns c = let whole = out_whole c.args.p refl refl c.head_of-h.ensures in

@@ -3,7 +3,7 @@ use mathlib.Core.Path.{refl}
 use borrow.Author.Rules.{rules}
 use Rattle.record.proofs.ByValue.{out_sized, out_whole}
 use Rattle.by_value.proofs.Promises.{makes}
-use Rattle.by_value.proofs.kinds.make_one.Goals as goal
+use Rattle.by_value.proofs.kinds.make_one_into.Goals as goal
 
 pub returns : goal.returns
 returns c = let whole = out_whole c.args.p refl refl c.head_of-h.ensures in
