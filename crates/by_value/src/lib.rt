@@ -1,7 +1,7 @@
 // The calls on a record by value (P7), each with its answer by the number: what the entries call. Each tests first whether the record is
-// well-formed (15), then the stores (14) where it touches one. One that changes the record takes its columns out, has them tested and
-// changed, and puts the record together again. What an answer tells goes to numbers that the host lends. Here is what all of them share,
-// and those whose kind is given by its code (19): make, refresh and batch.
+// well-formed (15), then the stores (14) where it touches one. One that changes the record lends the columns of its own copy, has them
+// tested and changed, and stores the copy into the record that it is lent. What an answer tells goes to numbers that the host lends. Here
+// is what all of them share, and those whose kind is given by its code (19): make, refresh and batch.
 #![tactic(auto)]
 
 ghost use Rattle.std.specs.Prelude.{[], ◌∷◌, ◌≡◌};

@@ -1,5 +1,4 @@
-// A line carried out on a record by value (P7) with its stores: its columns are taken out once, lent to the line, and the record is put
-// together once.
+// A line carried out on a record by value (P7) with its stores: its columns are lent to the line, and the record is stored once.
 #![tactic(auto)]
 
 ghost use Rattle.std.specs.Prelude.{◌≤◌, length};

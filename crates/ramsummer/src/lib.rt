@@ -1,5 +1,5 @@
-// The pool for a host, by a loan of the record and the stores: what a logger in C or Rust links. An entry calls the by-value call, stores
-// the record back and gives the answer's number: 0, a refusal of 01, or 255 for a buffer too short. There is none with a condition:
+// The pool for a host, by a loan of the record and the stores: what a logger in C or Rust links. An entry calls the by-value call, has it
+// store the record back and gives the answer's number: 0, a refusal of 01, or 255 for a buffer too short. There is none with a condition:
 // whatever a host passes is carried out or refused.
 #![tactic(auto)]
 
