@@ -1,4 +1,4 @@
-// How a call that changes a record by value takes its columns of bytes out, and how it puts the record together again.
+// How a call that changes a record by value leaves it: stored into one that is lent, or given back; and its columns of bytes taken out.
 ghost use Rattle.std.specs.Prelude.{◌≡◌};
 ghost use Rattle.ledger.specs.Numbers.{answer_number};
 ghost use Rattle.record.specs.Tables.{pooled};
