@@ -5,10 +5,9 @@ use Rattle.std.specs.Io.KnownBytes.{Appends}
 use Rattle.planned.specs.Output.{output_of}
 use Rattle.plan.specs.Program.{written_for}
 
-pub output_written : {E : Type 0} (r : Result (Unit {0}) E) (known old new : Option (List ℕ)) (items text bytes : List ℕ)
-    → IfSome known (λ input. items ≡ take 433 input) → text ≡ items → bytes ≡ output_of text → OnOk r (Appends old new bytes)
+pub output_written : {E : Type 0} (r : Result (Unit {0}) E) (known old new : Option (List ℕ)) (text bytes : List ℕ)
+    → IfSome known (λ input. text ≡ take 433 input) → bytes ≡ output_of text → OnOk r (Appends old new bytes)
     → OnOk r (IfSome known (λ input. Appends old new (written_for input)))
-output_written (Err e) known old new items text bytes first same shown w = tt
-output_written (Ok v) None old new items text bytes first same shown w = tt
-output_written (Ok v) (Some input) old new items text bytes first same shown w =
-    subst (Appends old new) (shown ∙ ap output_of (same ∙ first)) w
+output_written (Err e) known old new text bytes first shown w = tt
+output_written (Ok v) None old new text bytes first shown w = tt
+output_written (Ok v) (Some input) old new text bytes first shown w = subst (Appends old new) (shown ∙ ap output_of first) w

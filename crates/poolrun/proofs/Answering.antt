@@ -1,7 +1,7 @@
 -- A script's answers, written a buffer at a time.
-use Rattle.std.proofs.Common.{◌≡◌, ℕ, List, [], ◌++◌, length, take, refl, sym, ap, ◌∙◌, append_assoc, append-nil, subst, arith, true}
+use Rattle.std.proofs.Common.{◌≡◌, ℕ, List, [], ◌++◌, length, take, refl, sym, ◌∙◌, append_assoc, append-nil, subst, arith}
 use Rattle.std.proofs.Common.{drop, ◌+◌, ◌≤◌}
-use Rattle.std.proofs.lemmas.List.{take-append-le, take_all}
+use Rattle.std.proofs.lemmas.List.{take-append-le}
 use Rattle.record.proofs.FreshReads.{fresh_well_formed}
 use Rattle.std.proofs.Math.Seq.{take-length}
 use Rattle.lists.specs.Blocks.{overwritten}
@@ -44,13 +44,6 @@ unfolding overwritten
 taken {new} {old} {n = n} p =
     let e : n ≡ length new = omega (arith, p.next) in
     rw (p.bytes, e) (take-append-le (length new) new (drop (0 + length new) old) (omega arith) ∙ take-length new)
-
--- a buffer that was lent as a whole, put back
-pub put_back : {len : ℕ} {new items now now' : List ℕ} → now' ≡ take len (new ++ drop (length new) items) → length new ≡ length now → now ≡ items
-    → len ≡ length items → now' ≡ new
-put_back {len} {new} {items} e size same whole =
-    let long : length new ≡ len = size ∙ ap length same ∙ sym whole in
-    e ∙ take-append-le len new (drop (length new) items) (omega (arith, long)) ∙ take_all len new (omega (arith, long))
 
 -- 01's lengths
 small_bytes : whole_small standard ≡ 2048

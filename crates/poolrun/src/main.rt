@@ -1,7 +1,7 @@
 // The program: a script on standard input, one answer a line on standard output.
 #![tactic(auto)]
 
-ghost use Rattle.std.specs.Prelude.{◌≡◌, IfOk, IfSome, OnOk, take};
+ghost use Rattle.std.specs.Prelude.{◌≡◌, ◌≤◌, IfOk, IfSome, OnOk, length, take};
 ghost use Rattle.std.specs.Io.KnownBytes.{Appends};
 ghost use Rattle.ledger.specs.Limits.{standard};
 ghost use Rattle.script.specs.Output.{output_of};
@@ -10,7 +10,6 @@ ghost use Rattle.poolrun.specs.Program.{written_for};
 use ledger::STANDARD;
 use record::fresh;
 use script::run_on;
-use std::alloc::Global;
 use std::io;
 use std::io::{Read, Write};
 use stores::{LARGE_BYTES, SMALL_BYTES};
@@ -21,22 +20,30 @@ const LONGEST_SCRIPT: usize = 65536;
 // The answers of so many bytes are written at a time.
 const OUTPUT_BYTES: usize = 65536;
 
-// The first so many bytes of what a reader has left, or all where there are fewer.
-fn first_bytes<R: Read + Drop>(alloc: Global, reader: R, most: u64) -> io::Result<Vec<u8>>
-    ensures { IfOk result (λ bytes. IfSome (R.remaining reader) (λ rest. bytes.items ≡ take most rest)) }
+// The first bytes of what a reader has left: as many as the buffer holds, or all where there are fewer.
+fn fill<R: Read>(reader: &mut R, buffer: &mut [u8]) -> io::Result<usize>
+    ensures within { IfOk result (λ count. count ≤ length buffer.new) }
+    ensures first { IfOk result (λ count. IfSome (R.remaining reader.old) (λ rest.
+        take count buffer.new ≡ take (length buffer.old) rest)) }
 {
-    let mut bytes = Vec::new(alloc);
-    reader.take(most).read_to_end(&mut bytes)?;
-    Ok(bytes)
+    let mut done = 0;
+    while done < buffer.len() {
+        let count = reader.read(&mut buffer[done..])?;
+        if count == 0 {
+            return Ok(done);
+        }
+        done += count;
+    }
+    Ok(done)
 }
 
 // D5: from fresh, a buffer of answers at a time. A failed write ends it.
-fn answer<W: Write>(alloc: Global, script: &[u8], output: &mut W) -> io::Result<()>
+fn answer<W: Write>(script: &[u8], output: &mut W) -> io::Result<()>
     ensures { OnOk result (Appends (W.contents output.old) (W.contents output.new) (output_of standard script.now)) }
 {
     let mut small = [0u8; SMALL_BYTES];
     let mut large = [0u8; LARGE_BYTES];
-    let mut out = vec![in alloc; 0u8; OUTPUT_BYTES]?;
+    let mut out = [0u8; OUTPUT_BYTES];
     let mut p = fresh(STANDARD);
     let mut at = 0;
     while at < script.len() {
@@ -50,17 +57,18 @@ fn answer<W: Write>(alloc: Global, script: &[u8], output: &mut W) -> io::Result<
 }
 
 // P2, P3, P4: the program over any reader and writer.
-fn run<R: Read + Drop, W: Write>(alloc: Global, input: R, output: &mut W) -> io::Result<()>
+fn run<R: Read + Drop, W: Write>(mut input: R, output: &mut W) -> io::Result<()>
     ensures { OnOk result (IfSome (R.remaining input) (λ text.
         Appends (W.contents output.old) (W.contents output.new) (written_for text))) }
 {
-    let script = first_bytes(alloc, input, LONGEST_SCRIPT as u64 + 1)?;
-    if LONGEST_SCRIPT < script.len() {
+    let mut buffer = [0u8; LONGEST_SCRIPT + 1];
+    let count = fill(&mut input, &mut buffer)?;
+    if LONGEST_SCRIPT < count {
         return output.write_all(b"script too long\n");
     }
-    answer(alloc, &script, output)
+    answer(&buffer[..count], output)
 }
 
 fn main(rt: HostRuntime) -> io::Result<()> {
-    run(rt.alloc(), rt.stdin(), &mut rt.stdout())
+    run(rt.stdin(), &mut rt.stdout())
 }

@@ -8,4 +8,4 @@ slice_bounds-write_all-end g c = sym (length-take-le _ _ c.output_of-shown.ensur
 
 pub returns : goal.returns
 returns g c =
-    output_written c.write_all.result _ _ _ _ _ _ c.in_ok-text.ensures c.deref.ensures.value c.output_of-shown.ensures.bytes c.write_all.ensures.bytes
+    output_written c.write_all.result _ _ _ _ _ c.in_ok-count.ensures.first c.output_of-shown.ensures.bytes c.write_all.ensures.bytes

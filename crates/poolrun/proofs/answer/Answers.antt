@@ -1,11 +1,11 @@
-use Rattle.std.proofs.Common.{rules, arith, length, take, sym, ap, subst, ◌∙◌, ◌++◌, [], List, ℕ}
+use Rattle.std.proofs.Common.{rules, arith, sym, subst, ◌∙◌, ◌++◌, []}
 use Rattle.std.proofs.lemmas.List.{length-take-le}
 use Rattle.std.specs.Io.KnownBytes.{Appends}
 use Rattle.std.proofs.KnownBytes.{Appends-nil, Appends-trans}
 use Rattle.ledger.specs.Limits.{standard}
 use Rattle.script.specs.Output.{answer_lines}
 use Rattle.text.proofs.Puts.{puts_within}
-use Rattle.poolrun.proofs.Answering.{GoesOn, goes_from_fresh, goes_further, taken, put_back, begins, ends}
+use Rattle.poolrun.proofs.Answering.{goes_from_fresh, goes_further, taken, begins, ends}
 use Rattle.poolrun.proofs.answer.Goals as goal
 
 pub loop-at-init : goal.loop-at-init
@@ -13,28 +13,29 @@ unfolding standard
 loop-at-init g c =
     (begins _ _ _ _ c.fresh-p.ensures (search rules) (search rules), search rules, [], goes_from_fresh _ _ _ _ c.fresh-p.ensures, Appends-nil _)
 
+pub slice_bounds-out-end : goal.slice_bounds-out-end
+slice_bounds-out-end g c = puts_within c.run_on-ran.ensures.put
+
 pub slice_bounds-write_all-end : goal.slice_bounds-write_all-end
 slice_bounds-write_all-end g c =
-    let same = put_back c.deref.ensures.value c.run_on-ran.auto.out c.deref_mut.ensures.value c.loop-at.out.ok.0 in
-    sym (length-take-le _ _ (rw same (puts_within c.run_on-ran.ensures.put)))
+    sym (length-take-le _ _ (puts_within c.run_on-ran.ensures.put))
 
 pub loop-at-smaller : goal.loop-at-smaller
 loop-at-smaller g c =
     let r = c.run_on-ran.ensures in
     let more = c.loop-at-test.true in
-    let room = ap length c.deref_mut.ensures.value ∙ c.loop-at.invariant.1 in
+    let room = c.loop-at.invariant.1 in
     omega (arith, more, r.moves more (omega (arith, room)), r.runnable.within)
 
 pub loop-at-preserved : goal.loop-at-preserved
 loop-at-preserved g c =
     let (runnable, long, so_far, goes, wrote) = c.loop-at.invariant in
-    let r = c.run_on-ran.ensures in
-    let same = put_back c.deref.ensures.value c.run_on-ran.auto.out c.deref_mut.ensures.value c.loop-at.out.ok.0 in (
+    let r = c.run_on-ran.ensures in (
       r.runnable,
-      sym (ap length c.deref.ensures.value) ∙ ap length same ∙ c.run_on-ran.auto.out ∙ ap length c.deref_mut.ensures.value ∙ long,
+      c.run_on-ran.auto.out ∙ long,
       so_far ++ answer_lines r.replies,
       goes_further goes r,
-      Appends-trans _ _ _ _ _ wrote (subst (Appends _ _) (ap (take c.run_on-ran.result.written) same ∙ taken r.put) c.in_ok-write_all.ensures.bytes),
+      Appends-trans _ _ _ _ _ wrote (subst (Appends _ _) (taken r.put) c.in_ok-write_all.ensures.bytes),
     )
 
 pub returns : goal.returns
