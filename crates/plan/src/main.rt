@@ -1,33 +1,17 @@
 // The program: a cable plan on standard input, the figures of its channels on standard output, one line a channel (G15).
 #![tactic(auto)]
 
-ghost use Rattle.std.specs.Prelude.{◌≡◌, ◌≤◌, IfOk, IfSome, OnOk, length, take};
+ghost use Rattle.std.specs.Prelude.{IfSome, OnOk};
 ghost use Rattle.std.specs.Io.KnownBytes.{Appends};
 ghost use Rattle.plan.specs.Program.{written_for};
 
+use input::fill;
 use planned::output::output_of;
 use std::io;
 use std::io::{Read, Write};
 
 // G2: the bytes of the longest plan.
 const LONGEST_PLAN: usize = 432;
-
-// The first bytes of what a reader has left: as many as the buffer holds, or all where there are fewer.
-fn fill<R: Read>(reader: &mut R, buffer: &mut [u8]) -> io::Result<usize>
-    ensures within { IfOk result (λ count. count ≤ length buffer.new) }
-    ensures first { IfOk result (λ count. IfSome (R.remaining reader.old) (λ rest.
-        take count buffer.new ≡ take (length buffer.old) rest)) }
-{
-    let mut done = 0;
-    while done < buffer.len() {
-        let count = reader.read(&mut buffer[done..])?;
-        if count == 0 {
-            return Ok(done);
-        }
-        done += count;
-    }
-    Ok(done)
-}
 
 // G15: the program over any reader and writer.
 fn run<R: Read + Drop, W: Write>(mut input: R, output: &mut W) -> io::Result<()>

@@ -1,12 +1,13 @@
 // The program: a script on standard input, one answer a line on standard output.
 #![tactic(auto)]
 
-ghost use Rattle.std.specs.Prelude.{◌≡◌, ◌≤◌, IfOk, IfSome, OnOk, length, take};
+ghost use Rattle.std.specs.Prelude.{IfSome, OnOk};
 ghost use Rattle.std.specs.Io.KnownBytes.{Appends};
 ghost use Rattle.ledger.specs.Limits.{standard};
 ghost use Rattle.script.specs.Output.{output_of};
 ghost use Rattle.poolrun.specs.Program.{written_for};
 
+use input::fill;
 use ledger::STANDARD;
 use record::fresh;
 use script::run_on;
@@ -19,23 +20,6 @@ const LONGEST_SCRIPT: usize = 65536;
 
 // The answers of so many bytes are written at a time.
 const OUTPUT_BYTES: usize = 65536;
-
-// The first bytes of what a reader has left: as many as the buffer holds, or all where there are fewer.
-fn fill<R: Read>(reader: &mut R, buffer: &mut [u8]) -> io::Result<usize>
-    ensures within { IfOk result (λ count. count ≤ length buffer.new) }
-    ensures first { IfOk result (λ count. IfSome (R.remaining reader.old) (λ rest.
-        take count buffer.new ≡ take (length buffer.old) rest)) }
-{
-    let mut done = 0;
-    while done < buffer.len() {
-        let count = reader.read(&mut buffer[done..])?;
-        if count == 0 {
-            return Ok(done);
-        }
-        done += count;
-    }
-    Ok(done)
-}
 
 // D5: from fresh, a buffer of answers at a time. A failed write ends it.
 fn answer<W: Write>(script: &[u8], output: &mut W) -> io::Result<()>

@@ -1,6 +1,6 @@
 use Rattle.std.proofs.Common.{rules}
-use Rattle.poolrun.proofs.Filled.{filled_further}
-use Rattle.poolrun.proofs.fill.Goals as goal
+use Rattle.input.proofs.Filled.{filled_further}
+use Rattle.input.proofs.fill.Goals as goal
 
 pub loop-done-preserved : goal.loop-done-preserved
 loop-done-preserved g c =

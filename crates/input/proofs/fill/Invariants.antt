@@ -1,7 +1,7 @@
 -- What is filled so far is what the reader has given.
 use Rattle.std.proofs.Common.{length, ◌-◌, ◌≤◌, ◌≡◌, take}
 use Rattle.std.specs.Io.KnownBytes.{Consumes}
-use Rattle.poolrun.proofs.fill.Given as goal
+use Rattle.input.proofs.fill.Given as goal
 
 abbrev pub invariant-loop-done : goal.invariant-loop-done
 invariant-loop-done g l = (length l.buffer ≡ length l.initial.buffer) × (l.done ≤ length l.buffer)
