@@ -9,11 +9,13 @@ use lib.ListN.{length, set, length-append}
 use Rattle.ledger.specs.declared.Answer.{Answer}
 use Rattle.ledger.specs.declared.Answer.TheVariants.{Refused, Done, Advanced, Handle, Bytes, Counted, Lasts}
 use Rattle.ledger.specs.Limits.{large_size}
-use Rattle.answers.specs.Answers.{answer_head, answer_line, longest_answer}
+use Rattle.answers.specs.Answers.{values_in, answer_head, answer_line, longest_answer}
 use Rattle.text.specs.Fields.{in_bytes}
 use Rattle.text.specs.Hex.{hex_of, Puts}
 use Rattle.text.proofs.Digits.{length_hex, hex_append}
-use Rattle.text.proofs.Puts.{puts_on, puts_store}
+use Rattle.lists.proofs.Blocks.{length_overwritten}
+use Rattle.ledger.specs.Numbers.{answer_number}
+use Rattle.text.proofs.Puts.{puts_on, puts_store, puts_hex}
 
 bool_byte_lem : (b : Bool) → bool_byte b ≡ cond b 1 0 % 256
 bool_byte_lem true = refl
@@ -21,18 +23,33 @@ bool_byte_lem false = refl
 
 -- a head is one byte at least
 pub head_one : (answer : Answer) → 2 ≤ 2 * length (answer_head answer)
-unfolding answer_head
 head_one answer = omega arith
 
--- the head of an answer, by its kind
+-- the values of an answer, by its kind
 module _ {answer : Answer} where
-  pub advanced_head : {advanced : Bool} → answer ≡ Advanced advanced → answer_head answer ≡ 0 ∷ bool_byte advanced ∷ []
-  unfolding answer_head
-  advanced_head e = rw (e, bool_byte_lem)
+  pub advanced_values : {advanced : Bool} → answer ≡ Advanced advanced → bool_byte advanced ∷ [] ≡ values_in answer
+  unfolding values_in
+  advanced_values e = rw (e, bool_byte_lem)
 
-  pub handle_head : {handle : ℕ} → answer ≡ Handle handle → answer_head answer ≡ 0 ∷ in_bytes 4 handle
-  unfolding answer_head
-  handle_head e = rw e
+  pub handle_values : {handle : ℕ} → answer ≡ Handle handle → in_bytes 4 handle ≡ values_in answer
+  unfolding values_in
+  handle_values e = rw e
+
+-- the number of an answer, and then its values
+module _ (answer : Answer) {old first : List ℕ} {number next : ℕ} (fits : 2 * length (answer_head answer) ≤ length old) (n : number ≡ answer_number answer)
+    (p : Puts 0 (hex_of (number ∷ [])) old first next) where
+  same_size : length first ≡ length old
+  same_size = rw p.bytes (length_overwritten 0 (hex_of (number ∷ [])) old (omega (arith, fits)))
+
+  module _ {values : List ℕ} (e : values ≡ values_in answer) where
+    pub room_after_number : next + 2 * length values ≤ length first
+    room_after_number = rw e (omega (arith, fits, p.next, same_size))
+
+    pub puts_values : {after : List ℕ} {end : ℕ} → Puts next (hex_of values) first after end → Puts 0 (hex_of (answer_head answer)) old after end
+    puts_values q = rw (← e, ← n) (puts_hex (number ∷ []) values p q (omega (arith, fits, ap length e)))
+
+  pub puts_number : [] ≡ values_in answer → Puts 0 (hex_of (answer_head answer)) old first next
+  puts_number e = rw (← e, ← n) p
 
 line_parts : (answer : Answer) (bytes : List ℕ) → answer_line answer bytes ≡ hex_of (answer_head answer) ++ hex_of bytes ++ (10 ∷ [])
 unfolding answer_line
@@ -57,7 +74,7 @@ module _ (answer : Answer) (bytes : List ℕ) {old first : List ℕ} {middle : �
 
 -- with the bytes of any object
 pub line_within : (answer : Answer) (bytes : List ℕ) → length bytes ≤ large_size → length (answer_line answer bytes) ≤ longest_answer
-unfolding answer_head
+unfolding values_in
 line_within (Refused refusal) bytes few = omega (arith, length_line (Refused refusal) bytes)
 line_within Done bytes few = omega (arith, length_line Done bytes)
 line_within (Advanced advanced) bytes few = omega (arith, length_line (Advanced advanced) bytes)

@@ -26,9 +26,13 @@ answer_widths (Counted usage) = report_widths
 -- F32
 answer_widths (Lasts life) = 1 ∷ 1 ∷ []
 
+-- its values in bytes
+unfoldable pub values_in : Answer → List ℕ
+values_in answer = in_fields (answer_widths answer) (answer_values answer)
+
 -- F28: the number of the answer, 0 or its refusal's, and what it tells
-unfoldable pub answer_head : Answer → List ℕ
-answer_head answer = answer_number answer ∷ in_fields (answer_widths answer) (answer_values answer)
+abbrev pub answer_head : Answer → List ℕ
+answer_head answer = answer_number answer ∷ values_in answer
 
 -- F27: in hexadecimal, with its LF; the bytes are those of a read
 unfoldable pub answer_line : Answer → List ℕ → List ℕ

@@ -2,12 +2,12 @@
 #![tactic(auto)]
 
 ghost use Rattle.std.specs.Prelude.{◌+◌, ◌*◌, ◌≤◌, ◌≡◌, length};
-ghost use Rattle.answers.specs.Answers.{answer_head, answer_line};
+ghost use Rattle.answers.specs.Answers.{values_in, answer_head, answer_line};
 ghost use Rattle.text.specs.Fields.{in_bytes};
 ghost use Rattle.text.specs.Hex.{hex_of, Puts};
 ghost use Rattle.ledger.specs.declared.Answer.TheVariants.{Counted, Lasts};
 
-use ledger::{Answer, Life, Usage, number_of};
+use ledger::{Answer, Life, Usage};
 use text::hex::{put_byte, put_hex};
 use text::words::word;
 
@@ -23,20 +23,21 @@ fn put_word(out: &mut [u8], at: usize, value: u32) -> usize
     put_hex(out, at, &word(value))
 }
 
-// The head of a report's answer: no other answer's is as wide.
-pub const WIDEST_HEAD: usize = 9;
+// The head of a report's answer, its number and its values: no other answer's is as wide.
+pub const WIDEST_HEAD: usize = 1 + COUNTS;
 
-fn counts(usage: Usage) -> [u8; WIDEST_HEAD]
-    ensures { result ≡ answer_head (Counted usage) }
+const COUNTS: usize = 8;
+
+fn counts(usage: Usage) -> [u8; COUNTS]
+    ensures { result ≡ values_in (Counted usage) }
 {
-    let dates = usage.expirations;
+    let dates = usage.expirations.to_be_bytes();
     let given = word(usage.given);
     [
-        0,
         usage.small,
         usage.large,
-        (dates / 256 % 256) as u8,
-        (dates % 256) as u8,
+        dates[0],
+        dates[1],
         given[0],
         given[1],
         given[2],
@@ -44,11 +45,11 @@ fn counts(usage: Usage) -> [u8; WIDEST_HEAD]
     ]
 }
 
-// The head of a remaining life's answer.
-fn lasts(life: Life) -> [u8; 3]
-    ensures { result ≡ answer_head (Lasts life) }
+// The values of a remaining life's answer.
+fn lasts(life: Life) -> [u8; 2]
+    ensures { result ≡ values_in (Lasts life) }
 {
-    [0, life.local, life.global]
+    [life.local, life.global]
 }
 
 // The head as digits at the start of a buffer; the place after them.
@@ -56,20 +57,13 @@ fn put_head(out: &mut [u8], answer: Answer) -> usize
     requires { 2 * length (answer_head answer) ≤ length out.old }
     ensures { Puts 0 (hex_of (answer_head answer)) out.old out.new result }
 {
+    let next = put_byte(out, 0, u8::from(answer));
     match answer {
-        Answer::Refused(refusal) => put_byte(out, 0, number_of(refusal)),
-        Answer::Done => put_byte(out, 0, 0),
-        Answer::Bytes => put_byte(out, 0, 0),
-        Answer::Advanced(advanced) => {
-            let next = put_byte(out, 0, 0);
-            put_byte(out, next, advanced as u8)
-        }
-        Answer::Handle(handle) => {
-            let next = put_byte(out, 0, 0);
-            put_word(out, next, handle)
-        }
-        Answer::Counted(usage) => put_hex(out, 0, &counts(usage)),
-        Answer::Lasts(life) => put_hex(out, 0, &lasts(life)),
+        Answer::Advanced(advanced) => put_byte(out, next, advanced as u8),
+        Answer::Handle(handle) => put_word(out, next, handle),
+        Answer::Counted(usage) => put_hex(out, next, &counts(usage)),
+        Answer::Lasts(life) => put_hex(out, next, &lasts(life)),
+        Answer::Refused(_) | Answer::Done | Answer::Bytes => next,
     }
 }
 

@@ -22,10 +22,10 @@ pub fn put_answer(answer: Answer, bytes: &[u8], out: &mut [u8], at: usize) -> us
 }
 
 // The same with the first bytes of a block.
-pub fn show<'a>(
+pub fn show(
     answer: Answer,
-    small: &'a [u8],
-    large: &'a [u8],
+    small: &[u8],
+    large: &[u8],
     block: usize,
     count: u16,
     out: &mut [u8],

@@ -26,7 +26,7 @@ use Rattle.record.specs.contracts.Pool.{the_row}
 use Rattle.stores.specs.Lengths.{are_whole}
 use Rattle.calls.specs.Contract.{is_stored, Obeys}
 use Rattle.calls.proofs.Lent.{lent_typed}
-use Rattle.record.proofs.Types.{pool_head_typed, columns_sized}
+use Rattle.record.proofs.Types.{pool_typed}
 
 -- what a request answers when it is carried out
 abbrev pub carried_out : Request → Ledger → Reply
@@ -36,8 +36,8 @@ carried_out (Remaining task handle) L = plain (Lasts (remaining_life task handle
 
 typed : (p : Pool) (vs : List Val) → Is the_row p vs → Typed (tables_of p)
 typed p vs is =
-    let sized = columns_sized p vs is in
-    lent_typed _ p.handles p.extents p.clocks p.named p.dues (pool_head_typed p vs is) sized.blocks sized.entries
+    let (types, sized) = pool_typed p vs is in
+    lent_typed p.head p.blocks p.expirations types sized.blocks sized.entries
 
 -- by the ledger's verdict
 by_verdict : {C : Type 0} {y done : Reply} (v : Option Refusal) → ((why : Refusal) → y ≡ plain (Refused why) → C) → (y ≡ done → C) → y ≡ reply_by v done → C
@@ -46,7 +46,7 @@ by_verdict (some why) refused carried e = refused why e
 
 module _ {C : Type 0} {p : Pool} {vs : List Val} (is : Is the_row p vs) {new small large : List ℕ} {y : Reply} {p' : Pool} {small' large' : List ℕ} where
   by_ledger : (request : Request) → ((why : Refusal) → y ≡ plain (Refused why) → C) → ((L : Ledger) → y ≡ carried_out request L → C)
-      → is_well_formed p ≡ true → (is_stored request ≡ true → are_whole p.limits small large ≡ true) → Obeys request new p small large y p' small' large' → C
+      → is_well_formed p ≡ true → (is_stored request ≡ true → are_whole p.head.limits small large ≡ true) → Obeys request new p small large y p' small' large' → C
   unfolding reply
   by_ledger Report refused carried w whole o =
       let (L, reads) = every_fit_record_reads p (typed p vs is) w small large in carried L (o.answers (record { fit = w; whole = whole }) L reads)
@@ -61,7 +61,7 @@ module _ {C : Type 0} {p : Pool} {vs : List Val} (is : Is the_row p vs) {new sma
   by_reply {request} o refused carried =
       by_test (is_well_formed p)
       (λ w.
-      by_test (are_whole p.limits small large) (λ whole. by_ledger request refused carried w (λ s. whole) o)
+      by_test (are_whole p.head.limits small large) (λ whole. by_ledger request refused carried w (λ s. whole) o)
       (λ part.
       by_test (is_stored request) (λ s. refused _ (o.wrong w s part).refused)
       (λ s. by_ledger request refused carried w (λ t. absurd (true≢false (sym t ∙ s))) o)))

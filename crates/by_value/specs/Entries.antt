@@ -1,5 +1,5 @@
 -- What the entries promise: record and stores as the call leaves them, and the call's reply told.
-use Rattle.std.specs.Prelude.{ℕ, true, false, cond, List, [], ◌∷◌, ◌≡◌, ltb}
+use Rattle.std.specs.Prelude.{ℕ, true, false, cond, List, [], ◌∷◌, ◌≡◌, ltb, Result, Ok, Err}
 use Rattle.ledger.specs.Awaited.{awaited_bits}
 use Rattle.ledger.specs.Limits.{task_count, is_allowed}
 use Rattle.ledger.specs.Ledger.{Ledger}
@@ -9,6 +9,7 @@ use Rattle.ledger.specs.Shares.{quota_of, made}
 use Rattle.ledger.specs.declared.Answer.{Answer}
 use Rattle.ledger.specs.declared.Call.TheVariants.{Refresh, Batch}
 use Rattle.ledger.specs.declared.Kind.{Kind}
+use Rattle.ledger.specs.declared.Refusal.{Refusal}
 use Rattle.ledger.specs.declared.Refusal.TheVariants.{NoSuchTask, NotWellFormed, UnknownKind, LimitsOutOfRange}
 use Rattle.ledger.specs.declared.Limits.{Limits}
 use Rattle.ledger.specs.declared.Request.{Request}
@@ -18,8 +19,6 @@ use Rattle.record.specs.Reading.{fresh_pool}
 use Rattle.record.specs.declared.Pool.{Pool}
 use Rattle.calls.specs.Contract as Contract
 use Rattle.text.specs.HandleBytes.{handle_bytes}
-use Rattle.ledger.specs.declared.KindByte.{KindByte}
-use Rattle.ledger.specs.declared.KindByte.TheVariants.{Known, Unknown}
 use Rattle.by_value.specs.Told.{Loans, lent_numbers, with_number, told_by}
 
 -- a call that touches no store: join, leave, block, resume, tick, view, release, report, remaining life, and a refresh or batch of a known
@@ -74,19 +73,19 @@ pub record TellsShare (p : Pool) (task : ℕ) (old : List ℕ) (number : ℕ) (n
   pub tells : is_well_formed p ≡ true → ltb task task_count ≡ true → (small large : List ℕ) (L : Ledger) → Reads p small large L → new ≡ share_shown L.memory task
 
 -- A call whose kind is given by its code: 19 where there is no such kind, before anything else is tested.
-abbrev pub MakesBy : KindByte → ℕ → ℕ → ℕ → ℕ → Pool → List ℕ → List ℕ → List ℕ → ℕ → Pool → List ℕ → List ℕ → List ℕ → Type 0
-MakesBy (Known kind) task extension size prefix p small large numbers number p' small' large' numbers' =
+abbrev pub MakesBy : Result Kind Refusal → ℕ → ℕ → ℕ → ℕ → Pool → List ℕ → List ℕ → List ℕ → ℕ → Pool → List ℕ → List ℕ → List ℕ → Type 0
+MakesBy (Ok kind) task extension size prefix p small large numbers number p' small' large' numbers' =
     MakesOne task kind extension size prefix p small large numbers number p' small' large' numbers'
-MakesBy Unknown task extension size prefix p small large numbers number p' small' large' numbers' =
+MakesBy (Err why) task extension size prefix p small large numbers number p' small' large' numbers' =
     (number ≡ number_of UnknownKind) × (p' ≡ p) × (small' ≡ small) × (large' ≡ large) × (numbers' ≡ numbers)
 
-abbrev pub RefreshesBy : KindByte → ℕ → ℕ → ℕ → Pool → ℕ → Pool → Type 0
-RefreshesBy (Known kind) task extension handle p number p' = Does (Use (Refresh task kind extension handle)) p [] number p' []
-RefreshesBy Unknown task extension handle p number p' = (number ≡ number_of UnknownKind) × (p' ≡ p)
+abbrev pub RefreshesBy : Result Kind Refusal → ℕ → ℕ → ℕ → Pool → ℕ → Pool → Type 0
+RefreshesBy (Ok kind) task extension handle p number p' = Does (Use (Refresh task kind extension handle)) p [] number p' []
+RefreshesBy (Err why) task extension handle p number p' = (number ≡ number_of UnknownKind) × (p' ≡ p)
 
-abbrev pub RefreshesAllBy : KindByte → ℕ → ℕ → List ℕ → Pool → ℕ → Pool → Type 0
-RefreshesAllBy (Known kind) task extension handles p number p' = DoesWith (Use (Batch task kind extension)) (handle_bytes handles) p [] number p' []
-RefreshesAllBy Unknown task extension handles p number p' = (number ≡ number_of UnknownKind) × (p' ≡ p)
+abbrev pub RefreshesAllBy : Result Kind Refusal → ℕ → ℕ → List ℕ → Pool → ℕ → Pool → Type 0
+RefreshesAllBy (Ok kind) task extension handles p number p' = DoesWith (Use (Batch task kind extension)) (handle_bytes handles) p [] number p' []
+RefreshesAllBy (Err why) task extension handles p number p' = (number ≡ number_of UnknownKind) × (p' ≡ p)
 
 -- R29: a pool is made, of these figures: 0 where a site may choose them, and a fresh record; else 29, and the record that is left is not
 -- well-formed, by its figures.

@@ -1,4 +1,4 @@
-// Make, refresh and batch of a known kind, each on the columns of the record, which it lends.
+// Make, refresh and batch of a known kind, each on the record that it leaves.
 ghost use Rattle.std.specs.Prelude.{[], ◌∷◌, ◌≡◌};
 ghost use Rattle.ledger.specs.declared.Call.TheVariants.{Refresh, Batch};
 ghost use Rattle.ledger.specs.declared.Request.TheVariants.{Use};
@@ -9,7 +9,7 @@ ghost use Rattle.by_value.specs.Entries.{Does, DoesWith, MakesOne};
 use super::Numbered;
 use super::taking::store;
 use ledger::{Answer, Kind};
-use record::{Pool, head_of};
+use record::Pool;
 use tested;
 use text::batches::handle_bytes;
 
@@ -29,7 +29,7 @@ fn handle_or(old: u32, answer: Answer) -> u32
 }
 
 pub fn make_one_into(
-    mut p: Pool,
+    p: Pool,
     small: &mut [u8],
     large: &mut [u8],
     task: u8,
@@ -43,14 +43,11 @@ pub fn make_one_into(
     ensures { MakesOne task kind extension size prefix p small.old large.old (handle.old ∷ [])
         result left.new small.new large.new (handle.new ∷ []) }
 {
-    let h = head_of(p);
+    *left = p;
     let step = tested::make(
-        h,
-        &mut p.handles,
-        &mut p.extents,
-        &mut p.clocks,
-        &mut p.named,
-        &mut p.dues,
+        left.head,
+        &mut left.blocks,
+        &mut left.expirations,
         small,
         large,
         task,
@@ -61,7 +58,7 @@ pub fn make_one_into(
     );
     let answer = step.answer;
     *handle = handle_or(*handle, answer);
-    store(p, step, left)
+    store(step, left)
 }
 
 // The same, given back.
@@ -83,14 +80,11 @@ pub fn make_one(
     let number = make_one_into(
         p, small, large, task, kind, extension, size, prefix, handle, &mut left,
     );
-    Numbered {
-        number: number,
-        pool: left,
-    }
+    Numbered { number, pool: left }
 }
 
 pub fn refresh_one_into(
-    mut p: Pool,
+    p: Pool,
     task: u8,
     kind: Kind,
     extension: u8,
@@ -99,20 +93,17 @@ pub fn refresh_one_into(
 ) -> u8
     ensures { Does (Use (Refresh task kind extension handle)) p [] result left.new [] }
 {
-    let h = head_of(p);
+    *left = p;
     let step = tested::refresh(
-        h,
-        &p.handles,
-        &p.extents,
-        &mut p.clocks,
-        &mut p.named,
-        &mut p.dues,
+        left.head,
+        &left.blocks,
+        &mut left.expirations,
         task,
         kind,
         extension,
         handle,
     );
-    store(p, step, left)
+    store(step, left)
 }
 
 // The same, given back.
@@ -121,15 +112,12 @@ pub fn refresh_one(p: Pool, task: u8, kind: Kind, extension: u8, handle: u32) ->
 {
     let mut left = p;
     let number = refresh_one_into(p, task, kind, extension, handle, &mut left);
-    Numbered {
-        number: number,
-        pool: left,
-    }
+    Numbered { number, pool: left }
 }
 
 // The host's handles go on as bytes, which is what a batch brings.
 pub fn refresh_each_into(
-    mut p: Pool,
+    p: Pool,
     task: u8,
     kind: Kind,
     extension: u8,
@@ -138,23 +126,20 @@ pub fn refresh_each_into(
 ) -> u8
     ensures { DoesWith (Use (Batch task kind extension)) (handle_bytes objects.now) p [] result left.new [] }
 {
+    *left = p;
     let handed = handle_bytes(objects);
     let bytes = handed.bytes;
     let count = handed.count;
-    let h = head_of(p);
     let step = tested::batch(
-        h,
-        &p.handles,
-        &p.extents,
-        &mut p.clocks,
-        &mut p.named,
-        &mut p.dues,
+        left.head,
+        &left.blocks,
+        &mut left.expirations,
         task,
         kind,
         extension,
         &bytes[..count],
     );
-    store(p, step, left)
+    store(step, left)
 }
 
 // The same, given back.
@@ -163,8 +148,5 @@ pub fn refresh_each(p: Pool, task: u8, kind: Kind, extension: u8, objects: &[u32
 {
     let mut left = p;
     let number = refresh_each_into(p, task, kind, extension, objects, &mut left);
-    Numbered {
-        number: number,
-        pool: left,
-    }
+    Numbered { number, pool: left }
 }

@@ -1,6 +1,6 @@
 // The calls on a record by value (P7), each with its answer by the number: what the entries call. Each tests first whether the record is
-// well-formed (15), then the stores (14) where it touches one. One that changes the record lends the columns of its own to be tested and
-// changed, and stores what comes of it into a record that is lent (`.._into`); beside it stands the same call, which gives the record back.
+// well-formed (15), then the stores (14) where it touches one. One that changes the record stores it into one
+// that is lent, and tests and changes that (`.._into`); beside it stands the same call, which gives the record back.
 // What an answer tells goes to numbers that the host lends. Here is what all of them share, and those whose kind is given by its code
 // (19): make, refresh and batch.
 #![tactic(auto)]
@@ -15,7 +15,7 @@ pub mod taking;
 use kinds::{
     make_one, make_one_into, refresh_each, refresh_each_into, refresh_one, refresh_one_into,
 };
-use ledger::{KindByte, Refusal, kind_of, number_of};
+use ledger::{Kind, Refusal};
 use record::Pool;
 
 // A buffer too short: a number that is none of 01's.
@@ -34,7 +34,7 @@ fn refused_into(why: Refusal, p: Pool, left: &mut Pool) -> u8
         × (left.new ≡ p) }
 {
     *left = p;
-    number_of(why)
+    u8::from(why)
 }
 
 // The same, given back.
@@ -43,7 +43,7 @@ fn refused(why: Refusal, p: Pool) -> Numbered
         × (result.pool ≡ p) }
 {
     Numbered {
-        number: number_of(why),
+        number: u8::from(why),
         pool: p,
     }
 }
@@ -63,7 +63,7 @@ pub fn make_into(
     ensures { MakesBy (kind_of kind) task extension size prefix p small.old large.old (handle.old ∷ [])
         result left.new small.new large.new (handle.new ∷ []) }
 {
-    let KindByte::Known(known) = kind_of(kind) else {
+    let Ok(known) = Kind::try_from(kind) else {
         return refused_into(Refusal::UnknownKind, p, left);
     };
     make_one_into(
@@ -86,7 +86,7 @@ pub fn make(
     ensures { MakesBy (kind_of kind) task extension size prefix p small.old large.old (handle.old ∷ [])
         result.number result.pool small.new large.new (handle.new ∷ []) }
 {
-    let KindByte::Known(known) = kind_of(kind) else {
+    let Ok(known) = Kind::try_from(kind) else {
         return refused(Refusal::UnknownKind, p);
     };
     make_one(
@@ -97,7 +97,7 @@ pub fn make(
 pub fn refresh_into(p: Pool, task: u8, kind: u8, extension: u8, handle: u32, left: &mut Pool) -> u8
     ensures { RefreshesBy (kind_of kind) task extension handle p result left.new }
 {
-    let KindByte::Known(known) = kind_of(kind) else {
+    let Ok(known) = Kind::try_from(kind) else {
         return refused_into(Refusal::UnknownKind, p, left);
     };
     refresh_one_into(p, task, known, extension, handle, left)
@@ -107,7 +107,7 @@ pub fn refresh_into(p: Pool, task: u8, kind: u8, extension: u8, handle: u32, lef
 pub fn refresh(p: Pool, task: u8, kind: u8, extension: u8, handle: u32) -> Numbered
     ensures { RefreshesBy (kind_of kind) task extension handle p result.number result.pool }
 {
-    let KindByte::Known(known) = kind_of(kind) else {
+    let Ok(known) = Kind::try_from(kind) else {
         return refused(Refusal::UnknownKind, p);
     };
     refresh_one(p, task, known, extension, handle)
@@ -123,7 +123,7 @@ pub fn refresh_all_into(
 ) -> u8
     ensures { RefreshesAllBy (kind_of kind) task extension objects.now p result left.new }
 {
-    let KindByte::Known(known) = kind_of(kind) else {
+    let Ok(known) = Kind::try_from(kind) else {
         return refused_into(Refusal::UnknownKind, p, left);
     };
     refresh_each_into(p, task, known, extension, objects, left)
@@ -133,7 +133,7 @@ pub fn refresh_all_into(
 pub fn refresh_all(p: Pool, task: u8, kind: u8, extension: u8, objects: &[u32]) -> Numbered
     ensures { RefreshesAllBy (kind_of kind) task extension objects.now p result.number result.pool }
 {
-    let KindByte::Known(known) = kind_of(kind) else {
+    let Ok(known) = Kind::try_from(kind) else {
         return refused(Refusal::UnknownKind, p);
     };
     refresh_each(p, task, known, extension, objects)

@@ -43,8 +43,5 @@ pub fn frame(
 {
     let mut left = p;
     let number = frame_into(p, small, large, line, out, count, &mut left);
-    Numbered {
-        number: number,
-        pool: left,
-    }
+    Numbered { number, pool: left }
 }

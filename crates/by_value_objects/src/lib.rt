@@ -1,5 +1,5 @@
 // The calls on a record by value that concern the objects that stand: read, write, release, remaining life and report. Write and release
-// change the record; the others lend its columns where they are.
+// change the record; the others lend its tables where they are.
 #![tactic(auto)]
 
 ghost use Rattle.std.specs.Prelude.{[], ◌∷◌};
@@ -15,18 +15,18 @@ use by_value::{Numbered, TOO_SHORT};
 use calls;
 use expirations::standing;
 use fitness::is_well_formed;
-use ledger::{Answer, Refusal, answer_number, number_of};
+use ledger::{Answer, Refusal};
 use objects::usage;
 pub use reading::read_part;
-use record::{Pool, head_of};
+use record::Pool;
 use stores::write_block;
 use tested;
 
 // The part that `read_part` hands back, copied out.
-pub fn read<'a>(
+pub fn read(
     p: Pool,
-    small: &'a [u8],
-    large: &'a [u8],
+    small: &[u8],
+    large: &[u8],
     task: u8,
     handle: u32,
     out: &mut [u8],
@@ -49,7 +49,7 @@ pub fn read<'a>(
 }
 
 pub fn write_into(
-    mut p: Pool,
+    p: Pool,
     small: &mut [u8],
     large: &mut [u8],
     task: u8,
@@ -61,14 +61,11 @@ pub fn write_into(
     ensures { WritesTo task handle offset bytes.now p small.old large.old result left.new
         small.new large.new }
 {
-    let h = head_of(p);
+    *left = p;
     let step = tested::write(
-        h,
-        &p.handles,
-        &mut p.extents,
-        &p.clocks,
-        &p.named,
-        &p.dues,
+        left.head,
+        &mut left.blocks,
+        &left.expirations,
         small,
         large,
         task,
@@ -76,7 +73,7 @@ pub fn write_into(
         offset,
         bytes,
     );
-    store(p, step, left)
+    store(step, left)
 }
 
 // The same, given back.
@@ -94,27 +91,21 @@ pub fn write(
 {
     let mut left = p;
     let number = write_into(p, small, large, task, handle, offset, bytes, &mut left);
-    Numbered {
-        number: number,
-        pool: left,
-    }
+    Numbered { number, pool: left }
 }
 
-pub fn release_into(mut p: Pool, task: u8, handle: u32, left: &mut Pool) -> u8
+pub fn release_into(p: Pool, task: u8, handle: u32, left: &mut Pool) -> u8
     ensures { Does (Use (Release task handle)) p [] result left.new [] }
 {
-    let h = head_of(p);
+    *left = p;
     let step = tested::release(
-        h,
-        &mut p.handles,
-        &p.extents,
-        &mut p.clocks,
-        &p.named,
-        &p.dues,
+        left.head,
+        &mut left.blocks,
+        &mut left.expirations,
         task,
         handle,
     );
-    store(p, step, left)
+    store(step, left)
 }
 
 // The same, given back.
@@ -123,10 +114,7 @@ pub fn release(p: Pool, task: u8, handle: u32) -> Numbered
 {
     let mut left = p;
     let number = release_into(p, task, handle, &mut left);
-    Numbered {
-        number: number,
-        pool: left,
-    }
+    Numbered { number, pool: left }
 }
 
 pub fn report(p: Pool, small: &mut u8, large: &mut u8, expirations: &mut u16, given: &mut u32) -> u8
@@ -134,12 +122,11 @@ pub fn report(p: Pool, small: &mut u8, large: &mut u8, expirations: &mut u16, gi
         (small.old ∷ large.old ∷ expirations.old ∷ given.old ∷ []) result p
         (small.new ∷ large.new ∷ expirations.new ∷ given.new ∷ []) }
 {
-    let h = head_of(p);
-    if !is_well_formed(h, &p.handles, &p.extents, &p.clocks, &p.named, &p.dues) {
-        return number_of(Refusal::NotWellFormed);
+    if !is_well_formed(p.head, &p.blocks, &p.expirations) {
+        return u8::from(Refusal::NotWellFormed);
     }
-    let count = standing(&p.clocks);
-    let usage = usage(p.given, &p.handles, count);
+    let count = standing(&p.expirations.clocks);
+    let usage = usage(p.head.given, &p.blocks.handles, count);
     *small = usage.small;
     *large = usage.large;
     *expirations = usage.expirations;
@@ -151,15 +138,12 @@ pub fn remaining(p: Pool, task: u8, handle: u32, local: &mut u8, global: &mut u8
     ensures { Does (Remaining task handle) p (local.old ∷ global.old ∷ []) result p
         (local.new ∷ global.new ∷ []) }
 {
-    let h = head_of(p);
-    if !is_well_formed(h, &p.handles, &p.extents, &p.clocks, &p.named, &p.dues) {
-        return number_of(Refusal::NotWellFormed);
+    if !is_well_formed(p.head, &p.blocks, &p.expirations) {
+        return u8::from(Refusal::NotWellFormed);
     }
-    let answer = calls::remaining(
-        h, &p.handles, &p.extents, &p.clocks, &p.named, &p.dues, task, handle,
-    );
+    let answer = calls::remaining(p.head, &p.blocks, &p.expirations, task, handle);
     let Answer::Lasts(life) = answer else {
-        return answer_number(answer);
+        return u8::from(answer);
     };
     *local = life.local;
     *global = life.global;

@@ -1,25 +1,30 @@
-// The part of a store that a read hands back. The record stays, and so its columns are lent where they are.
+// The part of a store that a read hands back. The record stays, and so its tables are lent where they are.
 ghost use Rattle.calls.specs.Contract.{Locates, ReadsTo};
 
 use fitness::is_well_formed;
-use ledger::{Refusal, number_of};
-use objects::{FoundBytes, find_for_read};
-use record::{Pool, head_of};
+use ledger::Refusal;
+use objects::{Part, find_for_read};
+use record::Pool;
 use stores::{are_whole, block_part, no_part};
 
 // Where a read finds its object.
-fn locate<'a>(p: Pool, small: &'a [u8], large: &'a [u8], task: u8, handle: u32) -> FoundBytes
+fn locate(p: Pool, small: &[u8], large: &[u8], task: u8, handle: u32) -> Result<Part, Refusal>
     ensures { Locates task handle p small.now large.now result }
 {
-    let h = head_of(p);
-    if !is_well_formed(h, &p.handles, &p.extents, &p.clocks, &p.named, &p.dues) {
-        return FoundBytes::Refused(Refusal::NotWellFormed);
+    if !is_well_formed(p.head, &p.blocks, &p.expirations) {
+        return Err(Refusal::NotWellFormed);
     }
-    if !are_whole(p.limits, small.len(), large.len()) {
-        return FoundBytes::Refused(Refusal::WrongStoreLength);
+    if !are_whole(p.head.limits, small.len(), large.len()) {
+        return Err(Refusal::WrongStoreLength);
     }
     find_for_read(
-        h, &p.handles, &p.extents, &p.clocks, &p.named, &p.dues, small, large, task, handle,
+        p.head,
+        &p.blocks,
+        &p.expirations,
+        small,
+        large,
+        task,
+        handle,
     )
 }
 
@@ -35,17 +40,13 @@ pub fn read_part<'a>(
     ensures { ReadsTo task handle p small.now large.now number.new result.now }
 {
     match locate(p, small, large, task, handle) {
-        FoundBytes::Refused(why) => {
-            *number = number_of(why);
+        Err(why) => {
+            *number = u8::from(why);
             no_part(small)
         }
-        FoundBytes::At {
-            block,
-            length,
-            sum: _,
-        } => {
+        Ok(part) => {
             *number = 0;
-            block_part(small, large, block, length as usize)
+            block_part(small, large, part.block, part.length as usize)
         }
     }
 }

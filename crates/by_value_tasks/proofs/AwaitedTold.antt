@@ -23,7 +23,7 @@ module _ {p : Pool} {fit : Bool} (f : fit ≡ is_well_formed p) where
         tells = λ e small large L r. absurd (true≢false (sym e ∙ unfit));
       }
 
-  pub awaited_told : not fit ≡ false → {old new : ℕ} → new ≡ awaited_of (map task_of p.tasks) → TellsAwaited p old 0 new
+  pub awaited_told : not fit ≡ false → {old new : ℕ} → new ≡ awaited_of (map task_of p.head.tasks) → TellsAwaited p old 0 new
   awaited_told t n =
       let fits : is_well_formed p ≡ true = sym f ∙ not-false fit t in
       record {

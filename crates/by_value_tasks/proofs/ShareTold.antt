@@ -14,9 +14,8 @@ use Rattle.ledger.specs.Shares.{made}
 use Rattle.ledger.specs.declared.Refusal.TheVariants.{NoSuchTask, NotWellFormed}
 use Rattle.ledger.specs.declared.Share.{Share}
 use Rattle.record.specs.Pools.{is_well_formed}
-use Rattle.record.specs.Tables.{Tables, head_of, tables_by, tables_of}
+use Rattle.record.specs.Tables.{Tables, tables_by, tables_of}
 use Rattle.record.specs.Reading as Reading
-use Rattle.record.specs.declared.Head.{Head}
 use Rattle.record.specs.declared.Pool.{Pool}
 use Rattle.steps.proofs.Shares.{shares_alike, made_alike}
 use Rattle.shares.specs.Holdings.{Holds, HoldsBoth}
@@ -41,9 +40,9 @@ shown_by : {t : Tables} {small large : List ℕ} {L : Ledger} → Reading.Reads 
     → numbers_of (get_or t.shares task no_share) (get_or holdings.small.made task 0) (get_or holdings.large.made task 0) ≡ share_shown L.memory task
 shown_by reads held task l = rw (made_read reads true held.small task l, made_read reads false held.large task l, shares_alike reads)
 
-module _ (p : Pool) {h : Head} (e : h ≡ head_of p) {sharing : Sharing} (told : Fitness h p.handles p.extents p.clocks p.named p.dues sharing) where
+module _ (p : Pool) {sharing : Sharing} (told : Fitness p.head p.blocks p.expirations sharing) where
   fits : sharing.fit ≡ is_well_formed p
-  fits = fits_by_value p e told.fit
+  fits = fits_by_value p told.fit
 
   pub none_shared : not sharing.fit ≡ true → {task : ℕ} {old : List ℕ} {number : ℕ} → number ≡ number_of NotWellFormed → TellsShare p task old number old
   none_shared t n =
@@ -70,10 +69,10 @@ module _ (p : Pool) {h : Head} (e : h ≡ head_of p) {sharing : Sharing} (told :
         }
 
     pub known_shared : {task : ℕ} → task < task_count → {old : List ℕ}
-        → TellsShare p task old 0 (numbers_of (get_or p.shares task no_share) (get_or sharing.holdings.small.made task 0) (get_or sharing.holdings.large.made task 0))
+        → TellsShare p task old 0 (numbers_of (get_or p.head.shares task no_share) (get_or sharing.holdings.small.made task 0) (get_or sharing.holdings.large.made task 0))
     unfolding tables_of tables_by
     known_shared {task} k =
-        let held = rw e at (told.held (sym told.fit ∙ not-false sharing.fit t)) in
+        let held = told.held (sym told.fit ∙ not-false sharing.fit t) in
         record {
           unfit = λ f. absurd (true≢false (sym fit ∙ f));
           unknown = λ f q. absurd (true≢false (sym (lt-ltb task task_count k) ∙ q));

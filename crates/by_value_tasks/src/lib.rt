@@ -16,8 +16,8 @@ use advancing::advance_or;
 use by_value::Numbered;
 use by_value::taking::store;
 use fitness::{fitness_of, is_well_formed};
-use ledger::{Event, Limits, Quota, Refusal, STANDARD, Share, TASK_COUNT, is_allowed, number_of};
-use record::{Pool, fresh, head_of, running};
+use ledger::{Event, Limits, Quota, Refusal, STANDARD, Share, TASK_COUNT, is_allowed};
+use record::{Pool, fresh, running};
 use tested;
 use tested::schedule;
 
@@ -36,10 +36,10 @@ pub fn renew_sized(p: Pool, small: u32, large: u32, expirations: u32, extension:
     ensures { Renews (chosen small large expirations extension) result.number result.pool }
 {
     let limits = Limits {
-        small: small,
-        large: large,
-        expirations: expirations,
-        extension: extension,
+        small,
+        large,
+        expirations,
+        extension,
     };
     if is_allowed(limits) {
         return Numbered {
@@ -48,7 +48,7 @@ pub fn renew_sized(p: Pool, small: u32, large: u32, expirations: u32, extension:
         };
     }
     Numbered {
-        number: number_of(Refusal::LimitsOutOfRange),
+        number: u8::from(Refusal::LimitsOutOfRange),
         pool: fresh(limits),
     }
 }
@@ -65,23 +65,15 @@ pub fn join_into(
 ) -> u8
     ensures { Does (Use (Join task (share_of reserve limit largereserve largelimit))) p [] result left.new [] }
 {
-    let h = head_of(p);
-    let small = Quota {
-        reserve: reserve,
-        limit: limit,
-    };
+    *left = p;
+    let small = Quota { reserve, limit };
     let large = Quota {
         reserve: largereserve,
         limit: largelimit,
     };
-    let share = Share {
-        small: small,
-        large: large,
-    };
-    let step = tested::join(
-        h, &p.handles, &p.extents, &p.clocks, &p.named, &p.dues, task, share,
-    );
-    store(p, step, left)
+    let share = Share { small, large };
+    let step = tested::join(left.head, &left.blocks, &left.expirations, task, share);
+    store(step, left)
 }
 
 // The same, given back.
@@ -90,29 +82,30 @@ pub fn join(p: Pool, task: u8, reserve: u8, limit: u8, largereserve: u8, largeli
 {
     let mut left = p;
     let number = join_into(p, task, reserve, limit, largereserve, largelimit, &mut left);
-    Numbered {
-        number: number,
-        pool: left,
-    }
+    Numbered { number, pool: left }
 }
 
-pub fn leave_into(mut p: Pool, task: u8, advanced: &mut u8, left: &mut Pool) -> u8
-    ensures { Does (Use (Schedule Leave task)) p (advanced.old ∷ []) result left.new (advanced.new ∷ []) }
+// A leave, a block or a tick, which tell whether time advanced.
+fn event_into(p: Pool, event: Event, task: u8, advanced: &mut u8, left: &mut Pool) -> u8
+    ensures { Does (Use (Schedule event task)) p (advanced.old ∷ []) result left.new (advanced.new ∷ []) }
 {
-    let h = head_of(p);
+    *left = p;
     let step = schedule(
-        h,
-        &mut p.handles,
-        &mut p.extents,
-        &mut p.clocks,
-        &p.named,
-        &mut p.dues,
-        Event::Leave,
+        left.head,
+        &mut left.blocks,
+        &mut left.expirations,
+        event,
         task,
     );
     let answer = step.answer;
     *advanced = advance_or(*advanced, answer);
-    store(p, step, left)
+    store(step, left)
+}
+
+pub fn leave_into(p: Pool, task: u8, advanced: &mut u8, left: &mut Pool) -> u8
+    ensures { Does (Use (Schedule Leave task)) p (advanced.old ∷ []) result left.new (advanced.new ∷ []) }
+{
+    event_into(p, Event::Leave, task, advanced, left)
 }
 
 // The same, given back.
@@ -121,29 +114,13 @@ pub fn leave(p: Pool, task: u8, advanced: &mut u8) -> Numbered
 {
     let mut left = p;
     let number = leave_into(p, task, advanced, &mut left);
-    Numbered {
-        number: number,
-        pool: left,
-    }
+    Numbered { number, pool: left }
 }
 
-pub fn block_into(mut p: Pool, task: u8, advanced: &mut u8, left: &mut Pool) -> u8
+pub fn block_into(p: Pool, task: u8, advanced: &mut u8, left: &mut Pool) -> u8
     ensures { Does (Use (Schedule Block task)) p (advanced.old ∷ []) result left.new (advanced.new ∷ []) }
 {
-    let h = head_of(p);
-    let step = schedule(
-        h,
-        &mut p.handles,
-        &mut p.extents,
-        &mut p.clocks,
-        &p.named,
-        &mut p.dues,
-        Event::Block,
-        task,
-    );
-    let answer = step.answer;
-    *advanced = advance_or(*advanced, answer);
-    store(p, step, left)
+    event_into(p, Event::Block, task, advanced, left)
 }
 
 // The same, given back.
@@ -152,27 +129,21 @@ pub fn block(p: Pool, task: u8, advanced: &mut u8) -> Numbered
 {
     let mut left = p;
     let number = block_into(p, task, advanced, &mut left);
-    Numbered {
-        number: number,
-        pool: left,
-    }
+    Numbered { number, pool: left }
 }
 
 pub fn resume_into(p: Pool, task: u8, left: &mut Pool) -> u8
     ensures { Does (Use (Schedule Resume task)) p [] result left.new [] }
 {
-    let h = head_of(p);
+    *left = p;
     let step = tested::start(
-        h,
-        &p.handles,
-        &p.extents,
-        &p.clocks,
-        &p.named,
-        &p.dues,
+        left.head,
+        &left.blocks,
+        &left.expirations,
         Event::Resume,
         task,
     );
-    store(p, step, left)
+    store(step, left)
 }
 
 // The same, given back.
@@ -181,29 +152,13 @@ pub fn resume(p: Pool, task: u8) -> Numbered
 {
     let mut left = p;
     let number = resume_into(p, task, &mut left);
-    Numbered {
-        number: number,
-        pool: left,
-    }
+    Numbered { number, pool: left }
 }
 
-pub fn tick_into(mut p: Pool, task: u8, advanced: &mut u8, left: &mut Pool) -> u8
+pub fn tick_into(p: Pool, task: u8, advanced: &mut u8, left: &mut Pool) -> u8
     ensures { Does (Use (Schedule Tick task)) p (advanced.old ∷ []) result left.new (advanced.new ∷ []) }
 {
-    let h = head_of(p);
-    let step = schedule(
-        h,
-        &mut p.handles,
-        &mut p.extents,
-        &mut p.clocks,
-        &p.named,
-        &mut p.dues,
-        Event::Tick,
-        task,
-    );
-    let answer = step.answer;
-    *advanced = advance_or(*advanced, answer);
-    store(p, step, left)
+    event_into(p, Event::Tick, task, advanced, left)
 }
 
 // The same, given back.
@@ -212,28 +167,22 @@ pub fn tick(p: Pool, task: u8, advanced: &mut u8) -> Numbered
 {
     let mut left = p;
     let number = tick_into(p, task, advanced, &mut left);
-    Numbered {
-        number: number,
-        pool: left,
-    }
+    Numbered { number, pool: left }
 }
 
 // V1: joins as a viewer (02: 0E).
 pub fn view_into(p: Pool, task: u8, left: &mut Pool) -> u8
     ensures { Does (Use (Schedule View task)) p [] result left.new [] }
 {
-    let h = head_of(p);
+    *left = p;
     let step = tested::start(
-        h,
-        &p.handles,
-        &p.extents,
-        &p.clocks,
-        &p.named,
-        &p.dues,
+        left.head,
+        &left.blocks,
+        &left.expirations,
         Event::View,
         task,
     );
-    store(p, step, left)
+    store(step, left)
 }
 
 // The same, given back.
@@ -242,21 +191,17 @@ pub fn view(p: Pool, task: u8) -> Numbered
 {
     let mut left = p;
     let number = view_into(p, task, &mut left);
-    Numbered {
-        number: number,
-        pool: left,
-    }
+    Numbered { number, pool: left }
 }
 
 // For whom the global time waits. It is no call of the ledger: it changes nothing, and no frame asks it.
 pub fn awaited(p: Pool, tasks: &mut u16) -> u8
     ensures { TellsAwaited p tasks.old result tasks.new }
 {
-    let h = head_of(p);
-    if !is_well_formed(h, &p.handles, &p.extents, &p.clocks, &p.named, &p.dues) {
-        return number_of(Refusal::NotWellFormed);
+    if !is_well_formed(p.head, &p.blocks, &p.expirations) {
+        return u8::from(Refusal::NotWellFormed);
     }
-    let entries = p.tasks;
+    let entries = p.head.tasks;
     *tasks = running::awaited(entries);
     0
 }
@@ -278,15 +223,14 @@ pub fn share(
         (made.new ∷ reserve.new ∷ limit.new ∷ largemade.new ∷ largereserve.new
         ∷ largelimit.new ∷ []) }
 {
-    let h = head_of(p);
-    let sharing = fitness_of(h, &p.handles, &p.extents, &p.clocks, &p.named, &p.dues);
+    let sharing = fitness_of(p.head, &p.blocks, &p.expirations);
     if !sharing.fit {
-        return number_of(Refusal::NotWellFormed);
+        return u8::from(Refusal::NotWellFormed);
     }
     if TASK_COUNT <= task as usize {
-        return number_of(Refusal::NoSuchTask);
+        return u8::from(Refusal::NoSuchTask);
     }
-    let shares = p.shares;
+    let shares = p.head.shares;
     let own = shares[task as usize];
     let small = sharing.holdings.small.made;
     let large = sharing.holdings.large.made;

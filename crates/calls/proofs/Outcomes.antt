@@ -14,7 +14,6 @@ use Rattle.ledger.specs.declared.Call.{Call}
 use Rattle.ledger.specs.declared.Call.TheVariants.{Make, Refresh, Read, Write, Batch, Release}
 use Rattle.ledger.specs.declared.Refusal.{Refusal}
 use Rattle.ledger.specs.declared.Request.TheVariants.{Use}
-use Rattle.ledger.specs.declared.Verdict.TheVariants.{Accepted, Refused}
 use Rattle.stores.specs.Places.{small_after, large_after}
 use Rattle.record.specs.Reading.{is_whole_small, is_whole_large, block_bytes, Typed, size_of}
 use Rattle.record.specs.Tables.{tables_by, tables_of}
@@ -36,6 +35,7 @@ use Rattle.steps.proofs.Releases.{release_fits, release_reads, release_stays}
 use Rattle.calls.specs.Contract.{is_stored, Obeys, Written}
 use Rattle.stores.specs.Lengths.{are_whole}
 use Rattle.calls.proofs.Promises.{refused_obeys, carried_obeys}
+use Rattle.std.specs.Prelude.{Ok, Err}
 
 module _ (p : Pool) (types : Typed (tables_of p)) (w : is_well_formed p ≡ true) (small large : List ℕ) where
   -- the ledger that the record reads as with these stores
@@ -49,19 +49,19 @@ module _ (p : Pool) (types : Typed (tables_of p)) (w : is_well_formed p ≡ true
     pub blind_alike : {L : Ledger} → Reads p small large L → as_verdict (verdict_on L call new) ≡ verdict_by (tests_of call new) (tables_of p)
     blind_alike reads = verdict_alike types (fit_parts (tables_of p) w) reads (tests_of call new) blind
 
-    pub blind_refused : (is_stored (Use call) ≡ true → are_whole p.limits small large ≡ true) → {r : Refusal}
-        → verdict_by (tests_of call new) (tables_of p) ≡ Refused r
+    pub blind_refused : (is_stored (Use call) ≡ true → are_whole p.head.limits small large ≡ true) → {r : Refusal}
+        → verdict_by (tests_of call new) (tables_of p) ≡ Err r
         → Obeys (Use call) new p small large (plain (RefusedAnswer r)) p small large
     blind_refused whole v = refused_obeys call new p small large w whole _ (λ L reads. blind_alike reads ∙ v)
 
   -- refresh, whatever the stores
   module _ (task : ℕ) (kind : Kind) (extension handle : ℕ) where
-    renewed : verdict_by (tests_of (Refresh task kind extension handle) []) (tables_of p) ≡ Accepted
+    renewed : verdict_by (tests_of (Refresh task kind extension handle) []) (tables_of p) ≡ Ok tt
         → Renewed task kind extension handle (tables_of p)
     renewed v = refresh_takes task kind extension handle (tables_of p) (fit_parts (tables_of p) w) types v
 
     pub refresh_done : {p' : Pool} → tables_of p' ≡ refreshed_pool task kind extension handle (tables_of p)
-        → verdict_by (tests_of (Refresh task kind extension handle) []) (tables_of p) ≡ Accepted
+        → verdict_by (tests_of (Refresh task kind extension handle) []) (tables_of p) ≡ Ok tt
         → Obeys (Use (Refresh task kind extension handle)) [] p small large (plain Done) p' small large
     unfolding reply_to tests_of verdict
     refresh_done {p'} left v =
@@ -74,7 +74,7 @@ module _ (p : Pool) (types : Typed (tables_of p)) (w : is_well_formed p ≡ true
   -- batch, whatever the stores
   module _ (task : ℕ) (kind : Kind) (extension : ℕ) (new : List ℕ) where
     pub batch_done : {p' : Pool} → tables_of p' ≡ batched_pool task kind extension (handles_of new) (tables_of p)
-        → verdict_by (tests_of (Batch task kind extension) new) (tables_of p) ≡ Accepted
+        → verdict_by (tests_of (Batch task kind extension) new) (tables_of p) ≡ Ok tt
         → Obeys (Use (Batch task kind extension)) new p small large (plain Done) p' small large
     unfolding reply_to tests_of verdict
     batch_done {p'} left v =
@@ -86,7 +86,7 @@ module _ (p : Pool) (types : Typed (tables_of p)) (w : is_well_formed p ≡ true
   -- release, whatever the stores
   module _ (task handle : ℕ) where
     pub release_done : {p' : Pool} → tables_of p' ≡ released_pool handle (tables_of p)
-        → verdict_by (tests_of (Release task handle) []) (tables_of p) ≡ Accepted
+        → verdict_by (tests_of (Release task handle) []) (tables_of p) ≡ Ok tt
         → Obeys (Use (Release task handle)) [] p small large (plain Done) p' small large
     unfolding reply_to tests_of verdict
     release_done {p'} left v =
@@ -97,14 +97,14 @@ module _ (p : Pool) (types : Typed (tables_of p)) (w : is_well_formed p ≡ true
         (rw left (release_stays handle (tables_of p))) (refl, refl) (refl, refl)
 
   -- the calls that test 14 first
-  module _ (whole : are_whole p.limits small large ≡ true) where
+  module _ (whole : are_whole p.head.limits small large ≡ true) where
     small_whole_lem : is_whole_small (tables_of p).limits small ≡ true
     unfolding tables_of tables_by
-    small_whole_lem = ((and-eq-true_iff (is_whole_small p.limits small) (is_whole_large p.limits large)).0 whole).0
+    small_whole_lem = ((and-eq-true_iff (is_whole_small p.head.limits small) (is_whole_large p.head.limits large)).0 whole).0
 
     large_whole_lem : is_whole_large (tables_of p).limits large ≡ true
     unfolding tables_of tables_by
-    large_whole_lem = ((and-eq-true_iff (is_whole_small p.limits small) (is_whole_large p.limits large)).0 whole).1
+    large_whole_lem = ((and-eq-true_iff (is_whole_small p.head.limits small) (is_whole_large p.head.limits large)).0 whole).1
 
     -- on one that looks at them too
     module _ (call : Call) (new : List ℕ) where
@@ -112,23 +112,23 @@ module _ (p : Pool) (types : Typed (tables_of p)) (w : is_well_formed p ≡ true
           ≡ verdict_with small large (tests_of call new) (tables_of p)
       seen_alike reads = verdict_with_lem types (fit_parts (tables_of p) w) reads small_whole_lem large_whole_lem (tests_of call new)
 
-      pub seen_refused : {r : Refusal} → verdict_with small large (tests_of call new) (tables_of p) ≡ Refused r
+      pub seen_refused : {r : Refusal} → verdict_with small large (tests_of call new) (tables_of p) ≡ Err r
           → Obeys (Use call) new p small large (plain (RefusedAnswer r)) p small large
       seen_refused v = refused_obeys call new p small large w (λ s. whole) _ (λ L reads. seen_alike reads ∙ v)
 
     module _ (task : ℕ) (kind : Kind) (extension size prefix : ℕ) where
       pub make_done : {p' : Pool} → tables_of p' ≡ made_pool task kind extension size prefix (tables_of p)
-          → verdict_by (tests_of (Make task kind extension size prefix) []) (tables_of p) ≡ Accepted
+          → verdict_by (tests_of (Make task kind extension size prefix) []) (tables_of p) ≡ Ok tt
           → (let place = free_place (tables_of p).limits size (tables_of p).blocks in
-          is_block (tables_of p).limits place ≡ true → get_or p.handles place 0 ≡ 0 → get_or p'.handles place 0 ≡ p.given + 1
+          is_block (tables_of p).limits place ≡ true → get_or p.blocks.handles place 0 ≡ 0 → get_or p'.blocks.handles place 0 ≡ p.head.given + 1
           → (let zeros : List ℕ = replicate (size_of place) 0 in
-          Obeys (Use (Make task kind extension size prefix)) [] p small large (plain (Handle (p.given + 1))) p' (small_after place 0 zeros small) (large_after place 0 zeros large)))
+          Obeys (Use (Make task kind extension size prefix)) [] p small large (plain (Handle (p.head.given + 1))) p' (small_after place 0 zeros small) (large_after place 0 zeros large)))
       unfolding reply_to tables_of tables_by tests_of verdict
       make_done {p'} left v known free holds =
           let fit = fit_parts (tables_of p) w in
           let taken = make_takes task kind extension size prefix (tables_of p) fit types v in
           let bytes = made_bytes (tables_of p).limits fit.allowed small large small_whole_lem large_whole_lem _ taken.block.its in
-          carried_obeys _ [] p small large w (λ s. whole) (plain (Handle (p.given + 1))) p' _ _ refl
+          carried_obeys _ [] p small large w (λ s. whole) (plain (Handle (p.head.given + 1))) p' _ _ refl
           (λ L reads. blind_alike (Make task kind extension size prefix) [] (λ i j. refl) reads ∙ v)
           (λ L reads. rw (same_given w types reads))
           (λ L reads. rw left (make_reads w types reads small_whole_lem large_whole_lem task kind extension size prefix v))
@@ -137,7 +137,7 @@ module _ (p : Pool) (types : Typed (tables_of p)) (w : is_well_formed p ≡ true
           (_, record { known = known; free = free; holds = holds; small_cleared = refl; large_cleared = refl })
 
     module _ (task handle : ℕ) where
-      pub read_done : verdict_with small large (tests_of (Read task handle) []) (tables_of p) ≡ Accepted
+      pub read_done : verdict_with small large (tests_of (Read task handle) []) (tables_of p) ≡ Ok tt
           → Obeys (Use (Read task handle)) [] p small large
           (record { answer = Bytes; bytes = block_bytes small large (place_of handle (tables_of p).blocks) (shown_length (state_in (tables_of p).tasks task) (block_of handle (tables_of p).blocks)) }) p small large
       unfolding reply_to memory_after expirations_after
@@ -150,7 +150,7 @@ module _ (p : Pool) (types : Typed (tables_of p)) (w : is_well_formed p ≡ true
 
       module _ (offset : ℕ) (new : List ℕ) where
         pub write_done : {p' : Pool} → tables_of p' ≡ written_pool handle offset new small large (tables_of p)
-            → verdict_with small large (tests_of (Write task handle offset) new) (tables_of p) ≡ Accepted
+            → verdict_with small large (tests_of (Write task handle offset) new) (tables_of p) ≡ Ok tt
             → Written handle offset new p small large p'
             (small_after (place_of handle (tables_of p).blocks) offset new small) (large_after (place_of handle (tables_of p).blocks) offset new large)
             → Obeys (Use (Write task handle offset)) new p small large (plain Done) p'

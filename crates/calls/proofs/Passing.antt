@@ -1,5 +1,6 @@
 -- What an event ends by the time that it leaves is what it ends in the record: an expiration of a well-formed record is ahead while its
 -- clock stands still.
+use Rattle.tasks.specs.declared.Ending.{Ending}
 use Prim.Native.Nat.{ℕ, ◌≤◌, ◌<◌}
 use native.Mathlib.Omega.{arith}
 use mathlib.Core.Bool.{Bool, true, false, cond, not, ◌&&◌, ◌||◌}
@@ -27,14 +28,14 @@ use Rattle.record.specs.declared.Due.TheVariants.{Free, Local, Global, Pinned, U
 use Rattle.record.proofs.Facts.{fit_local, fit_global}
 use Rattle.steps.specs.Events.{next_time, moved_entry, unticked_entry, moved_tasks, advanced_tasks, advanced_time, leaver_of, late_entry, is_lasting, kept_entry, passed_entry}
 use Rattle.steps.proofs.Late.{late_due, late_due_lem, late_none}
-use Rattle.tasks.specs.Steps.{is_leave, tested_after}
+use Rattle.tasks.specs.Steps.{is_leave, ending_at, tested_after}
 use Rattle.tasks.specs.declared.Planned.{Planned}
 use Rattle.endings.specs.Ending.{is_ending, ended_entry}
 use Rattle.endings.specs.declared.Passing.{Passing}
 
 -- the time that a plan leaves
-abbrev pub passing_of : ℕ → Planned → Passing
-passing_of task q = record { task = task; leaves = q.leaves; local = q.local; advanced = q.advanced; global = q.global }
+abbrev pub passing_of : ℕ → GlobalTime → Ending → Passing
+passing_of task global ending = record { task = task; leaves = ending.leaves; local = ending.local; advanced = ending.advanced; global = global }
 
 -- who leaves, by the plan
 pub leaver_as : (event : Event) (task : ℕ) → cond (is_leave event) task task_count ≡ leaver_of event task
@@ -91,6 +92,9 @@ module _ (event : Event) (task : ℕ) (tasks : List TaskEntry) (global : GlobalT
   abbrev plan : Bool → Planned
   plan advanced = tested_after event task advanced moved global (moved_entry event (get_or tasks task absent_entry))
 
+  abbrev passing : Bool → Passing
+  passing advanced = passing_of task (plan advanced).global (ending_at event advanced (moved_entry event (get_or tasks task absent_entry)).clock)
+
   module _ (advanced : Bool) where
     own_clock : (get_or (advanced_tasks advanced moved) task absent_entry).clock.0 ≡ (moved_entry event (get_or tasks task absent_entry)).clock.0
     own_clock =
@@ -113,7 +117,7 @@ module _ (event : Event) (task : ℕ) (tasks : List TaskEntry) (global : GlobalT
     abbrev LastsAs : Due → Type 0
     LastsAs due =
         is_lasting (leaver_of event task) (get_or (plan advanced).tasks (setter_of due) absent_entry) (plan advanced).global due
-        ≡ not (is_ending (passing_of task (plan advanced)) due)
+        ≡ not (is_ending (passing advanced) due)
 
     lasting_as : (limits : Limits) (used : Bool) (due : Due) → is_fit_due limits (get_or tasks (setter_of due) absent_entry) global used due ≡ true → LastsAs (late due)
     lasting_as limits used Free fit = refl
@@ -132,15 +136,15 @@ module _ (event : Event) (task : ℕ) (tasks : List TaskEntry) (global : GlobalT
 
     -- so the entries after it are those that the record's sweep leaves
     entry_as : (limits : Limits) (blocks : List BlockEntry) (e : ExpirationEntry) → is_fit_entry limits tasks global blocks e ≡ true
-        → kept_entry (leaver_of event task) (plan advanced).tasks (plan advanced).global (lately e) ≡ ended_entry (passing_of task (plan advanced)) (lately e)
+        → kept_entry (leaver_of event task) (plan advanced).tasks (plan advanced).global (lately e) ≡ ended_entry (passing advanced) (lately e)
     entry_as limits blocks e f =
         let lasts : LastsAs (due_of (lately e)) = subst LastsAs (sym (late_due_lem (leaver_of event task) advanced (plan advanced).tasks e)) (lasting_as limits _ (due_of e) f) in
         ap (λ (stands : Bool). cond stands (lately e) (freed_entry (lately e))) lasts
-        ∙ cond_not (is_ending (passing_of task (plan advanced)) (due_of (lately e))) (freed_entry (lately e)) (lately e)
+        ∙ cond_not (is_ending (passing advanced) (due_of (lately e))) (freed_entry (lately e)) (lately e)
 
     pub kept_as : (limits : Limits) (blocks : List BlockEntry) (xs : List ExpirationEntry) → all (is_fit_entry limits tasks global blocks) xs ≡ true
         → map (passed_entry (leaver_of event task) advanced (plan advanced).tasks (plan advanced).global) xs
-        ≡ map (ended_entry (passing_of task (plan advanced))) (map lately xs)
+        ≡ map (ended_entry (passing advanced)) (map lately xs)
     kept_as limits blocks xs fits = map_same _ _ xs (all_imp (entry_as limits blocks) xs (all_true _ xs fits)) ∙ sym (map-map _ lately xs)
 
 -- A block that leaves the global time ends nothing.
@@ -148,8 +152,11 @@ module _ (task : ℕ) (tasks : List TaskEntry) (global : GlobalTime) (sixteen : 
   abbrev blocked : Planned
   blocked = plan Block task tasks global sixteen known false
 
+  abbrev blocking : Passing
+  blocking = passing Block task tasks global sixteen known false
+
   unending : (limits : Limits) (used : Bool) (due : Due) → is_fit_due limits (get_or tasks (setter_of due) absent_entry) global used due ≡ true
-      → is_ending (passing_of task blocked) due ≡ false
+      → is_ending blocking due ≡ false
   unending limits used Free fit = refl
   unending limits used (Local s at) fit =
       let f = fit_local limits (get_or tasks s absent_entry) global used s at fit in
@@ -160,12 +167,12 @@ module _ (task : ℕ) (tasks : List TaskEntry) (global : GlobalTime) (sixteen : 
   unending limits used (Pinned due) fit = refl
   unending limits used Unknown fit = refl
 
-  entry_stays : (limits : Limits) (blocks : List BlockEntry) (e : ExpirationEntry) → is_fit_entry limits tasks global blocks e ≡ true → ended_entry (passing_of task blocked) e ≡ e
+  entry_stays : (limits : Limits) (blocks : List BlockEntry) (e : ExpirationEntry) → is_fit_entry limits tasks global blocks e ≡ true → ended_entry blocking e ≡ e
   entry_stays limits blocks e f = rw (unending limits _ (due_of e) f)
 
   pub block_keeps : (limits : Limits) (blocks : List BlockEntry) (xs : List ExpirationEntry) → all (is_fit_entry limits tasks global blocks) xs ≡ true
       → map (passed_entry (leaver_of Block task) false blocked.tasks blocked.global) xs ≡ xs
   block_keeps limits blocks xs fits =
       kept_as Block task tasks global sixteen known false limits blocks xs fits
-      ∙ ap (map (ended_entry (passing_of task blocked))) (map_same _ (λ e. e) xs (all_every _ (late_none blocked.tasks) xs) ∙ map-id xs)
+      ∙ ap (map (ended_entry blocking)) (map_same _ (λ e. e) xs (all_every _ (late_none blocked.tasks) xs) ∙ map-id xs)
       ∙ map_same _ (λ e. e) xs (all_imp (entry_stays limits blocks) xs (all_true _ xs fits)) ∙ map-id xs

@@ -17,8 +17,6 @@ use Rattle.ledger.specs.declared.Call.{Call}
 use Rattle.ledger.specs.declared.Refusal.{Refusal}
 use Rattle.ledger.specs.declared.Refusal.TheVariants.{WrongStoreLength, NotWellFormed}
 use Rattle.ledger.specs.declared.Request.{Request}
-use Rattle.ledger.specs.declared.Verdict.TheVariants.{Accepted}
-use Rattle.ledger.specs.declared.Verdict.TheVariants.{Refused as RefusedVerdict}
 use Rattle.ledger.specs.declared.Call.TheVariants.{Join, Schedule, Make, Refresh, Read, Write, Batch, Release}
 use Rattle.ledger.specs.declared.Request.TheVariants.{Use, Report, Remaining}
 use Rattle.record.specs.Tables.{tables_of}
@@ -29,6 +27,7 @@ use Rattle.steps.proofs.ObjectsFollow.{carried}
 use Rattle.steps.proofs.Staying.{same_stays}
 use Rattle.stores.specs.Lengths.{are_whole, TellsWhole}
 use Rattle.calls.specs.Contract.{Leaves, is_stored, Ready, Refuses, Obeys, Follows}
+use Rattle.std.specs.Prelude.{Ok, Err}
 
 -- what was refused for one reason was not for another
 kept : (p : Pool) (small large : List ℕ) (r why : Refusal) → Refused r ≡ Refused why → Refuses why p small large (plain (Refused r)) p small large
@@ -64,12 +63,12 @@ module _ (request : Request) (new : List ℕ) (p : Pool) (small large : List ℕ
 
 -- the two tests, as the code makes them: of the record, then of stores that the request touches
 module _ {request : Request} {p : Pool} {small large : List ℕ} {fit stored whole : Bool} (f : fit ≡ is_well_formed p) (passed : not fit ≡ false)
-    (s : stored ≡ is_stored request) (tells : TellsWhole p.limits (length small) (length large) whole) where
+    (s : stored ≡ is_stored request) (tells : TellsWhole p.head.limits (length small) (length large) whole) where
   pub wrong_obeys : {new : List ℕ} → stored && not whole ≡ true → Obeys request new p small large (plain (Refused WrongStoreLength)) p small large
   wrong_obeys refused =
       let w : is_well_formed p ≡ true = sym f ∙ not-false fit passed in
       let (touched, wrong) = (and-eq-true_iff stored (not whole)).0 refused in
-      let n : are_whole p.limits small large ≡ false = sym (tells small large refl refl) ∙ not-true whole wrong in
+      let n : are_whole p.head.limits small large ≡ false = sym (tells small large refl refl) ∙ not-true whole wrong in
       record {
         unfit = λ u. absurd (true≢false (sym w ∙ u));
         wrong = λ v t e. kept p small large WrongStoreLength WrongStoreLength refl;
@@ -90,8 +89,8 @@ module _ {request : Request} {p : Pool} {small large : List ℕ} {fit stored who
       }
 
 module _ (call : Call) (new : List ℕ) (p : Pool) (small large : List ℕ) (w : is_well_formed p ≡ true)
-    (whole : is_stored (Use call) ≡ true → are_whole p.limits small large ≡ true) where
-  pub refused_obeys : (r : Refusal) → ((L : Ledger) → Reads p small large L → as_verdict (verdict_on L call new) ≡ RefusedVerdict r)
+    (whole : is_stored (Use call) ≡ true → are_whole p.head.limits small large ≡ true) where
+  pub refused_obeys : (r : Refusal) → ((L : Ledger) → Reads p small large L → as_verdict (verdict_on L call new) ≡ Err r)
       → Obeys (Use call) new p small large (plain (Refused r)) p small large
   unfolding reply next
   refused_obeys r v =
@@ -108,7 +107,7 @@ module _ (call : Call) (new : List ℕ) (p : Pool) (small large : List ℕ) (w :
       }
 
   pub carried_obeys : (y : Reply) (p' : Pool) (small' large' : List ℕ) → is_refusal y.answer ≡ false
-      → ((L : Ledger) → Reads p small large L → as_verdict (verdict_on L call new) ≡ Accepted)
+      → ((L : Ledger) → Reads p small large L → as_verdict (verdict_on L call new) ≡ Ok tt)
       → ((L : Ledger) → Reads p small large L → y ≡ reply_to call L.memory)
       → ((L : Ledger) → Reads p small large L → Reads p' small' large' (carried call new L))
       → is_well_formed p' ≡ true → Stays (tables_of p) (tables_of p') → (length small' ≡ length small) × (length large' ≡ length large)

@@ -1,15 +1,17 @@
 -- Report and remaining life of a well-formed record meet their contract.
+use Rattle.record.specs.declared.ExpirationTable.{ExpirationTable}
+use Rattle.record.specs.declared.BlockTable.{BlockTable}
+use Rattle.ledger.specs.declared.Refusal.{Refusal}
+use Rattle.ledger.specs.declared.Life.{Life}
 use Prim.Native.Nat.{ℕ}
 use mathlib.Core.Bool.{true, false}
 use mathlib.Core.List.{List}
 use mathlib.Core.Path.{◌≡◌, refl, ◌∙◌}
 use Rattle.ledger.specs.Ledger.{Ledger, standing_verdict_on}
-use Rattle.ledger.specs.Refusals.{standing_tests, verdict, as_verdict}
+use Rattle.ledger.specs.Refusals.{standing_tests, verdict, as_verdict, Verdict}
 use Rattle.ledger.proofs.Passed.{accepted_none, refused_some}
 use Rattle.ledger.specs.declared.Answer.TheVariants.{Counted}
 use Rattle.ledger.specs.declared.Request.TheVariants.{Report, Remaining}
-use Rattle.ledger.specs.declared.Verdict.{Verdict}
-use Rattle.ledger.specs.declared.Verdict.TheVariants.{Accepted, Refused}
 use Rattle.record.specs.Pools.{is_well_formed, Reads}
 use Rattle.record.specs.Reading.{HeadTyped, Typed}
 use Rattle.record.specs.Tables.{Sized, tables_of, lent, pooled}
@@ -22,12 +24,12 @@ use Rattle.steps.proofs.Chosen.{using_known}
 use Rattle.steps.proofs.ObjectsFollow.{read_life}
 use Rattle.steps.proofs.Rooms.{usage_alike}
 use Rattle.steps.proofs.Verdicts.{verdict_alike}
-use Rattle.objects.specs.Outcomes.{found_by, found_in}
-use Rattle.objects.specs.declared.Found.{Found}
+use Rattle.objects.specs.Outcomes.{found_by, found_in, life_of}
 use Rattle.calls.specs.Contract.{Follows}
 use Rattle.calls.specs.Engine.{life_found}
 use Rattle.calls.proofs.Lent.{tables_of_lem, lent_typed}
 use Rattle.calls.proofs.Promises.{tells_obeys}
+use Rattle.std.specs.Prelude.{Ok, Err, Result}
 
 pub report_obeys : (p : Pool) → is_well_formed p ≡ true → Follows Report p (Counted (usage_of (tables_of p))) p
 report_obeys p w =
@@ -41,21 +43,21 @@ module _ (task handle : ℕ) (p : Pool) (types : Typed (tables_of p)) (w : is_we
   alike reads = verdict_alike types (fit_parts (tables_of p) w) reads (standing_tests task handle) (λ i j. refl)
 
   life_by : (v : Verdict) → verdict_by (standing_tests task handle) (tables_of p) ≡ v
-      → Follows (Remaining task handle) p (life_found (found_by true v task handle (tables_of p))) p
-  life_by Accepted e =
+      → Follows (Remaining task handle) p (life_found (life_of task (tables_of p) (found_by v handle (tables_of p)))) p
+  life_by (Ok _) e =
       tells_obeys (Remaining task handle) p w refl (λ L. refl) _
       (λ small large L reads.
       let here = (using_known false task handle (tables_of p) e).here in
       rw (accepted_none (standing_verdict_on L task handle) (alike reads ∙ e), read_life w types reads task handle here))
       (λ small large. (refl, (refl, refl)))
-  life_by (Refused r) e =
+  life_by (Err r) e =
       tells_obeys (Remaining task handle) p w refl (λ L. refl) _
       (λ small large L reads. rw (refused_some (standing_verdict_on L task handle) (alike reads ∙ e))) (λ small large. (refl, (refl, refl)))
 
-pub life_obeys : {h : Head} {hs ls cs ns ds : List ℕ} → HeadTyped h → Sized hs ls cs ns ds → is_well_formed (pooled h hs ls cs ns ds) ≡ true → (task handle : ℕ) {f : Found}
-    → f ≡ found_in true (standing_tests task handle) task handle (lent h hs ls cs ns ds)
-    → Follows (Remaining task handle) (pooled h hs ls cs ns ds) (life_found f) (pooled h hs ls cs ns ds)
-life_obeys {h} {hs} {ls} {cs} {ns} {ds} types sized w task handle so =
-    rw (so, ← tables_of_lem h hs ls cs ns ds)
-    (life_by task handle (pooled h hs ls cs ns ds) (lent_typed h hs ls cs ns ds types sized.blocks sized.entries) w
-    (verdict_by (standing_tests task handle) (tables_of (pooled h hs ls cs ns ds))) refl)
+pub life_obeys : {h : Head} {blocks : BlockTable} {expirations : ExpirationTable} → HeadTyped h → Sized blocks expirations → is_well_formed (pooled h blocks expirations) ≡ true → (task handle : ℕ) {f : Result Life Refusal}
+    → f ≡ life_of task (lent h blocks expirations) (found_in (standing_tests task handle) handle (lent h blocks expirations))
+    → Follows (Remaining task handle) (pooled h blocks expirations) (life_found f) (pooled h blocks expirations)
+life_obeys {h} {blocks} {expirations} types sized w task handle so =
+    rw (so, ← tables_of_lem h blocks expirations)
+    (life_by task handle (pooled h blocks expirations) (lent_typed h blocks expirations types sized.blocks sized.entries) w
+    (verdict_by (standing_tests task handle) (tables_of (pooled h blocks expirations))) refl)

@@ -1,4 +1,6 @@
 -- The calls of tasks on a well-formed record meet their contract.
+use Rattle.record.specs.declared.LocalTime.{LocalTime}
+use Rattle.tasks.specs.declared.Ending.{Ending}
 use Prim.Native.Nat.{ℕ, ◌<◌}
 use native.Mathlib.Omega.{arith}
 use mathlib.Core.Bool.{Bool, true, false, cond, true≢false, false≢true}
@@ -25,8 +27,6 @@ use Rattle.ledger.specs.declared.Call.TheVariants.{Schedule}
 use Rattle.ledger.specs.declared.Refusal.{Refusal}
 use Rattle.ledger.specs.declared.Refusal.TheVariants.{NoSuchTask}
 use Rattle.ledger.specs.declared.Request.TheVariants.{Use}
-use Rattle.ledger.specs.declared.Verdict.{Verdict}
-use Rattle.ledger.specs.declared.Verdict.TheVariants.{Accepted, Refused}
 use Rattle.record.specs.Codes.{task_of, due_of, absent_entry}
 use Rattle.record.specs.Reading.{Typed}
 use Rattle.record.specs.Tables.{BlockEntry, ExpirationEntry, Tables, tables_of}
@@ -42,13 +42,15 @@ use Rattle.steps.proofs.EventsFollow.{schedule_follows, schedule_fits}
 use Rattle.steps.proofs.Standing.{none_freed, swept_none}
 use Rattle.steps.proofs.Orphans.{orphaned_none}
 use Rattle.steps.proofs.Staying.{event_stays}
-use Rattle.tasks.specs.Steps.{is_leave, may_end, tested_after, planned_after, planned_by, planned}
+use Rattle.tasks.specs.Steps.{is_leave, may_end, ending_at, ending_of, tested_after, planned_after, planned_by, planned}
 use Rattle.tasks.specs.declared.Planned.{Planned}
 use Rattle.endings.specs.Ending.{is_ending, ended_entry}
 use Rattle.endings.specs.declared.Passing.{Passing}
 use Rattle.calls.specs.Contract.{Obeys}
 use Rattle.calls.proofs.Passing.{block_keeps}
 use Rattle.ledger.specs.Numbers.{is_refusal}
+use Rattle.ledger.specs.Refusals.{Verdict}
+use Rattle.std.specs.Prelude.{Ok, Err, None, Some}
 
 -- the ledger's reply to an event has no bytes
 no_bytes_lem : (v : Option Refusal) (event : Event) (task : ℕ) (m : Memory)
@@ -84,8 +86,8 @@ module _ (event : Event) (task : ℕ) (p : Tables) where
 
   answer_by : (v : Verdict) → answered v
   unfolding answer_after planned_after
-  answer_by Accepted = by_test (is_tested event) (λ e. rw e) (λ e. rw e)
-  answer_by (Refused r) = refl
+  answer_by (Ok _) = by_test (is_tested event) (λ e. rw e) (λ e. rw e)
+  answer_by (Err r) = refl
 
   pub planned_answer : (planned event task p.tasks p.global).answer ≡ (scheduled event task p).answer
   unfolding scheduled planned
@@ -95,16 +97,15 @@ module _ (event : Event) (task : ℕ) (p : Tables) where
 pub record Unmoved (q : Planned) (tasks : List TaskEntry) (global : GlobalTime) : Type 0 where
   pub same_tasks : q.tasks ≡ tasks
   pub same_time : q.global ≡ global
-  pub still : q.ends ≡ false
-  pub nobody : q.leaves ≡ false
+  pub still : q.ending ≡ None
 
 unmoved_by : (v : Verdict) (event : Event) (task : ℕ) (tasks : List TaskEntry) (global : GlobalTime) (why : Refusal)
     → (planned_by v event task tasks global).answer ≡ RefusedAnswer why → Unmoved (planned_by v event task tasks global) tasks global
 unfolding planned_after
-unmoved_by Accepted event task tasks global why e =
-    let carried : is_refusal (planned_by Accepted event task tasks global).answer ≡ false = by_test (is_tested event) (λ t. rw t) (λ t. rw t) in
+unmoved_by (Ok _) event task tasks global why e =
+    let carried : is_refusal (planned_by (Ok tt) event task tasks global).answer ≡ false = by_test (is_tested event) (λ t. rw t) (λ t. rw t) in
     absurd (false≢true (sym carried ∙ ap is_refusal e))
-unmoved_by (Refused r) event task tasks global why e = record { same_tasks = refl; same_time = refl; still = refl; nobody = refl }
+unmoved_by (Err r) event task tasks global why e = record { same_tasks = refl; same_time = refl; still = refl }
 
 pub refused_unmoved : (event : Event) (task : ℕ) (tasks : List TaskEntry) (global : GlobalTime) (why : Refusal)
     → (planned event task tasks global).answer ≡ RefusedAnswer why → Unmoved (planned event task tasks global) tasks global
@@ -112,11 +113,11 @@ unfolding planned
 refused_unmoved event task tasks global = unmoved_by (verdict_at event task tasks) event task tasks global
 
 -- an event of a task that exists
-known_task : (task : ℕ) (v : Verdict) → cond (leb task_count task) (Refused NoSuchTask) v ≡ Accepted → task < task_count
+known_task : (task : ℕ) (v : Verdict) → cond (leb task_count task) (Err NoSuchTask) v ≡ Ok tt → task < task_count
 known_task task v e =
     by_test (leb task_count task)
     (λ t.
-    let refused : Refused NoSuchTask ≡ Accepted = rw t at e in
+    let refused : Err NoSuchTask ≡ Ok tt = rw t at e in
     let z : ◌≡◌ {A = ℕ} 0 1 = cc in
     absurd (omega arith))
     (leb-false task_count task)
@@ -128,6 +129,9 @@ module _ (event : Event) (task : ℕ) (p : Tables) where
   -- what a tested event plans
   abbrev pub tested : Planned
   tested = tested_after event task advanced (moved_tasks event task p.tasks) p.global (moved_entry event (get_or p.tasks task absent_entry))
+
+  abbrev pub ending : Ending
+  ending = ending_at event advanced (moved_entry event (get_or p.tasks task absent_entry)).clock
 
 -- a tested event that may end nothing is a block that leaves the global time
 tested_still : (event : Event) (task : ℕ) (p : Tables) → Typed p → WellFormed.is_well_formed p ≡ true → task < task_count → is_tested event ≡ true
@@ -142,67 +146,66 @@ tested_still Resume task p types w known t s = absurd (false≢true t)
 tested_still View task p types w known t s = absurd (false≢true t)
 tested_still Tick task p types w known t s = absurd (true≢false s)
 
+-- by what is told of its ending: nothing may end,
+nothing_ends : (event : Event) (advanced : Bool) (local : LocalTime) → ending_of event advanced local ≡ None → may_end event advanced ≡ false
+nothing_ends event advanced local e = by_test (may_end event advanced) (λ t. absurd (cc (rw t at e))) (λ t. t)
+
+-- or this
+what_ends : (event : Event) (advanced : Bool) (local : LocalTime) {ending : Ending} → ending_of event advanced local ≡ Some ending → ending ≡ ending_at event advanced local
+what_ends event advanced local e = by_test (may_end event advanced) (λ t. cc (rw t at e)) (λ t. absurd (cc (rw t at e)))
+
 -- one that may end nothing is no leave
-nobody_leaves : (event : Event) (task : ℕ) (tasks : List TaskEntry) (global : GlobalTime) → (planned_after event task tasks global).ends ≡ false → is_leave event ≡ false
+nobody_leaves : (event : Event) (task : ℕ) (tasks : List TaskEntry) (global : GlobalTime) → (planned_after event task tasks global).ending ≡ None → is_leave event ≡ false
 unfolding planned_after
-nobody_leaves Leave task tasks global s = absurd (true≢false s)
+nobody_leaves Leave task tasks global s = absurd (cc s)
 nobody_leaves Block task tasks global s = refl
 nobody_leaves Resume task tasks global s = refl
 nobody_leaves View task tasks global s = refl
 nobody_leaves Tick task tasks global s = refl
 
-leaving_by : (v : Verdict) (event : Event) (task : ℕ) (tasks : List TaskEntry) (global : GlobalTime) → (planned_by v event task tasks global).ends ≡ false
-    → (planned_by v event task tasks global).leaves ≡ false
-unfolding planned_after
-leaving_by Accepted event task tasks global s =
-    by_test (is_tested event) (λ t. rw (t, nobody_leaves event task tasks global s)) (λ t. rw t)
-leaving_by (Refused r) event task tasks global s = refl
-
-pub still_there : (event : Event) (task : ℕ) (tasks : List TaskEntry) (global : GlobalTime) → (planned event task tasks global).ends ≡ false
-    → (planned event task tasks global).leaves ≡ false
-unfolding planned
-still_there event task tasks global = leaving_by (verdict_at event task tasks) event task tasks global
-
 -- An event by its plan: with nothing that may end, only tasks and times are new.
 module _ (event : Event) (task : ℕ) (p : Tables) (types : Typed p) (w : WellFormed.is_well_formed p ≡ true) where
-  still_by : (v : Verdict) → (v ≡ Accepted → task < task_count) → (planned_by v event task p.tasks p.global).ends ≡ false
+  still_by : (v : Verdict) → (v ≡ Ok tt → task < task_count) → (planned_by v event task p.tasks p.global).ending ≡ None
       → (outcome_by v event task p).pool ≡ with_times (planned_by v event task p.tasks p.global).tasks (planned_by v event task p.tasks p.global).global p
   unfolding pool_after moved_pool planned_after
-  still_by Accepted known s =
+  still_by (Ok _) known s =
       ap (λ (t : Tables). moved_pool event task t) (orphaned_none event task p (nobody_leaves event task p.tasks p.global s))
-      ∙ by_test (is_tested event) (λ t. rw t (tested_still event task p types w (known refl) t (rw t at s))) (λ t. rw t)
-  still_by (Refused r) known s = refl
+      ∙ by_test (is_tested event) (λ t. rw t (tested_still event task p types w (known refl) t (nothing_ends event (advanced event task p) _ (rw t at s)))) (λ t. rw t)
+  still_by (Err r) known s = refl
 
-  pub still_planned : (planned event task p.tasks p.global).ends ≡ false
+  pub still_planned : (planned event task p.tasks p.global).ending ≡ None
       → (let q = planned event task p.tasks p.global in (scheduled event task p).pool ≡ with_times q.tasks q.global p)
   unfolding scheduled planned
   still_planned = still_by (verdict_at event task p.tasks) (known_task task _)
 
 -- else it is accepted and tested, and the record is swept
-pub record Swept (event : Event) (task : ℕ) (p : Tables) (q : Planned) : Type 0 where
+pub record Swept (event : Event) (task : ℕ) (p : Tables) (q : Planned) (e : Ending) : Type 0 where
   pub known : task < task_count
   pub plan : q ≡ tested event task p
+  pub ends : e ≡ ending event task p
   pub left : (scheduled event task p).pool ≡ swept (leaver_of event task) (advanced event task p) q.tasks q.global (orphaned_pool event task p)
 
 module _ (event : Event) (task : ℕ) (p : Tables) where
-  swept_by : (v : Verdict) → (v ≡ Accepted → task < task_count) → (planned_by v event task p.tasks p.global).ends ≡ true
-      → (task < task_count) × (planned_by v event task p.tasks p.global ≡ tested event task p)
+  swept_by : (v : Verdict) → (v ≡ Ok tt → task < task_count) → {e : Ending} → (planned_by v event task p.tasks p.global).ending ≡ Some e
+      → (task < task_count) × (planned_by v event task p.tasks p.global ≡ tested event task p) × (e ≡ ending event task p)
       × ((outcome_by v event task p).pool
       ≡ swept (leaver_of event task) (advanced event task p) (planned_by v event task p.tasks p.global).tasks (planned_by v event task p.tasks p.global).global (orphaned_pool event task p))
   unfolding pool_after moved_pool orphaned_pool planned_after
-  swept_by Accepted known s = by_test (is_tested event) (λ t. (known refl, rw t, rw t)) (λ t. absurd (false≢true (rw t at s)))
-  swept_by (Refused r) known s = absurd (false≢true s)
+  swept_by (Ok _) known s =
+      by_test (is_tested event) (λ t. (known refl, rw t, what_ends event (advanced event task p) _ (rw t at s), rw t)) (λ t. absurd (cc (rw t at s)))
+  swept_by (Err r) known s = absurd (cc s)
 
-  pub swept_planned : (planned event task p.tasks p.global).ends ≡ true → Swept event task p (planned event task p.tasks p.global)
+  pub swept_planned : {e : Ending} → (planned event task p.tasks p.global).ending ≡ Some e → Swept event task p (planned event task p.tasks p.global) e
   unfolding scheduled planned
   swept_planned s =
-      let (known, plan, left) = swept_by (verdict_at event task p.tasks) (known_task task _) s in record { known = known; plan = plan; left = left }
+      let (known, plan, ends, left) = swept_by (verdict_at event task p.tasks) (known_task task _) s in
+      record { known = known; plan = plan; ends = ends; left = left }
 
 unended : (t : Passing) (e : ExpirationEntry) → is_ending t (due_of e) ≡ false → ended_entry t e ≡ e
 unended t e n = rw n
 
 -- what may end something is an event of a task that exists
-pub ends_known : (event : Event) (task : ℕ) (tasks : List TaskEntry) (global : GlobalTime) {q : Planned} → q ≡ planned event task tasks global → q.ends ≡ true → task < task_count
+pub ends_known : (event : Event) (task : ℕ) (tasks : List TaskEntry) (global : GlobalTime) {q : Planned} {e : Ending} → q ≡ planned event task tasks global → q.ending ≡ Some e → task < task_count
 ends_known event task tasks global so s =
     (swept_planned event task (record { limits = standard; tasks = tasks; global = global; given = 0; shares = []; blocks = []; expirations = [] }) (rw so at s)).known
 

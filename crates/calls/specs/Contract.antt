@@ -1,5 +1,6 @@
 -- What the calls open to others promise: for each, its reply, and the record and stores that it leaves.
-use Rattle.std.specs.Prelude.{ℕ, ◌+◌, Bool, true, false, List, [], ◌≡◌, length, get_or, set, replicate}
+use Rattle.objects.specs.declared.Part.{Part}
+use Rattle.std.specs.Prelude.{ℕ, ◌+◌, Bool, true, false, List, [], ◌≡◌, length, get_or, set, replicate, Result, Ok, Err}
 use Rattle.ledger.specs.Numbers.{answer_number, is_refusal}
 use Rattle.ledger.specs.Objects.{Reply, plain}
 use Rattle.ledger.specs.Ledger.{Ledger, reply_to_request, after_request}
@@ -20,9 +21,6 @@ use Rattle.record.specs.WellFormed.{is_block}
 use Rattle.record.specs.declared.Pool.{Pool}
 use Rattle.steps.specs.Objects.{place_in}
 use Rattle.steps.specs.Staying.{Stays}
-use Rattle.objects.specs.declared.FoundBytes.{FoundBytes}
-use Rattle.objects.specs.declared.FoundBytes.TheVariants.{At}
-use Rattle.objects.specs.declared.FoundBytes.TheVariants.{Refused as RefusedBytes}
 
 -- R35: the calls that test 14
 abbrev pub is_stored : Request → Bool
@@ -40,7 +38,7 @@ is_stored (Remaining task handle) = false
 -- neither 15 nor 14: a well-formed record, and whole stores where the request touches one
 pub record Ready (request : Request) (p : Pool) (small large : List ℕ) : Type 0 where
   pub fit : is_well_formed p ≡ true
-  pub whole : is_stored request ≡ true → are_whole p.limits small large ≡ true
+  pub whole : is_stored request ≡ true → are_whole p.head.limits small large ≡ true
 
 -- R31: a refusal and nothing more
 pub record Refuses (why : Refusal) (p : Pool) (small large : List ℕ) (y : Reply) (p' : Pool) (small' large' : List ℕ) : Type 0 where
@@ -52,34 +50,25 @@ pub record Refuses (why : Refusal) (p : Pool) (small large : List ℕ) (y : Repl
 -- O10, O11, make: which free block is taken is left open. It is one of the figures' and belonged to no object, it has the new handle, and
 -- it is the one that is cleared.
 pub record Placed (p : Pool) (small large : List ℕ) (p' : Pool) (small' large' : List ℕ) (block : ℕ) : Type 0 where
-  pub known : is_block p.limits block ≡ true
-  pub free : get_or p.handles block 0 ≡ 0
-  pub holds : get_or p'.handles block 0 ≡ p.given + 1
+  pub known : is_block p.head.limits block ≡ true
+  pub free : get_or p.blocks.handles block 0 ≡ 0
+  pub holds : get_or p'.blocks.handles block 0 ≡ p.head.given + 1
   pub small_cleared : small' ≡ small_after block 0 (replicate (size_of block) 0) small
   pub large_cleared : large' ≡ large_after block 0 (replicate (size_of block) 0) large
 
 -- O35: the record in which a block has another sum, all else as it was
 abbrev pub summed : ℕ → ℕ → Pool → Pool
 summed block sum p =
-    record {
-      limits = p.limits;
-      tasks = p.tasks;
-      global = p.global;
-      given = p.given;
-      shares = p.shares;
-      handles = p.handles;
-      extents = set p.extents block (with_sum (get_or p.extents block 0) sum);
-      clocks = p.clocks;
-      named = p.named;
-      dues = p.dues;
+    record p {
+      blocks = record p.blocks { extents = set p.blocks.extents block (with_sum (get_or p.blocks.extents block 0) sum) };
     }
 
 -- O20, O21, O35, write: the bytes go into its block, the sum of those that are there then into the block's entry, and the rest of record
 -- and stores is as it was
 pub record Written (handle offset : ℕ) (new : List ℕ) (p : Pool) (small large : List ℕ) (p' : Pool) (small' large' : List ℕ) : Type 0 where
-  pub in_small : small' ≡ small_after (place_in handle p.handles) offset new small
-  pub in_large : large' ≡ large_after (place_in handle p.handles) offset new large
-  pub in_record : p' ≡ summed (place_in handle p.handles) (sum_at small' large' (place_in handle p.handles)) p
+  pub in_small : small' ≡ small_after (place_in handle p.blocks.handles) offset new small
+  pub in_large : large' ≡ large_after (place_in handle p.blocks.handles) offset new large
+  pub in_record : p' ≡ summed (place_in handle p.blocks.handles) (sum_at small' large' (place_in handle p.blocks.handles)) p
 
 abbrev pub SameStores : List ℕ → List ℕ → List ℕ → List ℕ → Type 0
 SameStores small large small' large' = (small' ≡ small) × (large' ≡ large)
@@ -115,7 +104,7 @@ Leaves (Remaining task handle) new p small large answer p' small' large' = Same 
 pub record Obeys (request : Request) (new : List ℕ) (p : Pool) (small large : List ℕ) (y : Reply) (p' : Pool) (small' large' : List ℕ) : Type 0 where
   -- R34, R35: first 15, then 14
   pub unfit : is_well_formed p ≡ false → Refuses NotWellFormed p small large y p' small' large'
-  pub wrong : is_well_formed p ≡ true → is_stored request ≡ true → are_whole p.limits small large ≡ false
+  pub wrong : is_well_formed p ≡ true → is_stored request ≡ true → are_whole p.head.limits small large ≡ false
       → Refuses WrongStoreLength p small large y p' small' large'
   -- else whatever ledger record and stores read as, the reply is that ledger's,
   pub answers : Ready request p small large → (L : Ledger) → Reads p small large L → y ≡ reply_to_request L request new
@@ -161,15 +150,15 @@ ReadsBack task handle p small large answer part =
     Obeys (Use (Read task handle)) [] p small large (record { answer = answer; bytes = part }) p small large
 
 -- the reply of a read that was found in a block, or was refused
-abbrev pub reply_found : List ℕ → List ℕ → FoundBytes → Reply
-reply_found small large (RefusedBytes why) = plain (Refused why)
-reply_found small large (At block count sum) = record { answer = Bytes; bytes = block_bytes small large block count }
+abbrev pub reply_found : List ℕ → List ℕ → Result Part Refusal → Reply
+reply_found small large (Ok part) = record { answer = Bytes; bytes = block_bytes small large part.block part.length }
+reply_found small large (Err why) = plain (Refused why)
 
 -- where a read finds its object: those bytes are its reply, they lie in a block, and the sum is that of the block's
-pub record Locates (task handle : ℕ) (p : Pool) (small large : List ℕ) (f : FoundBytes) : Type 0 where
+pub record Locates (task handle : ℕ) (p : Pool) (small large : List ℕ) (f : Result Part Refusal) : Type 0 where
   pub reads : Obeys (Use (Read task handle)) [] p small large (reply_found small large f) p small large
-  pub inside : (block count sum : ℕ) → f ≡ At block count sum → InBlock small large block count
-  pub summed : (block count sum : ℕ) → f ≡ At block count sum → sum ≡ sum_at small large block
+  pub inside : (part : Part) → f ≡ Ok part → InBlock small large part.block part.length
+  pub summed : (part : Part) → f ≡ Ok part → part.sum ≡ sum_at small large part.block
 
 -- its answer by the number: 0, or that of the refusal
 pub record ReadsTo (task handle : ℕ) (p : Pool) (small large : List ℕ) (number : ℕ) (part : List ℕ) : Type 0 where

@@ -1,8 +1,8 @@
 -- What the dispatch promises: for every request what all calls promise; and what is the reply to a frame.
-use Rattle.std.specs.Prelude.{ℕ, ◌<◌, List}
+use Rattle.std.specs.Prelude.{ℕ, ◌<◌, List, Ok, Err}
+use Rattle.ledger.specs.Ledger.{Frame}
 use Rattle.ledger.specs.Objects.{Reply}
 use Rattle.ledger.specs.declared.Answer.{Answer}
-use Rattle.ledger.specs.declared.Frame.{Frame}
 use Rattle.ledger.specs.declared.Request.{Request}
 use Rattle.stores.specs.Places.{InBlock}
 use Rattle.record.specs.Reading.{block_bytes}
@@ -31,5 +31,5 @@ pub record Serves (request : Request) (new : List ℕ) (p : Pool) (small large :
 -- the reply to a frame: one that the pool's contract allows for its request, or its refusal where it yields no call, with record and
 -- stores the same
 abbrev pub IsReplyTo : Frame → List ℕ → Pool → List ℕ → List ℕ → Reply → Pool → List ℕ → List ℕ → Type 0
-IsReplyTo (Frame.Request request count) bytes p small large y p' small' large' = Obeys request bytes p small large y p' small' large'
-IsReplyTo (Frame.Refused why) bytes p small large y p' small' large' = Refuses why p small large y p' small' large'
+IsReplyTo (Ok (request, count)) bytes p small large y p' small' large' = Obeys request bytes p small large y p' small' large'
+IsReplyTo (Err why) bytes p small large y p' small' large' = Refuses why p small large y p' small' large'

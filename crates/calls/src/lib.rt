@@ -9,21 +9,20 @@ ghost use Rattle.ledger.specs.Tasks.{is_tested};
 ghost use Rattle.ledger.specs.declared.Call.TheVariants.{Join, Schedule, Make, Refresh, Write, Batch, Release};
 ghost use Rattle.ledger.specs.declared.Request.TheVariants.{Use, Remaining};
 ghost use Rattle.record.specs.Pools.{is_well_formed};
-ghost use Rattle.record.specs.Tables.{pooled, blocks_of, SizedEntries, Sized, block_entries};
+ghost use Rattle.record.specs.Tables.{pooled, Sized, block_list, BlocksSized, EntriesSized};
 ghost use Rattle.shares.specs.Holdings.{Holds, HoldsBoth};
 ghost use Rattle.calls.specs.Contract.{Ready, FollowsWith, Follows, Makes, Writes};
-ghost use Rattle.calls.specs.Engine.{step_of, Bare, refused_by, with_given, shares_left, joined_head, FollowsBeside, FollowsAlone};
+ghost use Rattle.calls.specs.Engine.{step_of, Bare, refused_by, with_given, with_times, shares_left, joined_head, FollowsBeside, FollowsAlone};
 
 use endings;
 use endings::{Passing, end, orphan};
 use expirations::{set, set_all, standing};
-use ledger::{Answer, Event, Kind, Share, TASK_COUNT, Verdict};
+use ledger::{Answer, Event, Kind, Refusal, Share, TASK_COUNT};
 use objects::{
-    Found, FoundBytes, find_for_refresh, find_for_release, find_for_write, find_standing,
-    plan_batch, plan_make,
+    find_for_refresh, find_for_release, find_for_write, find_life, plan_batch, plan_make,
 };
 use record::codes::{extent_of, with_sum};
-use record::{BLOCK_COUNT, EXPIRATION_COUNT, Head, NO_SHARE, Pool};
+use record::{BlockTable, ExpirationTable, GlobalTime, Head, NO_SHARE, Pool, TaskEntry};
 use shares::{Holding, Holdings};
 use stores::{clear_place, sum_after, write_place};
 use tasks::{JOINED_TASK, judge_join, plan, plan_start};
@@ -43,27 +42,33 @@ pub fn answered(answer: Answer, head: Head) -> Step
     ensures { result ≡ step_of answer head }
 {
     Step {
-        head: head,
-        answer: answer,
+        head,
+        answer,
         block: 0,
         length: 0,
     }
 }
 
-// What a verdict that refuses comes to.
-fn refused_by(verdict: Verdict, h: Head) -> Step
-    ensures { result ≡ refused_by verdict h }
+// A call that is refused.
+pub fn refused(why: Refusal, h: Head) -> Step
+    ensures { result ≡ refused_by why h }
 {
-    match verdict {
-        Verdict::Accepted => answered(Answer::Done, h),
-        Verdict::Refused(why) => answered(Answer::Refused(why), h),
-    }
+    answered(Answer::Refused(why), h)
 }
 
 fn with_given(mut h: Head, given: u32) -> Head
     ensures { result ≡ with_given h given }
 {
     h.given = given;
+    h
+}
+
+// With the tasks and the time that an event leaves.
+fn with_times(mut h: Head, tasks: [TaskEntry; TASK_COUNT], global: GlobalTime) -> Head
+    ensures { result ≡ with_times h tasks global }
+{
+    h.tasks = tasks;
+    h.global = global;
     h
 }
 
@@ -85,19 +90,15 @@ fn shares_left(leaves: bool, task: u8, mut shares: [Share; TASK_COUNT]) -> [Shar
 // Leave, block, resume, tick and view.
 pub fn schedule(
     h: Head,
-    handles: &mut [u32; BLOCK_COUNT],
-    extents: &mut [u64; BLOCK_COUNT],
-    clocks: &mut [u8; EXPIRATION_COUNT],
-    named: &[u8; EXPIRATION_COUNT],
-    dues: &mut [u32; EXPIRATION_COUNT],
+    blocks: &mut BlockTable,
+    expirations: &mut ExpirationTable,
     event: Event,
     task: u8,
 ) -> Step
-    requires { Sized handles.old extents.old clocks.old named.now dues.old }
-    ensures { FollowsBeside (Use (Schedule event task)) h handles.old extents.old clocks.old
-        named.now dues.old result.answer result.head handles.new extents.new clocks.new
-        named.now dues.new
-        × Bare result }
+    requires { Sized blocks.old expirations.old }
+    ensures { FollowsBeside (Use (Schedule event task)) h blocks.old expirations.old result.answer result.head blocks.new expirations.new
+        × Bare result
+        × (expirations.new.named ≡ expirations.old.named) }
 {
     let limits = h.limits;
     let before = h.tasks;
@@ -107,31 +108,37 @@ pub fn schedule(
     let answer = planned.answer;
     let tasks = planned.tasks;
     let global = planned.global;
-    let local = planned.local;
+    let Some(ending) = planned.ending else {
+        return answered(answer, with_times(h, tasks, global));
+    };
     let head = Head {
-        limits: limits,
-        tasks: tasks,
-        global: global,
+        limits,
+        tasks,
+        global,
         given: h.given,
-        shares: shares_left(planned.leaves, task, shares),
+        shares: shares_left(ending.leaves, task, shares),
     };
-    if !planned.ends {
-        return answered(answer, head);
-    }
     let passing = Passing {
-        task: task,
-        leaves: planned.leaves,
-        local: local,
-        advanced: planned.advanced,
-        global: global,
+        task,
+        leaves: ending.leaves,
+        local: ending.local,
+        advanced: ending.advanced,
+        global,
     };
-    end(passing, tasks, handles, clocks, named, dues);
-    orphan(passing, extents);
+    end(
+        passing,
+        tasks,
+        &mut blocks.handles,
+        &mut expirations.clocks,
+        &expirations.named,
+        &mut expirations.dues,
+    );
+    orphan(passing, &mut blocks.extents);
     answered(answer, head)
 }
 
 // A resume or a view alone: no advance test follows it, and it touches no table.
-pub fn start(mut h: Head, event: Event, task: u8) -> Step
+pub fn start(h: Head, event: Event, task: u8) -> Step
     requires { is_tested event ≡ false }
     ensures { FollowsAlone (λ blocks. Unit) (Use (Schedule event task)) h result.answer result.head
         × Bare result }
@@ -139,12 +146,7 @@ pub fn start(mut h: Head, event: Event, task: u8) -> Step
     let before = h.tasks;
     let time = h.global;
     let planned = plan_start(before, time, event, task);
-    let answer = planned.answer;
-    let tasks = planned.tasks;
-    let global = planned.global;
-    h.tasks = tasks;
-    h.global = global;
-    answered(answer, h)
+    answered(planned.answer, with_times(h, planned.tasks, planned.global))
 }
 
 fn with_joined(mut h: Head, task: u8, share: Share) -> Head
@@ -165,21 +167,17 @@ pub fn join(h: Head, holdings: Holdings, task: u8, share: Share) -> Step
     ensures { FollowsAlone (λ blocks. HoldsBoth h.shares blocks holdings) (Use (Join task share)) h result.answer result.head
         × Bare result }
 {
-    let verdict = judge_join(h, holdings.small.spoken, holdings.large.spoken, task, share);
-    let Verdict::Accepted = verdict else {
-        return refused_by(verdict, h);
-    };
+    if let Err(why) = judge_join(h, holdings.small.spoken, holdings.large.spoken, task, share) {
+        return refused(why, h);
+    }
     answered(Answer::Done, with_joined(h, task, share))
 }
 
 // Takes a free block for an object, and sets its first expiration.
 pub fn make(
     h: Head,
-    handles: &mut [u32; BLOCK_COUNT],
-    extents: &mut [u64; BLOCK_COUNT],
-    clocks: &mut [u8; EXPIRATION_COUNT],
-    named: &mut [u8; EXPIRATION_COUNT],
-    dues: &mut [u32; EXPIRATION_COUNT],
+    blocks: &mut BlockTable,
+    expirations: &mut ExpirationTable,
     small: &mut [u8],
     large: &mut [u8],
     holding: Holding,
@@ -189,153 +187,139 @@ pub fn make(
     size: u16,
     prefix: u16,
 ) -> Step
-    requires { Sized handles.old extents.old clocks.old named.old dues.old
+    requires { Sized blocks.old expirations.old
         × Ready (Use (Make task kind extension size prefix))
-        (pooled h handles.old extents.old clocks.old named.old dues.old) small.old large.old
-        × Holds (is_small size) h.shares (blocks_of handles.old extents.old) holding }
-    ensures { Sized handles.new extents.new clocks.new named.new dues.new
+        (pooled h blocks.old expirations.old) small.old large.old
+        × Holds (is_small size) h.shares (block_list blocks.old) holding }
+    ensures { Sized blocks.new expirations.new
         × Makes task kind extension size prefix
-        (pooled h handles.old extents.old clocks.old named.old dues.old)
+        (pooled h blocks.old expirations.old)
         small.old large.old result.answer
-        (pooled result.head handles.new extents.new clocks.new named.new dues.new)
+        (pooled result.head blocks.new expirations.new)
         small.new large.new
         × Bare result }
 {
-    let plan = plan_make(
+    let standing = standing(&expirations.clocks);
+    let place = match plan_make(
         h,
-        handles,
+        &blocks.handles,
         holding,
-        standing(clocks),
+        standing,
         task,
         kind,
         extension,
         size,
         prefix,
-    );
-    let verdict = plan.verdict;
-    let place = plan.place;
-    let Verdict::Accepted = verdict else {
-        return refused_by(verdict, h);
+    ) {
+        Err(why) => return refused(why, h),
+        Ok(place) => place,
     };
-    set(h, kind, task, extension, place, clocks, named, dues);
+    set(h, kind, task, extension, place, expirations);
     clear_place(small, large, place);
     let handle = h.given + 1;
-    handles[place] = handle;
-    extents[place] = extent_of(size, 0, task, prefix);
+    blocks.handles[place] = handle;
+    blocks.extents[place] = extent_of(size, 0, task, prefix);
     answered(Answer::Handle(handle), with_given(h, handle))
 }
 
 // Sets one more expiration. (What it gives back is written out: by `answered` the compiler copies two columns once more than it has to.)
-pub fn refresh<'a>(
+pub fn refresh(
     h: Head,
-    handles: &'a [u32; BLOCK_COUNT],
-    extents: &'a [u64; BLOCK_COUNT],
-    clocks: &mut [u8; EXPIRATION_COUNT],
-    named: &mut [u8; EXPIRATION_COUNT],
-    dues: &mut [u32; EXPIRATION_COUNT],
+    blocks: &BlockTable,
+    expirations: &mut ExpirationTable,
     task: u8,
     kind: Kind,
     extension: u8,
     handle: u32,
 ) -> Step
-    requires { Sized handles.now extents.now clocks.old named.old dues.old
-        × (is_well_formed (pooled h handles.now extents.now clocks.old named.old dues.old) ≡ true) }
-    ensures { SizedEntries clocks.new named.new dues.new
+    requires { Sized blocks.now expirations.old
+        × (is_well_formed (pooled h blocks.now expirations.old) ≡ true) }
+    ensures { EntriesSized expirations.new
         × Follows (Use (Refresh task kind extension handle))
-        (pooled h handles.now extents.now clocks.old named.old dues.old) result.answer
-        (pooled result.head handles.now extents.now clocks.new named.new dues.new)
+        (pooled h blocks.now expirations.old) result.answer
+        (pooled result.head blocks.now expirations.new)
         × Bare result }
 {
-    match find_for_refresh(
-        h, handles, extents, clocks, named, dues, task, kind, extension, handle,
-    ) {
-        Found::Refused(why) => Step {
-            head: h,
-            answer: Answer::Refused(why),
-            block: 0,
-            length: 0,
-        },
-        Found::At { block, life: _ } => {
-            set(h, kind, task, extension, block, clocks, named, dues);
-            Step {
-                head: h,
-                answer: Answer::Done,
-                block: 0,
-                length: 0,
-            }
-        }
-    }
+    let block = match find_for_refresh(h, blocks, expirations, task, kind, extension, handle) {
+        Err(why) => return refused(why, h),
+        Ok(block) => block,
+    };
+    set(h, kind, task, extension, block, expirations);
+    answered(Answer::Done, h)
 }
 
 // E24: ends the pinned expiration of an object.
-pub fn release<'a>(
+pub fn release(
     h: Head,
-    handles: &mut [u32; BLOCK_COUNT],
-    extents: &'a [u64; BLOCK_COUNT],
-    clocks: &mut [u8; EXPIRATION_COUNT],
-    named: &'a [u8; EXPIRATION_COUNT],
-    dues: &'a [u32; EXPIRATION_COUNT],
+    blocks: &mut BlockTable,
+    expirations: &mut ExpirationTable,
     task: u8,
     handle: u32,
 ) -> Step
-    requires { Sized handles.old extents.now clocks.old named.now dues.now
-        × (is_well_formed (pooled h handles.old extents.now clocks.old named.now dues.now) ≡ true) }
-    ensures { Sized handles.new extents.now clocks.new named.now dues.now
+    requires { Sized blocks.old expirations.old
+        × (is_well_formed (pooled h blocks.old expirations.old) ≡ true) }
+    ensures { Sized blocks.new expirations.new
         × Follows (Use (Release task handle))
-        (pooled h handles.old extents.now clocks.old named.now dues.now) result.answer
-        (pooled result.head handles.new extents.now clocks.new named.now dues.now)
-        × Bare result }
+        (pooled h blocks.old expirations.old) result.answer
+        (pooled result.head blocks.new expirations.new)
+        × Bare result
+        × (blocks.new.extents ≡ blocks.old.extents)
+        × (expirations.new.named ≡ expirations.old.named)
+        × (expirations.new.dues ≡ expirations.old.dues) }
 {
-    match find_for_release(h, handles, extents, clocks, named, dues, task, handle) {
-        Found::Refused(why) => answered(Answer::Refused(why), h),
-        Found::At { block, life: _ } => {
-            endings::release(block, handles, clocks, named);
-            answered(Answer::Done, h)
-        }
-    }
+    let block = match find_for_release(h, blocks, expirations, task, handle) {
+        Err(why) => return refused(why, h),
+        Ok(block) => block,
+    };
+    endings::release(
+        block,
+        &mut blocks.handles,
+        &mut expirations.clocks,
+        &expirations.named,
+    );
+    answered(Answer::Done, h)
 }
 
 // Sets one more expiration on each object that the bytes name, or on none.
-pub fn batch<'a>(
+pub fn batch(
     h: Head,
-    handles: &'a [u32; BLOCK_COUNT],
-    extents: &'a [u64; BLOCK_COUNT],
-    clocks: &mut [u8; EXPIRATION_COUNT],
-    named: &mut [u8; EXPIRATION_COUNT],
-    dues: &mut [u32; EXPIRATION_COUNT],
+    blocks: &BlockTable,
+    expirations: &mut ExpirationTable,
     task: u8,
     kind: Kind,
     extension: u8,
     bytes: &[u8],
 ) -> Step
-    requires { Sized handles.now extents.now clocks.old named.old dues.old
-        × (is_well_formed (pooled h handles.now extents.now clocks.old named.old dues.old) ≡ true) }
-    ensures { SizedEntries clocks.new named.new dues.new
+    requires { Sized blocks.now expirations.old
+        × (is_well_formed (pooled h blocks.now expirations.old) ≡ true) }
+    ensures { EntriesSized expirations.new
         × FollowsWith (Use (Batch task kind extension)) bytes.now
-        (pooled h handles.now extents.now clocks.old named.old dues.old) result.answer
-        (pooled result.head handles.now extents.now clocks.new named.new dues.new)
+        (pooled h blocks.now expirations.old) result.answer
+        (pooled result.head blocks.now expirations.new)
         × Bare result }
 {
-    let plan = plan_batch(h, handles, standing(clocks), task, kind, extension, bytes);
-    let verdict = plan.verdict;
-    let blocks = plan.blocks;
-    let Verdict::Accepted = verdict else {
-        return refused_by(verdict, h);
+    let standing = standing(&expirations.clocks);
+    let batch = match plan_batch(h, &blocks.handles, standing, task, kind, extension, bytes) {
+        Err(why) => return refused(why, h),
+        Ok(batch) => batch,
     };
     set_all(
-        h, kind, task, extension, &blocks, plan.count, clocks, named, dues,
+        h,
+        kind,
+        task,
+        extension,
+        &batch.blocks,
+        batch.count,
+        expirations,
     );
     answered(Answer::Done, h)
 }
 
 // Replaces bytes of an object, and with them the sum of its block's bytes.
-pub fn write<'a>(
+pub fn write(
     h: Head,
-    handles: &'a [u32; BLOCK_COUNT],
-    extents: &mut [u64; BLOCK_COUNT],
-    clocks: &'a [u8; EXPIRATION_COUNT],
-    named: &'a [u8; EXPIRATION_COUNT],
-    dues: &'a [u32; EXPIRATION_COUNT],
+    blocks: &mut BlockTable,
+    expirations: &ExpirationTable,
     small: &mut [u8],
     large: &mut [u8],
     task: u8,
@@ -343,23 +327,20 @@ pub fn write<'a>(
     offset: u8,
     bytes: &[u8],
 ) -> Answer
-    requires { Sized handles.now extents.old clocks.now named.now dues.now
+    requires { Sized blocks.old expirations.now
         × Ready (Use (Write task handle offset))
-        (pooled h handles.now extents.old clocks.now named.now dues.now) small.old large.old }
-    ensures { (length extents.new ≡ block_entries)
+        (pooled h blocks.old expirations.now) small.old large.old }
+    ensures { BlocksSized blocks.new
         × Writes task handle offset bytes.now
-        (pooled h handles.now extents.old clocks.now named.now dues.now)
+        (pooled h blocks.old expirations.now)
         small.old large.old result
-        (pooled h handles.now extents.new clocks.now named.now dues.now)
+        (pooled h blocks.new expirations.now)
         small.new large.new }
 {
     match find_for_write(
         h,
-        handles,
-        extents,
-        clocks,
-        named,
-        dues,
+        blocks,
+        expirations,
         small,
         large,
         task,
@@ -367,42 +348,34 @@ pub fn write<'a>(
         offset,
         bytes.len(),
     ) {
-        FoundBytes::Refused(why) => Answer::Refused(why),
-        FoundBytes::At {
-            block,
-            length: _,
-            sum,
-        } => {
+        Err(why) => Answer::Refused(why),
+        Ok(part) => {
+            let block = part.block;
             let offset = offset as usize;
-            let after = sum_after(small, large, block, offset, bytes, sum);
+            let after = sum_after(small, large, block, offset, bytes, part.sum);
             write_place(small, large, block, offset, bytes);
-            extents[block] = with_sum(extents[block], after);
+            blocks.extents[block] = with_sum(blocks.extents[block], after);
             Answer::Done
         }
     }
 }
 
 // How long an object has left for the task that asks; nothing is changed.
-pub fn remaining<'a>(
+pub fn remaining(
     h: Head,
-    handles: &'a [u32; BLOCK_COUNT],
-    extents: &'a [u64; BLOCK_COUNT],
-    clocks: &'a [u8; EXPIRATION_COUNT],
-    named: &'a [u8; EXPIRATION_COUNT],
-    dues: &'a [u32; EXPIRATION_COUNT],
+    blocks: &BlockTable,
+    expirations: &ExpirationTable,
     task: u8,
     handle: u32,
 ) -> Answer
-    requires { Sized handles.now extents.now clocks.now named.now dues.now
-        × (is_well_formed (pooled h handles.now extents.now clocks.now named.now dues.now) ≡ true) }
+    requires { Sized blocks.now expirations.now
+        × (is_well_formed (pooled h blocks.now expirations.now) ≡ true) }
     ensures { Follows (Remaining task handle)
-        (pooled h handles.now extents.now clocks.now named.now dues.now) result
-        (pooled h handles.now extents.now clocks.now named.now dues.now) }
+        (pooled h blocks.now expirations.now) result
+        (pooled h blocks.now expirations.now) }
 {
-    match find_standing(
-        h, handles, extents, clocks, named, dues, task, handle, false, true,
-    ) {
-        Found::Refused(why) => Answer::Refused(why),
-        Found::At { block: _, life } => Answer::Lasts(life),
+    match find_life(h, blocks, expirations, task, handle) {
+        Err(why) => Answer::Refused(why),
+        Ok(life) => Answer::Lasts(life),
     }
 }

@@ -21,15 +21,15 @@ use Rattle.demands.specs.Awaited.{PoolAwaited}
 use Rattle.demands.proofs.Outlives.{fresh_follows}
 
 module _ (p : Pool) {small large : List ℕ} {L : Ledger} (reads : Reads p small large L) where
-  global_read : p.global.0 ≡ wrapped (global_of L)
+  global_read : p.head.global.0 ≡ wrapped (global_of L)
   unfolding record_view view_of tables_of tables_by
   global_read = reads.alike.global
 
-  tasks_read : map task_of p.tasks ≡ map wrapped_task L.memory.clocks.tasks
+  tasks_read : map task_of p.head.tasks ≡ map wrapped_task L.memory.clocks.tasks
   unfolding record_view view_of tables_of tables_by
   tasks_read = reads.alike.tasks
 
-  nobody_read : is_nobody_awaited (map task_of p.tasks) ≡ is_nobody_awaited L.memory.clocks.tasks
+  nobody_read : is_nobody_awaited (map task_of p.head.tasks) ≡ is_nobody_awaited L.memory.clocks.tasks
   unfolding is_nobody_awaited
   nobody_read = let ts = L.memory.clocks.tasks in rw (tasks_read, any_map (λ (t : Task). is_running t.state) wrapped_task ts, bits_map is_awaited wrapped_task ts)
 

@@ -19,17 +19,17 @@ use Rattle.demands.specs.Demands.{Runs, done, call, Demand2, PoolDemand3, Object
 
 -- no call changes the length of a store
 whole_after : {p p' : Pool} {small small' large large' : List ℕ} {s : Sent} {y : Reply} → Obeys s.request s.bytes p small large y p' small' large'
-    → are_whole p.limits small large ≡ true → are_whole p'.limits small' large' ≡ true
+    → are_whole p.head.limits small large ≡ true → are_whole p'.head.limits small' large' ≡ true
 whole_after o whole = rw (o.sizes.0, o.sizes.1, limits_stay _ _ o.stays) whole
 
 pub runs_whole : {p p' : Pool} {small small' large large' : List ℕ} {ss : List Sent} {ys : List Reply} → Runs p small large ss ys p' small' large'
-    → are_whole p.limits small large ≡ true → are_whole p'.limits small' large' ≡ true
+    → are_whole p.head.limits small large ≡ true → are_whole p'.head.limits small' large' ≡ true
 runs_whole done whole = whole
 runs_whole (call {s = s} o rest) whole = runs_whole rest (whole_after {s = s} o whole)
 
 -- from any well-formed record that reads as a ledger, with whole stores
 pub runs_follow : {p p' : Pool} {small small' large large' : List ℕ} {ss : List Sent} {ys : List Reply} → Runs p small large ss ys p' small' large'
-    → is_well_formed p ≡ true → are_whole p.limits small large ≡ true → (L : Ledger) → Reads p small large L
+    → is_well_formed p ≡ true → are_whole p.head.limits small large ≡ true → (L : Ledger) → Reads p small large L
     → (ys ≡ replies L ss) × Reads p' small' large' (after_all L ss) × (is_well_formed p' ≡ true)
 unfolding replies after_all
 runs_follow done w whole L reads = (refl, reads, w)

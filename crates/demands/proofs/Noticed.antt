@@ -57,16 +57,16 @@ use Rattle.demands.proofs.Runs.{typed_of, every_list_runs}
 use Rattle.demands.proofs.Outlives.{every_list_from_fresh, fresh_follows}
 
 -- the entry of a block
-entry_of : {p : Pool} → OfType p → (block : ℕ) → get_or (tables_of p).blocks block free_block ≡ block_entry (get_or p.handles block 0) (get_or p.extents block 0)
+entry_of : {p : Pool} → OfType p → (block : ℕ) → get_or (tables_of p).blocks block free_block ≡ block_entry (get_or p.blocks.handles block 0) (get_or p.blocks.extents block 0)
 unfolding tables_of tables_by
-entry_of {p} typed block = block_at p.handles p.extents typed.sized.blocks.of_handles typed.sized.blocks.of_extents block
+entry_of {p} typed block = block_at p.blocks.handles p.blocks.extents typed.sized.blocks.of_handles typed.sized.blocks.of_extents block
 
-used_here : {p : Pool} → OfType p → (block : ℕ) → get_or p.handles block 0 ≢ 0 → handle_at (tables_of p).blocks block ≢ 0
+used_here : {p : Pool} → OfType p → (block : ℕ) → get_or p.blocks.handles block 0 ≢ 0 → handle_at (tables_of p).blocks block ≢ 0
 used_here typed block used z = used (sym (ap handle_of (entry_of typed block)) ∙ z)
 
 -- the ledger's object is the one in its block, with all of its bytes
-object_here : {p : Pool} {small large : List ℕ} {L : Ledger} → OfType p → is_well_formed p ≡ true → are_whole p.limits small large ≡ true → Reads p small large L
-    → (block : ℕ) → get_or p.handles block 0 ≢ 0
+object_here : {p : Pool} {small large : List ℕ} {L : Ledger} → OfType p → is_well_formed p ≡ true → are_whole p.head.limits small large ≡ true → Reads p small large L
+    → (block : ℕ) → get_or p.blocks.handles block 0 ≢ 0
     → object_at (handle_at (tables_of p).blocks block) L.memory.objects ≡ object_of small large (tables_of p).blocks block
 object_here {p} {small} {large} typed fits whole reads block used =
     let (small_whole_lem, large_whole_lem) = table_halves p small large whole in
@@ -93,7 +93,7 @@ module _ {handle : ℕ} {L : Ledger} {ss : List Sent} {ys : List Reply} {p' : Po
   fit : Fit (tables_of p)
   fit = fit_parts (tables_of p) c.fit
 
-  whole : are_whole p.limits k.small k.large ≡ true
+  whole : are_whole p.head.limits k.small k.large ≡ true
   whole = rw (eq-eqb _ _ c.small_whole, eq-eqb _ _ c.large_whole)
 
   small_whole_lem : is_whole_small (tables_of p).limits k.small ≡ true
@@ -136,7 +136,7 @@ module _ {handle : ℕ} {L : Ledger} {ss : List Sent} {ys : List Reply} {p' : Po
       }
 
   -- the stores keep their lengths, and with them the record reads as the ledger with that change
-  still_whole : are_whole p.limits small_then large_then ≡ true
+  still_whole : are_whole p.head.limits small_then large_then ≡ true
   unfolding tables_of tables_by
   still_whole =
       let sizes = changed_sizes (tables_of p) k.small k.large fit small_whole_lem large_whole_lem c.block c.at (c.value ∷ []) in_use within in
@@ -180,14 +180,14 @@ pool_notices =
 
 -- After any calls from fresh on every object is intact, and so each block in use agrees with its sum.
 change_of : (limits : Limits) (ss : List Sent) (p : Pool) (small large : List ℕ) → FreshRun limits ss p small large → OfType p
-    → (block at value : ℕ) → get_or p.handles block 0 ≢ 0 → at < size_of block → value ≢ get_or (block_bytes small large block (size_of block)) at 0
+    → (block at value : ℕ) → get_or p.blocks.handles block 0 ≢ 0 → at < size_of block → value ≢ get_or (block_bytes small large block (size_of block)) at 0
     → StoreChange p small large
 unfolding fresh_pool
 change_of limits ss p small large r typed block at value its inside other =
     let (_, reads, fits) = fresh_follows r in
     let L = after_all (fresh limits) ss in
     let whole = runs_whole r.runs (rw (eq-eqb _ _ r.small_whole, eq-eqb _ _ r.large_whole)) in
-    let (small_whole_lem, large_whole_lem) = halves p.limits small large whole in
+    let (small_whole_lem, large_whole_lem) = halves p.head.limits small large whole in
     let intact = intact_at (handle_at (tables_of p).blocks block) L.memory.objects (all_imp (λ o k. k.intact) L.memory.objects (kept_all limits ss).objects.each) in
     let agrees = eqb-true _ _ (rw (object_here typed fits whole reads block its) at intact) in
     record {
@@ -231,7 +231,7 @@ changed_run ss =
     let p = r.pool in
     let (_, reads, fits) = fresh_follows r.run in
     let block = place_of 1 (tables_of p).blocks in
-    let named : get_or p.handles block 0 ≡ 1 =
+    let named : get_or p.blocks.handles block 0 ≡ 1 =
     sym (ap handle_of (entry_of r.typed block)) ∙ (found (fit_parts (tables_of p) fits) reads 1 refl one_stands).its in
     let byte = get_or (block_bytes r.small r.large block (size_of block)) 0 0 in
     let c = change_of standard one_made p r.small r.large r.run r.typed block 0 (other_than byte) (λ z. omega (arith, z, named)) (some_bytes block) (differs byte) in

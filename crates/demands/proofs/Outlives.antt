@@ -95,7 +95,7 @@ stands_in_lem limits ss p' small' large' r handle here =
           ∙ any_map (λ (o : Object). eqb handle o.handle) (shown_object (is_whole (tables_of p').limits small' large')) N.memory.objects
           ∙ owned_by N.memory N.expirations (kept_all limits ss) handle here;
       reads = λ task y p'' small'' large'' o e.
-          by_test (are_whole p'.limits small' large')
+          by_test (are_whole p'.head.limits small' large')
           (λ w. read_stands N task handle here (ap (λ (y : Reply). y.answer) (sym (o.answers (record { fit = fit; whole = λ u. w }) N reads)) ∙ e))
           (λ w. wrong_store (sym (ap (λ (y : Reply). y.answer) (o.wrong fit refl w).refused) ∙ e));
     }

@@ -61,11 +61,11 @@ pool_reserves =
           let (_, reads, fit) = fresh_follows r in
           let N = after_all (fresh limits) ss in
           let (nine, limit) = reserves.never limits ss task kind extension size prefix new (unmet_reads reads (is_small size) task short) in
-          let told : (why : Answer) → (are_whole p.limits small large ≡ true → y.answer ≡ why → ⊥) → (Refused WrongStoreLength ≡ why → ⊥) → y.answer ≡ why → ⊥ =
-          λ why ready wrong e. by_test (are_whole p.limits small large)
+          let told : (why : Answer) → (are_whole p.head.limits small large ≡ true → y.answer ≡ why → ⊥) → (Refused WrongStoreLength ≡ why → ⊥) → y.answer ≡ why → ⊥ =
+          λ why ready wrong e. by_test (are_whole p.head.limits small large)
           (λ w. ready w e)
           (λ w. wrong (sym (ap (λ (y : Reply). y.answer) (o.wrong fit refl w).refused) ∙ e)) in
-          let answered : are_whole p.limits small large ≡ true → y ≡ reply N (Make task kind extension size prefix) new = λ w. o.answers (record { fit = fit; whole = λ u. w }) N reads in (
+          let answered : are_whole p.head.limits small large ≡ true → y ≡ reply N (Make task kind extension size prefix) new = λ w. o.answers (record { fit = fit; whole = λ u. w }) N reads in (
             told (Refused NoFreeBlock) (λ w e. nine (ap (λ (y : Reply). y.answer) (sym (answered w)) ∙ e)) not_nine,
             told (Refused AtLimit) (λ w e. limit (ap (λ (y : Reply). y.answer) (sym (answered w)) ∙ e)) not_limit,
           );

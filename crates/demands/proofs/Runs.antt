@@ -1,5 +1,7 @@
 -- Every list of calls can be run: whatever the record and the stores, there are a reply, a record and stores that the call's contract
 -- allows. The record is the one with the entries that the steps leave.
+use Rattle.ledger.specs.declared.Refusal.{Refusal}
+use Rattle.objects.specs.declared.Part.{Part}
 use Prim.Native.Nat.{ℕ, suc, ◌<◌}
 use native.Mathlib.Omega.{arith}
 use mathlib.Core.Bool.{Bool, true, false, false≢true, not, ◌&&◌}
@@ -16,7 +18,7 @@ use Rattle.ledger.specs.Limits.{counter_range}
 use Rattle.ledger.specs.Tasks.{is_tested}
 use Rattle.ledger.specs.Numbers.{is_refusal}
 use Rattle.ledger.specs.Objects.{Reply, plain, handles_of}
-use Rattle.ledger.specs.Refusals.{verdict}
+use Rattle.ledger.specs.Refusals.{verdict, Verdict}
 use Rattle.ledger.specs.Rules.{reply_to, memory_after, expirations_after, tests_of}
 use Rattle.ledger.specs.Ledger.{reply, next}
 use Rattle.ledger.specs.declared.Answer.{Answer}
@@ -27,12 +29,10 @@ use Rattle.ledger.specs.declared.Kind.{Kind}
 use Rattle.ledger.specs.declared.Share.{Share}
 use Rattle.ledger.specs.declared.Request.{Request}
 use Rattle.ledger.specs.declared.Request.TheVariants.{Use, Report, Remaining}
-use Rattle.ledger.specs.declared.Verdict.{Verdict}
-use Rattle.ledger.specs.declared.Verdict.TheVariants.{Accepted, Refused}
 use Rattle.record.specs.Codes.{free_block}
 use Rattle.record.specs.Pools.{is_well_formed}
 use Rattle.record.specs.Reading.{Typed}
-use Rattle.record.specs.Tables.{BlockEntry, ExpirationEntry, Tables, length_range, maker_range, extent_of, blocks_of, entries_of, head_of, tables_by, tables_of}
+use Rattle.record.specs.Tables.{BlockEntry, ExpirationEntry, Tables, length_range, maker_range, extent_of, blocks_of, entries_of, tables_by, tables_of}
 use Rattle.record.specs.WellFormed.{handle_of, is_naming}
 use Rattle.record.specs.WellFormed as WellFormed
 use Rattle.record.specs.declared.GlobalTime.{GlobalTime}
@@ -50,8 +50,6 @@ use Rattle.steps.proofs.EventTypes.{InRange, typed_scheduled}
 use Rattle.steps.proofs.Joins.{joining, join_stays, join_reads, join_fits}
 use Rattle.steps.proofs.ObjectTypes.{typed_made, typed_refreshed, typed_released}
 use Rattle.objects.specs.Outcomes.{bytes_in, shown_in}
-use Rattle.objects.specs.declared.FoundBytes.{FoundBytes}
-use Rattle.objects.specs.declared.FoundBytes.TheVariants.{At, Refused as RefusedBytes}
 use Rattle.stores.specs.Lengths.{are_whole, TellsWhole}
 use Rattle.calls.specs.Contract.{is_stored, Ready, Obeys}
 use Rattle.calls.specs.Served.{without_bytes, Serves}
@@ -64,6 +62,7 @@ use Rattle.calls.proofs.Scheduled.{schedule_obeys}
 use Rattle.calls.proofs.Served.{whatever_bytes, schedule_serves, join_serves, refresh_serves, batch_serves, release_serves, report_serves, life_serves, make_serves, write_serves}
 use Rattle.calls.proofs.WriteLent.{write_refused_lent, write_done_lent}
 use Rattle.demands.specs.Demands.{done, call, OfType, EveryListRuns}
+use Rattle.std.specs.Prelude.{Ok, Err, Result}
 
 -- A length, a maker and a prefix that an extent has room for: every block of a record has such.
 abbrev Short : BlockEntry → Type 0
@@ -92,16 +91,9 @@ due_in e = e.due
 abbrev pool_by : Tables → Pool
 pool_by t =
     record {
-      limits = t.limits;
-      tasks = t.tasks;
-      global = t.global;
-      given = t.given;
-      shares = t.shares;
-      handles = map handle_of t.blocks;
-      extents = map extent_in t.blocks;
-      clocks = map clock_in t.expirations;
-      named = map block_in t.expirations;
-      dues = map due_in t.expirations;
+      head = record { tasks = t.tasks; global = t.global; given = t.given; limits = t.limits; shares = t.shares };
+      blocks = record { handles = map handle_of t.blocks; extents = map extent_in t.blocks };
+      expirations = record { clocks = map clock_in t.expirations; named = map block_in t.expirations; dues = map due_in t.expirations };
     }
 
 blocks_by : (bs : List BlockEntry) → All Short bs → blocks_of (map handle_of bs) (map extent_in bs) ≡ bs
@@ -140,11 +132,11 @@ of_type_by t f =
     }
 
 pub typed_of : {p : Pool} → OfType p → Typed (tables_of p)
-typed_of {p} o = lent_typed (head_of p) p.handles p.extents p.clocks p.named p.dues o.head o.sized.blocks o.sized.entries
+typed_of {p} o = lent_typed p.head p.blocks p.expirations o.head o.sized.blocks o.sized.entries
 
 fine_of : {p : Pool} → OfType p → Fine (tables_of p)
 unfolding tables_of tables_by
-fine_of {p} o = record { types = typed_of o; short = short_blocks p.handles p.extents }
+fine_of {p} o = record { types = typed_of o; short = short_blocks p.blocks.handles p.blocks.extents }
 
 -- What each step leaves is such.
 kept_short : (xs : List ExpirationEntry) (i : ℕ) (bs : List BlockEntry) → All Short bs → All Short (map_from i (kept_block xs) bs)
@@ -163,10 +155,10 @@ short_orphaned leaver bs h =
 
 short_by : (v : Verdict) (event : Event) (task : ℕ) (t : Tables) → All Short t.blocks → All Short (outcome_by v event task t).pool.blocks
 unfolding pool_after moved_pool orphaned_pool
-short_by Accepted event task t h =
+short_by (Ok _) event task t h =
     let left = short_orphaned (leaver_of event task) t.blocks h in
     by_test (is_tested event) (λ e. rw e (short_swept _ _ _ _ (orphaned_pool event task t) left)) (λ e. rw e left)
-short_by (Refused r) event task t h = h
+short_by (Err r) event task t h = h
 
 fine_scheduled : (event : Event) (task : ℕ) (t : Tables) → Fine t → Fine (scheduled event task t).pool
 unfolding scheduled
@@ -204,7 +196,7 @@ unfolding released_pool
 fine_released handle t f = record { types = typed_released handle t f.types; short = kept_short (released_pool handle t).expirations 0 t.blocks f.short }
 
 fine_made : (task : ℕ) (kind : Kind) (extension size prefix : ℕ) (t : Tables) → Fine t → WellFormed.is_well_formed t ≡ true
-    → verdict_by (tests_of (Make task kind extension size prefix) []) t ≡ Accepted
+    → verdict_by (tests_of (Make task kind extension size prefix) []) t ≡ Ok tt
     → Fine (made_pool task kind extension size prefix t)
 unfolding made_pool
 fine_made task kind extension size prefix t f w v =
@@ -246,7 +238,7 @@ module _ (new : List ℕ) {p : Pool} (o : OfType p) (small large : List ℕ) whe
 
     schedule_by : (event : Event) (task : ℕ) (v : Verdict) → verdict_at event task (tables_of p).tasks ≡ v → Made (Use (Schedule event task)) new p small large
     unfolding scheduled
-    schedule_by event task Accepted e =
+    schedule_by event task (Ok _) e =
         let t = pool_after event task (tables_of p) in
         let f : Fine t = rw e at (fine_scheduled event task (tables_of p) fine) in
         served (schedule_serves new p small large event task (answer_after event task (tables_of p)) (pool_by t)
@@ -254,14 +246,14 @@ module _ (new : List ℕ) {p : Pool} (o : OfType p) (small large : List ℕ) whe
         schedule_obeys event task types w small large (rw e) (rw e (tables_by_lem t f))
         (λ why r. absurd (false≢true (sym (not_refused_event event task) ∙ ap is_refusal r)))))
         (of_type_by t f)
-    schedule_by event task (Refused r) e =
+    schedule_by event task (Err r) e =
         served (schedule_serves new p small large event task (RefusedAnswer r) p
         (λ small large. schedule_obeys event task types w small large (rw e) (rw e) (λ why r. refl))) o
 
     join_by : (task : ℕ) (share : Share) (v : Verdict) → verdict_by (tests_of (Join task share) []) (tables_of p) ≡ v
         → Made (Use (Join task share)) new p small large
     unfolding reply_to tests_of verdict
-    join_by task share Accepted e =
+    join_by task share (Ok _) e =
         let t = joined_pool task share (tables_of p) in
         let f = fine_joined task share (tables_of p) fine in
         let fit = fit_parts (tables_of p) w in
@@ -272,7 +264,7 @@ module _ (new : List ℕ) {p : Pool} (o : OfType p) (small large : List ℕ) whe
         (λ L reads. refl) (λ L reads. rw (tables_by_lem t f) (join_reads task share fit (joining task share (tables_of p) e) reads))
         (rw (tables_by_lem t f) (join_fits task share (tables_of p) types w e)) (rw (tables_by_lem t f) (join_stays task share (tables_of p))) (refl, refl) (refl, refl)))
         (of_type_by t f)
-    join_by task share (Refused r) e =
+    join_by task share (Err r) e =
         served (join_serves new p small large task share _ p
         (λ small large. blind_refused p types w small large (Join task share) [] (λ i j. refl) (λ s. absurd (false≢true s)) e)) o
 
@@ -280,12 +272,12 @@ module _ (new : List ℕ) {p : Pool} (o : OfType p) (small large : List ℕ) whe
         → verdict_by (tests_of (Refresh task kind extension handle) []) (tables_of p) ≡ v
         → Made (Use (Refresh task kind extension handle)) new p small large
     unfolding tests_of verdict
-    refresh_by task kind extension handle Accepted e =
+    refresh_by task kind extension handle (Ok _) e =
         let t = refreshed_pool task kind extension handle (tables_of p) in
         let f = fine_refreshed task kind extension handle (tables_of p) fine in
         served (refresh_serves new p small large task kind extension handle _ (pool_by t)
         (λ small large. refresh_done p types w small large task kind extension handle (tables_by_lem t f) e)) (of_type_by t f)
-    refresh_by task kind extension handle (Refused r) e =
+    refresh_by task kind extension handle (Err r) e =
         served (refresh_serves new p small large task kind extension handle _ p
         (λ small large. blind_refused p types w small large (Refresh task kind extension handle) [] (λ i j. refl)
         (λ s. absurd (false≢true s)) e)) o
@@ -293,24 +285,24 @@ module _ (new : List ℕ) {p : Pool} (o : OfType p) (small large : List ℕ) whe
     batch_by : (task : ℕ) (kind : Kind) (extension : ℕ) (v : Verdict) → verdict_by (tests_of (Batch task kind extension) new) (tables_of p) ≡ v
         → Made (Use (Batch task kind extension)) new p small large
     unfolding tests_of verdict
-    batch_by task kind extension Accepted e =
+    batch_by task kind extension (Ok _) e =
         let t = batched_pool task kind extension (handles_of new) (tables_of p) in
         let f = fine_batched task kind extension (handles_of new) (tables_of p) fine in
         served (batch_serves new p small large task kind extension _ (pool_by t)
         (λ small large. batch_done p types w small large task kind extension new (tables_by_lem t f) e)) (of_type_by t f)
-    batch_by task kind extension (Refused r) e =
+    batch_by task kind extension (Err r) e =
         served (batch_serves new p small large task kind extension _ p
         (λ small large. blind_refused p types w small large (Batch task kind extension) new (λ i j. refl) (λ s. absurd (false≢true s)) e)) o
 
     release_by : (task handle : ℕ) (v : Verdict) → verdict_by (tests_of (Release task handle) []) (tables_of p) ≡ v
         → Made (Use (Release task handle)) new p small large
     unfolding tests_of verdict
-    release_by task handle Accepted e =
+    release_by task handle (Ok _) e =
         let t = released_pool handle (tables_of p) in
         let f = fine_released handle (tables_of p) fine in
         served (release_serves new p small large task handle _ (pool_by t) (λ small large. release_done p types w small large task handle (tables_by_lem t f) e))
         (of_type_by t f)
-    release_by task handle (Refused r) e =
+    release_by task handle (Err r) e =
         served (release_serves new p small large task handle _ p
         (λ small large. blind_refused p types w small large (Release task handle) [] (λ i j. refl) (λ s. absurd (false≢true s)) e)) o
 
@@ -324,17 +316,17 @@ module _ (new : List ℕ) {p : Pool} (o : OfType p) (small large : List ℕ) whe
       → (v : Verdict) → verdict_by (tests_of (Make task kind extension size prefix) []) (tables_of p) ≡ v
       → Made (Use (Make task kind extension size prefix)) new p small large
   unfolding tables_of tables_by made_pool
-  make_by task kind extension size prefix ready Accepted e =
+  make_by task kind extension size prefix ready (Ok _) e =
       let t = made_pool task kind extension size prefix (tables_of p) in
       let f = fine_made task kind extension size prefix (tables_of p) fine ready.fit e in
-      let place = free_place p.limits size (tables_of p).blocks in
+      let place = free_place p.head.limits size (tables_of p).blocks in
       let taken = make_takes task kind extension size prefix (tables_of p) (fit_parts (tables_of p) ready.fit) types e in
       served (make_serves new p small large task kind extension size prefix _ (pool_by t) _ _
       (make_cleared types ready {p' = pool_by t} place refl
-      (sym (ap handle_of (block_at p.handles p.extents o.sized.blocks.of_handles o.sized.blocks.of_extents place)) ∙ taken.block.free)
+      (sym (ap handle_of (block_at p.blocks.handles p.blocks.extents o.sized.blocks.of_handles o.sized.blocks.of_extents place)) ∙ taken.block.free)
       (get_or-map handle_of t.blocks place free_block ∙ ap handle_of (get_or-set_same (tables_of p).blocks place _ free_block taken.block.listed))
       (tables_by_lem t f) e refl refl)) (of_type_by t f)
-  make_by task kind extension size prefix ready (Refused r) e =
+  make_by task kind extension size prefix ready (Err r) e =
       served (make_serves new p small large task kind extension size prefix _ p small large (make_kept types ready r e)) o
 
   read_made : (task handle : ℕ) → Ready (Use (Read task handle)) p small large → Made (Use (Read task handle)) new p small large
@@ -344,15 +336,15 @@ module _ (new : List ℕ) {p : Pool} (o : OfType p) (small large : List ℕ) whe
       obeyed (whatever_bytes new (λ L. refl) (λ L. refl) (λ b. b) found.reads) o
 
   write_by : (task handle offset : ℕ) → Ready (Use (Write task handle offset)) p small large
-      → (f : FoundBytes) → f ≡ bytes_in small large (tests_of (Write task handle offset) new) handle (tables_of p)
+      → (f : Result Part Refusal) → f ≡ bytes_in small large (tests_of (Write task handle offset) new) handle (tables_of p)
       → Made (Use (Write task handle offset)) new p small large
   unfolding tables_of
-  write_by task handle offset ready (At block count sum) so =
-      let (size, writes) = write_done_lent o.head o.sized task handle offset new ready (At block count sum) so refl (sum_after small large block offset new) refl refl refl in
+  write_by task handle offset ready (Ok part) so =
+      let (size, writes) = write_done_lent o.head o.sized task handle offset new ready (Ok part) so refl (sum_after small large part.block offset new) refl refl refl in
       served (write_serves new p small large task handle offset _ _ _ _ writes)
-      (record { head = o.head; sized = record { blocks = record { of_handles = o.sized.blocks.of_handles; of_extents = size }; entries = o.sized.entries } })
-  write_by task handle offset ready (RefusedBytes r) so =
-      served (write_serves new p small large task handle offset _ p small large (write_refused_lent o.head o.sized task handle offset new ready (RefusedBytes r) so refl)) o
+      (record { head = o.head; sized = record { blocks = size; entries = o.sized.entries } })
+  write_by task handle offset ready (Err r) so =
+      served (write_serves new p small large task handle offset _ p small large (write_refused_lent o.head o.sized task handle offset new ready (Err r) so refl)) o
 
   -- every request that is ready,
   ready_made : (request : Request) → Ready request p small large → Made request new p small large
@@ -370,10 +362,10 @@ module _ (new : List ℕ) {p : Pool} (o : OfType p) (small large : List ℕ) whe
   -- and every one at all
   made : (request : Request) → Made request new p small large
   made request =
-      let tells : TellsWhole p.limits (length small) (length large) (are_whole p.limits small large) = λ s l a b. rw (a, b) in
+      let tells : TellsWhole p.head.limits (length small) (length large) (are_whole p.head.limits small large) = λ s l a b. rw (a, b) in
       by_test (is_well_formed p)
       (λ w.
-      by_test (is_stored request && not (are_whole p.limits small large))
+      by_test (is_stored request && not (are_whole p.head.limits small large))
       (λ refused. obeyed (wrong_obeys (sym w) refl refl tells refused) o)
       (λ passed. ready_made request (ready (sym w) refl refl tells passed)))
       (λ u. obeyed (unfit_obeys request new p small large u) o)

@@ -17,10 +17,10 @@ pub record PoolAwaited : Type 0 where
   -- accepted tick, block or leave that leaves nobody awaited while some task runs, and else leaves it;
   pub one : (request : Request) (new : List ℕ) (p : Pool) (small large : List ℕ) (y : Reply) (p' : Pool) (small' large' : List ℕ)
       → Obeys request new p small large y p' small' large' → Ready request p small large → (L : Ledger) → Reads p small large L
-      → p'.global.0 ≡ wrapped (p.global.0 + cond (brings_advance L request new) 1 0)
+      → p'.head.global.0 ≡ wrapped (p.head.global.0 + cond (brings_advance L request new) 1 0)
   -- so from fresh on it is as many as these are, by a counter that wraps (T8);
   pub every : (limits : Limits) (ss : List Sent) (p' : Pool) (small' large' : List ℕ) → FreshRun limits ss p' small' large'
-      → p'.global.0 ≡ wrapped (advances_in (fresh limits) ss)
+      → p'.head.global.0 ≡ wrapped (advances_in (fresh limits) ss)
   -- and between two calls somebody is awaited wherever some task runs (W10).
   pub between : (limits : Limits) (ss : List Sent) (p' : Pool) (small' large' : List ℕ) → FreshRun limits ss p' small' large'
-      → is_nobody_awaited (map task_of p'.tasks) ≡ false
+      → is_nobody_awaited (map task_of p'.head.tasks) ≡ false

@@ -8,7 +8,7 @@ use Rattle.ledger.specs.Heap.{Used, sent, heap_replies, all_in_time_and_bounds}
 use Rattle.ledger.specs.declared.Limits.{Limits}
 use Rattle.record.specs.Reading.{fresh_pool, whole_small, whole_large, HeadTyped}
 use Rattle.record.specs.Pools.{is_well_formed, Reads}
-use Rattle.record.specs.Tables.{Sized, head_of, tables_of}
+use Rattle.record.specs.Tables.{Sized, tables_of}
 use Rattle.record.specs.declared.Pool.{Pool}
 use Rattle.steps.specs.Staying.{Stays}
 use Rattle.calls.specs.Contract.{Obeys}
@@ -22,8 +22,8 @@ pub data Runs : Pool → List ℕ → List ℕ → List Sent → List Reply → 
 
 -- What the record's type gives of every value: the lengths of its columns and the range of its counters. Its tables are then `Typed`.
 pub record OfType (p : Pool) : Type 0 where
-  pub head : HeadTyped (head_of p)
-  pub sized : Sized p.handles p.extents p.clocks p.named p.dues
+  pub head : HeadTyped p.head
+  pub sized : Sized p.blocks p.expirations
 
 -- D13: Every list of calls can be run, from every record and with any stores, and leaves a record again: no statement about runs is empty.
 pub record Run (p : Pool) (small large : List ℕ) (ss : List Sent) : Type 0 where

@@ -27,11 +27,11 @@ use Rattle.demands.specs.Outlives.{FreshRun}
 pub record StoreChange (p : Pool) (small large : List ℕ) : Type 0 where
   pub typed : OfType p
   pub fit : is_well_formed p ≡ true
-  pub small_whole : length small ≡ whole_small p.limits
-  pub large_whole : length large ≡ whole_large p.limits
+  pub small_whole : length small ≡ whole_small p.head.limits
+  pub large_whole : length large ≡ whole_large p.head.limits
   pub block : ℕ
-  pub used : get_or p.handles block 0 ≢ 0
-  pub agrees : sum_at small large block ≡ sum_in (get_or p.extents block 0)
+  pub used : get_or p.blocks.handles block 0 ≢ 0
+  pub agrees : sum_at small large block ≡ sum_in (get_or p.blocks.extents block 0)
   pub at : ℕ
   pub inside : at < size_of block
   pub value : ℕ
@@ -43,7 +43,7 @@ pub record ChangedRun (handle : ℕ) (L : Ledger) (ss : List Sent) (ys : List Re
   pub small : List ℕ
   pub large : List ℕ
   pub change : StoreChange pool small large
-  pub named : get_or pool.handles change.block 0 ≡ handle
+  pub named : get_or pool.blocks.handles change.block 0 ≡ handle
   pub reads : Reads pool small large L
   pub runs : Runs pool
       (small_after change.block change.at (change.value ∷ []) small)
@@ -68,7 +68,7 @@ pub record PoolNotices : Type 0 where
 pub record ChangesApply : Type 0 where
   -- after any calls from fresh on, every byte of every block in use can be the one that is changed;
   pub each : (limits : Limits) (ss : List Sent) (p : Pool) (small large : List ℕ) → FreshRun limits ss p small large → OfType p
-      → (block at value : ℕ) → get_or p.handles block 0 ≢ 0 → at < size_of block → value ≢ get_or (block_bytes small large block (size_of block)) at 0
+      → (block at value : ℕ) → get_or p.blocks.handles block 0 ≢ 0 → at < size_of block → value ≢ get_or (block_bytes small large block (size_of block)) at 0
       → (c : StoreChange p small large) × (c.block ≡ block) × (c.at ≡ at) × (c.value ≡ value)
   -- and once an object was made, there is a change of it, and every list of calls can follow.
   pub one : (ss : List Sent) → (ys : List Reply) × (p' : Pool) × (small' : List ℕ) × (large' : List ℕ)

@@ -3,7 +3,7 @@
 
 ghost use Rattle.std.specs.Prelude.{◌≡◌};
 ghost use Rattle.ledger.specs.declared.Request.TheVariants.{Use};
-ghost use Rattle.record.specs.Tables.{pooled, blocks_of, Sized};
+ghost use Rattle.record.specs.Tables.{pooled, Sized, block_list};
 ghost use Rattle.calls.specs.Contract.{Ready};
 ghost use Rattle.calls.specs.Served.{Serves};
 ghost use Rattle.dispatch.specs.Found.{where_found, given_back};
@@ -11,28 +11,26 @@ ghost use Rattle.dispatch.specs.Needs.{holding_for, HoldsFor};
 
 pub mod needs;
 
-use calls::{Step, answered, batch, join, make, refresh, release, remaining, schedule, write};
+use calls::{
+    Step, answered, batch, join, make, refresh, refused, release, remaining, schedule, write,
+};
 use expirations::standing;
-use ledger::{Answer, Call, Request, SMALL_SIZE};
-use objects::{FoundBytes, find_for_read, usage};
-use record::{BLOCK_COUNT, EXPIRATION_COUNT, Head};
-use shares::{Holding, Holdings, holding_in};
+use ledger::{Answer, Call, Refusal, Request, SMALL_SIZE};
+use objects::{Part, find_for_read, usage};
+use record::{BlockTable, ExpirationTable, Head};
+use shares::{Holding, Holdings, of_store};
 
 // What a read gives back.
-fn where_found(found: FoundBytes, h: Head) -> Step
+fn where_found(found: Result<Part, Refusal>, h: Head) -> Step
     ensures { result ≡ where_found found h }
 {
     match found {
-        FoundBytes::Refused(why) => answered(Answer::Refused(why), h),
-        FoundBytes::At {
-            block,
-            length,
-            sum: _,
-        } => Step {
+        Err(why) => refused(why, h),
+        Ok(part) => Step {
             head: h,
             answer: Answer::Bytes,
-            block: block,
-            length: length,
+            block: part.block,
+            length: part.length,
         },
     }
 }
@@ -41,36 +39,31 @@ fn where_found(found: FoundBytes, h: Head) -> Step
 fn holding_for(holdings: Holdings, size: u16) -> Holding
     ensures { result ≡ holding_for holdings size }
 {
-    holding_in(holdings, size as u32 <= SMALL_SIZE)
+    of_store(size as u32 <= SMALL_SIZE, holdings.small, holdings.large)
 }
 
 fn serve(
     h: Head,
-    handles: &mut [u32; BLOCK_COUNT],
-    extents: &mut [u64; BLOCK_COUNT],
-    clocks: &mut [u8; EXPIRATION_COUNT],
-    named: &mut [u8; EXPIRATION_COUNT],
-    dues: &mut [u32; EXPIRATION_COUNT],
+    blocks: &mut BlockTable,
+    expirations: &mut ExpirationTable,
     small: &mut [u8],
     large: &mut [u8],
     holdings: Holdings,
     call: Call,
     bytes: &[u8],
 ) -> Step
-    requires { Sized handles.old extents.old clocks.old named.old dues.old
-        × Ready (Use call) (pooled h handles.old extents.old clocks.old named.old dues.old) small.old large.old
-        × HoldsFor (Use call) h.shares (blocks_of handles.old extents.old) holdings }
-    ensures { Sized handles.new extents.new clocks.new named.new dues.new
+    requires { Sized blocks.old expirations.old
+        × Ready (Use call) (pooled h blocks.old expirations.old) small.old large.old
+        × HoldsFor (Use call) h.shares (block_list blocks.old) holdings }
+    ensures { Sized blocks.new expirations.new
         × Serves (Use call) bytes.now
-        (pooled h handles.old extents.old clocks.old named.old dues.old)
+        (pooled h blocks.old expirations.old)
         small.old large.old
-        (given_back result handles.new extents.new clocks.new named.new dues.new)
+        (given_back result blocks.new expirations.new)
         small.new large.new }
 {
     match call {
-        Call::Schedule { event, task } => schedule(
-            h, handles, extents, clocks, named, dues, event, task,
-        ),
+        Call::Schedule { event, task } => schedule(h, blocks, expirations, event, task),
         Call::Make {
             task,
             kind,
@@ -80,8 +73,17 @@ fn serve(
         } => {
             let holding = holding_for(holdings, length);
             make(
-                h, handles, extents, clocks, named, dues, small, large, holding, task, kind,
-                extension, length, prefix,
+                h,
+                blocks,
+                expirations,
+                small,
+                large,
+                holding,
+                task,
+                kind,
+                extension,
+                length,
+                prefix,
             )
         }
         Call::Refresh {
@@ -89,13 +91,9 @@ fn serve(
             kind,
             extension,
             handle,
-        } => refresh(
-            h, handles, extents, clocks, named, dues, task, kind, extension, handle,
-        ),
+        } => refresh(h, blocks, expirations, task, kind, extension, handle),
         Call::Read { task, handle } => where_found(
-            find_for_read(
-                h, handles, extents, clocks, named, dues, small, large, task, handle,
-            ),
+            find_for_read(h, blocks, expirations, small, large, task, handle),
             h,
         ),
         Call::Write {
@@ -104,7 +102,15 @@ fn serve(
             offset,
         } => answered(
             write(
-                h, handles, extents, clocks, named, dues, small, large, task, handle, offset, bytes,
+                h,
+                blocks,
+                expirations,
+                small,
+                large,
+                task,
+                handle,
+                offset,
+                bytes,
             ),
             h,
         ),
@@ -112,12 +118,8 @@ fn serve(
             task,
             kind,
             extension,
-        } => batch(
-            h, handles, extents, clocks, named, dues, task, kind, extension, bytes,
-        ),
-        Call::Release { task, handle } => release(
-            h, handles, extents, clocks, named, dues, task, handle,
-        ),
+        } => batch(h, blocks, expirations, task, kind, extension, bytes),
+        Call::Release { task, handle } => release(h, blocks, expirations, task, handle),
         Call::Join { task, share } => join(h, holdings, task, share),
     }
 }
@@ -125,37 +127,32 @@ fn serve(
 // One call of the fourteen, by its request. The bytes are those of a write or a batch; other calls leave them aside.
 pub fn call(
     h: Head,
-    handles: &mut [u32; BLOCK_COUNT],
-    extents: &mut [u64; BLOCK_COUNT],
-    clocks: &mut [u8; EXPIRATION_COUNT],
-    named: &mut [u8; EXPIRATION_COUNT],
-    dues: &mut [u32; EXPIRATION_COUNT],
+    blocks: &mut BlockTable,
+    expirations: &mut ExpirationTable,
     small: &mut [u8],
     large: &mut [u8],
     holdings: Holdings,
     request: Request,
     bytes: &[u8],
 ) -> Step
-    requires { Sized handles.old extents.old clocks.old named.old dues.old
-        × Ready request (pooled h handles.old extents.old clocks.old named.old dues.old) small.old large.old
-        × HoldsFor request h.shares (blocks_of handles.old extents.old) holdings }
-    ensures { Sized handles.new extents.new clocks.new named.new dues.new
+    requires { Sized blocks.old expirations.old
+        × Ready request (pooled h blocks.old expirations.old) small.old large.old
+        × HoldsFor request h.shares (block_list blocks.old) holdings }
+    ensures { Sized blocks.new expirations.new
         × Serves request bytes.now
-        (pooled h handles.old extents.old clocks.old named.old dues.old)
+        (pooled h blocks.old expirations.old)
         small.old large.old
-        (given_back result handles.new extents.new clocks.new named.new dues.new)
+        (given_back result blocks.new expirations.new)
         small.new large.new }
 {
     match request {
-        Request::Use(c) => serve(
-            h, handles, extents, clocks, named, dues, small, large, holdings, c, bytes,
-        ),
+        Request::Use(c) => serve(h, blocks, expirations, small, large, holdings, c, bytes),
         Request::Report => answered(
-            Answer::Counted(usage(h.given, handles, standing(clocks))),
+            Answer::Counted(usage(h.given, &blocks.handles, standing(&expirations.clocks))),
             h,
         ),
         Request::Remaining { task, handle } => answered(
-            remaining(h, handles, extents, clocks, named, dues, task, handle),
+            remaining(h, blocks, expirations, task, handle),
             h,
         ),
     }

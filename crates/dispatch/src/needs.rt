@@ -1,12 +1,12 @@
 // What a call asks of the tasks' holdings, counted: nothing is counted for a call that asks nothing.
 ghost use Rattle.std.specs.Prelude.{true, ◌≡◌};
-ghost use Rattle.record.specs.Tables.{blocks_of, SizedBlocks};
+ghost use Rattle.record.specs.Tables.{block_list, BlocksSized};
 ghost use Rattle.shares.specs.Holdings.{Holds, LengthsFit};
 ghost use Rattle.dispatch.specs.Needs.{is_asked, HoldsFor};
 
 use handles::used_of;
 use ledger::{Call, Request, SMALL_SIZE, Share, TASK_COUNT};
-use record::{BLOCK_COUNT, Head};
+use record::{BlockTable, Head};
 use shares::{Holding, Holdings, holding_of};
 
 // What stands for the holding of a store that is not asked for.
@@ -54,39 +54,25 @@ fn is_asked(request: Request, small: bool) -> bool
     }
 }
 
-fn holding_if<'a>(
-    asked: bool,
-    shares: [Share; TASK_COUNT],
-    handles: &'a [u32; BLOCK_COUNT],
-    extents: &'a [u64; BLOCK_COUNT],
-    small: bool,
-) -> Holding
-    requires { SizedBlocks handles.now extents.now
-        × LengthsFit (blocks_of handles.now extents.now) }
-    ensures { asked ≡ true → Holds small shares (blocks_of handles.now extents.now) result }
+fn holding_if(asked: bool, shares: [Share; TASK_COUNT], blocks: &BlockTable, small: bool) -> Holding
+    requires { BlocksSized blocks.now
+        × LengthsFit (block_list blocks.now) }
+    ensures { asked ≡ true → Holds small shares (block_list blocks.now) result }
 {
     if !asked {
         return NOTHING;
     }
-    let used = used_of(handles);
-    holding_of(shares, &used, extents, small)
+    let used = used_of(&blocks.handles);
+    holding_of(shares, &used, &blocks.extents, small)
 }
 
-pub fn holdings_for<'a>(
-    h: Head,
-    handles: &'a [u32; BLOCK_COUNT],
-    extents: &'a [u64; BLOCK_COUNT],
-    request: Request,
-) -> Holdings
-    requires { SizedBlocks handles.now extents.now
-        × LengthsFit (blocks_of handles.now extents.now) }
-    ensures { HoldsFor request h.shares (blocks_of handles.now extents.now) result }
+pub fn holdings_for(h: Head, blocks: &BlockTable, request: Request) -> Holdings
+    requires { BlocksSized blocks.now
+        × LengthsFit (block_list blocks.now) }
+    ensures { HoldsFor request h.shares (block_list blocks.now) result }
 {
     let shares = h.shares;
-    let small = holding_if(is_asked(request, true), shares, handles, extents, true);
-    let large = holding_if(is_asked(request, false), shares, handles, extents, false);
-    Holdings {
-        small: small,
-        large: large,
-    }
+    let small = holding_if(is_asked(request, true), shares, blocks, true);
+    let large = holding_if(is_asked(request, false), shares, blocks, false);
+    Holdings { small, large }
 }

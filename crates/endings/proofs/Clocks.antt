@@ -4,7 +4,7 @@ use mathlib.Core.Bool.{false≢true, and-eq-true_iff, and-false, and-true, or-fa
 use Rattle.lists.proofs.Cases.{by_test, same_test}
 use Rattle.ledger.specs.Limits.{task_count}
 use Rattle.record.specs.Codes.{is_global_clock, due_by, local_code, global_code, pinned_code}
-use Rattle.endings.specs.Ending.{is_ending_at, is_own_at, is_own_over_at, is_own_ending_at, is_global_over_at}
+use Rattle.endings.specs.Ending.{is_ending_at, is_own_at, is_own_ending_at, is_its_over_at}
 use Rattle.endings.specs.declared.Passing.{Passing}
 
 -- of the codes of the tasks' clocks this task's alone
@@ -20,12 +20,12 @@ module _ (t : Passing) (dues : List ℕ) where
   pub own_leaving : t.leaves ≡ true → (k clock : ℕ) → is_own_at (local_code + t.task) k clock ≡ is_own_ending_at t dues k clock
   own_leaving e k clock = rw (e, and-true)
 
-  pub own_staying : t.leaves ≡ false → (k clock : ℕ) → is_own_over_at (local_code + t.task) t.local dues k clock ≡ is_own_ending_at t dues k clock
+  pub own_staying : t.leaves ≡ false → (k clock : ℕ) → is_its_over_at (is_own_at (local_code + t.task) k) t.local.0 dues k clock ≡ is_own_ending_at t dues k clock
   own_staying e k clock = rw e
 
 module _ (t : Passing) (dues : List ℕ) (known : t.task < task_count) where
   -- by its task's clock, or by the global time where that has advanced
-  by_clocks : (k clock : ℕ) → (is_own_ending_at t dues k clock || t.advanced && is_global_over_at t.global dues k clock) ≡ is_ending_at t dues k clock
+  by_clocks : (k clock : ℕ) → (is_own_ending_at t dues k clock || t.advanced && is_its_over_at is_global_clock t.global.0 dues k clock) ≡ is_ending_at t dues k clock
   unfolding due_by
   by_clocks k clock =
       by_test (eqb clock 0)
@@ -43,5 +43,5 @@ module _ (t : Passing) (dues : List ℕ) (known : t.task < task_count) where
   pub not_advanced : t.advanced ≡ false → (k clock : ℕ) → is_own_ending_at t dues k clock ≡ is_ending_at t dues k clock
   not_advanced e k clock = rw (← by_clocks k clock, e, or-false)
 
-  pub advanced : t.advanced ≡ true → (k clock : ℕ) → (is_own_ending_at t dues k clock || is_global_over_at t.global dues k clock) ≡ is_ending_at t dues k clock
+  pub advanced : t.advanced ≡ true → (k clock : ℕ) → (is_own_ending_at t dues k clock || is_its_over_at is_global_clock t.global.0 dues k clock) ≡ is_ending_at t dues k clock
   advanced e k clock = rw (← by_clocks k clock, e)

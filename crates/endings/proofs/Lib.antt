@@ -4,3 +4,4 @@ pub mod Tables
 pub mod Unpins
 pub mod PutOff
 pub mod Orphaned
+pub mod Groups

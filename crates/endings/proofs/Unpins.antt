@@ -1,4 +1,6 @@
 -- The tables after a release, and what it asks of a well-formed record.
+use Rattle.record.specs.declared.ExpirationTable.{ExpirationTable}
+use Rattle.record.specs.declared.BlockTable.{BlockTable}
 use Rattle.std.proofs.Common.{◌≡◌, ℕ, ◌<◌, Bool, true, cond, eqb, ◌≢◌, List, length, get_or, set, sym, refl, ◌∙◌, arith, length-set, get_or-set_other, get_or-set_same, ne_eqb, eqb-true}
 use mathlib.Core.Bool.{and-eq-true_iff, and-false}
 use borrow.Author.Tests.{eqb-false}
@@ -59,10 +61,10 @@ module _ {block : ℕ} {cs ns cs' hs : List ℕ} (c : length cs ≡ expiration_e
       }
 
 -- the blocks in use of a well-formed record are named
-pub well_named : (h : Head) {hs ls cs ns ds : List ℕ} → Sized hs ls cs ns ds → is_well_formed (lent h hs ls cs ns ds) ≡ true → AllNamed hs cs ns
+pub well_named : (h : Head) {b : BlockTable} {x : ExpirationTable} → Sized b x → is_well_formed (lent h b x) ≡ true → AllNamed b.handles x.clocks x.named
 unfolding tables_by
-well_named h {hs} {ls} {cs} {ns} {ds} sized w = record {
+well_named h {b} {x} sized w = record {
   so = λ block l used.
-      let e = block_at hs ls sized.blocks.of_handles sized.blocks.of_extents block in
-      naming_asked sized.entries block (fit_used (fit_parts (lent h hs ls cs ns ds) w) block (rw e (ne_eqb (get_or hs block 0) 0 used))).named;
+      let e = block_at b.handles b.extents sized.blocks.of_handles sized.blocks.of_extents block in
+      naming_asked sized.entries block (fit_used (fit_parts (lent h b x) w) block (rw e (ne_eqb (get_or b.handles block 0) 0 used))).named;
 }

@@ -3,12 +3,10 @@ use Rattle.std.specs.Prelude.{◌≡◌, ℕ, ◌+◌, Bool, false, cond, ◌&&�
 use Rattle.lists.specs.Filled.{Filled}
 use Rattle.lists.specs.Tests.{any}
 use Rattle.lists.specs.Tables.{map_from}
-use Rattle.record.specs.Codes.{due_by, due_of, units_left, local_code, is_global_clock, freed_entry}
+use Rattle.record.specs.Codes.{due_by, due_of, units_left, local_code, freed_entry}
 use Rattle.record.specs.Tables.{ExpirationEntry, blocks_of, entries_of, block_entries, expiration_entries, group_size}
 use Rattle.record.specs.declared.Due.{Due}
 use Rattle.record.specs.declared.Due.TheVariants.{Free, Local, Global, Pinned, Unknown}
-use Rattle.record.specs.declared.GlobalTime.{GlobalTime}
-use Rattle.record.specs.declared.LocalTime.{LocalTime}
 use Rattle.record.specs.declared.TaskEntry.{TaskEntry}
 use Rattle.steps.specs.Events.{kept_block}
 use Rattle.endings.specs.Late.{late_in}
@@ -37,19 +35,16 @@ is_over_at now dues k = units_left (slice_index dues k) now == 0
 abbrev pub Over : ℕ → List ℕ → ℕ → List Bool → Type 0
 Over now dues from r = Filled false (λ k x. x ≡ is_over_at now dues (from + k)) group_size group_size r
 
--- a clock is a task's own, by its code; it is, and nothing is left by that; and which of its task's an event ends
+-- a code is a clock's, and nothing is left by that
+abbrev pub is_its_over_at : (ℕ → Bool) → ℕ → List ℕ → ℕ → ℕ → Bool
+is_its_over_at its now dues k clock = its clock && is_over_at now dues k
+
+-- a clock is a task's own, by its code; and which of its task's an event ends
 abbrev pub is_own_at : ℕ → ℕ → ℕ → Bool
 is_own_at own k clock = clock == own
 
-abbrev pub is_own_over_at : ℕ → LocalTime → List ℕ → ℕ → ℕ → Bool
-is_own_over_at own now dues k clock = is_own_at own k clock && is_over_at now.0 dues k
-
 abbrev pub is_own_ending_at : Passing → List ℕ → ℕ → ℕ → Bool
 is_own_ending_at t dues k clock = is_own_at (local_code + t.task) k clock && (t.leaves || is_over_at t.local.0 dues k)
-
--- a clock goes by the global time, and nothing is left by that
-abbrev pub is_global_over_at : GlobalTime → List ℕ → ℕ → ℕ → Bool
-is_global_over_at now dues k clock = is_global_clock clock && is_over_at now.0 dues k
 
 -- What passes a test of place and clock is ended from place a up to b, and r says whether that was any.
 pub record EndedBy (p : ℕ → ℕ → Bool) (a b : ℕ) (clocks clocks' : List ℕ) (r : Bool) : Type 0 where

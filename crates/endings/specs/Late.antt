@@ -23,9 +23,12 @@ deserted_at t k clock = deserted_clock (leaver_in t) clock
 abbrev pub put_off_at : Passing → List TaskEntry → List ℕ → ℕ → ℕ → ℕ
 put_off_at t tasks clocks k due = cond (t.advanced && is_put_off tasks (slice_index clocks k)) (next_time due) due
 
--- the task at a place waits
+-- a task waits by its entry; and the one at a place
+abbrev pub is_waiting_entry : TaskEntry → Bool
+is_waiting_entry e = is_waiting (state_of e.state)
+
 abbrev pub is_waiting_at : List TaskEntry → ℕ → Bool
-is_waiting_at tasks k = is_waiting (state_of (get_or tasks k absent_entry).state)
+is_waiting_at tasks k = is_waiting_entry (get_or tasks k absent_entry)
 
 -- each flag says whether what has its clock is put off
 pub record PutOff (tasks : List TaskEntry) (flags : List Bool) : Type 0 where

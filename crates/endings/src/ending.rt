@@ -1,14 +1,15 @@
 // The end of expirations that are due or were a leaver's own: first those by the task's clock, then those by the global time where that has
 // advanced. A leaver's own end whenever they are due, in one pass over the clocks; else by groups: one where no clock is asked for is
 // passed by, and the due numbers of another are judged before its clocks.
-ghost use Rattle.std.specs.Prelude.{◌≡◌, ◌+◌, ◌<◌, ◌≤◌, length, if◌then◌else◌};
+ghost use Rattle.std.specs.Prelude.{◌≡◌, ℕ, ◌+◌, ◌<◌, ◌≤◌, Bool, false, ◌||◌, ◌==◌, fold, if◌then◌else◌};
 ghost use Rattle.ledger.specs.Limits.{task_count};
+ghost use Rattle.record.specs.Codes.{is_global_clock, units_left};
 ghost use Rattle.record.specs.Tables.{expiration_entries, group_size};
-ghost use Rattle.endings.specs.Ending.{is_own_at, is_own_over_at, is_own_ending_at, is_global_over_at, Over, EndedBy, Ended};
+ghost use Rattle.endings.specs.Ending.{is_own_at, is_own_ending_at, is_its_over_at, Over, EndedBy, Ended};
 
 use super::Passing;
-use expirations::asking::{any_global_clock, has_byte};
-use record::codes::{FREE, LOCAL, global_left, is_global, local_left};
+use record::clock_time::ClockTime;
+use record::codes::{FREE, LOCAL, is_global};
 use record::{EXPIRATION_COUNT, GROUP, GROUP_COUNT, GlobalTime, LocalTime};
 
 // What is left of a clock.
@@ -20,65 +21,106 @@ fn kept(ends: bool, clock: u8) -> u8
 
 // Ends all that go by a task's clock, and says whether that was any.
 fn end_own(own: u8, clocks: &mut [u8; EXPIRATION_COUNT]) -> bool
-    requires { length clocks.old ≡ expiration_entries }
     ensures { EndedBy (is_own_at own) 0 expiration_entries clocks.old clocks.new result }
 {
     let mut some = false;
-    for i in 0..EXPIRATION_COUNT {
-        let ends = clocks[i] == own;
+    for clock in clocks.iter_mut() {
+        let ends = *clock == own;
         some = some | ends;
-        clocks[i] = kept(ends, clocks[i]);
+        *clock = kept(ends, *clock);
     }
     some
 }
 
-// At which places of a group nothing is left, by a task's clock,
-fn local_over(local: LocalTime, dues: &[u32; EXPIRATION_COUNT], from: usize) -> [bool; GROUP]
-    requires { (length dues.now ≡ expiration_entries)
-        × (from + group_size ≤ expiration_entries) }
-    ensures { Over local.0 dues.now from result }
+// A clock that expirations go by: the codes that are its, and the number that it shows now.
+trait Clock: Copy {
+    ghost is_its: { Self → ℕ → Bool };
+
+    ghost now: { Self → ℕ };
+
+    fn is_its(self, code: u8) -> bool
+        ensures { result ≡ is_its self code };
+
+    // Whether nothing is left of what is due at a number.
+    fn is_over(self, due: u32) -> bool
+        ensures { result ≡ (units_left due (now self) == 0) };
+}
+
+// A task's own, as it stands now.
+#[derive(Clone, Copy)]
+struct Own {
+    code: u8,
+    now: LocalTime,
+}
+
+impl Clock for Own {
+    ghost is_its = { λ own code. code == own.code };
+
+    ghost now = { λ own. own.now.0 };
+
+    fn is_its(self, code: u8) -> bool {
+        code == self.code
+    }
+
+    fn is_over(self, due: u32) -> bool {
+        let now = self.now;
+        LocalTime(due).left(now) == 0
+    }
+}
+
+impl Clock for GlobalTime {
+    ghost is_its = { λ global. is_global_clock };
+
+    ghost now = { λ global. global.0 };
+
+    fn is_its(self, code: u8) -> bool {
+        is_global(code)
+    }
+
+    fn is_over(self, due: u32) -> bool {
+        GlobalTime(due).left(self) == 0
+    }
+}
+
+// Whether some of a group are its.
+fn any_its<C: Clock>(by: C, group: &[u8]) -> bool
+    ensures { result ≡ fold (λ some clock. some || C.is_its by clock) false group.now }
+{
+    group
+        .iter()
+        .fold(false, |some, clock| some | by.is_its(*clock))
+}
+
+// At which places of a group nothing is left.
+fn over<C: Clock>(by: C, dues: &[u32; EXPIRATION_COUNT], from: usize) -> [bool; GROUP]
+    requires { from + group_size ≤ expiration_entries }
+    ensures { Over (C.now by) dues.now from result }
 {
     let mut out = [false; GROUP];
-    for i in 0..GROUP {
-        out[i] = local_left(LocalTime(dues[from + i]), local) == 0;
+    for (i, over) in out.iter_mut().enumerate() {
+        *over = by.is_over(dues[from + i]);
     }
     out
 }
 
-// and by the global time.
-fn global_over(global: GlobalTime, dues: &[u32; EXPIRATION_COUNT], from: usize) -> [bool; GROUP]
-    requires { (length dues.now ≡ expiration_entries)
-        × (from + group_size ≤ expiration_entries) }
-    ensures { Over global.0 dues.now from result }
-{
-    let mut out = [false; GROUP];
-    for i in 0..GROUP {
-        out[i] = global_left(GlobalTime(dues[from + i]), global) == 0;
-    }
-    out
-}
-
-// Ends what is over by the task's clock in a group, and says whether that was any.
-fn end_local_in(
-    own: u8,
-    local: LocalTime,
+// Ends what is over in a group, and says whether that was any.
+fn end_in<C: Clock>(
+    by: C,
     clocks: &mut [u8; EXPIRATION_COUNT],
     dues: &[u32; EXPIRATION_COUNT],
     from: usize,
 ) -> bool
-    requires { (length clocks.old ≡ expiration_entries)
-        × (length dues.now ≡ expiration_entries)
-        × (from + group_size ≤ expiration_entries) }
-    ensures { EndedBy (is_own_over_at own local dues.now) from (from + group_size) clocks.old clocks.new
+    requires { from + group_size ≤ expiration_entries }
+    ensures { EndedBy (is_its_over_at (C.is_its by) (C.now by) dues.now) from (from + group_size) clocks.old clocks.new
         result }
 {
-    if !has_byte(clocks, own, from, from + GROUP) {
+    if !any_its(by, &clocks[from..from + GROUP]) {
         return false;
     }
-    let over = local_over(local, dues, from);
+    let over = over(by, dues, from);
     let mut some = false;
-    for i in 0..GROUP {
-        let ends = (clocks[from + i] == own) & over[i];
+    for (i, is_over) in over.iter().enumerate() {
+        let ends = by.is_its(clocks[from + i]) & *is_over;
         some = some | ends;
         clocks[from + i] = kept(ends, clocks[from + i]);
     }
@@ -86,65 +128,19 @@ fn end_local_in(
 }
 
 // The same of all, two groups in a turn.
-fn end_local(
-    own: u8,
-    local: LocalTime,
+fn end_by<C: Clock>(
+    by: C,
     clocks: &mut [u8; EXPIRATION_COUNT],
     dues: &[u32; EXPIRATION_COUNT],
 ) -> bool
-    requires { (length clocks.old ≡ expiration_entries)
-        × (length dues.now ≡ expiration_entries) }
-    ensures { EndedBy (is_own_over_at own local dues.now) 0 expiration_entries clocks.old clocks.new
+    ensures { EndedBy (is_its_over_at (C.is_its by) (C.now by) dues.now) 0 expiration_entries clocks.old clocks.new
         result }
 {
     let mut some = false;
+    // By number: a group is a part of several columns at once.
     for g in 0..GROUP_COUNT / 2 {
-        some = some | end_local_in(own, local, clocks, dues, g * 2 * GROUP);
-        some = some | end_local_in(own, local, clocks, dues, g * 2 * GROUP + GROUP);
-    }
-    some
-}
-
-// Ends what is over by the global time in a group, and says whether that was any.
-fn end_global_in(
-    global: GlobalTime,
-    clocks: &mut [u8; EXPIRATION_COUNT],
-    dues: &[u32; EXPIRATION_COUNT],
-    from: usize,
-) -> bool
-    requires { (length clocks.old ≡ expiration_entries)
-        × (length dues.now ≡ expiration_entries)
-        × (from + group_size ≤ expiration_entries) }
-    ensures { EndedBy (is_global_over_at global dues.now) from (from + group_size) clocks.old clocks.new
-        result }
-{
-    if !any_global_clock(clocks, from) {
-        return false;
-    }
-    let over = global_over(global, dues, from);
-    let mut some = false;
-    for i in 0..GROUP {
-        let ends = is_global(clocks[from + i]) & over[i];
-        some = some | ends;
-        clocks[from + i] = kept(ends, clocks[from + i]);
-    }
-    some
-}
-
-// The same of all.
-fn end_global(
-    global: GlobalTime,
-    clocks: &mut [u8; EXPIRATION_COUNT],
-    dues: &[u32; EXPIRATION_COUNT],
-) -> bool
-    requires { (length clocks.old ≡ expiration_entries)
-        × (length dues.now ≡ expiration_entries) }
-    ensures { EndedBy (is_global_over_at global dues.now) 0 expiration_entries clocks.old clocks.new
-        result }
-{
-    let mut some = false;
-    for g in 0..GROUP_COUNT {
-        some = some | end_global_in(global, clocks, dues, g * GROUP);
+        some = some | end_in(by, clocks, dues, g * 2 * GROUP);
+        some = some | end_in(by, clocks, dues, g * 2 * GROUP + GROUP);
     }
     some
 }
@@ -155,17 +151,17 @@ fn end_tasks(
     clocks: &mut [u8; EXPIRATION_COUNT],
     dues: &[u32; EXPIRATION_COUNT],
 ) -> bool
-    requires { (t.task < task_count)
-        × (length clocks.old ≡ expiration_entries)
-        × (length dues.now ≡ expiration_entries) }
+    requires { t.task < task_count }
     ensures { EndedBy (is_own_ending_at t dues.now) 0 expiration_entries clocks.old clocks.new result }
 {
-    let own = LOCAL + t.task;
-    let local = t.local;
+    let own = Own {
+        code: LOCAL + t.task,
+        now: t.local,
+    };
     if t.leaves {
-        end_own(own, clocks)
+        end_own(own.code, clocks)
     } else {
-        end_local(own, local, clocks, dues)
+        end_by(own, clocks, dues)
     }
 }
 
@@ -175,9 +171,7 @@ pub fn end_due(
     clocks: &mut [u8; EXPIRATION_COUNT],
     dues: &[u32; EXPIRATION_COUNT],
 ) -> bool
-    requires { (t.task < task_count)
-        × (length clocks.old ≡ expiration_entries)
-        × (length dues.now ≡ expiration_entries) }
+    requires { t.task < task_count }
     ensures { Ended t dues.now 0 expiration_entries clocks.old clocks.new result }
 {
     let some = end_tasks(t, clocks, dues);
@@ -185,5 +179,5 @@ pub fn end_due(
         return some;
     }
     let global = t.global;
-    some | end_global(global, clocks, dues)
+    some | end_by(global, clocks, dues)
 }

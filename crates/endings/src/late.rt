@@ -1,11 +1,12 @@
 // What a leave and an advance make of global expirations, before any is judged due: the leaver's have a departed setter, and those whose
 // setter waits are put off.
-ghost use Rattle.std.specs.Prelude.{◌≡◌, ◌+◌, ◌<◌, ◌≤◌, length, if◌then◌else◌};
+ghost use Rattle.std.specs.Prelude.{◌≡◌, ◌+◌, ◌<◌, ◌≤◌, if◌then◌else◌};
+ghost use Rattle.std.specs.List.{list_any};
 ghost use Rattle.ledger.specs.Limits.{task_count};
 ghost use Rattle.record.specs.Tables.{expiration_entries, group_size};
 ghost use Rattle.steps.specs.Events.{next_time, deserted_clock};
-ghost use Rattle.endings.specs.Late.{deserted_at, put_off_at, is_waiting_at, PutOff, GlobalFlags, put_off_by};
-ghost use Rattle.expirations.specs.Places.{SomeBetween, Changed};
+ghost use Rattle.endings.specs.Late.{deserted_at, put_off_at, is_waiting_entry, PutOff, GlobalFlags, put_off_by};
+ghost use Rattle.expirations.specs.Places.{Changed};
 
 use super::Passing;
 use expirations::asking::{any_global_clock, place_for};
@@ -29,28 +30,22 @@ fn deserted(task: u8, clock: u8) -> u8
 
 // All of them, where the task leaves.
 pub fn desert(t: Passing, clocks: &mut [u8; EXPIRATION_COUNT])
-    requires { (t.task < task_count)
-        × (length clocks.old ≡ expiration_entries) }
+    requires { t.task < task_count }
     ensures { Changed 0 (deserted_at t) 0 expiration_entries clocks.old clocks.new }
 {
     if !t.leaves {
         return;
     }
-    for i in 0..EXPIRATION_COUNT {
-        clocks[i] = deserted(t.task, clocks[i]);
+    for clock in clocks.iter_mut() {
+        *clock = deserted(t.task, *clock);
     }
 }
 
 // Whether a task waits.
 fn any_waiting(tasks: [TaskEntry; TASK_COUNT]) -> bool
-    ensures { SomeBetween (is_waiting_at tasks) 0 task_count result }
+    ensures { result ≡ list_any is_waiting_entry tasks }
 {
-    let mut some = false;
-    for i in 0..TASK_COUNT {
-        let e = tasks[i];
-        some = some | is_waiting(e);
-    }
-    some
+    tasks.iter().any(|e| is_waiting(*e))
 }
 
 // E20: a flag for each clock, set where its setter waits.
@@ -58,9 +53,8 @@ fn put_off_flags(tasks: [TaskEntry; TASK_COUNT]) -> [bool; BYTE_VALUES]
     ensures { PutOff tasks result }
 {
     let mut flags = [false; BYTE_VALUES];
-    for i in 0..TASK_COUNT {
-        let e = tasks[i];
-        flags[GLOBAL as usize + i] = is_waiting(e);
+    for (task, e) in tasks.iter().enumerate() {
+        flags[GLOBAL as usize + task] = is_waiting(*e);
     }
     flags
 }
@@ -73,15 +67,13 @@ fn put_off_due(late: bool, due: u32) -> u32
 }
 
 // Those of a group.
-fn put_off_in<'a>(
-    flags: &'a [bool; BYTE_VALUES],
-    clocks: &'a [u8; EXPIRATION_COUNT],
+fn put_off_in(
+    flags: &[bool; BYTE_VALUES],
+    clocks: &[u8; EXPIRATION_COUNT],
     dues: &mut [u32; EXPIRATION_COUNT],
     from: usize,
 )
     requires { GlobalFlags flags.now
-        × (length clocks.now ≡ expiration_entries)
-        × (length dues.old ≡ expiration_entries)
         × (from + group_size ≤ expiration_entries) }
     ensures { Changed 0 (put_off_by flags.now clocks.now) from (from + group_size) dues.old
         dues.new }
@@ -89,6 +81,7 @@ fn put_off_in<'a>(
     if !any_global_clock(clocks, from) {
         return;
     }
+    // By index: two columns go on from a place in the middle, and one of them is written.
     for i in from..from + GROUP {
         let at = place_for(clocks[i]);
         dues[i] = put_off_due(flags[at], dues[i]);
@@ -102,8 +95,6 @@ pub fn put_off(
     clocks: &[u8; EXPIRATION_COUNT],
     dues: &mut [u32; EXPIRATION_COUNT],
 )
-    requires { (length clocks.now ≡ expiration_entries)
-        × (length dues.old ≡ expiration_entries) }
     ensures { Changed 0 (put_off_at t tasks clocks.now) 0 expiration_entries dues.old dues.new }
 {
     if !t.advanced {
@@ -113,6 +104,7 @@ pub fn put_off(
         return;
     }
     let flags = put_off_flags(tasks);
+    // By number: a group is a part of several columns at once.
     for g in 0..GROUP_COUNT / 2 {
         put_off_in(&flags, clocks, dues, g * 2 * GROUP);
         put_off_in(&flags, clocks, dues, g * 2 * GROUP + GROUP);

@@ -1,9 +1,8 @@
 // What ends expirations, and frees the blocks that have none left: an event those that are over, a release the pinned one of its object.
 #![tactic(auto)]
 
-ghost use Rattle.std.specs.Prelude.{◌≡◌, ◌<◌, length};
+ghost use Rattle.std.specs.Prelude.{◌<◌};
 ghost use Rattle.ledger.specs.Limits.{task_count};
-ghost use Rattle.record.specs.Tables.{SizedEntries, block_entries};
 ghost use Rattle.endings.specs.Ending.{Ends};
 
 mod ending;
@@ -22,7 +21,7 @@ use releasing::keep_named;
 pub use unpinning::release;
 
 // The time that an event of a task leaves: the task's local time, and whether it leaves for good; the global time, and whether that has
-// advanced.
+// advanced. (Both times are told whatever the flags say, so they are no Options.)
 #[derive(Clone, Copy)]
 pub struct Passing {
     pub task: u8,
@@ -42,9 +41,7 @@ pub fn end(
     named: &[u8; EXPIRATION_COUNT],
     dues: &mut [u32; EXPIRATION_COUNT],
 )
-    requires { (t.task < task_count)
-        × (length handles.old ≡ block_entries)
-        × SizedEntries clocks.old named.now dues.old }
+    requires { t.task < task_count }
     ensures { Ends t tasks named.now dues.old handles.old clocks.old
         handles.new clocks.new dues.new }
 {

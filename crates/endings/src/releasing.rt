@@ -1,5 +1,5 @@
 // Blocks that no expiration names are free.
-ghost use Rattle.std.specs.Prelude.{◌≡◌, length, if◌then◌else◌};
+ghost use Rattle.std.specs.Prelude.{◌≡◌, if◌then◌else◌};
 ghost use Rattle.record.specs.Tables.{block_entries};
 ghost use Rattle.expirations.specs.Places.{Changed};
 ghost use Rattle.endings.specs.Releasing.{kept_by_flag};
@@ -15,10 +15,9 @@ pub fn kept_handle(named: bool, handle: u32) -> u32
 
 // What none names is free.
 pub fn keep_named(flags: [bool; BYTE_VALUES], handles: &mut [u32; BLOCK_COUNT])
-    requires { length handles.old ≡ block_entries }
     ensures { Changed 0 (kept_by_flag flags) 0 block_entries handles.old handles.new }
 {
-    for i in 0..BLOCK_COUNT {
-        handles[i] = kept_handle(flags[i], handles[i]);
+    for (block, handle) in handles.iter_mut().enumerate() {
+        *handle = kept_handle(flags[block], *handle);
     }
 }

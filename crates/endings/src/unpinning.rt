@@ -1,8 +1,10 @@
 // E24: the end of a pinned expiration by a release.
-ghost use Rattle.std.specs.Prelude.{◌≡◌, ◌+◌, ◌<◌, ◌≤◌, length};
+ghost use Rattle.std.specs.Prelude.{◌≡◌, ◌+◌, ◌<◌, ◌≤◌, false, ◌&&◌, ◌||◌, ◌==◌, fold};
+ghost use Rattle.std.specs.List.{zip};
 ghost use Rattle.record.specs.Tables.{block_entries, expiration_entries, group_size};
 ghost use Rattle.expirations.specs.Naming.{is_named_at};
 ghost use Rattle.expirations.specs.Places.{SomeBetween, Changed};
+ghost use Rattle.expirations.specs.Standing.{is_dated_clock};
 ghost use Rattle.endings.specs.Unpinning.{unpinned_clock, unpinned_at, AllNamed, Releases};
 
 use super::releasing::kept_handle;
@@ -24,48 +26,49 @@ fn unpinned(block: u8, clock: u8, named: u8) -> u8
 
 // Ends it.
 fn unpin(block: u8, clocks: &mut [u8; EXPIRATION_COUNT], named: &[u8; EXPIRATION_COUNT])
-    requires { (length clocks.old ≡ expiration_entries)
-        × (length named.now ≡ expiration_entries) }
     ensures { Changed 0 (unpinned_at block named.now) 0 expiration_entries clocks.old clocks.new }
 {
-    for i in 0..EXPIRATION_COUNT {
-        clocks[i] = unpinned(block, clocks[i], named[i]);
+    for (i, clock) in clocks.iter_mut().enumerate() {
+        *clock = unpinned(block, *clock, named[i]);
     }
 }
 
+// Whether one of some names the block.
+fn any_names(block: u8, clocks: &[u8], named: &[u8]) -> bool
+    ensures { result ≡ fold (λ some entry. some || (is_dated_clock entry.0 && entry.1 == block)) false
+        (zip clocks.now named.now) }
+{
+    clocks.iter().zip(named).fold(false, |some, (clock, name)| {
+        some | (is_dated(*clock) & (*name == block))
+    })
+}
+
 // Whether one of a group names the block: a group in which none has its number is passed by.
-fn names_in<'a>(
+fn names_in(
     block: u8,
-    clocks: &'a [u8; EXPIRATION_COUNT],
-    named: &'a [u8; EXPIRATION_COUNT],
+    clocks: &[u8; EXPIRATION_COUNT],
+    named: &[u8; EXPIRATION_COUNT],
     from: usize,
 ) -> bool
-    requires { (length clocks.now ≡ expiration_entries)
-        × (length named.now ≡ expiration_entries)
-        × (from + group_size ≤ expiration_entries) }
+    requires { from + group_size ≤ expiration_entries }
     ensures { SomeBetween (is_named_at clocks.now named.now block) from (from + group_size) result }
 {
     if !has_byte(named, block, from, from + GROUP) {
         return false;
     }
-    let mut some = false;
-    for i in from..from + GROUP {
-        some = some | (is_dated(clocks[i]) & (named[i] == block));
-    }
-    some
+    any_names(
+        block,
+        &clocks[from..from + GROUP],
+        &named[from..from + GROUP],
+    )
 }
 
 // Whether an expiration names the block.
-fn is_named<'a>(
-    block: u8,
-    clocks: &'a [u8; EXPIRATION_COUNT],
-    named: &'a [u8; EXPIRATION_COUNT],
-) -> bool
-    requires { (length clocks.now ≡ expiration_entries)
-        × (length named.now ≡ expiration_entries) }
+fn is_named(block: u8, clocks: &[u8; EXPIRATION_COUNT], named: &[u8; EXPIRATION_COUNT]) -> bool
     ensures { SomeBetween (is_named_at clocks.now named.now block) 0 expiration_entries result }
 {
     let mut some = false;
+    // By number: a group is a part of several columns at once.
     for g in 0..GROUP_COUNT {
         some = some | names_in(block, clocks, named, g * GROUP);
     }
@@ -81,9 +84,6 @@ pub fn release(
     named: &[u8; EXPIRATION_COUNT],
 )
     requires { (block < block_entries)
-        × (length handles.old ≡ block_entries)
-        × (length clocks.old ≡ expiration_entries)
-        × (length named.now ≡ expiration_entries)
         × AllNamed handles.old clocks.old named.now }
     ensures { Releases block named.now handles.old clocks.old handles.new
         clocks.new }

@@ -3,27 +3,25 @@ use Prim.Native.Nat.{ℕ}
 use mathlib.Core.List.{List, []}
 use mathlib.Core.Path.{◌≡◌, refl}
 use lib.ListN.{take}
+use Rattle.std.specs.Prelude.{Ok, Err}
+use Rattle.ledger.specs.Ledger.{Frame}
 use Rattle.ledger.specs.Numbers.{answer_number}
 use Rattle.ledger.specs.declared.Answer.TheVariants.{Refused}
 use Rattle.ledger.specs.declared.Refusal.{Refusal}
 use Rattle.ledger.specs.declared.Request.{Request}
 use Rattle.record.specs.Reading.{block_bytes}
-use Rattle.record.specs.Tables.{head_of, pooled}
-use Rattle.record.specs.declared.Head.{Head}
 use Rattle.record.specs.declared.Pool.{Pool}
 use Rattle.calls.specs.Served.{Called, without_bytes, Serves}
 use Rattle.answers.specs.Answers.{answer_line}
 use Rattle.frames.specs.Frames.{Decodes}
 use Rattle.text.specs.Hex.{Puts}
-use Rattle.ledger.specs.declared.Frame.{Frame}
 use Rattle.frames.proofs.Payloads.{payload_front}
-use Rattle.execute.specs.Execution.{executed_of, Executes}
-use Rattle.execute.specs.declared.Carried.{Carried}
+use Rattle.execute.specs.Execution.{Executes}
 use Rattle.answers.proofs.Shown.{shows_none}
 
 module _ {line : List ℕ} {old new : List ℕ} {frame : Frame} (d : Decodes line old frame new) where
   module _ (p : Pool) (small large out out' : List ℕ) (n : ℕ) where
-    pub refused_executes : {why : Refusal} → frame ≡ Frame.Refused why → {none : List ℕ} → none ≡ []
+    pub refused_executes : {why : Refusal} → frame ≡ Err why → {none : List ℕ} → none ≡ []
         → {number : ℕ} → number ≡ answer_number (Refused why) → Puts 0 (answer_line (Refused why) none) out out' n
         → Executes line p small large out (record { pool = p; number = number; length = n }) small large out'
     refused_executes {why} e z m put =
@@ -35,7 +33,7 @@ module _ {line : List ℕ} {old new : List ℕ} {frame : Frame} (d : Decodes lin
           shown = rw (shows_none small large 0 refl) (rw z at put);
         }
 
-    pub served_executes : {request : Request} {count : ℕ} → frame ≡ Frame.Request request count → {r : Called} {small' large' : List ℕ}
+    pub served_executes : {request : Request} {count : ℕ} → frame ≡ Ok (request, count) → {r : Called} {small' large' : List ℕ}
         → Serves request (take count new) p small large r small' large'
         → {number : ℕ} → number ≡ answer_number r.answer → Puts 0 (answer_line r.answer (block_bytes small' large' r.block r.length)) out out' n
         → Executes line p small large out (record { pool = r.pool; number = number; length = n }) small' large' out'
@@ -47,11 +45,3 @@ module _ {line : List ℕ} {old new : List ℕ} {frame : Frame} (d : Decodes lin
           numbered = m;
           shown = put;
         }
-
--- the columns of a record by value, those of bytes taken out: a line on them is a line on the record
-module _ (p : Pool) {h : Head} (e : h ≡ head_of p) {cs ns : List ℕ} (c : cs ≡ p.clocks) (n : ns ≡ p.named) where
-  pub executes_by_value : {line small large out small' large' out' : List ℕ} {r : Carried} {hs' ls' cs' ns' ds' : List ℕ}
-      → Executes line (pooled h p.handles p.extents cs ns p.dues) small large out (executed_of r hs' ls' cs' ns' ds') small' large' out'
-      → {p' : Pool} → p' ≡ pooled r.head hs' ls' cs' ns' ds'
-      → Executes line p small large out (record { pool = p'; number = r.number; length = r.length }) small' large' out'
-  executes_by_value x left = rw left (rw (e, c, n) at x)

@@ -7,7 +7,9 @@ use mathlib.Core.Path.{◌≡◌, refl, ap, subst, ◌∙◌}
 use borrow.Author.Tests.{leb-true}
 use lib.Dec.{leb}
 use lib.ListN.{length, get_or}
+use Rattle.std.specs.Prelude.{Ok, Err}
 use Rattle.lists.proofs.Cases.{by_test}
+use Rattle.ledger.specs.Ledger.{Frame}
 use Rattle.ledger.specs.Numbers.{number_of, answer_number}
 use Rattle.ledger.specs.declared.Answer.TheVariants.{Refused}
 use Rattle.ledger.specs.declared.Refusal.{Refusal}
@@ -19,30 +21,29 @@ use Rattle.text.specs.Fields.{fields_at}
 use Rattle.ledger.specs.Limits.{is_within}
 use Rattle.text.specs.Hex.{is_hex, bytes_of}
 use Rattle.frames.specs.Frames.{Operation, operations, operation_in, widths_of, is_size_of, request_of, frame_with, frame_as, frame_by, frame_in, frame_of, payload_of}
-use Rattle.ledger.specs.declared.Frame.{Frame}
 use Rattle.execute.specs.Execution.{Performs, Demand1}
 use Rattle.answers.proofs.Shown.{shows_none}
 
 module _ (bytes : List ℕ) (p : Pool) (small large : List ℕ) (r : Called) (small' large' : List ℕ) where
   is_reply : (frame : Frame) → Performs frame bytes p small large r small' large' → IsReplyTo frame bytes p small large (reply_of r small' large') r.pool small' large'
-  is_reply (Frame.Request request count) s = s.obeys
-  is_reply (Frame.Refused why) (same, s, l) =
+  is_reply (Ok (request, count)) s = s.obeys
+  is_reply (Err why) (same, s, l) =
       record { refused = rw (same, shows_none small' large' 0 refl); same_pool = rw same; same_small = s; same_large = l }
 
   -- a refusal changes nothing, whether of the frame or of the pool
   refuses : (frame : Frame) → Performs frame bytes p small large r small' large' → (why : Refusal) → r.answer ≡ Refused why
       → Refuses why p small large (reply_of r small' large') r.pool small' large'
-  refuses (Frame.Request request count) s why e = s.obeys.keeps why e
-  refuses (Frame.Refused refusal) (same, s, l) why e =
+  refuses (Ok (request, count)) s why e = s.obeys.keeps why e
+  refuses (Err refusal) (same, s, l) why e =
       record { refused = rw (e, same, shows_none small' large' 0 refl); same_pool = rw same; same_small = s; same_large = l }
 
-  refused_by_lem : {frame : Frame} {why : Refusal} → frame ≡ Frame.Refused why → Performs frame bytes p small large r small' large' → r.answer ≡ Refused why
+  refused_by_lem : {frame : Frame} {why : Refusal} → frame ≡ Err why → Performs frame bytes p small large r small' large' → r.answer ≡ Refused why
   refused_by_lem e s = ap (λ (c : Called). c.answer) (subst (λ (f : Frame). Performs f bytes p small large r small' large') e s).0
 
 -- what a frame is refused with
 abbrev is_of_frames : Frame → Bool
-is_of_frames (Frame.Request request count) = true
-is_of_frames (Frame.Refused why) = is_within 16 19 (number_of why)
+is_of_frames (Ok (request, count)) = true
+is_of_frames (Err why) = is_within 16 19 (number_of why)
 
 by_request : (request : Option Request) (count : ℕ) → is_of_frames (frame_with request count) ≡ true
 by_request none count = refl

@@ -3,7 +3,9 @@ use Prim.Native.Nat.{ℕ, ◌+◌}
 use mathlib.Core.List.{List}
 use mathlib.Core.Path.{◌≡◌, sym, ap, ◌∙◌}
 use lib.ListN.{length}
+use Rattle.std.specs.Prelude.{Ok, Err}
 use Rattle.lists.specs.Blocks.{overwritten}
+use Rattle.ledger.specs.Ledger.{Frame}
 use Rattle.ledger.specs.Numbers.{answer_number}
 use Rattle.ledger.specs.Objects.{Reply}
 use Rattle.record.specs.Reading.{Typed}
@@ -13,16 +15,15 @@ use Rattle.calls.specs.Served.{Called, reply_of}
 use Rattle.calls.proofs.OneReply.{one_reply}
 use Rattle.answers.specs.Answers.{answer_line}
 use Rattle.frames.specs.Frames.{frame_of, payload_of}
-use Rattle.ledger.specs.declared.Frame.{Frame}
 use Rattle.execute.specs.Execution.{Performs, OneAnswer}
 
 module _ (p : Pool) (small large : List ℕ) (types : Typed (tables_of p)) where
   same_reply : (frame : Frame) (bytes : List ℕ) (r r₂ : Called) (small' small'' large' large'' : List ℕ)
       → Performs frame bytes p small large r small' large' → Performs frame bytes p small large r₂ small'' large''
       → reply_of r small' large' ≡ reply_of r₂ small'' large''
-  same_reply (Frame.Request request count) bytes r r₂ small' small'' large' large'' s s₂ =
+  same_reply (Ok (request, count)) bytes r r₂ small' small'' large' large'' s s₂ =
       one_reply request bytes p small large types _ _ _ _ _ _ _ _ s.obeys s₂.obeys
-  same_reply (Frame.Refused why) bytes r r₂ small' small'' large' large'' (same, s, l) (same₂, s₂, l₂) = rw (same, s, l, same₂, s₂, l₂)
+  same_reply (Err why) bytes r r₂ small' small'' large' large'' (same, s, l) (same₂, s₂, l₂) = rw (same, s, l, same₂, s₂, l₂)
 
 pub one_answer : OneAnswer
 one_answer line p small large out types r r₂ small' small'' large' large'' out' out'' x x₂ =

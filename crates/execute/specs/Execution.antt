@@ -1,5 +1,8 @@
 -- D1, demand 1: a line of any bytes is carried out or refused, on any record with any stores; and what the ledger makes of a frame.
-use Rattle.std.specs.Prelude.{ℕ, ◌≤◌, List, ◌≡◌}
+use Rattle.record.specs.declared.ExpirationTable.{ExpirationTable}
+use Rattle.record.specs.declared.BlockTable.{BlockTable}
+use Rattle.std.specs.Prelude.{ℕ, ◌≤◌, List, ◌≡◌, Ok, Err}
+use Rattle.ledger.specs.Ledger.{Frame}
 use Rattle.ledger.specs.Numbers.{answer_number}
 use Rattle.ledger.specs.Objects.{Reply}
 use Rattle.ledger.specs.declared.Answer.TheVariants.{Refused}
@@ -12,14 +15,13 @@ use Rattle.calls.specs.Served.{Called, without_bytes, reply_of, Serves, IsReplyT
 use Rattle.answers.specs.Answers.{answer_line}
 use Rattle.frames.specs.Frames.{frame_of, payload_of}
 use Rattle.text.specs.Hex.{Puts}
-use Rattle.ledger.specs.declared.Frame.{Frame}
 use Rattle.execute.specs.declared.Executed.{Executed}
 use Rattle.execute.specs.declared.Carried.{Carried}
 
 -- F26: a frame carried out: refused with nothing changed, or served by the pool
 abbrev pub Performs : Frame → List ℕ → Pool → List ℕ → List ℕ → Called → List ℕ → List ℕ → Type 0
-Performs (Frame.Request request count) bytes p small large r small' large' = Serves request bytes p small large r small' large'
-Performs (Frame.Refused why) bytes p small large r small' large' =
+Performs (Ok (request, count)) bytes p small large r small' large' = Serves request bytes p small large r small' large'
+Performs (Err why) bytes p small large r small' large' =
     (r ≡ without_bytes (Refused why) p) × (small' ≡ small) × (large' ≡ large)
 
 -- A line carried out: what its frame gives, the record that is left, the answer's number, and its line in a buffer.
@@ -31,8 +33,8 @@ pub record Executes (line : List ℕ) (p : Pool) (small large out : List ℕ) (r
   pub shown : Puts 0 (answer_line called.answer (reply_of called small' large').bytes) out out' r.length
 
 -- what a caller by value is given, with the columns that were left
-abbrev pub executed_of : Carried → List ℕ → List ℕ → List ℕ → List ℕ → List ℕ → Executed
-executed_of r handles extents clocks named dues = record { pool = pooled r.head handles extents clocks named dues; number = r.number; length = r.length }
+abbrev pub executed_of : Carried → BlockTable → ExpirationTable → Executed
+executed_of r blocks expirations = record { pool = pooled r.head blocks expirations; number = r.number; length = r.length }
 
 -- what a caller is given that lends the record to store into
 abbrev pub executed_by : Carried → Pool → Executed
@@ -54,7 +56,7 @@ pub record Answered (line : List ℕ) (p : Pool) (small large out : List ℕ) (r
   pub replies : IsReplyTo (frame_of line) (payload_of line) p small large reply r.pool small' large'
   pub numbered : r.number ≡ answer_number reply.answer
   pub shown : Puts 0 (answer_line reply.answer reply.bytes) out out' r.length
-  pub no_call : (why : Refusal) → frame_of line ≡ Frame.Refused why → (16 ≤ r.number) × (r.number ≤ 19)
+  pub no_call : (why : Refusal) → frame_of line ≡ Err why → (16 ≤ r.number) × (r.number ≤ 19)
   pub refused : (why : Refusal) → reply.answer ≡ Refused why → Refuses why p small large reply r.pool small' large'
 
 -- Demand 1, of all that the contract allows and so of this code; every call ends, as every Rattle function does

@@ -1,5 +1,5 @@
-// A line carried out on a record by value (P7) with its stores: its columns are lent to the line, and what the line leaves is stored into a
-// record that is lent, or given back.
+// A line carried out on a record by value (P7) with its stores: it is stored into one that is lent, whose tables are lent to
+// the line; or given back.
 #![tactic(auto)]
 
 ghost use Rattle.std.specs.Prelude.{◌≤◌, length};
@@ -8,10 +8,9 @@ ghost use Rattle.answers.specs.Answers.{longest_answer};
 ghost use Rattle.execute.specs.Execution.{executed_of, executed_by, Executes};
 
 use answers::{put_answer, show};
-use frames::{MOST_BYTES, decode, refusal_of};
-use ledger::{Answer, Frame, answer_number};
-use record::by_value::with_head;
-use record::{BLOCK_COUNT, EXPIRATION_COUNT, Head, Pool, head_of};
+use frames::{MOST_BYTES, decode};
+use ledger::Answer;
+use record::{BlockTable, ExpirationTable, Head, Pool};
 use stores::no_part;
 use tested::call;
 
@@ -23,7 +22,7 @@ pub struct Executed {
     pub length: usize,
 }
 
-// The same on lent columns: the head that a line leaves instead of the record.
+// The same on lent tables: the head that a line leaves instead of the record.
 #[derive(Clone, Copy)]
 pub struct Carried {
     pub head: Head,
@@ -31,46 +30,40 @@ pub struct Carried {
     pub length: usize,
 }
 
-// A line on lent columns and any stores; the line of its answer goes to the start of a buffer. A frame that is refused leaves the columns
+// A line on lent tables and any stores; the line of its answer goes to the start of a buffer. A frame that is refused leaves the tables
 // alone, and so who lends them never looks at the record again.
 fn execute_lent(
     h: Head,
-    handles: &mut [u32; BLOCK_COUNT],
-    extents: &mut [u64; BLOCK_COUNT],
-    clocks: &mut [u8; EXPIRATION_COUNT],
-    named: &mut [u8; EXPIRATION_COUNT],
-    dues: &mut [u32; EXPIRATION_COUNT],
+    blocks: &mut BlockTable,
+    expirations: &mut ExpirationTable,
     small: &mut [u8],
     large: &mut [u8],
     line: &[u8],
     out: &mut [u8],
 ) -> Carried
-    requires { Sized handles.old extents.old clocks.old named.old dues.old
+    requires { Sized blocks.old expirations.old
         × (longest_answer ≤ length out.old) }
-    ensures { Sized handles.new extents.new clocks.new named.new dues.new
+    ensures { Sized blocks.new expirations.new
         × Executes line.now
-        (pooled h handles.old extents.old clocks.old named.old dues.old)
+        (pooled h blocks.old expirations.old)
         small.old large.old out.old
-        (executed_of result handles.new extents.new clocks.new named.new dues.new)
+        (executed_of result blocks.new expirations.new)
         small.new large.new out.new }
 {
     let mut bytes = [0u8; MOST_BYTES];
     let frame = decode(line, &mut bytes);
-    let Frame::Request(request, count) = frame else {
-        let refusal = Answer::Refused(refusal_of(frame));
+    let Ok((request, count)) = frame else {
+        let refusal = Answer::Refused(frame.unwrap_err());
         return Carried {
             head: h,
-            number: answer_number(refusal),
+            number: u8::from(refusal),
             length: put_answer(refusal, no_part(small), out, 0),
         };
     };
     let done = call(
         h,
-        handles,
-        extents,
-        clocks,
-        named,
-        dues,
+        blocks,
+        expirations,
         small,
         large,
         request,
@@ -80,15 +73,15 @@ fn execute_lent(
     let head = done.head;
     let length = show(answer, small, large, done.block, done.length, out, 0);
     Carried {
-        head: head,
-        number: answer_number(answer),
-        length: length,
+        head,
+        number: u8::from(answer),
+        length,
     }
 }
 
 // The same on any record, stored into one that is lent.
 pub fn execute_into(
-    mut p: Pool,
+    p: Pool,
     small: &mut [u8],
     large: &mut [u8],
     line: &[u8],
@@ -99,21 +92,17 @@ pub fn execute_into(
     ensures { Executes line.now p small.old large.old out.old (executed_by result left.new) small.new
         large.new out.new }
 {
-    let h = head_of(p);
+    *left = p;
     let done = execute_lent(
-        h,
-        &mut p.handles,
-        &mut p.extents,
-        &mut p.clocks,
-        &mut p.named,
-        &mut p.dues,
+        left.head,
+        &mut left.blocks,
+        &mut left.expirations,
         small,
         large,
         line,
         out,
     );
-    let head = done.head;
-    *left = with_head(p, head);
+    left.head = done.head;
     done
 }
 

@@ -1,9 +1,13 @@
 -- Laws of what is asked and changed by places.
-use Rattle.std.proofs.Common.{◌≡◌, ℕ, zero, suc, ◌+◌, ◌<◌, ◌≤◌, Bool, true, false, ◌||◌, ltb, List, length, get_or, take, drop, set, sym, refl, ◌∙◌, true≢false, add-zero, zero-add, arith, length-set, get_or-set_other, get_or-set_same, ltb-false, ltb-true}
+use Rattle.std.proofs.Common.{◌≡◌, ℕ, zero, suc, ◌+◌, ◌-◌, ◌<◌, ◌≤◌, Bool, true, false, ◌||◌, ltb, List, length, get_or, take, drop, set, sym, refl, ◌∙◌, true≢false, add-zero, zero-add, add-one, arith, length-set, get_or-set_other, get_or-set_same, ltb-false, ltb-true}
 use mathlib.Core.Bool.{false≢true, or-false}
+use lib.Seq.{drop-cons}
+use Rattle.std.specs.List.{fold, slice_range, zip}
+use Rattle.lists.specs.Tests.{any}
 use Rattle.lists.specs.Tables.{first_from}
 use Rattle.lists.proofs.Cases.{by_test, refuted, or_false_parts}
 use Rattle.lists.proofs.First.{none_before}
+use Rattle.lists.proofs.Folds.{fold_any}
 use Rattle.lists.proofs.Loops.{Scanned, scanned_start, first_turn}
 use Rattle.lists.proofs.Searches.{first_least, first_most}
 use Rattle.expirations.specs.Places.{SomeBetween, Changed}
@@ -69,6 +73,36 @@ module _ {p : ℕ → Bool} {a b : ℕ} {r : Bool} (s : SomeBetween p a b r) whe
     pub asked_unless : r ≡ false → ((k : ℕ) → q k ≡ true → p k ≡ true) → SomeBetween q a b false
     asked_unless e f =
         asked_none q s.ordered (λ k l m. refuted (q k) (λ h. true≢false (sym (f k h) ∙ s.none e k l m)))
+
+-- n elements from a on, asked by their places
+asked_part : (p : ℕ → Bool) (n a : ℕ) (xs : List ℕ) → a + n ≤ length xs → SomeBetween (λ k. p (get_or xs k 0)) a (a + n) (any p (take n (drop a xs)))
+asked_part p zero a xs h = rw add-zero (asked_start _ a)
+asked_part p (suc n) a xs h =
+    let same : a + 1 + n ≡ a + suc n = omega arith in
+    rw (drop-cons xs a 0 (omega arith)) (rw (same, add-one) at (asked_join (asked_turn (asked_start (λ k. p (get_or xs k 0)) a) refl) (asked_part p n (a + 1) xs (omega arith))))
+
+-- r is what a fold over a part gave
+pub asked_fold : (p : ℕ → Bool) (a b : ℕ) (xs : List ℕ) (r : Bool) → a ≤ b → b ≤ length xs → r ≡ fold (λ some x. some || p x) false (slice_range xs a b)
+    → SomeBetween (λ k. p (get_or xs k 0)) a b r
+asked_fold p a b xs r h l e =
+    let end : a + (b - a) ≡ b = omega arith in
+    rw (e, fold_any p (slice_range xs a b)) (rw end at (asked_part p (b - a) a xs (omega arith)))
+
+-- the same of two columns
+asked_pairs : (p : ℕ → ℕ → Bool) (n a : ℕ) (xs ys : List ℕ) → a + n ≤ length xs → a + n ≤ length ys
+    → SomeBetween (λ k. p (get_or xs k 0) (get_or ys k 0)) a (a + n) (any (λ (q : ℕ × ℕ). p q.0 q.1) (zip (take n (drop a xs)) (take n (drop a ys))))
+asked_pairs p zero a xs ys h l = rw add-zero (asked_start _ a)
+asked_pairs p (suc n) a xs ys h l =
+    let same : a + 1 + n ≡ a + suc n = omega arith in
+    rw (drop-cons xs a 0 (omega arith), drop-cons ys a 0 (omega arith))
+    (rw (same, add-one) at
+    (asked_join (asked_turn (asked_start (λ k. p (get_or xs k 0) (get_or ys k 0)) a) refl) (asked_pairs p n (a + 1) xs ys (omega arith) (omega arith))))
+
+pub asked_zip : (p : ℕ → ℕ → Bool) (a b : ℕ) (xs ys : List ℕ) (r : Bool) → a ≤ b → b ≤ length xs → b ≤ length ys
+    → r ≡ fold (λ some q. some || p q.0 q.1) false (zip (slice_range xs a b) (slice_range ys a b)) → SomeBetween (λ k. p (get_or xs k 0) (get_or ys k 0)) a b r
+asked_zip p a b xs ys r h l m e =
+    let end : a + (b - a) ≡ b = omega arith in
+    rw (e, fold_any (λ (q : ℕ × ℕ). p q.0 q.1) (zip (slice_range xs a b) (slice_range ys a b))) (rw end at (asked_pairs p (b - a) a xs ys (omega arith) (omega arith)))
 
 -- a search for the first that passes goes on after those that fail
 pub first_past {ℓ} : {A : Type ℓ} (p : A → Bool) (d : A) {v n : ℕ} {xs : List A} (m i : ℕ) → Scanned v xs n i (first_from i p) → i + m ≤ n

@@ -7,7 +7,7 @@ ghost use Rattle.std.specs.Prelude.{◌≡◌, ◌+◌, ◌<◌, ◌≤◌, leng
 ghost use Rattle.ledger.specs.Limits.{task_count, largest_batch};
 ghost use Rattle.expirations.specs.Standing.{standing_of, free_in};
 ghost use Rattle.expirations.specs.Setting.{entry_now, Sets, SetsEach};
-ghost use Rattle.record.specs.Tables.{SizedEntries, block_entries, expiration_entries};
+ghost use Rattle.record.specs.Tables.{block_entries, expiration_entries, EntriesSized};
 
 pub mod asking;
 pub mod naming;
@@ -17,14 +17,13 @@ mod remaining;
 use asking::{HALF, free_entry, free_from, standing_in};
 use ledger::{Kind, LARGEST_BATCH, TASK_COUNT};
 pub use pinning::is_pinned;
+use record::clock_time::ClockTime;
 use record::codes::{GLOBAL, LOCAL, PINNED};
-use record::{EXPIRATION_COUNT, GlobalTime, Head, TaskEntry};
+use record::{EXPIRATION_COUNT, ExpirationTable, GlobalTime, Head, TaskEntry};
 pub use remaining::remaining_life;
-use std::num::wrapping_add_u32;
 
 // How many expirations stand.
 pub fn standing(clocks: &[u8; EXPIRATION_COUNT]) -> u16
-    requires { length clocks.now ≡ expiration_entries }
     ensures { result ≡ standing_of clocks.now }
 {
     standing_in(clocks, 0) as u16 + standing_in(clocks, HALF) as u16
@@ -57,13 +56,13 @@ fn entry_for(
             Entry {
                 clock: LOCAL + task,
                 block: block as u8,
-                due: wrapping_add_u32(setter.clock.0, extension as u32 + 1),
+                due: setter.clock.after(extension as u32 + 1).0,
             }
         }
         Kind::Global => Entry {
             clock: GLOBAL + task,
             block: block as u8,
-            due: wrapping_add_u32(global.0, extension as u32 + 2),
+            due: global.after(extension as u32 + 2).0,
         },
         Kind::Pinned => Entry {
             clock: PINNED,
@@ -74,22 +73,15 @@ fn entry_for(
 }
 
 // An entry in all columns of the first free one, whose place is known.
-fn put(
-    e: Entry,
-    at: usize,
-    clocks: &mut [u8; EXPIRATION_COUNT],
-    named: &mut [u8; EXPIRATION_COUNT],
-    dues: &mut [u32; EXPIRATION_COUNT],
-)
-    requires { SizedEntries clocks.old named.old dues.old
-        × (at ≡ free_in clocks.old)
+fn put(e: Entry, at: usize, expirations: &mut ExpirationTable)
+    requires { EntriesSized expirations.old
+        × (at ≡ free_in expirations.old.clocks)
         × (at < expiration_entries) }
-    ensures { Sets e clocks.old named.old dues.old clocks.new named.new
-        dues.new }
+    ensures { Sets e expirations.old expirations.new }
 {
-    clocks[at] = e.clock;
-    named[at] = e.block;
-    dues[at] = e.due;
+    expirations.clocks[at] = e.clock;
+    expirations.named[at] = e.block;
+    expirations.dues[at] = e.due;
 }
 
 // One expiration more, where there is a free entry.
@@ -99,22 +91,17 @@ pub fn set(
     task: u8,
     extension: u8,
     block: usize,
-    clocks: &mut [u8; EXPIRATION_COUNT],
-    named: &mut [u8; EXPIRATION_COUNT],
-    dues: &mut [u32; EXPIRATION_COUNT],
+    expirations: &mut ExpirationTable,
 )
-    requires { SizedEntries clocks.old named.old dues.old
-        × (standing_of clocks.old < expiration_entries)
+    requires { EntriesSized expirations.old
+        × (standing_of expirations.old.clocks < expiration_entries)
         × (task < task_count)
         × (block < block_entries) }
-    ensures { Sets (entry_now h.tasks h.global kind task extension block) clocks.old named.old
-        dues.old clocks.new named.new dues.new }
+    ensures { Sets (entry_now h.tasks h.global kind task extension block) expirations.old expirations.new }
 {
-    let tasks = h.tasks;
-    let global = h.global;
-    let e = entry_for(tasks, global, kind, task, extension, block);
-    let at = free_entry(clocks);
-    put(e, at, clocks, named, dues);
+    let e = entry_for(h.tasks, h.global, kind, task, extension, block);
+    let at = free_entry(&expirations.clocks);
+    put(e, at, expirations);
 }
 
 // One expiration more on each of the first `count` blocks, where there are free entries for all. The entry is made once; the entries before
@@ -126,30 +113,24 @@ pub fn set_all(
     extension: u8,
     blocks: &[u8; LARGEST_BATCH],
     count: usize,
-    clocks: &mut [u8; EXPIRATION_COUNT],
-    named: &mut [u8; EXPIRATION_COUNT],
-    dues: &mut [u32; EXPIRATION_COUNT],
+    expirations: &mut ExpirationTable,
 )
-    requires { SizedEntries clocks.old named.old dues.old
+    requires { EntriesSized expirations.old
         × (length blocks.now ≡ largest_batch)
         × (count ≤ largest_batch)
-        × (standing_of clocks.old + count ≤ expiration_entries)
+        × (standing_of expirations.old.clocks + count ≤ expiration_entries)
         × (task < task_count) }
-    ensures { SetsEach h.tasks h.global kind task extension (take count blocks.now) clocks.old
-        named.old dues.old clocks.new named.new dues.new }
+    ensures { SetsEach h.tasks h.global kind task extension (take count blocks.now) expirations.old expirations.new }
 {
-    let tasks = h.tasks;
-    let global = h.global;
-    let first = entry_for(tasks, global, kind, task, extension, 0);
-    let mut from = free_entry(clocks);
-    for i in 0..count {
+    let first = entry_for(h.tasks, h.global, kind, task, extension, 0);
+    let mut from = free_entry(&expirations.clocks);
+    for block in &blocks[..count] {
         let e = Entry {
-            clock: first.clock,
-            block: blocks[i],
-            due: first.due,
+            block: *block,
+            ..first
         };
-        let at = free_from(clocks, from);
-        put(e, at, clocks, named, dues);
+        let at = free_from(&expirations.clocks, from);
+        put(e, at, expirations);
         from = at + 1;
     }
 }

@@ -16,17 +16,12 @@ fn slot_for(clock: u8, block: u8) -> u8
 }
 
 // The flag that each entry sets.
-fn slots<'a>(
-    clocks: &'a [u8; EXPIRATION_COUNT],
-    named: &'a [u8; EXPIRATION_COUNT],
-) -> [u8; EXPIRATION_COUNT]
-    requires { (length clocks.now ≡ expiration_entries)
-        × (length named.now ≡ expiration_entries) }
+fn slots(clocks: &[u8; EXPIRATION_COUNT], named: &[u8; EXPIRATION_COUNT]) -> [u8; EXPIRATION_COUNT]
     ensures { NamedSlots clocks.now named.now result }
 {
     let mut out = [0; EXPIRATION_COUNT];
-    for i in 0..EXPIRATION_COUNT {
-        out[i] = slot_for(clocks[i], named[i]);
+    for (i, slot) in out.iter_mut().enumerate() {
+        *slot = slot_for(clocks[i], named[i]);
     }
     out
 }
@@ -34,32 +29,28 @@ fn slots<'a>(
 // Sets the flags of a group.
 fn mark_in(flags: &mut [bool; BYTE_VALUES], slots: &[u8; EXPIRATION_COUNT], from: usize)
     requires { BlockMarks (is_slot_at slots.now) from flags.old
-        × (length slots.now ≡ expiration_entries)
         × (from + group_size ≤ expiration_entries) }
     ensures { BlockMarks (is_slot_at slots.now) (from + group_size) flags.new }
 {
-    for i in from..from + GROUP {
-        let at = place_for(slots[i]);
-        flags[at] = true;
+    for slot in &slots[from..from + GROUP] {
+        flags[place_for(*slot)] = true;
     }
 }
 
 // Which blocks are named: a group in which none is in use is passed by.
-pub fn flags_of<'a>(
-    clocks: &'a [u8; EXPIRATION_COUNT],
-    named: &'a [u8; EXPIRATION_COUNT],
+pub fn flags_of(
+    clocks: &[u8; EXPIRATION_COUNT],
+    named: &[u8; EXPIRATION_COUNT],
 ) -> [bool; BYTE_VALUES]
-    requires { (length clocks.now ≡ expiration_entries)
-        × (length named.now ≡ expiration_entries) }
     ensures { NamedFlags clocks.now named.now expiration_entries result }
 {
     let slots = slots(clocks, named);
     let mut flags = [false; BYTE_VALUES];
+    // By number: a group is a part of several columns at once.
     for g in 0..GROUP_COUNT {
-        if !any_dated(clocks, g * GROUP) {
-            continue;
+        if any_dated(clocks, g * GROUP) {
+            mark_in(&mut flags, &slots, g * GROUP);
         }
-        mark_in(&mut flags, &slots, g * GROUP);
     }
     flags
 }

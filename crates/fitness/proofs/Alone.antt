@@ -1,8 +1,10 @@
 -- Expirations by themselves: one is fit if its codes there are and it is due in time; and the flags of the blocks that they name.
-use Rattle.std.proofs.Common.{◌≡◌, ℕ, ◌-◌, ◌<◌, Bool, true, false, ◌&&◌, eqb, ltb, leb, List, length, get_or, sym, refl, ◌∙◌, true≢false, arith, ltb-false, ltb-true, ne_eqb, eqb-true, le-leb, leb-true}
+use Rattle.std.proofs.Common.{◌≡◌, ℕ, ◌-◌, ◌<◌, Bool, true, false, ◌&&◌, eqb, ltb, leb, List, [], ◌∷◌, length, get_or, sym, refl, ap, ◌∙◌, true≢false, arith, ltb-false, ltb-true, ne_eqb, eqb-true, le-leb, leb-true}
 use mathlib.Core.Bool.{false≢true, and-eq-true_iff}
 use borrow.Author.Tests.{eqb-false}
+use Rattle.std.specs.List.{fold, zip}
 use Rattle.lists.specs.Tests.{all}
+use Rattle.lists.proofs.Folds.{fold_all}
 use Rattle.lists.proofs.Cases.{by_test, refuted, and₃}
 use Rattle.lists.proofs.Counts.{any_pairs, all_two}
 use Rattle.lists.proofs.Searches.{passes_within}
@@ -14,7 +16,7 @@ use Rattle.record.specs.declared.GlobalTime.{GlobalTime}
 use Rattle.record.specs.declared.Due.{Due}
 use Rattle.record.specs.declared.Due.TheVariants.{Free, Local, Global, Pinned, Unknown}
 use Rattle.record.proofs.Columns.{length_entries, entry_at}
-use Rattle.fitness.specs.Checks.{is_coded_by, is_coded, CodedTimes, is_timely, slot_by, is_byte, Flags, Names}
+use Rattle.fitness.specs.Checks.{is_coded_by, is_coded, CodedTimes, is_timely, slot_by, is_byte, AllCoded, Flags, Names}
 use Rattle.fitness.proofs.Named.{is_fit_alone}
 use Rattle.ledger.specs.declared.Limits.{Limits}
 
@@ -46,6 +48,25 @@ block_apart limits setter global false (Local task at) d = refl
 block_apart limits setter global false (Global task at) d = refl
 block_apart limits setter global false (Pinned due) d = refl
 block_apart limits setter global false Unknown d = refl
+
+-- the codes of entries side by side
+coded_pairs : (clocks named dues : List ℕ) → length clocks ≡ length named → length clocks ≡ length dues
+    → all (λ (p : ℕ × ℕ). is_coded_by p.0 p.1) (zip clocks named) ≡ all is_coded (entries_of clocks named dues)
+unfolding entries_of
+coded_pairs [] [] [] n d = refl
+coded_pairs [] [] (x ∷ dues) n d = absurd (omega (arith, d))
+coded_pairs [] (x ∷ named) dues n d = absurd (omega (arith, n))
+coded_pairs (c ∷ clocks) [] dues n d = absurd (omega (arith, n))
+coded_pairs (c ∷ clocks) (x ∷ named) [] n d = absurd (omega (arith, d))
+coded_pairs (c ∷ clocks) (x ∷ named) (y ∷ dues) n d = ap (λ b. is_coded_by c x && b) (coded_pairs clocks named dues (omega (arith, n)) (omega (arith, d)))
+
+pub coded_by : (clocks named : List ℕ) (r : Bool) → length clocks ≡ 256 → length named ≡ 256
+    → r ≡ fold (λ fit p. fit && is_coded_by p.0 p.1) true (zip clocks named) → AllCoded clocks named r
+coded_by clocks named r c n e =
+    record {
+      so = λ dues d.
+          e ∙ fold_all (λ (p : ℕ × ℕ). is_coded_by p.0 p.1) (zip clocks named) ∙ coded_pairs clocks named dues (omega (arith, c, n)) (omega (arith, c, d));
+    }
 
 module _ (limits : Limits) (tasks : List TaskEntry) (global : GlobalTime) where
   alone_parts : (e : ExpirationEntry) → is_fit_alone limits tasks global e ≡ (is_coded e && is_timely limits tasks global e)

@@ -30,15 +30,14 @@ blocks_past limits hs e =
     ∙ all_from_past is_none n limits.large (drop n hs) in
     rw (take_all block_entries hs (omega (arith, e)), all_from_parts is_its 0 n hs, zero-add, front, back, drop-drop)
 
-entries_past : (limits : Limits) (cs : List ℕ) → length cs ≡ expiration_entries
-    → all_from 0 (λ (k c : ℕ). is_none c || ltb k limits.expirations) cs ≡ all is_none (drop limits.expirations (take expiration_entries cs))
-entries_past limits cs e =
-    rw (take_all expiration_entries cs (omega (arith, e))) (rw zero-add at (all_from_past is_none 0 limits.expirations cs))
+entries_past : (limits : Limits) (cs : List ℕ)
+    → all_from 0 (λ (k c : ℕ). is_none c || ltb k limits.expirations) cs ≡ all is_none (drop limits.expirations cs)
+entries_past limits cs = rw zero-add at (all_from_past is_none 0 limits.expirations cs)
 
 pub bounds_by : (limits : Limits) (hs cs : List ℕ) → length hs ≡ block_entries → length cs ≡ expiration_entries
     → Bounds limits hs cs
     (all is_none (drop limits.small (take capacity.small hs)) && all is_none (drop (capacity.small + limits.large) (take block_entries hs))
-    && all is_none (drop limits.expirations (take expiration_entries cs)))
+    && all is_none (drop limits.expirations cs))
 unfolding is_bounded
 bounds_by limits hs cs h c =
     record {
@@ -49,6 +48,6 @@ bounds_by limits hs cs h c =
             handles_of_lem hs extents h e,
             clocks_of cs named dues c n d,
             blocks_past limits hs h,
-            entries_past limits cs c,
+            entries_past limits cs,
           );
     }

@@ -1,12 +1,14 @@
 -- The parts of the test in their order, each of which alone can refuse a record.
-use Rattle.std.proofs.Common.{◌≡◌, ℕ, Bool, true, false, ◌&&◌, List, map, length, sym, ap, ◌∙◌}
+use Rattle.record.specs.declared.ExpirationTable.{ExpirationTable}
+use Rattle.record.specs.declared.BlockTable.{BlockTable}
+use Rattle.std.proofs.Common.{◌≡◌, Bool, true, false, ◌&&◌, List, map, length, sym, ap, ◌∙◌}
 use mathlib.Core.Bool.{false≢true}
 use Rattle.lists.specs.Tests.{all}
 use Rattle.lists.specs.Tables.{all_from}
 use Rattle.lists.proofs.Cases.{by_test}
 use Rattle.ledger.specs.Tasks.{all_ticked}
 use Rattle.record.specs.Codes.{task_of}
-use Rattle.record.specs.Tables.{BlockEntry, ExpirationEntry, blocks_of, entries_of, tables_by, lent, Sized}
+use Rattle.record.specs.Tables.{BlockEntry, ExpirationEntry, tables_by, lent, Sized, block_list, expiration_list}
 use Rattle.record.specs.WellFormed.{is_fit_task, is_fit_entry, is_fit_block, is_distinct, is_pinned_once, is_consistent}
 use Rattle.record.specs.declared.Head.{Head}
 use Rattle.record.proofs.Columns.{length_blocks, handles_of_lem}
@@ -14,18 +16,18 @@ use Rattle.fitness.specs.Checks.{is_coded, is_timely, Names, is_fit_block_in}
 use Rattle.fitness.proofs.Named.{is_fit_alone, not_alone, named_right}
 use Rattle.fitness.proofs.Alone.{by_parts}
 
-module _ (h : Head) {handles extents clocks named dues : List ℕ} (sized : Sized handles extents clocks named dues) where
+module _ (h : Head) {blocks : BlockTable} {expirations : ExpirationTable} (sized : Sized blocks expirations) where
   abbrev is_fit : Bool
-  is_fit = is_consistent (lent h handles extents clocks named dues)
+  is_fit = is_consistent (lent h blocks expirations)
 
-  abbrev blocks : List BlockEntry
-  blocks = blocks_of handles extents
+  abbrev bs : List BlockEntry
+  bs = block_list blocks
 
   abbrev xs : List ExpirationEntry
-  xs = entries_of clocks named dues
+  xs = expiration_list expirations
 
-  size : length blocks ≡ 96
-  size = length_blocks handles extents sized.blocks.of_handles sized.blocks.of_extents
+  size : length bs ≡ 96
+  size = length_blocks blocks.handles blocks.extents sized.blocks.of_handles sized.blocks.of_extents
 
   pub unfit_tasks : all is_fit_task h.tasks ≡ false → false ≡ is_fit
   unfolding is_consistent tables_by
@@ -41,12 +43,12 @@ module _ (h : Head) {handles extents clocks named dues : List ℕ} (sized : Size
 
     module _ (unticked : all_ticked (map task_of h.tasks) ≡ false) where
       rest : is_fit
-          ≡ (all (is_fit_entry h.limits h.tasks h.global blocks) xs && all_from 0 (is_fit_block h.given xs) blocks && is_distinct handles && is_pinned_once xs)
+          ≡ (all (is_fit_entry h.limits h.tasks h.global bs) xs && all_from 0 (is_fit_block h.given xs) bs && is_distinct blocks.handles && is_pinned_once xs)
       unfolding is_consistent tables_by
-      rest = rw (tasks, unticked, handles_of_lem handles extents sized.blocks.of_handles sized.blocks.of_extents)
+      rest = rw (tasks, unticked, handles_of_lem blocks.handles blocks.extents sized.blocks.of_handles sized.blocks.of_extents)
 
       not_by_itself : all (is_fit_alone h.limits h.tasks h.global) xs ≡ false → false ≡ is_fit
-      not_by_itself e = sym (rest ∙ rw (not_alone h.limits h.tasks h.global h.given blocks xs size e))
+      not_by_itself e = sym (rest ∙ rw (not_alone h.limits h.tasks h.global h.given bs xs size e))
 
       pub not_coded : all is_coded xs ≡ false → false ≡ is_fit
       not_coded e = not_by_itself (by_parts h.limits h.tasks h.global xs ∙ rw e)
@@ -60,6 +62,6 @@ module _ (h : Head) {handles extents clocks named dues : List ℕ} (sized : Size
 
         -- past all tests of expirations
         pub by_blocks : {flags : List Bool} → all (is_timely h.limits h.tasks h.global) xs ≡ true → Names flags xs
-            → is_fit ≡ (all_from 0 (is_fit_block_in h.given flags) blocks && is_distinct handles && is_pinned_once xs)
+            → is_fit ≡ (all_from 0 (is_fit_block_in h.given flags) bs && is_distinct blocks.handles && is_pinned_once xs)
         by_blocks e names =
-            rest ∙ ap (λ (b : Bool). b && is_distinct handles && is_pinned_once xs) (named_right h.limits h.tasks h.global h.given blocks xs size names (alone ∙ e))
+            rest ∙ ap (λ (b : Bool). b && is_distinct blocks.handles && is_pinned_once xs) (named_right h.limits h.tasks h.global h.given bs xs size names (alone ∙ e))

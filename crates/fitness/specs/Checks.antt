@@ -1,5 +1,5 @@
 -- What the parts of the test of well-formedness test of tasks, expirations and blocks, and hand to one another.
-use Rattle.std.specs.Prelude.{◌≡◌, ℕ, ◌+◌, ◌%◌, ◌<◌, ◌≤◌, Bool, true, false, cond, not, ◌&&◌, ◌||◌, List, length, get_or, take, ◌==◌, nat_le, nat_lt, slice_index, slice_index_or}
+use Rattle.std.specs.Prelude.{◌≡◌, ℕ, ◌+◌, ◌%◌, ◌<◌, ◌≤◌, Bool, true, false, cond, not, ◌&&◌, ◌||◌, List, length, get_or, ◌==◌, nat_le, nat_lt, slice_index, slice_index_or}
 use Rattle.std.specs.Bool.{beq}
 use Rattle.lists.specs.Tests.{any, all}
 use Rattle.lists.specs.Filled.{Filled}
@@ -39,21 +39,10 @@ Slots clocks named r = Filled 0 (λ k x. x ≡ slot_by (slice_index clocks k) (s
 pub record AllCoded (clocks named : List ℕ) (r : Bool) : Type 0 where
   pub so : (dues : List ℕ) → length dues ≡ expiration_entries → r ≡ all is_coded (entries_of clocks named dues)
 
--- a byte as an index
-pub record IndexOf (byte r : ℕ) : Type 0 where
-  pub so : r ≡ byte
-  pub below : r < byte_values
-
 -- which bytes there are
 abbrev pub is_byte : ℕ → ℕ → Bool
 is_byte k byte = byte == k
 
--- among the first i
-pub record MarksTo (bytes : List ℕ) (i : ℕ) (flags : List Bool) : Type 0 where
-  pub size : length flags ≡ byte_values
-  pub so : (k : ℕ) → k < byte_values → slice_index_or flags k false ≡ any (is_byte k) (take i bytes)
-
--- and among all
 pub record Marks (bytes : List ℕ) (flags : List Bool) : Type 0 where
   pub so : (k : ℕ) → k < byte_values → slice_index_or flags k false ≡ any (is_byte k) bytes
 
@@ -152,12 +141,15 @@ is_shaped_for block size prefix = is_sized_for block size && nat_le prefix size
 abbrev pub ShapedTo : List ℕ → List ℕ → ℕ → List Bool → Type 0
 ShapedTo lengths prefixes i r = Filled false (λ k x. x ≡ is_shaped_for k (slice_index lengths k) (slice_index prefixes k)) block_entries i r
 
-abbrev pub is_given_at : ℕ → ℕ → ℕ → Bool
-is_given_at given block handle = nat_le handle given
+abbrev pub is_given_by : ℕ → ℕ → Bool
+is_given_by given handle = nat_le handle given
 
--- a block, by whether it is in use: if so it is named, and its length and prefix fit, and if not it is not named
-abbrev pub is_named_in : List Bool → List Bool → ℕ → Bool → Bool
-is_named_in named shaped block used = beq used (slice_index_or named block false) && (not used || slice_index_or shaped block false)
+-- a block, by whether it is in use, is named and has a length and a prefix that fit: if used it is named and fits, and if not it is not named
+abbrev pub is_named_by : Bool → Bool → Bool → Bool
+is_named_by used named shaped = beq used named && (not used || shaped)
+
+abbrev pub is_named_row : (Bool × Bool) × Bool → Bool
+is_named_row row = is_named_by row.0.0 row.0.1 row.1
 
 -- a block, by whether it is named: if so it is in use, and if not it is free
 abbrev pub is_fit_block_in : ℕ → List Bool → ℕ → BlockEntry → Bool

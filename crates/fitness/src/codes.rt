@@ -1,8 +1,8 @@
 // The codes of expirations: those that there are, and the flags of the blocks that they name. Nothing is left before the end, so that many
 // are tested at once.
-ghost use Rattle.std.specs.Prelude.{◌≡◌, ◌+◌, ◌<◌, ◌≤◌, length};
+ghost use Rattle.std.specs.Prelude.{◌≡◌, ◌<◌, true, ◌&&◌, fold, zip};
 ghost use Rattle.record.specs.Tables.{expiration_entries};
-ghost use Rattle.fitness.specs.Checks.{is_coded_by, SizedCodes, AllCoded, IndexOf, Codes, CodeAt, slot_by, Slots, MarksTo, Marks, Flags};
+ghost use Rattle.fitness.specs.Checks.{is_coded_by, Codes, CodeAt, slot_by, Slots, Marks, Flags};
 
 use record::codes::{FREE, LOCAL, PINNED};
 use record::{BLOCK_COUNT, BYTE_VALUES, EXPIRATION_COUNT};
@@ -17,21 +17,13 @@ fn is_coded(clock: u8, block: u8) -> bool
     (clock == FREE) | ((LOCAL <= clock) & (clock <= PINNED) & ((block as usize) < BLOCK_COUNT))
 }
 
-pub fn all_coded<'a>(clocks: &'a [u8; EXPIRATION_COUNT], named: &'a [u8; EXPIRATION_COUNT]) -> bool
-    requires { SizedCodes clocks.now named.now }
-    ensures { AllCoded clocks.now named.now result }
+pub fn all_coded(clocks: &[u8; EXPIRATION_COUNT], named: &[u8; EXPIRATION_COUNT]) -> bool
+    ensures { result ≡ fold (λ fit codes. fit && is_coded_by codes.0 codes.1) true (zip clocks.now named.now) }
 {
-    let mut fit = true;
-    for i in 0..EXPIRATION_COUNT {
-        fit = fit & is_coded(clocks[i], named[i]);
-    }
-    fit
-}
-
-pub fn index_of(byte: u8) -> usize
-    ensures { IndexOf byte result }
-{
-    byte as usize
+    clocks
+        .iter()
+        .zip(named)
+        .fold(true, |fit, (clock, block)| fit & is_coded(*clock, *block))
 }
 
 // The code of an expiration, which there is.
@@ -40,7 +32,7 @@ pub fn code_at(clocks: &[u8; EXPIRATION_COUNT], i: usize) -> usize
         × (i < expiration_entries) }
     ensures { CodeAt clocks.now i result }
 {
-    index_of(clocks[i])
+    clocks[i] as usize
 }
 
 fn slot_for(clock: u8, block: u8) -> u8
@@ -49,63 +41,34 @@ fn slot_for(clock: u8, block: u8) -> u8
     if clock == FREE { NO_BLOCK } else { block }
 }
 
-fn slots<'a>(
-    clocks: &'a [u8; EXPIRATION_COUNT],
-    named: &'a [u8; EXPIRATION_COUNT],
-) -> [u8; EXPIRATION_COUNT]
-    requires { SizedCodes clocks.now named.now }
+fn slots(clocks: &[u8; EXPIRATION_COUNT], named: &[u8; EXPIRATION_COUNT]) -> [u8; EXPIRATION_COUNT]
     ensures { Slots clocks.now named.now result }
 {
     let mut out = [0; EXPIRATION_COUNT];
-    for i in 0..EXPIRATION_COUNT {
-        out[i] = slot_for(clocks[i], named[i]);
+    for (i, slot) in out.iter_mut().enumerate() {
+        *slot = slot_for(clocks[i], named[i]);
     }
     out
 }
 
-// Sets the flag of a byte,
-fn mark(out: &mut [bool; BYTE_VALUES], bytes: &[u8; EXPIRATION_COUNT], i: usize)
-    requires { MarksTo bytes.now i out.old
-        × (length bytes.now ≡ expiration_entries)
-        × (i < expiration_entries) }
-    ensures { MarksTo bytes.now (i + 1) out.new }
-{
-    let at = index_of(bytes[i]);
-    out[at] = true;
-}
-
-// of four,
-fn mark_four(out: &mut [bool; BYTE_VALUES], bytes: &[u8; EXPIRATION_COUNT], i: usize)
-    requires { MarksTo bytes.now i out.old
-        × (length bytes.now ≡ expiration_entries)
-        × (i + 4 ≤ expiration_entries) }
-    ensures { MarksTo bytes.now (i + 4) out.new }
-{
-    mark(out, bytes, i);
-    mark(out, bytes, i + 1);
-    mark(out, bytes, i + 2);
-    mark(out, bytes, i + 3);
-}
-
-// and of all, eight in a turn: which bytes there are.
+// Which bytes there are.
 fn marks(bytes: &[u8; EXPIRATION_COUNT]) -> [bool; BYTE_VALUES]
-    requires { length bytes.now ≡ expiration_entries }
     ensures { Marks bytes.now result }
 {
     let mut out = [false; BYTE_VALUES];
-    for q in 0..EXPIRATION_COUNT / 8 {
-        mark_four(&mut out, bytes, 8 * q);
-        mark_four(&mut out, bytes, 8 * q + 4);
+    for eight in bytes.chunks_exact(8) {
+        for byte in eight {
+            out[*byte as usize] = true;
+        }
     }
     out
 }
 
 // Which blocks there are among the entries. The bytes end here: what comes later takes their stack.
-pub fn flags_of<'a>(
-    clocks: &'a [u8; EXPIRATION_COUNT],
-    named: &'a [u8; EXPIRATION_COUNT],
+pub fn flags_of(
+    clocks: &[u8; EXPIRATION_COUNT],
+    named: &[u8; EXPIRATION_COUNT],
 ) -> [bool; BYTE_VALUES]
-    requires { SizedCodes clocks.now named.now }
     ensures { Flags clocks.now named.now result }
 {
     let slots = slots(clocks, named);

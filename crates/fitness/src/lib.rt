@@ -22,7 +22,7 @@ use handles::{distinct, used_of};
 use ledger::{TASK_COUNT, is_allowed};
 use pins::pinned_once;
 use record::running::{all_fit_tasks, all_ticked};
-use record::{BLOCK_COUNT, EXPIRATION_COUNT, Head};
+use record::{BLOCK_COUNT, BlockTable, ExpirationTable, Head};
 use shares::{Holding, Holdings, Sharing, sharing_of};
 use times::all_timely;
 
@@ -41,20 +41,17 @@ const UNFIT: Sharing = Sharing {
 };
 
 // The rules W, of the whole record but for its figures and shares.
-fn is_consistent<'a>(
+fn is_consistent(
     h: Head,
     used: [bool; BLOCK_COUNT],
-    handles: &'a [u32; BLOCK_COUNT],
-    extents: &'a [u64; BLOCK_COUNT],
-    clocks: &'a [u8; EXPIRATION_COUNT],
-    named: &'a [u8; EXPIRATION_COUNT],
-    dues: &'a [u32; EXPIRATION_COUNT],
+    blocks: &BlockTable,
+    expirations: &ExpirationTable,
 ) -> bool
-    requires { Sized handles.now extents.now clocks.now named.now dues.now
+    requires { Sized blocks.now expirations.now
         × (is_allowed h.limits ≡ true)
-        × UsedFlags handles.now used }
+        × UsedFlags blocks.now.handles used }
     ensures { result ≡ is_consistent
-        (lent h handles.now extents.now clocks.now named.now dues.now) }
+        (lent h blocks.now expirations.now) }
 {
     let tasks = h.tasks;
     if !all_fit_tasks(tasks) {
@@ -63,60 +60,46 @@ fn is_consistent<'a>(
     if all_ticked(tasks) {
         return false;
     }
-    if !all_coded(clocks, named) {
+    if !all_coded(&expirations.clocks, &expirations.named) {
         return false;
     }
-    if !all_timely(h, clocks, dues) {
+    if !all_timely(h, &expirations.clocks, &expirations.dues) {
         return false;
     }
-    let flags = flags_of(clocks, named);
-    if !check_blocks(h.given, flags, used, handles, extents) {
+    let flags = flags_of(&expirations.clocks, &expirations.named);
+    if !check_blocks(h.given, flags, used, blocks) {
         return false;
     }
-    distinct(handles, &used) & pinned_once(clocks, named)
+    distinct(&blocks.handles, &used) & pinned_once(&expirations.clocks, &expirations.named)
 }
 
 // The rules W, of the whole record; and what of either store its tasks have.
-pub fn fitness_of<'a>(
-    h: Head,
-    handles: &'a [u32; BLOCK_COUNT],
-    extents: &'a [u64; BLOCK_COUNT],
-    clocks: &'a [u8; EXPIRATION_COUNT],
-    named: &'a [u8; EXPIRATION_COUNT],
-    dues: &'a [u32; EXPIRATION_COUNT],
-) -> Sharing
-    requires { Sized handles.now extents.now clocks.now named.now dues.now }
-    ensures { Fitness h handles.now extents.now clocks.now named.now dues.now
+pub fn fitness_of(h: Head, blocks: &BlockTable, expirations: &ExpirationTable) -> Sharing
+    requires { Sized blocks.now expirations.now }
+    ensures { Fitness h blocks.now expirations.now
         result }
 {
     let limits = h.limits;
     if !is_allowed(limits) {
         return UNFIT;
     }
-    let used = used_of(handles);
-    if !is_consistent(h, used, handles, extents, clocks, named, dues) {
+    let used = used_of(&blocks.handles);
+    if !is_consistent(h, used, blocks, expirations) {
         return UNFIT;
     }
-    let sharing = sharing_of(h, &used, extents);
+    let sharing = sharing_of(h, &used, &blocks.extents);
     let holdings = sharing.holdings;
     Sharing {
-        fit: is_bounded(limits, handles, clocks) & sharing.fit,
-        holdings: holdings,
+        fit: is_bounded(limits, &blocks.handles, &expirations.clocks) & sharing.fit,
+        holdings,
     }
 }
 
-pub fn is_well_formed<'a>(
-    h: Head,
-    handles: &'a [u32; BLOCK_COUNT],
-    extents: &'a [u64; BLOCK_COUNT],
-    clocks: &'a [u8; EXPIRATION_COUNT],
-    named: &'a [u8; EXPIRATION_COUNT],
-    dues: &'a [u32; EXPIRATION_COUNT],
-) -> bool
-    requires { Sized handles.now extents.now clocks.now named.now dues.now }
+pub fn is_well_formed(h: Head, blocks: &BlockTable, expirations: &ExpirationTable) -> bool
+    requires { Sized blocks.now expirations.now }
     ensures { result ≡ is_well_formed
-        (lent h handles.now extents.now clocks.now named.now dues.now) }
+        (lent h blocks.now expirations.now) }
 {
-    let sharing = fitness_of(h, handles, extents, clocks, named, dues);
+    let sharing = fitness_of(h, blocks, expirations);
     sharing.fit
 }

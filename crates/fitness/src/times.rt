@@ -8,7 +8,8 @@ ghost use Rattle.fitness.specs.Checks.{left_from, WithinBy, next_local, next_glo
 
 use super::codes::code_at;
 use ledger::{Limits, TASK_COUNT};
-use record::codes::{DEPARTED, FREE, GLOBAL, LOCAL, PINNED, global_left, local_left};
+use record::clock_time::ClockTime;
+use record::codes::{DEPARTED, FREE, GLOBAL, LOCAL, PINNED};
 use record::{EXPIRATION_COUNT, GlobalTime, Head, LocalTime, TaskEntry};
 
 // The codes of clocks, as indices: those of tasks are from LOCAL on, those of the global time from GLOBAL on by the task that set it, to
@@ -46,8 +47,8 @@ fn left_from(due: u32, first: Time) -> u32
 {
     match first {
         Time::None(number) => std::num::wrapping_sub_u32(due, number),
-        Time::Local(at) => local_left(LocalTime(due), at),
-        Time::Global(at) => global_left(GlobalTime(due), at),
+        Time::Local(at) => LocalTime(due).left(at),
+        Time::Global(at) => GlobalTime(due).left(at),
     }
 }
 
@@ -61,13 +62,13 @@ fn is_within(due: u32, first: Time, units: u64) -> bool
 fn next_local(now: LocalTime) -> Time
     ensures { result ≡ next_local now }
 {
-    Time::Local(LocalTime(std::num::wrapping_add_u32(now.0, 1)))
+    Time::Local(now.after(1))
 }
 
 fn next_global(now: GlobalTime) -> Time
     ensures { result ≡ next_global now }
 {
-    Time::Global(GlobalTime(std::num::wrapping_add_u32(now.0, 1)))
+    Time::Global(now.after(1))
 }
 
 // By each clock the first time that lies ahead, and 0 for a pinned one; of other codes that are no clock's nothing is told.
@@ -77,9 +78,8 @@ fn firsts(tasks: [TaskEntry; TASK_COUNT], global: GlobalTime) -> [Time; CODES]
     let last = next_global(global);
     let mut out = [last; CODES];
     out[OF_PINNED] = Time::None(0);
-    for i in 0..TASK_COUNT {
-        let e = tasks[i];
-        let first = next_local(e.clock);
+    for (i, task) in tasks.iter().enumerate() {
+        let first = next_local(task.clock);
         out[i + FIRST_LOCAL] = first;
     }
     out
@@ -107,38 +107,33 @@ fn units(limits: Limits, tasks: [TaskEntry; TASK_COUNT]) -> [u64; CODES]
     out[NO_CLOCK] = ALL_UNITS;
     out[OF_DEPARTED] = global as u64;
     out[OF_PINNED] = PINNED_UNITS;
-    for i in 0..TASK_COUNT {
-        let e = tasks[i];
-        out[i + FIRST_LOCAL] = units_of(e.state, local);
-        out[i + FIRST_GLOBAL] = units_of(e.state, global);
+    for (i, task) in tasks.iter().enumerate() {
+        out[i + FIRST_LOCAL] = units_of(task.state, local);
+        out[i + FIRST_GLOBAL] = units_of(task.state, global);
     }
     out
 }
 
 // Those that are not within are counted, which takes no branch.
-fn all_within<'a>(
+fn all_within(
     firsts: [Time; CODES],
     units: [u64; CODES],
-    clocks: &'a [u8; EXPIRATION_COUNT],
-    dues: &'a [u32; EXPIRATION_COUNT],
+    clocks: &[u8; EXPIRATION_COUNT],
+    dues: &[u32; EXPIRATION_COUNT],
 ) -> bool
     requires { CodedTimes clocks.now dues.now }
     ensures { AllWithin firsts units clocks.now dues.now result }
 {
     let mut out = 0u32;
-    for i in 0..EXPIRATION_COUNT {
+    for (i, due) in dues.iter().enumerate() {
         let code = code_at(clocks, i);
         let first = firsts[code];
-        out = out + ((!is_within(dues[i], first, units[code])) as u32);
+        out += (!is_within(*due, first, units[code])) as u32;
     }
     out == 0
 }
 
-pub fn all_timely<'a>(
-    h: Head,
-    clocks: &'a [u8; EXPIRATION_COUNT],
-    dues: &'a [u32; EXPIRATION_COUNT],
-) -> bool
+pub fn all_timely(h: Head, clocks: &[u8; EXPIRATION_COUNT], dues: &[u32; EXPIRATION_COUNT]) -> bool
     requires { CodedTimes clocks.now dues.now
         × (is_allowed h.limits ≡ true)
         × (all is_fit_task h.tasks ≡ true) }

@@ -7,6 +7,7 @@ use mathlib.Core.Path.{◌≡◌, refl}
 use borrow.Author.Tests.{leb-true, leb-false}
 use lib.Dec.{leb}
 use lib.ListN.{length, drop, length-drop}
+use Rattle.std.specs.Prelude.{Ok}
 use Rattle.lists.proofs.Cases.{by_test}
 use Rattle.ledger.specs.declared.Call.TheVariants.{Join, Schedule, Make, Refresh, Read, Write, Batch, Release}
 use Rattle.ledger.specs.declared.Request.{Request}
@@ -21,7 +22,6 @@ use Rattle.text.proofs.Digits.{length_bytes}
 use Rattle.text.specs.HandleBytes.{most_handle_bytes}
 use Rattle.frames.specs.Frames.{head_size, any_handles, tail_of, handed_on, frame_of, last_bytes, payload_of, operation_of}
 use Rattle.frames.specs.HandedOn.{HandsOnEnough}
-use Rattle.ledger.specs.declared.Frame.{Frame}
 use Rattle.frames.proofs.Payloads.{last_after, requested}
 
 module _ (L : Ledger) where
@@ -53,7 +53,7 @@ module _ (L : Ledger) where
   enough (Remaining task handle) bytes = whole (Remaining task handle) bytes
 
 -- the bytes handed on are the last of those that follow the fields
-payload_following : (line : List ℕ) {request : Request} {count : ℕ} → frame_of line ≡ Frame.Request request count
+payload_following : (line : List ℕ) {request : Request} {count : ℕ} → frame_of line ≡ Ok (request, count)
     → let following = drop (head_size (operation_of request)) (bytes_of line) in
     payload_of line ≡ last_bytes (handed_on (tail_of (operation_of request)) (length following)) following
 payload_following line {request} {count} e =

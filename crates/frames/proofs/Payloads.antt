@@ -5,13 +5,15 @@ use native.Mathlib.Omega.{arith}
 use mathlib.Core.Bool.{true}
 use mathlib.Core.List.{List, [], ◌++◌}
 use mathlib.Core.Option.{Option, none, some}
-use mathlib.Core.Path.{◌≡◌, refl, sym, ◌∙◌}
+use mathlib.Core.Path.{◌≡◌, refl, sym, ap, ◌∙◌}
 use borrow.Author.Tests.{leb-true}
 use lib.ListN.{length, get_or, take, drop, length-drop}
 use lib.Seq.{length-take-le, take_all, drop-drop}
+use Rattle.std.specs.Prelude.{Result, Ok, Err}
 use Rattle.lists.specs.Blocks.{overwritten}
 use Rattle.lists.proofs.Blocks.{take_new}
 use Rattle.lists.proofs.Cases.{by_test}
+use Rattle.ledger.specs.Ledger.{Frame}
 use Rattle.ledger.specs.declared.Kind.{Kind}
 use Rattle.ledger.specs.declared.Refusal.{Refusal}
 use Rattle.ledger.specs.declared.Request.{Request}
@@ -21,14 +23,11 @@ use Rattle.text.specs.HandleBytes.{most_handle_bytes}
 use Rattle.ledger.specs.Numbers.{kind_of}
 use Rattle.frames.specs.Frames.{Operation, join, schedule, make, refresh, read, write, report, remaining, batch, release, widths_of, head_size, Tail, bytes_up_to, any_handles, tail_of, is_tail, is_size_of, handed_on, with_kind, request_of, frame_with, frame_as, operations, operation_in, frame_by, frame_in, frame_of, last_bytes, payload_of, Decodes, operation_of}
 use Rattle.text.specs.Hex.{is_hex, bytes_of}
-use Rattle.ledger.specs.declared.Frame.{Frame}
-use Rattle.ledger.specs.declared.KindByte.{KindByte}
-use Rattle.ledger.specs.declared.KindByte.TheVariants.{Known, Unknown}
 use Rattle.text.proofs.Digits.{length_bytes}
 use Rattle.text.proofs.Puts.{start_within}
 use Rattle.frames.proofs.Frames.{sizes}
 
-apart : {refusal : Refusal} {request : Request} {count : ℕ} → Frame.Refused refusal ≡ Frame.Request request count → ⊥
+apart : {refusal : Refusal} {request : Request} {count : ℕ} → ◌≡◌ {A = Frame} (Err refusal) (Ok (request, count)) → ⊥
 apart e = let z : ◌≡◌ {A = ℕ} 0 1 = cc in omega arith
 
 -- the last bytes of a list are the last of its end, which has as many
@@ -60,10 +59,10 @@ handed_on_lem any_handles count e = (omega arith, omega arith)
 
 -- the operation of a request that values make
 module _ {request : Request} where
-  with_kind_lem : (o : Operation) (byte : KindByte) (by : Kind → Request) → ((kind : Kind) → operation_of (by kind) ≡ o)
+  with_kind_lem : (o : Operation) (byte : Result Kind Refusal) (by : Kind → Request) → ((kind : Kind) → operation_of (by kind) ≡ o)
       → with_kind byte by ≡ some request → operation_of request ≡ o
-  with_kind_lem o (Known kind) by h e = let k = h kind in cc
-  with_kind_lem o Unknown by h e = cc
+  with_kind_lem o (Ok kind) by h e = let k = h kind in cc
+  with_kind_lem o (Err why) by h e = cc
 
   operation_of_lem : (o : Operation) (values : List ℕ) → request_of o values ≡ some request → operation_of request ≡ o
   operation_of_lem join values e = cc
@@ -84,11 +83,13 @@ record Brought (size : ℕ) (o : Operation) (count : ℕ) : Type 0 where
   handed : handed_on (tail_of o) (size - head_size o) ≡ count
 
 module _ (bytes : List ℕ) {request : Request} {count : ℕ} where
-  brought_with : (r : Option Request) (n : ℕ) → frame_with r n ≡ Frame.Request request count → (r ≡ some request) × (n ≡ count)
+  brought_with : (r : Option Request) (n : ℕ) → frame_with r n ≡ Ok (request, count) → (r ≡ some request) × (n ≡ count)
   brought_with none n e = absurd (apart e)
-  brought_with (some r) n e = (cc, cc)
+  brought_with (some r) n e =
+      let same : ◌≡◌ {A = Request × ℕ} (r, n) (request, count) = cc in
+      (ap (λ (p : Request × ℕ). some p.0) same, ap (λ (p : Request × ℕ). p.1) same)
 
-  brought_as : (o : Operation) → frame_as o bytes ≡ Frame.Request request count → Brought (length bytes) (operation_of request) count
+  brought_as : (o : Operation) → frame_as o bytes ≡ Ok (request, count) → Brought (length bytes) (operation_of request) count
   unfolding frame_as
   brought_as o e =
       let values = fields_at 1 (widths_of o) bytes in
@@ -98,7 +99,7 @@ module _ (bytes : List ℕ) {request : Request} {count : ℕ} where
       rw (operation_of_lem o values r) (record { head = low; tail = tail; handed = n }))
       (λ s. absurd (apart (rw s at e)))
 
-  brought_by : (o : Option Operation) → frame_by o bytes ≡ Frame.Request request count → Brought (length bytes) (operation_of request) count
+  brought_by : (o : Option Operation) → frame_by o bytes ≡ Ok (request, count) → Brought (length bytes) (operation_of request) count
   brought_by none e = absurd (apart e)
   brought_by (some o) e = brought_as o e
 
@@ -111,7 +112,7 @@ pub record Requested (line : List ℕ) (o : Operation) (count : ℕ) : Type 0 wh
   pub payload : payload_of line ≡ drop (length line / 2 - count) (bytes_of line)
   pub counted : length (payload_of line) ≡ count
 
-pub requested : (line : List ℕ) {request : Request} {count : ℕ} → frame_of line ≡ Frame.Request request count
+pub requested : (line : List ℕ) {request : Request} {count : ℕ} → frame_of line ≡ Ok (request, count)
     → Requested line (operation_of request) count
 unfolding frame_of frame_in payload_of
 requested line {request} {count} e =
@@ -130,19 +131,19 @@ requested line {request} {count} e =
     (λ h. absurd (apart (rw h at e)))
 
 -- the bytes of a request at the start of a buffer
-pub payload_put : (line old part : List ℕ) {request : Request} {count : ℕ} → frame_of line ≡ Frame.Request request count → large_size ≤ length old
+pub payload_put : (line old part : List ℕ) {request : Request} {count : ℕ} → frame_of line ≡ Ok (request, count) → large_size ≤ length old
     → part ≡ drop (length line / 2 - length (take count old)) (bytes_of line) → part ++ drop count old ≡ overwritten 0 (payload_of line) old
 unfolding overwritten
 payload_put line old part {count = count} e room p =
     let r = requested line e in
     rw (p, length-take-le count old (omega (arith, r.most)), ← r.payload, zero-add, r.counted)
 
-pub no_payload : (line : List ℕ) {refusal : Refusal} → frame_of line ≡ Frame.Refused refusal → payload_of line ≡ []
+pub no_payload : (line : List ℕ) {refusal : Refusal} → frame_of line ≡ Err refusal → payload_of line ≡ []
 unfolding payload_of
 no_payload line e = rw e
 
 -- a request's bytes, as they are found in the buffer
-pub payload_front : {line old new : List ℕ} {request : Request} {count : ℕ} → Decodes line old (Frame.Request request count) new
+pub payload_front : {line old new : List ℕ} {request : Request} {count : ℕ} → Decodes line old (Ok (request, count)) new
     → take count new ≡ payload_of line
 payload_front {line} {old} {count = count} d =
     let r = requested line (sym d.frame) in
@@ -150,5 +151,5 @@ payload_front {line} {old} {count = count} d =
 
 -- the bytes of a request are in the buffer
 pub bytes_in_lem : {line old new : List ℕ} {frame : Frame} → Decodes line old frame new → {request : Request} {count : ℕ}
-    → frame ≡ Frame.Request request count → count ≤ length new
+    → frame ≡ Ok (request, count) → count ≤ length new
 bytes_in_lem {line} {old} d e = rw d.bytes (omega (arith, (requested line (sym d.frame ∙ e)).counted, start_within (payload_of line) old))

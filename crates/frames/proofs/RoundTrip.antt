@@ -7,6 +7,7 @@ use mathlib.Core.Option.{Option, some}
 use mathlib.Core.Path.{◌≡◌, refl, ap, ◌∙◌}
 use lib.ListN.{length, length-append}
 use lib.Seq.{drop_at}
+use Rattle.std.specs.Prelude.{Ok}
 use Rattle.lists.specs.Tests.{All}
 use Rattle.lists.proofs.All.{all_append}
 use Rattle.ledger.specs.declared.Call.TheVariants.{Join, Schedule, Make, Refresh, Read, Write, Batch, Release}
@@ -17,7 +18,6 @@ use Rattle.ledger.specs.declared.Request.TheVariants.{Use, Report, Remaining}
 use Rattle.text.specs.Fields.{in_fields, FitFields}
 use Rattle.frames.specs.Frames.{Operation, join, schedule, make, refresh, read, write, report, remaining, batch, release, operations, operation_number, operation_in, widths_of, head_size, tail_of, is_tail, handed_on, request_of, frame_as, frame_by, frame_in, frame_of, last_bytes, payload_of, operation_of, values_of, line_of, RoundTrip}
 use Rattle.text.specs.Hex.{is_hex, bytes_of}
-use Rattle.ledger.specs.declared.Frame.{Frame}
 use Rattle.text.proofs.Digits.{hex_hex, bytes_hex}
 use Rattle.text.proofs.Fields.{fields_in, fields_below, length_in_fields}
 use Rattle.frames.proofs.Frames.{of_size}
@@ -76,7 +76,7 @@ module _ (request : Request) (bytes : List ℕ) (fit : FitFields (widths_of (ope
   abbrev count : ℕ
   count = handed_on (tail_of o) (length bytes)
 
-  framed : frame_as o (head ++ bytes) ≡ Frame.Request request count
+  framed : frame_as o (head ++ bytes) ≡ Ok (request, count)
   unfolding frame_as
   framed =
       let rest : length (head ++ bytes) - head_size o ≡ length bytes = omega (arith, size) in
@@ -95,7 +95,7 @@ module _ (request : Request) (bytes : List ℕ) (fit : FitFields (widths_of (ope
   unfolding line_of
   spelled = bytes_hex (head ++ bytes) bytes_below
 
-  frame_back : frame_of (line_of request bytes) ≡ Frame.Request request count
+  frame_back : frame_of (line_of request bytes) ≡ Ok (request, count)
   unfolding frame_of frame_in
   frame_back = rw (hex, spelled) (ap (λ (x : Option Operation). frame_by x (head ++ bytes)) (found o).0 ∙ framed)
 

@@ -1,18 +1,17 @@
 -- The rules F: the request or the refusal that a line gives, and the line of a request.
-use Rattle.std.specs.Prelude.{ℕ, ◌+◌, ◌-◌, ◌%◌, ◌<◌, min, Bool, true, cond, ◌&&◌, List, [], ◌∷◌, ◌++◌, ◌≡◌, eqb, leb, length, get_or, drop}
+use Rattle.std.specs.Prelude.{ℕ, ◌+◌, ◌-◌, ◌%◌, ◌<◌, min, Bool, true, cond, ◌&&◌, List, [], ◌∷◌, ◌++◌, ◌≡◌, eqb, leb, length, get_or, drop, Result, Ok, Err}
 use Rattle.std.proofs.Math.Option.{Option, none, some}
 use Rattle.text.specs.Fields.{fields_at, in_fields, width_of, FitFields}
 use Rattle.text.specs.HandleBytes.{handle_width, most_handle_bytes}
 use Rattle.text.specs.Hex.{is_hex, bytes_of, hex_of}
 use Rattle.lists.specs.Blocks.{overwritten}
 use Rattle.lists.specs.Tests.{All}
-use Rattle.ledger.specs.declared.Frame.{Frame}
-use Rattle.ledger.specs.declared.KindByte.{KindByte}
-use Rattle.ledger.specs.declared.KindByte.TheVariants.{Known, Unknown}
+use Rattle.ledger.specs.Ledger.{Frame}
 use Rattle.ledger.specs.declared.Call.TheVariants.{Join, Schedule, Make, Refresh, Read, Write, Batch, Release}
 use Rattle.ledger.specs.declared.Event.{Event}
 use Rattle.ledger.specs.declared.Event.TheVariants.{Leave, Block, Resume, Tick, View}
 use Rattle.ledger.specs.declared.Kind.{Kind}
+use Rattle.ledger.specs.declared.Refusal.{Refusal}
 use Rattle.ledger.specs.declared.Refusal.TheVariants.{NotHexadecimal, UnknownOperation, WrongFrameLength, UnknownKind}
 use Rattle.ledger.specs.declared.Request.{Request}
 use Rattle.ledger.specs.declared.Request.TheVariants.{Use, Report, Remaining}
@@ -111,9 +110,9 @@ abbrev pub handed_on : Tail → ℕ → ℕ
 handed_on (bytes_up_to most) count = count
 handed_on any_handles count = min count most_handle_bytes
 
-abbrev pub with_kind : KindByte → (Kind → Request) → Option Request
-with_kind (Known kind) request = some (request kind)
-with_kind Unknown request = none
+abbrev pub with_kind : Result Kind Refusal → (Kind → Request) → Option Request
+with_kind (Ok kind) request = some (request kind)
+with_kind (Err why) request = none
 
 -- the request that the values of the fields make, or none where a kind is unknown
 abbrev pub request_of : Operation → List ℕ → Option Request
@@ -132,19 +131,19 @@ request_of batch values = with_kind (kind_of (get_or values 1 0)) (λ (kind : Ki
 request_of release values = some (Use (Release (get_or values 0 0) (get_or values 1 0)))
 
 abbrev pub frame_with : Option Request → ℕ → Frame
-frame_with none count = Frame.Refused UnknownKind
-frame_with (some request) count = Frame.Request request count
+frame_with none count = Err UnknownKind
+frame_with (some request) count = Ok (request, count)
 
 -- R33: a frame of a known operation: 18, then 19; the bytes that are handed on come with the request
 unfoldable pub frame_as : Operation → List ℕ → Frame
 frame_as o bytes =
     cond (is_size_of o (length bytes))
     (frame_with (request_of o (fields_at 1 (widths_of o) bytes)) (handed_on (tail_of o) (length bytes - head_size o)))
-    (Frame.Refused WrongFrameLength)
+    (Err WrongFrameLength)
 
 -- R17 before these
 abbrev pub frame_by : Option Operation → List ℕ → Frame
-frame_by none bytes = Frame.Refused UnknownOperation
+frame_by none bytes = Err UnknownOperation
 frame_by (some o) bytes = frame_as o bytes
 
 -- no operation has the number 0, which stands for a frame of no byte
@@ -153,7 +152,7 @@ frame_in bytes = frame_by (operation_in operations (get_or bytes 0 0)) bytes
 
 -- R16 before all
 unfoldable pub frame_of : List ℕ → Frame
-frame_of line = cond (is_hex line) (frame_in (bytes_of line)) (Frame.Refused NotHexadecimal)
+frame_of line = cond (is_hex line) (frame_in (bytes_of line)) (Err NotHexadecimal)
 
 -- the last so many of a list
 abbrev pub last_bytes : ℕ → List ℕ → List ℕ
@@ -161,8 +160,8 @@ last_bytes count bytes = drop (length bytes - count) bytes
 
 -- the bytes that come with a request are the last of its frame
 abbrev pub last_of : Frame → List ℕ → List ℕ
-last_of (Frame.Request request count) bytes = last_bytes count bytes
-last_of (Frame.Refused refusal) bytes = []
+last_of (Ok (request, count)) bytes = last_bytes count bytes
+last_of (Err refusal) bytes = []
 
 unfoldable pub payload_of : List ℕ → List ℕ
 payload_of line = last_of (frame_of line) (bytes_of line)
@@ -210,4 +209,4 @@ RoundTrip =
     (request : Request) (bytes : List ℕ) → let o = operation_of request in
     let count = handed_on (tail_of o) (length bytes) in
     FitFields (widths_of o) (values_of request) → All (λ (b : ℕ). b < 256) bytes → is_tail (tail_of o) (length bytes) ≡ true
-    → (frame_of (line_of request bytes) ≡ Frame.Request request count) × (payload_of (line_of request bytes) ≡ last_bytes count bytes)
+    → (frame_of (line_of request bytes) ≡ Ok (request, count)) × (payload_of (line_of request bytes) ≡ last_bytes count bytes)

@@ -1,39 +1,42 @@
 // The frame of a line. The fields of an operation stand at fixed places, and its number at place 0.
-ghost use Rattle.std.specs.Prelude.{◌≤◌, true, ◌≡◌, length};
+ghost use Rattle.std.specs.Prelude.{◌/◌, ◌≤◌, true, ◌≡◌, ◌≢◌, MatchResult, length};
 ghost use Rattle.ledger.specs.Limits.{large_size};
+ghost use Rattle.ledger.specs.declared.Refusal.TheVariants.{WrongFrameLength};
 ghost use Rattle.frames.specs.Frames.{Decodes, frame_as, frame_in, frame_of, join, schedule, make, refresh, read, write, report, remaining, batch, release};
 ghost use Rattle.text.specs.Hex.{is_hex, bytes_of};
 
-use ledger::{Call, Event, Frame, KindByte, Quota, Refusal, Request, Share, kind_of};
-use text::batches::{HANDLE_WIDTH, MOST_HANDLE_BYTES, capped};
+use ledger::{Call, Event, Frame, Kind, Quota, Refusal, Request, Share};
+use text::batches::{HANDLE_WIDTH, MOST_HANDLE_BYTES};
 use text::hex::{MOST_BYTES, byte_at, is_hex, short_at, spell_last, word_at};
+
+// R18: a frame that has so many bytes and no other count.
+fn sized(line: &[u8], size: usize) -> Result<(), Refusal>
+    ensures { MatchResult result (λ _. length line.now / 2 ≡ size)
+        (λ why. (length line.now / 2 ≢ size) × (why ≡ WrongFrameLength)) }
+{
+    if line.len() / 2 != size {
+        return Err(Refusal::WrongFrameLength);
+    }
+    Ok(())
+}
 
 // F1: task, and reserve and limit of either store.
 fn join(line: &[u8]) -> Frame
     requires { is_hex line.now ≡ true }
     ensures { result ≡ frame_as join (bytes_of line.now) }
 {
-    if line.len() / 2 != 6 {
-        return Frame::Refused(Refusal::WrongFrameLength);
-    }
+    sized(line, 6)?;
     let task = byte_at(line, 1);
-    let small_reserve = byte_at(line, 2);
-    let small_limit = byte_at(line, 3);
-    let large_reserve = byte_at(line, 4);
-    let large_limit = byte_at(line, 5);
     let small = Quota {
-        reserve: small_reserve,
-        limit: small_limit,
+        reserve: byte_at(line, 2),
+        limit: byte_at(line, 3),
     };
     let large = Quota {
-        reserve: large_reserve,
-        limit: large_limit,
+        reserve: byte_at(line, 4),
+        limit: byte_at(line, 5),
     };
-    let share = Share {
-        small: small,
-        large: large,
-    };
-    Frame::Request(Request::Use(Call::Join { task, share }), 0)
+    let share = Share { small, large };
+    Ok((Request::Use(Call::Join { task, share }), 0))
 }
 
 // F2 to F5, F14: task.
@@ -41,11 +44,9 @@ fn schedule(line: &[u8], event: Event) -> Frame
     requires { is_hex line.now ≡ true }
     ensures { result ≡ frame_as (schedule event) (bytes_of line.now) }
 {
-    if line.len() / 2 != 2 {
-        return Frame::Refused(Refusal::WrongFrameLength);
-    }
+    sized(line, 2)?;
     let task = byte_at(line, 1);
-    Frame::Request(Request::Use(Call::Schedule { event, task }), 0)
+    Ok((Request::Use(Call::Schedule { event, task }), 0))
 }
 
 // F6: task, kind, extension, length, prefix.
@@ -53,17 +54,13 @@ fn make(line: &[u8]) -> Frame
     requires { is_hex line.now ≡ true }
     ensures { result ≡ frame_as make (bytes_of line.now) }
 {
-    if line.len() / 2 != 8 {
-        return Frame::Refused(Refusal::WrongFrameLength);
-    }
-    let KindByte::Known(kind) = kind_of(byte_at(line, 2)) else {
-        return Frame::Refused(Refusal::UnknownKind);
-    };
+    sized(line, 8)?;
+    let kind = Kind::try_from(byte_at(line, 2))?;
     let task = byte_at(line, 1);
     let extension = byte_at(line, 3);
     let length = short_at(line, 4);
     let prefix = short_at(line, 6);
-    Frame::Request(
+    Ok((
         Request::Use(Call::Make {
             task,
             kind,
@@ -72,7 +69,7 @@ fn make(line: &[u8]) -> Frame
             prefix,
         }),
         0,
-    )
+    ))
 }
 
 // F7: task, kind, extension, handle.
@@ -80,16 +77,12 @@ fn refresh(line: &[u8]) -> Frame
     requires { is_hex line.now ≡ true }
     ensures { result ≡ frame_as refresh (bytes_of line.now) }
 {
-    if line.len() / 2 != 8 {
-        return Frame::Refused(Refusal::WrongFrameLength);
-    }
-    let KindByte::Known(kind) = kind_of(byte_at(line, 2)) else {
-        return Frame::Refused(Refusal::UnknownKind);
-    };
+    sized(line, 8)?;
+    let kind = Kind::try_from(byte_at(line, 2))?;
     let task = byte_at(line, 1);
     let extension = byte_at(line, 3);
     let handle = word_at(line, 4);
-    Frame::Request(
+    Ok((
         Request::Use(Call::Refresh {
             task,
             kind,
@@ -97,7 +90,7 @@ fn refresh(line: &[u8]) -> Frame
             handle,
         }),
         0,
-    )
+    ))
 }
 
 // F8: task, handle.
@@ -105,12 +98,10 @@ fn read(line: &[u8]) -> Frame
     requires { is_hex line.now ≡ true }
     ensures { result ≡ frame_as read (bytes_of line.now) }
 {
-    if line.len() / 2 != 6 {
-        return Frame::Refused(Refusal::WrongFrameLength);
-    }
+    sized(line, 6)?;
     let task = byte_at(line, 1);
     let handle = word_at(line, 2);
-    Frame::Request(Request::Use(Call::Read { task, handle }), 0)
+    Ok((Request::Use(Call::Read { task, handle }), 0))
 }
 
 // F9: operation, task, handle and offset; then the bytes to write.
@@ -123,23 +114,20 @@ fn write(line: &[u8]) -> Frame
     ensures { result ≡ frame_as write (bytes_of line.now) }
 {
     let size = line.len() / 2;
-    if size < WRITE_HEAD {
-        return Frame::Refused(Refusal::WrongFrameLength);
-    }
-    if LONGEST_WRITE < size {
-        return Frame::Refused(Refusal::WrongFrameLength);
+    if size < WRITE_HEAD || LONGEST_WRITE < size {
+        return Err(Refusal::WrongFrameLength);
     }
     let task = byte_at(line, 1);
     let handle = word_at(line, 2);
     let offset = byte_at(line, 6);
-    Frame::Request(
+    Ok((
         Request::Use(Call::Write {
             task,
             handle,
             offset,
         }),
         size - WRITE_HEAD,
-    )
+    ))
 }
 
 // F10: nothing.
@@ -147,10 +135,8 @@ fn report(line: &[u8]) -> Frame
     requires { is_hex line.now ≡ true }
     ensures { result ≡ frame_as report (bytes_of line.now) }
 {
-    if line.len() / 2 != 1 {
-        return Frame::Refused(Refusal::WrongFrameLength);
-    }
-    Frame::Request(Request::Report, 0)
+    sized(line, 1)?;
+    Ok((Request::Report, 0))
 }
 
 // F11: task, handle.
@@ -158,12 +144,10 @@ fn remaining(line: &[u8]) -> Frame
     requires { is_hex line.now ≡ true }
     ensures { result ≡ frame_as remaining (bytes_of line.now) }
 {
-    if line.len() / 2 != 6 {
-        return Frame::Refused(Refusal::WrongFrameLength);
-    }
+    sized(line, 6)?;
     let task = byte_at(line, 1);
     let handle = word_at(line, 2);
-    Frame::Request(Request::Remaining { task, handle }, 0)
+    Ok((Request::Remaining { task, handle }, 0))
 }
 
 // F12: operation, task, kind and extension; then the handles.
@@ -174,26 +158,20 @@ fn batch(line: &[u8]) -> Frame
     ensures { result ≡ frame_as batch (bytes_of line.now) }
 {
     let size = line.len() / 2;
-    if size < BATCH_HEAD {
-        return Frame::Refused(Refusal::WrongFrameLength);
+    if size < BATCH_HEAD || (size - BATCH_HEAD) % HANDLE_WIDTH != 0 {
+        return Err(Refusal::WrongFrameLength);
     }
-    let count = size - BATCH_HEAD;
-    if count % HANDLE_WIDTH != 0 {
-        return Frame::Refused(Refusal::WrongFrameLength);
-    }
-    let KindByte::Known(kind) = kind_of(byte_at(line, 2)) else {
-        return Frame::Refused(Refusal::UnknownKind);
-    };
+    let kind = Kind::try_from(byte_at(line, 2))?;
     let task = byte_at(line, 1);
     let extension = byte_at(line, 3);
-    Frame::Request(
+    Ok((
         Request::Use(Call::Batch {
             task,
             kind,
             extension,
         }),
-        capped(count, MOST_HANDLE_BYTES),
-    )
+        (size - BATCH_HEAD).min(MOST_HANDLE_BYTES),
+    ))
 }
 
 // F13: task, handle.
@@ -201,12 +179,10 @@ fn release(line: &[u8]) -> Frame
     requires { is_hex line.now ≡ true }
     ensures { result ≡ frame_as release (bytes_of line.now) }
 {
-    if line.len() / 2 != 6 {
-        return Frame::Refused(Refusal::WrongFrameLength);
-    }
+    sized(line, 6)?;
     let task = byte_at(line, 1);
     let handle = word_at(line, 2);
-    Frame::Request(Request::Use(Call::Release { task, handle }), 0)
+    Ok((Request::Use(Call::Release { task, handle }), 0))
 }
 
 // By the operation's number; R17 where there is none.
@@ -215,7 +191,7 @@ fn frame_in(line: &[u8]) -> Frame
     ensures { result ≡ frame_in (bytes_of line.now) }
 {
     if line.len() == 0 {
-        return Frame::Refused(Refusal::UnknownOperation);
+        return Err(Refusal::UnknownOperation);
     }
     match byte_at(line, 0) {
         1 => join(line),
@@ -232,7 +208,7 @@ fn frame_in(line: &[u8]) -> Frame
         12 => batch(line),
         13 => release(line),
         14 => schedule(line, Event::View),
-        _ => Frame::Refused(Refusal::UnknownOperation),
+        _ => Err(Refusal::UnknownOperation),
     }
 }
 
@@ -243,7 +219,7 @@ fn frame_of(line: &[u8]) -> Frame
     if is_hex(line) {
         frame_in(line)
     } else {
-        Frame::Refused(Refusal::NotHexadecimal)
+        Err(Refusal::NotHexadecimal)
     }
 }
 
@@ -252,10 +228,7 @@ pub fn decode(line: &[u8], bytes: &mut [u8]) -> Frame
     requires { large_size ≤ length bytes.old }
     ensures { Decodes line.now bytes.old result bytes.new }
 {
-    let frame = frame_of(line);
-    let Frame::Request(_, count) = frame else {
-        return frame;
-    };
+    let (request, count) = frame_of(line)?;
     spell_last(&mut bytes[..count], line);
-    frame
+    Ok((request, count))
 }

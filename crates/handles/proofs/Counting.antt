@@ -15,7 +15,7 @@ use Rattle.lists.proofs.Counts.{count_append, length_filter}
 use Rattle.lists.proofs.Filters.{count_length}
 use Rattle.lists.proofs.Implied.{any_none}
 use Rattle.record.specs.WellFormed.{is_distinct}
-use Rattle.handles.specs.Handles.{is_of_rest, has_rest, Counted, UsedIn}
+use Rattle.handles.specs.Handles.{is_of_rest, has_rest, Counted, UsedFlags}
 
 module _ {ℓ} {A : Type ℓ} (p : A → Bool) where
   pub count_most : (xs : List A) → count p xs ≤ length xs
@@ -63,11 +63,11 @@ free_apart k (h ∷ hs) (u ∷ us) n f =
     (λ z. rw (head, z, eqb-true h 0 z, rest) (by_test (eqb 0 k) (λ e. rw e (omega arith)) (λ e. rw e)))
     (λ z. rw (head, z, rest) (by_test (eqb (h % 256) k) (λ e. rw e (omega arith)) (λ e. rw e)))
 
-module _ {hs : List ℕ} {used : List Bool} (u : UsedIn hs used) {i : ℕ} {out : List ℕ} (m : CountedTo hs i out) (h : 96 ≤ i) where
+module _ {hs : List ℕ} {used : List Bool} (size : length hs ≡ 96) (u : UsedFlags hs used) {i : ℕ} {out : List ℕ} (m : CountedTo hs i out) (h : 96 ≤ i) where
   pub counted_all : (k : ℕ) → k < 256 → get_or out k 0 ≡ count (has_rest k) hs + cond (eqb 0 k) (count not used) 0
   counted_all k l =
-      (rw (take_all i hs (omega (arith, u.size))) at (m.so k l))
-      ∙ free_apart k hs used (u.so.size ∙ sym u.size) (λ i l. u.so.so i (omega (arith, u.size)))
+      (rw (take_all i hs (omega arith)) at (m.so k l))
+      ∙ free_apart k hs used (u.size ∙ sym size) (λ i l. u.so i (omega arith))
 
   pub counted_end : {free : ℕ} → free ≡ count not used → Counted hs (set out 0 (get_or out 0 0 - free))
   counted_end {free} e =

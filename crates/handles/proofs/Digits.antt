@@ -52,8 +52,8 @@ lasts_turn {keys} {i} {out} m h e inside =
 pub lasts_end : {keys : List ℕ} {i : ℕ} {out : List ℕ} → LastsTo keys i out → 96 ≤ i → Lasts keys out
 lasts_end m h = record { size = m.size; below = λ k l. m.below k (omega arith); so = λ k l. m.so k (omega arith) }
 
-pub keys_below : {bits : ℕ} {parts hs keys : List ℕ} → Partable bits parts hs → Keys bits parts hs keys → Below keys
-keys_below p k = record { size = k.size; below = λ i l. omega (arith, k.so i l, p.below i l) }
+pub keys_below : {bits : ℕ} {parts : List ℕ} (hs : List ℕ) {keys : List ℕ} → Partable bits parts → Keys bits parts hs keys → Below keys
+keys_below hs p k = record { below = λ i l. omega (arith, k.so i l, p.below i l) }
 
 -- one digit
 pub refine : {bits : ℕ} {parts hs keys lasts r : List ℕ} → Keys bits parts hs keys → Lasts keys lasts → Places keys lasts r → Refined bits parts hs r

@@ -64,10 +64,8 @@ abbrev pub FirstParts : List ℕ → List ℕ → Type 0
 FirstParts handles r = Filled 0 (λ k x. FirstPart (get_or handles k 0) x) block_entries block_entries r
 
 -- parts that the digits above so many bits can make finer
-pub record Partable (bits : ℕ) (parts handles : List ℕ) : Type 0 where
+pub record Partable (bits : ℕ) (parts : List ℕ) : Type 0 where
   pub within : bits < 32
-  pub size : length parts ≡ block_entries
-  pub size_handles : length handles ≡ block_entries
   pub below : (k : ℕ) → k < block_entries → get_or parts k 0 < block_entries
 
 -- a part with a digit
@@ -82,7 +80,6 @@ abbrev pub key_count : ℕ
 key_count = block_entries * radix
 
 pub record Below (keys : List ℕ) : Type 0 where
-  pub size : length keys ≡ block_entries
   pub below : (k : ℕ) → k < block_entries → get_or keys k 0 < key_count
 
 -- at the key of each block stands a block of that key

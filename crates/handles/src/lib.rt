@@ -1,11 +1,10 @@
 // Whether two blocks in use have one handle.
 #![tactic(auto)]
 
-ghost use Rattle.std.specs.Prelude.{true, not, ◌≡◌, length};
+ghost use Rattle.std.specs.Prelude.{true, not, ◌≡◌};
 ghost use Rattle.lists.specs.Tests.{all, count};
 ghost use Rattle.record.specs.WellFormed.{is_distinct};
-ghost use Rattle.record.specs.Tables.{block_entries};
-ghost use Rattle.handles.specs.Handles.{UsedFlags, UsedIn, Counted, is_few};
+ghost use Rattle.handles.specs.Handles.{UsedFlags, Counted, is_few};
 
 mod parting;
 
@@ -17,63 +16,56 @@ const REMAINDERS: usize = 256;
 
 // Which blocks are in use.
 pub fn used_of(handles: &[u32; BLOCK_COUNT]) -> [bool; BLOCK_COUNT]
-    requires { length handles.now ≡ block_entries }
     ensures { UsedFlags handles.now result }
 {
     let mut out = [false; BLOCK_COUNT];
-    for i in 0..BLOCK_COUNT {
-        out[i] = handles[i] != 0;
+    for (i, handle) in handles.iter().enumerate() {
+        out[i] = *handle != 0;
     }
     out
 }
 
 fn free_count(used: &[bool; BLOCK_COUNT]) -> u8
-    requires { length used.now ≡ block_entries }
     ensures { result ≡ count not used.now }
 {
     let mut out = 0;
-    for i in 0..BLOCK_COUNT {
-        out = out + ((!used[i]) as u8);
+    for used in used {
+        out += u8::from(!*used);
     }
     out
 }
 
 // How many blocks in use have a handle of each remainder. All are counted, and the free ones, whose handle is 0, are taken off at the end:
 // so no turn looks whether its block is in use.
-fn counts<'a>(handles: &'a [u32; BLOCK_COUNT], used: &'a [bool; BLOCK_COUNT]) -> [u8; REMAINDERS]
-    requires { UsedIn handles.now used.now }
+fn counts(handles: &[u32; BLOCK_COUNT], used: &[bool; BLOCK_COUNT]) -> [u8; REMAINDERS]
+    requires { UsedFlags handles.now used.now }
     ensures { Counted handles.now result }
 {
     let mut out = [0; REMAINDERS];
-    for i in 0..BLOCK_COUNT {
-        let at = (handles[i] % 256) as usize;
-        out[at] = out[at] + 1;
+    for handle in handles {
+        out[(*handle % 256) as usize] += 1;
     }
-    out[0] = out[0] - free_count(used);
+    out[0] -= free_count(used);
     out
 }
 
 fn all_few(counts: [u8; REMAINDERS]) -> bool
     ensures { result ≡ all is_few counts }
 {
-    let mut few = true;
-    for i in 0..REMAINDERS {
-        few = few & (counts[i] < 2);
-    }
-    few
+    counts.iter().fold(true, |few, count| few & (*count < 2))
 }
 
 // Handles given one after another have remainders of their own. The counts end here: what parts the handles takes their stack.
-fn few_each<'a>(handles: &'a [u32; BLOCK_COUNT], used: &'a [bool; BLOCK_COUNT]) -> bool
-    requires { UsedIn handles.now used.now }
+fn few_each(handles: &[u32; BLOCK_COUNT], used: &[bool; BLOCK_COUNT]) -> bool
+    requires { UsedFlags handles.now used.now }
     ensures { result ≡ true → is_distinct handles.now ≡ true }
 {
     all_few(counts(handles, used))
 }
 
 // Other handles are told apart in full.
-pub fn distinct<'a>(handles: &'a [u32; BLOCK_COUNT], used: &'a [bool; BLOCK_COUNT]) -> bool
-    requires { UsedIn handles.now used.now }
+pub fn distinct(handles: &[u32; BLOCK_COUNT], used: &[bool; BLOCK_COUNT]) -> bool
+    requires { UsedFlags handles.now used.now }
     ensures { result ≡ is_distinct handles.now }
 {
     if few_each(handles, used) {

@@ -3,8 +3,7 @@
 ghost use Rattle.std.specs.Prelude.{◌≡◌, ◌<◌, eqb, length};
 ghost use Rattle.lists.specs.Tables.{all_from};
 ghost use Rattle.record.specs.WellFormed.{is_distinct};
-ghost use Rattle.record.specs.Tables.{block_entries};
-ghost use Rattle.handles.specs.Handles.{is_alone_in, UsedIn, FirstPart, FirstParts, key_of, key_count, Below, Keys, Lasts, Places, Partable, Refined};
+ghost use Rattle.handles.specs.Handles.{is_alone_in, UsedFlags, FirstPart, FirstParts, key_of, key_count, Below, Keys, Lasts, Places, Partable, Refined};
 
 use record::BLOCK_COUNT;
 
@@ -30,12 +29,11 @@ fn first_part(handle: u32) -> u8
 }
 
 fn first_parts(handles: &[u32; BLOCK_COUNT]) -> [u8; BLOCK_COUNT]
-    requires { length handles.now ≡ block_entries }
     ensures { FirstParts handles.now result }
 {
     let mut out = [0; BLOCK_COUNT];
-    for i in 0..BLOCK_COUNT {
-        out[i] = first_part(handles[i]);
+    for (i, handle) in handles.iter().enumerate() {
+        out[i] = first_part(*handle);
     }
     out
 }
@@ -48,25 +46,15 @@ fn key_of(bits: u32, part: u8, handle: u32) -> u16
     (part as u16) * (RADIX as u16) + (((handle >> bits) % RADIX) as u16)
 }
 
-fn keys_of<'a>(
-    bits: u32,
-    parts: &'a [u8; BLOCK_COUNT],
-    handles: &'a [u32; BLOCK_COUNT],
-) -> [u16; BLOCK_COUNT]
-    requires { Partable bits parts.now handles.now }
+fn keys_of(bits: u32, parts: &[u8; BLOCK_COUNT], handles: &[u32; BLOCK_COUNT]) -> [u16; BLOCK_COUNT]
+    requires { Partable bits parts.now }
     ensures { Keys bits parts.now handles.now result }
 {
     let mut out = [0; BLOCK_COUNT];
-    for i in 0..BLOCK_COUNT {
-        out[i] = key_of(bits, parts[i], handles[i]);
+    for (i, handle) in handles.iter().enumerate() {
+        out[i] = key_of(bits, parts[i], *handle);
     }
     out
-}
-
-fn index_of(key: u16) -> usize
-    ensures { result ≡ key }
-{
-    key as usize
 }
 
 // The last block of each key that a block has; of others nothing is told.
@@ -75,32 +63,25 @@ fn lasts(keys: &[u16; BLOCK_COUNT]) -> [u8; KEYS]
     ensures { Lasts keys.now result }
 {
     let mut out = [0; KEYS];
-    for i in 0..BLOCK_COUNT {
-        let key = index_of(keys[i]);
-        out[key] = i as u8;
+    for (i, key) in keys.iter().enumerate() {
+        out[*key as usize] = i as u8;
     }
     out
 }
 
-fn places<'a>(keys: &'a [u16; BLOCK_COUNT], lasts: &'a [u8; KEYS]) -> [u8; BLOCK_COUNT]
-    requires { Below keys.now
-        × (length lasts.now ≡ key_count) }
+fn places(keys: &[u16; BLOCK_COUNT], lasts: &[u8; KEYS]) -> [u8; BLOCK_COUNT]
+    requires { Below keys.now }
     ensures { Places keys.now lasts.now result }
 {
     let mut out = [0; BLOCK_COUNT];
-    for i in 0..BLOCK_COUNT {
-        let key = index_of(keys[i]);
-        out[i] = lasts[key];
+    for (i, key) in keys.iter().enumerate() {
+        out[i] = lasts[*key as usize];
     }
     out
 }
 
-fn refined<'a>(
-    bits: u32,
-    parts: &'a [u8; BLOCK_COUNT],
-    handles: &'a [u32; BLOCK_COUNT],
-) -> [u8; BLOCK_COUNT]
-    requires { Partable bits parts.now handles.now }
+fn refined(bits: u32, parts: &[u8; BLOCK_COUNT], handles: &[u32; BLOCK_COUNT]) -> [u8; BLOCK_COUNT]
+    requires { Partable bits parts.now }
     ensures { Refined bits parts.now handles.now result }
 {
     let keys = keys_of(bits, parts, handles);
@@ -108,27 +89,18 @@ fn refined<'a>(
     places(&keys, &lasts)
 }
 
-fn is_at(part: u8, i: usize) -> bool
-    ensures { result ≡ eqb part i }
-{
-    (part as usize) == i
-}
-
 // Each block in use is alone in its part.
-fn all_alone<'a>(used: &'a [bool; BLOCK_COUNT], parts: &'a [u8; BLOCK_COUNT]) -> bool
-    requires { (length used.now ≡ block_entries)
-        × (length parts.now ≡ block_entries) }
+fn all_alone(used: &[bool; BLOCK_COUNT], parts: &[u8; BLOCK_COUNT]) -> bool
     ensures { result ≡ all_from 0 (is_alone_in used.now) parts.now }
 {
-    let mut alone = true;
-    for i in 0..BLOCK_COUNT {
-        alone = alone & (!used[i] | (is_at(parts[i], i)));
-    }
-    alone
+    used.iter().zip(parts).enumerate().fold(
+        true,
+        |alone, (i, (used, part))| alone & (!*used | (usize::from(*part) == i)),
+    )
 }
 
-pub fn parted<'a>(handles: &'a [u32; BLOCK_COUNT], used: &'a [bool; BLOCK_COUNT]) -> bool
-    requires { UsedIn handles.now used.now }
+pub fn parted(handles: &[u32; BLOCK_COUNT], used: &[bool; BLOCK_COUNT]) -> bool
+    requires { UsedFlags handles.now used.now }
     ensures { result ≡ is_distinct handles.now }
 {
     let mut parts = first_parts(handles);

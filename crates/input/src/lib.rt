@@ -7,12 +7,14 @@ use std::io;
 use std::io::Read;
 
 // The first bytes of what a reader has left: as many as the buffer holds, or all where there are fewer.
+#[tactic(auto, using(crate::proofs::Filled::filled_further))]
 pub fn fill<R: Read>(reader: &mut R, buffer: &mut [u8]) -> io::Result<usize>
     ensures within { IfOk result (λ count. count ≤ length buffer.new) }
     ensures first { IfOk result (λ count. IfSome (R.remaining reader.old) (λ rest.
         take count buffer.new ≡ take (length buffer.old) rest)) }
 {
     let mut done = 0;
+    // By a count: a reader gives as many bytes at a time as it likes.
     while done < buffer.len() {
         let count = reader.read(&mut buffer[done..])?;
         if count == 0 {

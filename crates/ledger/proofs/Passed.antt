@@ -16,8 +16,7 @@ use Rattle.ledger.specs.declared.Answer.TheVariants.{Refused, Done, Advanced, Ha
 use Rattle.ledger.specs.declared.Call.{Call}
 use Rattle.ledger.specs.declared.Call.TheVariants.{Join, Schedule, Make, Refresh, Read, Write, Batch, Release}
 use Rattle.ledger.specs.declared.Refusal.{Refusal}
-use Rattle.ledger.specs.declared.Verdict.TheVariants.{Accepted}
-use Rattle.ledger.specs.declared.Verdict.TheVariants.{Refused as RefusedVerdict}
+use Rattle.std.specs.Prelude.{Ok, Err}
 
 abbrev pub AllPassed : Facts → List Test → Type 0
 AllPassed f [] = Unit
@@ -38,11 +37,11 @@ passed f [] e = tt
 passed f (t ∷ ts) e = first (is_held f t) (refusal_of t) (passed f ts) e
 
 -- code's verdict tells the ledger's
-pub accepted_none : (v : Option Refusal) → as_verdict v ≡ Accepted → v ≡ none
+pub accepted_none : (v : Option Refusal) → as_verdict v ≡ Ok tt → v ≡ none
 accepted_none none e = refl
 accepted_none (some r) e = cc
 
-pub refused_some : (v : Option Refusal) {r : Refusal} → as_verdict v ≡ RefusedVerdict r → v ≡ some r
+pub refused_some : (v : Option Refusal) {r : Refusal} → as_verdict v ≡ Err r → v ≡ some r
 refused_some none e = cc
 refused_some (some r) e = cc
 

@@ -6,14 +6,14 @@ use mathlib.Core.Bool.{cond, ◌&&◌}
 use mathlib.Core.List.{List, [], ◌∷◌, map}
 use mathlib.Core.Path.{◌≡◌, refl, sym, ap, ◌∙◌}
 use lib.ListN.{length, get_or, length-map}
+use Rattle.std.specs.Prelude.{Option, Some, None, is_none}
 use Rattle.lists.specs.Sums.{total, sum_below}
 use Rattle.lists.proofs.Cases.{by_test}
 use Rattle.ledger.specs.Ledger.{Ledger, fresh, after_all}
-use Rattle.ledger.specs.Plans.{is_due, has_reply, is_over, turn_of, is_closed, opened, with_poll, track_after, calls_of_turn, after_turn, step_calls, after_step, ready, stepped, run, calls_of, figures, no_channel, track_of, turns}
+use Rattle.ledger.specs.Plans.{is_due, has_reply, is_over, turn_of, opened, with_poll, track_after, calls_of_turn, after_turn, step_calls, after_step, ready, stepped, run, calls_of, figures, no_channel, track_of, turns}
 use Rattle.ledger.specs.declared.Limits.{Limits}
 use Rattle.ledger.specs.declared.plans.Channel.{Channel}
 use Rattle.ledger.specs.declared.plans.Poll.{Poll}
-use Rattle.ledger.specs.declared.plans.Poll.TheVariants.{Closed, Open}
 use Rattle.ledger.specs.declared.plans.Track.{Track}
 use Rattle.ledger.proofs.Appended.{after_append}
 
@@ -29,28 +29,28 @@ run_from limits plan (suc steps) =
 
 -- the channel begins a turn
 abbrev begun : ℕ → Track → ℕ
-begun step t = cond (is_closed t.poll && is_due t.channel step) 1 0
+begun step t = cond (is_none t.poll && is_due t.channel step) 1 0
 
 abbrev sum : Track → ℕ
 sum t = total (figures t)
 
 -- a make is one poll open or one refusal more
-answered : (poll : Poll) (c : Channel) (a b r : ℕ)
-    → sum (with_poll poll (record { channel = c; poll = Closed; replies = a; quits = b; refusals = r })) ≡ 1 + (a + (b + (r + (0 + 0))))
+answered : (poll : Option Poll) (c : Channel) (a b r : ℕ)
+    → sum (with_poll poll (record { channel = c; poll = None; replies = a; quits = b; refusals = r })) ≡ 1 + (a + (b + (r + (0 + 0))))
 unfolding total
-answered Closed c a b r = omega arith
-answered (Open begun handle) c a b r = omega arith
+answered None c a b r = omega arith
+answered (Some poll) c a b r = omega arith
 
-turned : (L : Ledger) (step task : ℕ) (c : Channel) (poll : Poll) (a b r : ℕ)
+turned : (L : Ledger) (step task : ℕ) (c : Channel) (poll : Option Poll) (a b r : ℕ)
     → let t : Track = record { channel = c; poll = poll; replies = a; quits = b; refusals = r } in
     sum (after_turn L step task t) ≡ begun step t + sum t
 unfolding turn_of track_after total
-turned L step task c Closed a b r =
+turned L step task c None a b r =
     by_test (is_due c step) (λ e. rw e (answered (opened L step task c) c a b r)) (λ e. rw e (omega arith))
-turned L step task c (Open since handle) a b r =
-    by_test (has_reply c step since)
+turned L step task c (Some poll) a b r =
+    by_test (has_reply c step poll.begun)
     (λ e. rw e (omega arith))
-    (λ e. by_test (is_over c step since) (λ d. rw (e, d) (omega arith)) (λ d. rw (e, d) (omega arith)))
+    (λ e. by_test (is_over c step poll.begun) (λ d. rw (e, d) (omega arith)) (λ d. rw (e, d) (omega arith)))
 
 -- a step is a turn of each
 stepped_sum : (L : Ledger) (step task : ℕ) (ts : List Track) (i : ℕ) (d : Track) → i < length ts

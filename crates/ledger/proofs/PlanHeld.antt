@@ -9,6 +9,7 @@ use borrow.Author.Tests.{eqb-true}
 use lib.Dec.{eqb}
 use lib.ListN.{length, get_or, get_or-map}
 use lib.Seq.{get_or-set_same}
+use Rattle.std.specs.Prelude.{Option as Maybe, Some, None}
 use Rattle.lists.specs.Tests.{any, All}
 use Rattle.lists.proofs.All.{all_imp, at_set}
 use Rattle.lists.proofs.Cases.{by_test, or_right}
@@ -28,7 +29,6 @@ use Rattle.ledger.specs.declared.Call.TheVariants.{Schedule, Write}
 use Rattle.ledger.specs.declared.Refusal.{Refusal}
 use Rattle.ledger.specs.declared.plans.Channel.{Channel}
 use Rattle.ledger.specs.declared.plans.Poll.{Poll}
-use Rattle.ledger.specs.declared.plans.Poll.TheVariants.{Closed, Open}
 use Rattle.ledger.proofs.KeptTasks.{tasks_after_lem}
 
 abbrev pub state_at : Ledger → ℕ → State
@@ -42,18 +42,18 @@ abbrev pub holds : Ledger → ℕ → ℕ → Bool
 holds L task handle = any (is_held_by task handle) L.expirations
 
 -- a channel with no poll open runs; one with a poll open waits, and its object has a local expiration of its own
-abbrev pub PollKept : Ledger → ℕ → Poll → Type 0
-PollKept L task Closed = state_at L task ≡ Running
-PollKept L task (Open begun handle) = (state_at L task ≡ Waiting) × (holds L task handle ≡ true)
+abbrev pub PollKept : Ledger → ℕ → Maybe Poll → Type 0
+PollKept L task None = state_at L task ≡ Running
+PollKept L task (Some poll) = (state_at L task ≡ Waiting) × (holds L task poll.handle ≡ true)
 
 -- what is left of a channel by calls of others
 pub record Untouched (L M : Ledger) (task : ℕ) : Type 0 where
   pub state : state_at M task ≡ state_at L task
   pub held : (handle : ℕ) → holds L task handle ≡ true → holds M task handle ≡ true
 
-pub poll_untouched : (L M : Ledger) (task : ℕ) → Untouched L M task → (poll : Poll) → PollKept L task poll → PollKept M task poll
-poll_untouched L M task u Closed e = u.state ∙ e
-poll_untouched L M task u (Open begun handle) (e, h) = (u.state ∙ e, u.held handle h)
+pub poll_untouched : (L M : Ledger) (task : ℕ) → Untouched L M task → (poll : Maybe Poll) → PollKept L task poll → PollKept M task poll
+poll_untouched L M task u None e = u.state ∙ e
+poll_untouched L M task u (Some poll) (e, h) = (u.state ∙ e, u.held poll.handle h)
 
 pub untouched_then : (L M N : Ledger) (task : ℕ) → Untouched L M task → Untouched M N task → Untouched L N task
 untouched_then L M N task u v = record { state = v.state ∙ u.state; held = λ h e. v.held h (u.held h e) }

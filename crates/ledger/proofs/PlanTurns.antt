@@ -7,6 +7,7 @@ use mathlib.Core.Option.{Option, none, some, IsSome}
 use mathlib.Core.Path.{◌≡◌, refl, sym, subst, ◌∙◌}
 use borrow.Author.Tests.{lt-leb, le-ltb, eqb-true, eq-eqb, ne_eqb}
 use lib.Dec.{eqb}
+use Rattle.std.specs.Prelude.{Option as Maybe, Some, None}
 use Rattle.lists.specs.Tests.{All}
 use Rattle.lists.proofs.All.{all_imp, found}
 use Rattle.lists.proofs.Cases.{by_test}
@@ -34,7 +35,6 @@ use Rattle.ledger.specs.declared.Refusal.{Refusal}
 use Rattle.ledger.specs.declared.Request.TheVariants.{Use}
 use Rattle.ledger.specs.declared.plans.Channel.{Channel}
 use Rattle.ledger.specs.declared.plans.Poll.{Poll}
-use Rattle.ledger.specs.declared.plans.Poll.TheVariants.{Closed, Open}
 use Rattle.ledger.specs.declared.plans.Track.{Track}
 use Rattle.ledger.specs.declared.plans.Turn.{Turn}
 use Rattle.ledger.specs.declared.plans.Turn.TheVariants.{Rests, Begins, Replied, Quits}
@@ -130,12 +130,12 @@ own_state : (L : Ledger) → Kept L → (event : Event) (task : ℕ) → task < 
     → state_at (next L (Schedule event task) []) task ≡ (moved event (task_at L.memory.clocks task)).state
 own_state L k event task l e = rw (event_next L event task e).0 (own_clock event task L.memory.clocks (rw k.clocks.sixteen l)).0
 
-pub record Carried (L : Ledger) (task : ℕ) (poll : Poll) (ss : List Sent) : Type 0 where
+pub record Carried (L : Ledger) (task : ℕ) (poll : Maybe Poll) (ss : List Sent) : Type 0 where
   pub passes : Passes L ss
   pub kept : PollKept (after_all L ss) task poll
 
 module _ (L : Ledger) (k : Kept L) (task : ℕ) (l : task < task_count) where
-  after_tick : state_at L task ≡ Running → Carried L task Closed (tick task ∷ [])
+  after_tick : state_at L task ≡ Running → Carried L task None (tick task ∷ [])
   unfolding after_all moved
   after_tick e =
       let may = may_tick L task l e in
@@ -145,7 +145,7 @@ module _ (L : Ledger) (k : Kept L) (task : ℕ) (l : task < task_count) where
       }
 
   after_block : (step handle : ℕ) → state_at L task ≡ Running → holds L task handle ≡ true
-      → Carried L task (Open step handle) (block task ∷ [])
+      → Carried L task (Some (record { begun = step; handle = handle })) (block task ∷ [])
   unfolding after_all moved
   after_block step handle e h =
       let may = may_block L task l e in
@@ -160,25 +160,25 @@ module _ (L : Ledger) (k : Kept L) (task : ℕ) (l : task < task_count) where
       }
 
 -- calls one after the other
-then : (L : Ledger) (task : ℕ) (poll : Poll) (call : Call) (new : List ℕ) (ss : List Sent) → verdict_on L call new ≡ none
+then : (L : Ledger) (task : ℕ) (poll : Maybe Poll) (call : Call) (new : List ℕ) (ss : List Sent) → verdict_on L call new ≡ none
     → Carried (next L call new) task poll ss → Carried L task poll (send call new ∷ ss)
 unfolding after_all
 then L task poll call new ss e c = record { passes = first_passes L call new ss e c.passes; kept = c.kept }
 
 -- what the state of a channel has to be for what it does
-abbrev Fits : Ledger → ℕ → Poll → Turn → Type 0
+abbrev Fits : Ledger → ℕ → Maybe Poll → Turn → Type 0
 Fits L task poll Begins = state_at L task ≡ Running
 Fits L task poll (Replied handle) = (state_at L task ≡ Waiting) × (holds L task handle ≡ true)
 Fits L task poll Quits = state_at L task ≡ Waiting
 Fits L task poll Rests = PollKept L task poll
 
-pub fits : (L : Ledger) (step task : ℕ) (c : Channel) (poll : Poll) → PollKept L task poll → Fits L task poll (turn_of c step poll)
+pub fits : (L : Ledger) (step task : ℕ) (c : Channel) (poll : Maybe Poll) → PollKept L task poll → Fits L task poll (turn_of c step poll)
 unfolding turn_of
-fits L step task c Closed k = by_test (is_due c step) (λ e. rw e k) (λ e. rw e k)
-fits L step task c (Open begun handle) k =
-    by_test (has_reply c step begun)
+fits L step task c None k = by_test (is_due c step) (λ e. rw e k) (λ e. rw e k)
+fits L step task c (Some poll) k =
+    by_test (has_reply c step poll.begun)
     (λ e. rw e k)
-    (λ e. by_test (is_over c step begun) (λ d. rw (e, d) k.0) (λ d. rw (e, d) k))
+    (λ e. by_test (is_over c step poll.begun) (λ d. rw (e, d) k.0) (λ d. rw (e, d) k))
 
 -- a task holds the object that it made
 new_held : (L : Ledger) (c : Channel) (task : ℕ) → verdict_on L (made_by c task) [] ≡ none
@@ -209,7 +209,7 @@ module _ (L : Ledger) (k : Kept L) (task : ℕ) (l : task < task_count) where
       runs : state_at M task ≡ Running
       runs = (make_untouched L c task task).state ∙ e
 
-      with_answer : (poll : Poll) (ss : List Sent) → Carried M task poll ss → Carried L task poll (send (made_by c task) [] ∷ ss)
+      with_answer : (poll : Maybe Poll) (ss : List Sent) → Carried M task poll ss → Carried L task poll (send (made_by c task) [] ∷ ss)
       with_answer poll ss h = record { passes = make_passes L c task ss h.passes; kept = h.kept }
 
       by : (v : Option Refusal) → verdict_on L (made_by c task) [] ≡ v
@@ -222,12 +222,12 @@ module _ (L : Ledger) (k : Kept L) (task : ℕ) (l : task < task_count) where
   unfolding moved
   own_running may = own_state L k Resume task l may
 
-  nothing_done : (poll : Poll) → PollKept L task poll → Carried L task poll []
+  nothing_done : (poll : Maybe Poll) → PollKept L task poll → Carried L task poll []
   unfolding after_all
   nothing_done poll h = record { passes = none_passes L; kept = h }
 
   replied : (handle : ℕ) → state_at L task ≡ Waiting → holds L task handle ≡ true
-      → Carried L task Closed (resume task ∷ write task handle 0 (1 ∷ []) ∷ tick task ∷ [])
+      → Carried L task None (resume task ∷ write task handle 0 (1 ∷ []) ∷ tick task ∷ [])
   replied handle e h =
       let may = may_resume L task l e in
       let M = next L (Schedule Resume task) [] in
@@ -237,16 +237,16 @@ module _ (L : Ledger) (k : Kept L) (task : ℕ) (l : task < task_count) where
       let writes = may_write M k_m task handle l runs held in
       let N = next M (Write task handle 0) (1 ∷ []) in
       let kN = kept_request M k_m (Use (Write task handle 0)) (1 ∷ []) in
-      then L task Closed (Schedule Resume task) [] (write task handle 0 (1 ∷ []) ∷ tick task ∷ []) may
-      (then M task Closed (Write task handle 0) (1 ∷ []) (tick task ∷ []) writes
+      then L task None (Schedule Resume task) [] (write task handle 0 (1 ∷ []) ∷ tick task ∷ []) may
+      (then M task None (Write task handle 0) (1 ∷ []) (tick task ∷ []) writes
       (after_tick N kN task l ((write_untouched M task handle 0 (1 ∷ []) task).state ∙ runs)))
 
-  given_up : state_at L task ≡ Waiting → Carried L task Closed (resume task ∷ tick task ∷ [])
+  given_up : state_at L task ≡ Waiting → Carried L task None (resume task ∷ tick task ∷ [])
   given_up e =
       let may = may_resume L task l e in
       let M = next L (Schedule Resume task) [] in
       let k_m = kept_request L k (Use (Schedule Resume task)) [] in
-      then L task Closed (Schedule Resume task) [] (tick task ∷ []) may (after_tick M k_m task l (own_running may))
+      then L task None (Schedule Resume task) [] (tick task ∷ []) may (after_tick M k_m task l (own_running may))
 
   pub turned : (step : ℕ) (t : Track) (w : Turn) → Fits L task t.poll w
       → let poll = opened L step task t.channel in
@@ -270,16 +270,16 @@ module _ (task other : ℕ) (ne : other ≡ task → ⊥) where
   unfolding after_all
   at_end L = record { state = refl; held = λ handle h. h }
 
-  begin_untouched : (L : Ledger) → Kept L → (c : Channel) (poll : Poll)
+  begin_untouched : (L : Ledger) → Kept L → (c : Channel) (poll : Maybe Poll)
       → Untouched L (after_all L (send (made_by c task) [] ∷ send (Schedule (closing poll) task) [] ∷ [])) other
   unfolding after_all
   begin_untouched L k c poll =
       let M = next L (made_by c task) [] in
       untouched_then L M _ other (make_untouched L c task other) (by poll M (kept_request L k (Use (made_by c task)) []))
     where
-      by : (poll : Poll) (M : Ledger) → Kept M → Untouched M (after_all M (send (Schedule (closing poll) task) [] ∷ [])) other
-      by Closed M k_m = unmoved M k_m Tick tt [] (at_end _)
-      by (Open begun handle) M k_m = unmoved M k_m Block tt [] (at_end _)
+      by : (poll : Maybe Poll) (M : Ledger) → Kept M → Untouched M (after_all M (send (Schedule (closing poll) task) [] ∷ [])) other
+      by None M k_m = unmoved M k_m Tick tt [] (at_end _)
+      by (Some poll) M k_m = unmoved M k_m Block tt [] (at_end _)
 
   tick_untouched : (L : Ledger) → Kept L → Untouched L (after_all L (tick task ∷ [])) other
   tick_untouched L k = unmoved L k Tick tt [] (at_end _)
@@ -291,7 +291,7 @@ module _ (task other : ℕ) (ne : other ≡ task → ⊥) where
       untouched_then L M _ other (write_untouched L task handle 0 (1 ∷ []) other)
       (tick_untouched M (kept_request L k (Use (Write task handle 0)) (1 ∷ [])))
 
-  pub turn_untouched : (L : Ledger) → Kept L → (poll : Poll) (c : Channel) (w : Turn)
+  pub turn_untouched : (L : Ledger) → Kept L → (poll : Maybe Poll) (c : Channel) (w : Turn)
       → Untouched L (after_all L (turn_calls poll task c w)) other
   unfolding turn_calls
   turn_untouched L k poll c Begins = begin_untouched L k c poll

@@ -1,5 +1,5 @@
 -- The rules L1 to L3: the ledger, its answer to each call and its next state.
-use Rattle.std.specs.Prelude.{ℕ, List, [], ◌∷◌}
+use Rattle.std.specs.Prelude.{ℕ, List, [], ◌∷◌, Result, Ok, Err}
 use Rattle.std.proofs.Math.Option.{Option, none, some}
 use Rattle.ledger.specs.Expirations.{Expiration}
 use Rattle.ledger.specs.Objects.{Memory, Reply, fresh_memory, plain, standing, with_objects, usage}
@@ -8,7 +8,6 @@ use Rattle.ledger.specs.Rules.{reply_to, memory_after, expirations_after, tests_
 use Rattle.ledger.specs.Remaining.{remaining_life}
 use Rattle.ledger.specs.declared.Answer.TheVariants.{Refused, Counted, Lasts}
 use Rattle.ledger.specs.declared.Call.{Call}
-use Rattle.ledger.specs.declared.Frame.{Frame}
 use Rattle.ledger.specs.declared.Refusal.{Refusal}
 use Rattle.ledger.specs.declared.Request.{Request}
 use Rattle.ledger.specs.declared.Request.TheVariants.{Use, Report, Remaining}
@@ -72,14 +71,18 @@ after_request L (Use call) new = next L call new
 after_request L Report new = L
 after_request L (Remaining task handle) new = L
 
+-- what a line gives: a request and how many bytes come with it, or a refusal
+abbrev pub Frame : Type 0
+Frame = Result (Request × ℕ) Refusal
+
 -- the ledger's reply to a frame with the bytes that come with it, and the ledger after it; F26: a frame that is refused is no call
 abbrev pub reply_to_frame : Ledger → Frame → List ℕ → Reply
-reply_to_frame L (Frame.Request request count) bytes = reply_to_request L request bytes
-reply_to_frame L (Frame.Refused why) bytes = plain (Refused why)
+reply_to_frame L (Ok (request, count)) bytes = reply_to_request L request bytes
+reply_to_frame L (Err why) bytes = plain (Refused why)
 
 abbrev pub after_frame : Ledger → Frame → List ℕ → Ledger
-after_frame L (Frame.Request request count) bytes = after_request L request bytes
-after_frame L (Frame.Refused why) bytes = L
+after_frame L (Ok (request, count)) bytes = after_request L request bytes
+after_frame L (Err why) bytes = L
 
 -- a call on its way: a write brings its bytes, a batch its handles
 pub record Sent : Type 0 where

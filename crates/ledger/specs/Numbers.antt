@@ -1,11 +1,9 @@
 -- The number of documents 01 and 02 for each refusal and each kind, and the number and values of each answer.
-use Rattle.std.specs.Prelude.{ℕ, Bool, true, false, cond, List, [], ◌∷◌, eqb}
+use Rattle.std.specs.Prelude.{ℕ, Bool, true, false, cond, List, [], ◌∷◌, eqb, Result, Ok, Err}
 use Rattle.ledger.specs.declared.Refusal.{Refusal}
 use Rattle.ledger.specs.declared.Refusal.TheVariants.{NoSuchTask, TaskPresent, TaskAbsent, TaskWaiting, TaskRunning, ExtensionTooLong, LengthOutOfRange, HandlesSpent, NoFreeBlock, NoFreeExpiration, HandleNotGiven, ObjectGone, OutsideObject, WrongStoreLength, NotWellFormed, NotHexadecimal, UnknownOperation, WrongFrameLength, UnknownKind, BatchOutOfRange, OnlyMakePins, NotPinned, SumDiffers, ReserveAboveLimit, ReserveNotFree, AtLimit, OnlyViews, PrefixTooLong, LimitsOutOfRange}
 use Rattle.ledger.specs.declared.Kind.{Kind}
 use Rattle.ledger.specs.declared.Kind.TheVariants.{Local, Global, Pinned}
-use Rattle.ledger.specs.declared.KindByte.{KindByte}
-use Rattle.ledger.specs.declared.KindByte.TheVariants.{Known, Unknown}
 use Rattle.ledger.specs.declared.Answer.{Answer}
 use Rattle.ledger.specs.declared.Answer.TheVariants.{Refused, Done, Advanced, Handle, Bytes, Counted, Lasts}
 
@@ -71,8 +69,8 @@ answer_values (Counted u) = u.small ∷ u.large ∷ u.expirations ∷ u.given �
 answer_values (Lasts life) = life.local ∷ life.global ∷ []
 
 -- F21: a kind by its byte; R19 where it is unknown
-abbrev pub kind_of : ℕ → KindByte
-kind_of number = cond (eqb number 0) (Known Local) (cond (eqb number 1) (Known Global) (cond (eqb number 2) (Known Pinned) Unknown))
+abbrev pub kind_of : ℕ → Result Kind Refusal
+kind_of number = cond (eqb number 0) (Ok Local) (cond (eqb number 1) (Ok Global) (cond (eqb number 2) (Ok Pinned) (Err UnknownKind)))
 
 -- and its byte
 abbrev pub kind_number : Kind → ℕ

@@ -1,6 +1,6 @@
 -- The rules R: each test once, and the first that holds. Rules.antt has the list of each call. (14 and 15 come with stores and record, 16
 -- to 19 with frames.)
-use Rattle.std.specs.Prelude.{ℕ, ◌+◌, Bool, true, false, not, cond, ◌||◌, List, [], ◌∷◌, eqb, leb, ltb, length}
+use Rattle.std.specs.Prelude.{ℕ, ◌+◌, Bool, true, false, not, cond, ◌||◌, List, [], ◌∷◌, eqb, leb, ltb, length, Result, Ok, Err}
 use Rattle.std.proofs.Math.Option.{Option, none, some}
 use Rattle.lists.specs.Tests.{any}
 use Rattle.ledger.specs.Limits.{task_count, large_size, largest_batch, last_handle, is_small}
@@ -13,8 +13,6 @@ use Rattle.ledger.specs.declared.Quota.{Quota}
 use Rattle.ledger.specs.declared.Share.{Share}
 use Rattle.ledger.specs.declared.Kind.{Kind}
 use Rattle.ledger.specs.declared.Kind.TheVariants.{Local, Global, Pinned}
-use Rattle.ledger.specs.declared.Verdict.{Verdict}
-use Rattle.ledger.specs.declared.Verdict.TheVariants.{Accepted, Refused}
 use Rattle.ledger.specs.declared.Refusal.{Refusal}
 use Rattle.ledger.specs.declared.Refusal.TheVariants.{NoSuchTask, TaskPresent, TaskAbsent, TaskWaiting, TaskRunning, ExtensionTooLong, LengthOutOfRange, HandlesSpent, NoFreeBlock, NoFreeExpiration, HandleNotGiven, ObjectGone, OutsideObject, BatchOutOfRange, OnlyMakePins, NotPinned, SumDiffers, ReserveAboveLimit, ReserveNotFree, AtLimit, OnlyViews, PrefixTooLong}
 use Rattle.ledger.specs.declared.Limits.{Limits}
@@ -203,7 +201,10 @@ heap_verdict f [] = none
 heap_verdict f (shared r holds ∷ ts) = cond (holds f) (some r) (heap_verdict f ts)
 heap_verdict f (own r holds ∷ ts) = heap_verdict f ts
 
--- a verdict as code has it
+-- a verdict as code has it: whether a call is carried out
+abbrev pub Verdict : Type 0
+Verdict = Result Unit Refusal
+
 abbrev pub as_verdict : Option Refusal → Verdict
-as_verdict none = Accepted
-as_verdict (some r) = Refused r
+as_verdict none = Ok tt
+as_verdict (some r) = Err r

@@ -30,6 +30,7 @@ pub const CAPACITY: Limits = Limits {
 pub const STANDARD: Limits = CAPACITY;
 
 // C3: figures that a site may choose.
+#[tactic(auto, unfolding(crate::specs::Limits::is_allowed))]
 pub fn is_allowed(limits: Limits) -> bool
     ensures { result ≡ is_allowed limits }
 {
@@ -65,6 +66,22 @@ pub enum Kind {
     Local,
     Global,
     Pinned,
+}
+
+// F21: the kind that a byte names, or R19.
+impl TryFrom<u8> for Kind {
+    type Error = Refusal;
+
+    ghost try_from_gives = { λ number kind. kind ≡ kind_of number };
+
+    fn try_from(number: u8) -> Result<Kind, Refusal> {
+        match number {
+            0 => Ok(Kind::Local),
+            1 => Ok(Kind::Global),
+            2 => Ok(Kind::Pinned),
+            _ => Err(Refusal::UnknownKind),
+        }
+    }
 }
 
 // Q1: of one store, how many blocks are held back for a task, and how many objects it may have there.
@@ -170,48 +187,49 @@ pub struct Life {
     pub global: u8,
 }
 
-// R1 to R29, in the order of their numbers: 16 to 19 are of a frame, 29 of a pool that is made, the others of a call.
+// R1 to R29, each with its number (R45): 16 to 19 are of a frame, 29 of a pool that is made, the others of a call.
 #[derive(Clone, Copy)]
 pub enum Refusal {
-    NoSuchTask,
-    TaskPresent,
-    TaskAbsent,
-    TaskWaiting,
-    TaskRunning,
-    ExtensionTooLong,
-    LengthOutOfRange,
-    HandlesSpent,
-    NoFreeBlock,
-    NoFreeExpiration,
-    HandleNotGiven,
-    ObjectGone,
-    OutsideObject,
-    WrongStoreLength,
-    NotWellFormed,
-    NotHexadecimal,
-    UnknownOperation,
-    WrongFrameLength,
-    UnknownKind,
-    BatchOutOfRange,
-    OnlyMakePins,
-    NotPinned,
-    SumDiffers,
-    ReserveAboveLimit,
-    ReserveNotFree,
-    AtLimit,
-    OnlyViews,
-    PrefixTooLong,
-    LimitsOutOfRange,
+    NoSuchTask = 1,
+    TaskPresent = 2,
+    TaskAbsent = 3,
+    TaskWaiting = 4,
+    TaskRunning = 5,
+    ExtensionTooLong = 6,
+    LengthOutOfRange = 7,
+    HandlesSpent = 8,
+    NoFreeBlock = 9,
+    NoFreeExpiration = 10,
+    HandleNotGiven = 11,
+    ObjectGone = 12,
+    OutsideObject = 13,
+    WrongStoreLength = 14,
+    NotWellFormed = 15,
+    NotHexadecimal = 16,
+    UnknownOperation = 17,
+    WrongFrameLength = 18,
+    UnknownKind = 19,
+    BatchOutOfRange = 20,
+    OnlyMakePins = 21,
+    NotPinned = 22,
+    SumDiffers = 23,
+    ReserveAboveLimit = 24,
+    ReserveNotFree = 25,
+    AtLimit = 26,
+    OnlyViews = 27,
+    PrefixTooLong = 28,
+    LimitsOutOfRange = 29,
 }
 
-// Whether a call is carried out.
-#[derive(Clone, Copy)]
-pub enum Verdict {
-    Accepted,
-    Refused(Refusal),
+impl From<Refusal> for u8 {
+    ghost from_gives = { λ refusal number. number ≡ number_of refusal };
+
+    fn from(refusal: Refusal) -> u8 {
+        refusal as u8
+    }
 }
 
-// 01: an answer. The bytes of a read stand beside it.
+// 01: an answer. The bytes of a read stand beside it. It has the seven cases that 01 numbers, and is made of a result once, by the call.
 #[derive(Clone, Copy)]
 pub enum Answer {
     Refused(Refusal),
@@ -223,80 +241,17 @@ pub enum Answer {
     Lasts(Life),
 }
 
-// What a line gives: a request and the count of the bytes that come with it, or a refusal. An enum holds no array, so the bytes stand
-// beside it.
-#[derive(Clone, Copy)]
-pub enum Frame {
-    Request(Request, usize),
-    Refused(Refusal),
-}
-
-// R45: the number of a refusal, which is its place in the list above, from 1 on.
-pub fn number_of(refusal: Refusal) -> u8
-    ensures { result ≡ number_of refusal }
-{
-    match refusal {
-        Refusal::NoSuchTask => 1,
-        Refusal::TaskPresent => 2,
-        Refusal::TaskAbsent => 3,
-        Refusal::TaskWaiting => 4,
-        Refusal::TaskRunning => 5,
-        Refusal::ExtensionTooLong => 6,
-        Refusal::LengthOutOfRange => 7,
-        Refusal::HandlesSpent => 8,
-        Refusal::NoFreeBlock => 9,
-        Refusal::NoFreeExpiration => 10,
-        Refusal::HandleNotGiven => 11,
-        Refusal::ObjectGone => 12,
-        Refusal::OutsideObject => 13,
-        Refusal::WrongStoreLength => 14,
-        Refusal::NotWellFormed => 15,
-        Refusal::NotHexadecimal => 16,
-        Refusal::UnknownOperation => 17,
-        Refusal::WrongFrameLength => 18,
-        Refusal::UnknownKind => 19,
-        Refusal::BatchOutOfRange => 20,
-        Refusal::OnlyMakePins => 21,
-        Refusal::NotPinned => 22,
-        Refusal::SumDiffers => 23,
-        Refusal::ReserveAboveLimit => 24,
-        Refusal::ReserveNotFree => 25,
-        Refusal::AtLimit => 26,
-        Refusal::OnlyViews => 27,
-        Refusal::PrefixTooLong => 28,
-        Refusal::LimitsOutOfRange => 29,
-    }
-}
-
 // The number of an answer: 0 where the call was carried out.
-pub fn answer_number(answer: Answer) -> u8
-    ensures { result ≡ answer_number answer }
-{
-    match answer {
-        Answer::Refused(why) => number_of(why),
-        Answer::Done => 0,
-        Answer::Advanced(_) => 0,
-        Answer::Handle(_) => 0,
-        Answer::Bytes => 0,
-        Answer::Counted(_) => 0,
-        Answer::Lasts(_) => 0,
+impl From<Answer> for u8 {
+    ghost from_gives = { λ answer number. number ≡ answer_number answer };
+
+    fn from(answer: Answer) -> u8 {
+        match answer {
+            Answer::Refused(why) => u8::from(why),
+            _ => 0,
+        }
     }
 }
 
-// F21: the kind that a byte names.
-#[derive(Clone, Copy)]
-pub enum KindByte {
-    Known(Kind),
-    Unknown,
-}
-
-pub fn kind_of(number: u8) -> KindByte
-    ensures { result ≡ kind_of number }
-{
-    match number {
-        0 => KindByte::Known(Kind::Local),
-        1 => KindByte::Known(Kind::Global),
-        2 => KindByte::Known(Kind::Pinned),
-        _ => KindByte::Unknown,
-    }
-}
+// What a line gives: a request with the count of the bytes that come with it, or why there is none. The bytes stand beside it.
+pub type Frame = Result<(Request, usize), Refusal>;

@@ -2,7 +2,7 @@
 
 // G1: a channel (02: a line `p r s w e`). It polls every `period` steps; the reply comes after `reply` steps, where that step is before
 // `silent`; it gives up after `wait` steps, 0 for never; its objects have this extension.
-#[derive(Clone, Copy)]
+#[derive(Clone, Copy, Default)]
 pub struct Channel {
     pub period: u16,
     pub reply: u16,
@@ -11,18 +11,19 @@ pub struct Channel {
     pub extension: u8,
 }
 
-// G4: the poll of a channel: none, or one that began in a step, with its object.
+// G4: a poll that is open: the step that it began in, and its object.
 #[derive(Clone, Copy)]
-pub enum Poll {
-    Closed,
-    Open { begun: u32, handle: u32 },
+pub struct Poll {
+    pub begun: u32,
+    pub handle: u32,
 }
 
-// G4: a channel under way: its poll, and what it has counted. `quits` are 02's give-ups, `refusals` the makes that were refused.
-#[derive(Clone, Copy)]
+// G4: a channel under way: the poll that is open, if one is, and what it has counted. `quits` are 02's give-ups, `refusals` the makes that
+// were refused.
+#[derive(Clone, Copy, Default)]
 pub struct Track {
     pub channel: Channel,
-    pub poll: Poll,
+    pub poll: Option<Poll>,
     pub replies: u32,
     pub quits: u32,
     pub refusals: u32,

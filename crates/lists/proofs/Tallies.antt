@@ -1,6 +1,6 @@
--- A loop that counts how many elements have each number below k: the start, the turn and the end of its invariant; one that adds what a
--- function gives on the first numbers; and one that tests each number.
-use Prim.Native.Nat.{ℕ, ◌+◌, ◌*◌, ◌≤◌, ◌<◌}
+-- A loop that counts how many elements have each number below k: the start, the turn and the end of its invariant; and two functions that
+-- give the same on the first numbers.
+use Prim.Native.Nat.{ℕ, ◌+◌, ◌≤◌, ◌<◌}
 use native.Mathlib.Numerals.{add-one}
 use native.Mathlib.Omega.{arith}
 use mathlib.Core.Bool.{Bool, cond, not}
@@ -14,7 +14,7 @@ use Rattle.lists.specs.Sums.{sum_below}
 use Rattle.lists.specs.Tests.{count}
 use Rattle.lists.proofs.Cases.{by_test}
 use Rattle.lists.proofs.Counts.{count_append}
-use Rattle.lists.proofs.Sums.{sum_le, sum_last}
+use Rattle.lists.proofs.Sums.{sum_le}
 
 module _ {ℓ} {A : Type ℓ} where
   pub count_most : (p : A → Bool) (xs : List A) → count p xs ≤ length xs
@@ -58,22 +58,6 @@ module _ {ℓ} {A : Type ℓ} (f : A → ℕ) (xs : List A) where
 
   pub counters_end : {k i : ℕ} {out : List ℕ} → Counters k i out → length xs ≤ i → (j : ℕ) → j < k → get_or out j 0 ≡ count (λ (x : A). eqb (f x) j) xs
   counters_end {i = i} t h j l = rw (take_all i xs h) at (t.so j l)
-
--- after i turns: what it gives on the numbers below i, each at most b
-pub record AddedTo (f : ℕ → ℕ) (n b i sum : ℕ) : Type 0 where
-  pub within : i ≤ n
-  pub so : sum ≡ sum_below i f
-  pub most : sum ≤ i * b
-
-pub added_start : (f : ℕ → ℕ) (n b : ℕ) → AddedTo f n b 0 0
-unfolding sum_below
-added_start f n b = record { within = omega arith; so = refl; most = omega arith }
-
-pub added_turn : {f : ℕ → ℕ} {n i sum more : ℕ} → AddedTo f n 255 i sum → i < n → more ≡ f i → more ≤ 255 → AddedTo f n 255 (i + 1) (sum + more)
-added_turn {f} {n} {i} t h e l = record { within = omega arith; so = rw (add-one, sum_last i f) (omega (arith, t.so, e)); most = omega (arith, t.most) }
-
-pub added_end : {f : ℕ → ℕ} {n b i sum : ℕ} → AddedTo f n b i sum → n ≤ i → sum ≡ sum_below n f
-added_end {f} {n} {b} {i} t h = let q : i ≡ n = omega (arith, t.within) in rw q at t.so
 
 -- two functions that agree below n
 pub sum_agree : (n : ℕ) (f g : ℕ → ℕ) → ((i : ℕ) → i < n → f i ≡ g i) → sum_below n f ≡ sum_below n g

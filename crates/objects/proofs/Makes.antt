@@ -3,22 +3,19 @@ use Prim.Native.Nat.{ℕ, ◌+◌, ◌-◌, ◌≤◌, ◌<◌}
 use native.Mathlib.Omega.{arith}
 use mathlib.Core.Bool.{Bool, true, false}
 use mathlib.Core.List.{List, []}
-use mathlib.Core.Path.{◌≡◌, sym, ap, ◌∙◌}
+use mathlib.Core.Path.{◌≡◌, sym, ◌∙◌}
 use borrow.Author.Tests.{le-leb, leb-true}
 use lib.Dec.{leb}
 use Rattle.lists.proofs.Cases.{same_test}
 use Rattle.lists.proofs.Sums.{sum_at_lem}
 use Rattle.ledger.specs.Limits.{task_count, is_small}
-use Rattle.ledger.specs.Refusals.{verdict, as_verdict}
+use Rattle.ledger.specs.Refusals.{verdict, as_verdict, Verdict}
 use Rattle.ledger.specs.Rules.{tests_of}
 use Rattle.ledger.specs.Shares.{blocks_in}
 use Rattle.ledger.specs.declared.Call.TheVariants.{Make}
 use Rattle.ledger.specs.declared.Kind.{Kind}
 use Rattle.ledger.specs.declared.Limits.{Limits}
-use Rattle.ledger.specs.declared.Refusal.{Refusal}
 use Rattle.ledger.specs.declared.Share.{Share}
-use Rattle.ledger.specs.declared.Verdict.{Verdict}
-use Rattle.ledger.specs.declared.Verdict.TheVariants.{Accepted, Refused}
 use Rattle.record.specs.Shares.{taken_in, unmet_in, all_unmet_in, taken_but, is_limited}
 use Rattle.record.specs.Tables.{BlockEntry}
 use Rattle.record.specs.declared.Head.{Head}
@@ -31,10 +28,10 @@ use Rattle.steps.specs.Parts.{part_facts}
 use Rattle.refusals.specs.Verdicts.{and_then, task_verdict, make_call_verdict, taking_verdict}
 use Rattle.refusals.proofs.Verdicts.{then_assoc, then_accepted, both_accept, test_then, no_test, task_tests_lem, task_known}
 use Rattle.objects.specs.Outcomes.{is_limited_by, is_filled_by, make_plan}
-use Rattle.objects.specs.declared.Plan.{Plan}
+use Rattle.std.specs.Prelude.{Ok}
 
 module _ (limits : Limits) (task : ℕ) (kind : Kind) (extension size prefix : ℕ) (tasks : List TaskEntry) (given : ℕ) where
-  pub call_known : make_call_verdict limits task kind extension size prefix tasks given ≡ Accepted → task < task_count
+  pub call_known : make_call_verdict limits task kind extension size prefix tasks given ≡ Ok tt → task < task_count
   call_known e = task_known true task tasks (both_accept (task_verdict true task tasks) _ e).0
 
   pub make_tests : (limited full : Bool) (standing : ℕ)
@@ -53,25 +50,12 @@ module _ (task : ℕ) (kind : Kind) (extension size prefix : ℕ) (h : Head) (ho
   abbrev last : Verdict
   last = taking_verdict h.limits (is_limited_by (is_small size) h.shares holding task) (is_filled_by (is_small size) h.limits h.shares holding task) standing
 
-  planned_by_lem : {v w : Verdict} {place at : ℕ} → v ≡ first → and_then v last ≡ w → place ≡ at
-      → ◌≡◌ {A = Plan} (record { verdict = w; place = place }) (make_plan task kind extension size prefix h at holding standing)
+  -- the block is found where both parts accept
+  pub planned : (place : ℕ) → make_plan task kind extension size prefix h place holding standing ≡ and_then first (and_then last (Ok place))
   unfolding make_plan
-  planned_by_lem so e same =
-      rw (
-        same,
-        sym e ∙ ap (λ (u : Verdict). and_then u last) so
-            ∙ make_tests h.limits task kind extension size prefix h.tasks h.given (is_limited_by (is_small size) h.shares holding task) (is_filled_by (is_small size) h.limits h.shares holding task) standing,
-      )
-
-  -- refused by the first part
-  pub planned_refused : {v : Verdict} {why : Refusal} {place at : ℕ} → v ≡ first → v ≡ Refused why → place ≡ at
-      → ◌≡◌ {A = Plan} (record { verdict = Refused why; place = place }) (make_plan task kind extension size prefix h at holding standing)
-  planned_refused so e same = planned_by_lem so (ap (λ (u : Verdict). and_then u last) e) same
-
-  -- or decided by the second
-  pub planned_taken : {v w : Verdict} {place at : ℕ} → v ≡ first → v ≡ Accepted → w ≡ last → place ≡ at
-      → ◌≡◌ {A = Plan} (record { verdict = w; place = place }) (make_plan task kind extension size prefix h at holding standing)
-  planned_taken so e l same = planned_by_lem so (ap (λ (u : Verdict). and_then u last) e ∙ sym l) same
+  planned place =
+      rw (← make_tests h.limits task kind extension size prefix h.tasks h.given (is_limited_by (is_small size) h.shares holding task) (is_filled_by (is_small size) h.limits h.shares holding task) standing)
+      (then_assoc first last (Ok place))
 
 -- What the holding of a store says is what its blocks say.
 module _ (store : Bool) (limits : Limits) (shares : List Share) (blocks : List BlockEntry) (holding : Holding) (holds : Holds store shares blocks holding) (task : ℕ) (known : task < task_count) where

@@ -1,4 +1,6 @@
 -- Laws of the one finding: what a test after it makes of it, its tests in parts, and what the columns give.
+use Rattle.record.specs.declared.ExpirationTable.{ExpirationTable}
+use Rattle.record.specs.declared.BlockTable.{BlockTable}
 use Prim.Native.Nat.{ℕ}
 use native.Mathlib.Nat.{zero-add}
 use native.Mathlib.Omega.{arith}
@@ -9,16 +11,13 @@ use borrow.Author.Tests.{eqb-true}
 use lib.Dec.{eqb}
 use lib.ListN.{length, get_or}
 use Rattle.lists.proofs.First.{first_at}
-use Rattle.ledger.specs.Refusals.{Test, verdict}
+use Rattle.ledger.specs.Refusals.{Test, verdict, Verdict}
 use Rattle.ledger.specs.Rules.{tests_of}
 use Rattle.ledger.specs.declared.Call.TheVariants.{Refresh}
 use Rattle.ledger.specs.declared.Kind.{Kind}
-use Rattle.ledger.specs.declared.Life.{Life}
 use Rattle.ledger.specs.declared.Refusal.{Refusal}
-use Rattle.ledger.specs.declared.Verdict.{Verdict}
-use Rattle.ledger.specs.declared.Verdict.TheVariants.{Accepted, Refused}
 use Rattle.record.specs.Codes.{free_block}
-use Rattle.record.specs.Tables.{Tables, Sized, SizedEntries, block_entry, entries_of, tables_by, lent, block_entries}
+use Rattle.record.specs.Tables.{Tables, Sized, block_entry, tables_by, lent, block_entries, expiration_list, EntriesSized}
 use Rattle.record.specs.WellFormed.{is_well_formed}
 use Rattle.record.specs.Reading.{is_whole_small, is_whole_large, size_of}
 use Rattle.record.specs.declared.Head.{Head}
@@ -34,43 +33,31 @@ use Rattle.steps.proofs.Remaining.{life_within}
 use Rattle.expirations.specs.Standing.{standing_of}
 use Rattle.expirations.proofs.Counting.{standing_of_lem}
 use Rattle.refusals.specs.Verdicts.{and_then, task_verdict, set_verdict, found_verdict, room_verdict}
-use Rattle.refusals.proofs.Verdicts.{then_assoc, then_accepted, test_then, no_test, tests_then, task_tests_lem}
-use Rattle.objects.specs.Outcomes.{found_by, found_in, found_if, life_if, bytes_by}
-use Rattle.objects.specs.declared.Found.TheVariants.{At}
-use Rattle.objects.specs.declared.Found.TheVariants.{Refused as RefusedFound}
-use Rattle.objects.specs.declared.FoundBytes.TheVariants.{At as AtBytes}
-use Rattle.objects.specs.declared.FoundBytes.TheVariants.{Refused as RefusedBytes}
+use Rattle.refusals.proofs.Verdicts.{then_assoc, then_accepted, test_then, no_test, tests_then, task_tests_lem, next_refused, next_found}
+use Rattle.objects.specs.Outcomes.{found_by, found_in, bytes_by}
+use Rattle.objects.specs.declared.Part.{Part}
 use Rattle.objects.proofs.Laws.{place_of_lem}
+use Rattle.std.specs.Prelude.{Ok, Err}
 
-module _ (asks : Bool) (task handle : ℕ) (p : Tables) where
-  -- a test after it
-  pub tested_after_lem : (v w : Verdict) → found_if (found_by asks v task handle p) w ≡ found_by asks (and_then v w) task handle p
-  tested_after_lem Accepted Accepted = refl
-  tested_after_lem Accepted (Refused r) = refl
-  tested_after_lem (Refused r) w = refl
-
-  -- what it tells of the verdict
-  pub found_refused : (v : Verdict) {why : Refusal} → found_by asks v task handle p ≡ RefusedFound why → v ≡ Refused why
-  found_refused Accepted e = cc
-  found_refused (Refused r) e = cc
-
-  pub found_accepted : (v : Verdict) {block : ℕ} {life : Life} → found_by asks v task handle p ≡ At block life
-      → (v ≡ Accepted) × (place_of handle p.blocks ≡ block)
-  found_accepted Accepted e = (refl, cc)
-  found_accepted (Refused r) e = (cc, cc)
-
--- the same of a read or a write
+-- what the finding tells of the verdict
 module _ (handle : ℕ) (p : Tables) where
-  pub bytes_refused : (v : Verdict) {why : Refusal} → bytes_by v handle p ≡ RefusedBytes why → v ≡ Refused why
-  bytes_refused Accepted e = cc
-  bytes_refused (Refused r) e = cc
+  pub found_refused : (v : Verdict) {why : Refusal} → found_by v handle p ≡ Err why → v ≡ Err why
+  found_refused v = next_refused v (place_of handle p.blocks)
 
-  pub bytes_accepted : (v : Verdict) {block count sum : ℕ} → bytes_by v handle p ≡ AtBytes block count sum
-      → (v ≡ Accepted) × (place_of handle p.blocks ≡ block)
-      × ((get_or p.blocks (place_of handle p.blocks) free_block).length ≡ count)
-      × ((get_or p.blocks (place_of handle p.blocks) free_block).sum ≡ sum)
-  bytes_accepted Accepted e = (refl, cc, cc, cc)
-  bytes_accepted (Refused r) e = (cc, cc, cc, cc)
+  pub found_accepted : (v : Verdict) {block : ℕ} → found_by v handle p ≡ Ok block → (v ≡ Ok tt) × (place_of handle p.blocks ≡ block)
+  found_accepted v = next_found v (place_of handle p.blocks)
+
+  -- the same of a read or a write
+  pub bytes_refused : (v : Verdict) {why : Refusal} → bytes_by v handle p ≡ Err why → v ≡ Err why
+  bytes_refused (Ok _) e = cc
+  bytes_refused (Err r) e = cc
+
+  pub bytes_accepted : (v : Verdict) {part : Part} → bytes_by v handle p ≡ Ok part
+      → (v ≡ Ok tt) × (place_of handle p.blocks ≡ part.block)
+      × ((get_or p.blocks (place_of handle p.blocks) free_block).length ≡ part.length)
+      × ((get_or p.blocks (place_of handle p.blocks) free_block).sum ≡ part.sum)
+  bytes_accepted (Ok _) e = (refl, cc, cc, cc)
+  bytes_accepted (Err r) e = (cc, cc, cc, cc)
 
 -- the block of an object that has one is in use
 pub here_used : (handle : ℕ) (p : Tables) → length p.blocks ≡ block_entries → is_here p.blocks handle ≡ true
@@ -82,14 +69,14 @@ here_used handle p size h =
     rw (here, eqb-true _ handle its) nonzero
 
 -- so its bytes lie in stores that are as long as the figures need
-pub here_block : (h : Head) {hs ls cs ns ds small large : List ℕ} → Sized hs ls cs ns ds → (handle : ℕ)
-    → (let p = lent h hs ls cs ns ds in is_well_formed p ≡ true → is_whole_small h.limits small ≡ true → is_whole_large h.limits large ≡ true
+pub here_block : (h : Head) {blocks : BlockTable} {expirations : ExpirationTable} {small large : List ℕ} → Sized blocks expirations → (handle : ℕ)
+    → (let p = lent h blocks expirations in is_well_formed p ≡ true → is_whole_small h.limits small ≡ true → is_whole_large h.limits large ≡ true
     → is_here p.blocks handle ≡ true → InBlock small large (place_of handle p.blocks) (size_of (place_of handle p.blocks)))
 unfolding tables_by
-here_block h {hs} {ls} {cs} {ns} {ds} sized handle w s l here =
-    let p = lent h hs ls cs ns ds in
+here_block h {blocks} {expirations} sized handle w s l here =
+    let p = lent h blocks expirations in
     let fit = fit_parts p w in
-    let size = length_blocks hs ls sized.blocks.of_handles sized.blocks.of_extents in
+    let size = length_blocks blocks.handles blocks.extents sized.blocks.of_handles sized.blocks.of_extents in
     in_block h.limits fit.allowed s l (fit_used fit _ (here_used handle p size here)).listed (omega arith)
 
 -- tests that look at no bytes are the same with whatever stores
@@ -112,50 +99,45 @@ unfolding verdict_with
 with_test small large ts us p = tests_then (facts_with small large p) ts us
 
 -- the tests of a refresh: those before the finding, its own, and the one after it
-abbrev pub first_verdict : ℕ → Kind → ℕ → Head → Verdict
-first_verdict task kind extension h = and_then (task_verdict true task h.tasks) (set_verdict h.limits kind extension)
-
-module _ (task : ℕ) (kind : Kind) (extension handle : ℕ) (h : Head) (hs ls cs ns ds : List ℕ) where
-  refresh_tests : verdict_by (tests_of (Refresh task kind extension handle) []) (lent h hs ls cs ns ds)
-      ≡ and_then (first_verdict task kind extension h)
-      (and_then (verdict_by (handle_tests handle) (lent h hs ls cs ns ds)) (room_verdict h.limits (standing_in (entries_of cs ns ds))))
+module _ (task : ℕ) (kind : Kind) (extension handle : ℕ) (h : Head) (blocks : BlockTable) (expirations : ExpirationTable) where
+  refresh_tests : verdict_by (tests_of (Refresh task kind extension handle) []) (lent h blocks expirations)
+      ≡ and_then (and_then (task_verdict true task h.tasks) (set_verdict h.limits kind extension))
+      (and_then (verdict_by (handle_tests handle) (lent h blocks expirations)) (room_verdict h.limits (standing_in (expiration_list expirations))))
   unfolding verdict_with tests_of tables_by
   refresh_tests =
-      task_tests_lem (facts_with [] [] (lent h hs ls cs ns ds)) true task _ ∙ simp (test_then, no_test, then_accepted, then_assoc)
+      task_tests_lem (facts_with [] [] (lent h blocks expirations)) true task _ ∙ simp (test_then, no_test, then_accepted, then_assoc)
 
-  pub refresh_refused : {why : Refusal} → first_verdict task kind extension h ≡ Refused why
-      → RefusedFound why ≡ found_in false (tests_of (Refresh task kind extension handle) []) task handle (lent h hs ls cs ns ds)
-  refresh_refused e = rw (refresh_tests, e)
+  -- by which it finds its object
+  pub refresh_found : EntriesSized expirations
+      → found_in (tests_of (Refresh task kind extension handle) []) handle (lent h blocks expirations)
+      ≡ and_then (task_verdict true task h.tasks)
+      (and_then (set_verdict h.limits kind extension)
+      (and_then (verdict_by (handle_tests handle) (lent h blocks expirations))
+      (and_then (room_verdict h.limits (standing_of expirations.clocks)) (Ok (place_of handle (lent h blocks expirations).blocks)))))
+  refresh_found sized = rw (standing_of_lem sized, refresh_tests) (simp then_assoc)
 
-  pub refresh_found : SizedEntries cs ns ds → first_verdict task kind extension h ≡ Accepted
-      → found_if (found_in false (handle_tests handle) task handle (lent h hs ls cs ns ds)) (room_verdict h.limits (standing_of cs))
-      ≡ found_in false (tests_of (Refresh task kind extension handle) []) task handle (lent h hs ls cs ns ds)
-  refresh_found sized e =
-      let p = lent h hs ls cs ns ds in
-      rw (standing_of_lem sized, refresh_tests, e) (tested_after_lem false task handle p (verdict_by (handle_tests handle) p) _)
-
-module _ (h : Head) {hs ls cs ns ds : List ℕ} (sized : Sized hs ls cs ns ds) (asks : Bool) (task handle : ℕ) where
+module _ (h : Head) {blocks : BlockTable} {expirations : ExpirationTable} (sized : Sized blocks expirations) (handle : ℕ) where
   -- 11 and 12 by the handles
-  pub verdict_at_lem : found_verdict handle h.given (place_in handle hs) ≡ verdict_by (handle_tests handle) (lent h hs ls cs ns ds)
+  pub verdict_at_lem : found_verdict handle h.given (place_in handle blocks.handles) ≡ verdict_by (handle_tests handle) (lent h blocks expirations)
   unfolding verdict_with tables_by
   verdict_at_lem =
-      rw (place_of_lem hs ls sized.blocks.of_handles sized.blocks.of_extents handle)
+      rw (place_of_lem blocks.handles blocks.extents sized.blocks.of_handles sized.blocks.of_extents handle)
       (simp (test_then, no_test, then_accepted, not-not))
 
-  -- what stands at the handle's place
-  pub found_at : At (place_in handle hs) (life_if asks (life_in task (place_in handle hs) h.tasks h.global (entries_of cs ns ds)))
-      ≡ found_by asks Accepted task handle (lent h hs ls cs ns ds)
+  -- what stands is at the handle's place
+  pub found_at : and_then (found_verdict handle h.given (place_in handle blocks.handles)) (Ok (place_in handle blocks.handles))
+      ≡ found_in (handle_tests handle) handle (lent h blocks expirations)
   unfolding tables_by
-  found_at = rw (place_of_lem hs ls sized.blocks.of_handles sized.blocks.of_extents handle)
+  found_at = rw (verdict_at_lem, place_of_lem blocks.handles blocks.extents sized.blocks.of_handles sized.blocks.of_extents handle)
 
 -- the length and the sum at a place
-pub entry_at : (h : Head) {hs ls cs ns ds : List ℕ} → Sized hs ls cs ns ds → (i : ℕ)
-    → get_or (lent h hs ls cs ns ds).blocks i free_block ≡ block_entry (get_or hs i 0) (get_or ls i 0)
+pub entry_at : (h : Head) {blocks : BlockTable} {expirations : ExpirationTable} → Sized blocks expirations → (i : ℕ)
+    → get_or (lent h blocks expirations).blocks i free_block ≡ block_entry (get_or blocks.handles i 0) (get_or blocks.extents i 0)
 unfolding tables_by
-entry_at h {hs} {ls} sized i = block_at hs ls sized.blocks.of_handles sized.blocks.of_extents i
+entry_at h {blocks} sized i = block_at blocks.handles blocks.extents sized.blocks.of_handles sized.blocks.of_extents i
 
 -- the figures fit
-pub life_fits : (h : Head) (hs ls cs ns ds : List ℕ) → is_well_formed (lent h hs ls cs ns ds) ≡ true → (task block : ℕ)
-    → LifeWithin (life_in task block h.tasks h.global (entries_of cs ns ds))
+pub life_fits : (h : Head) (blocks : BlockTable) (expirations : ExpirationTable) → is_well_formed (lent h blocks expirations) ≡ true → (task block : ℕ)
+    → LifeWithin (life_in task block h.tasks h.global (expiration_list expirations))
 unfolding tables_by
-life_fits h hs ls cs ns ds w task block = life_within (fit_parts (lent h hs ls cs ns ds) w) task block
+life_fits h blocks expirations w task block = life_within (fit_parts (lent h blocks expirations) w) task block

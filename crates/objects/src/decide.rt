@@ -7,14 +7,14 @@ ghost use Rattle.steps.specs.Objects.{free_place_in};
 ghost use Rattle.objects.specs.Batches.{PlansBatch};
 ghost use Rattle.objects.specs.Outcomes.{make_plan};
 
-use super::{BatchPlan, Plan};
-use ledger::{Kind, LARGEST_BATCH, SMALL_SIZE, Verdict};
+use super::Batch;
+use ledger::{Kind, Refusal, SMALL_SIZE};
 use record::{BLOCK_COUNT, Head};
 use refusals::{
     batch_call_verdict, batch_objects_verdict, find_batch, free_place, make_call_verdict,
     taking_verdict,
 };
-use shares::{Holding, blocks_in, quota_in};
+use shares::{Holding, of_store};
 
 // Q5: by how much a reserve is unmet.
 fn unmet(reserve: u8, made: u8) -> u8
@@ -41,7 +41,7 @@ pub fn plan_make(
     extension: u8,
     size: u16,
     prefix: u16,
-) -> Plan
+) -> Result<usize, Refusal>
     requires { (length handles.now ≡ block_entries)
         × (is_allowed h.limits ≡ true) }
     ensures { result ≡ make_plan task kind extension size prefix h (free_place_in h.limits size handles.now) holding
@@ -51,7 +51,7 @@ pub fn plan_make(
     let limits = h.limits;
     let place = free_place(limits, handles, size);
     let tasks = h.tasks;
-    match make_call_verdict(
+    make_call_verdict(
         limits,
         task,
         kind,
@@ -60,30 +60,21 @@ pub fn plan_make(
         prefix as u32,
         tasks,
         h.given,
-    ) {
-        Verdict::Refused(why) => Plan {
-            verdict: Verdict::Refused(why),
-            place: place,
-        },
-        Verdict::Accepted => {
-            let at = task as usize;
-            let small = size <= SMALL_SIZE;
-            let shares = h.shares;
-            let quota = quota_in(small, shares[at]);
-            let made = holding.made[at];
-            let full = is_filled(
-                blocks_in(limits, small),
-                quota.reserve,
-                made,
-                holding.spoken,
-            );
-            let verdict = taking_verdict(limits, quota.limit <= made, full, standing as usize);
-            Plan {
-                verdict: verdict,
-                place: place,
-            }
-        }
-    }
+    )?;
+    let at = task as usize;
+    let small = size <= SMALL_SIZE;
+    let shares = h.shares;
+    let share = shares[at];
+    let quota = of_store(small, share.small, share.large);
+    let made = holding.made[at];
+    let full = is_filled(
+        of_store(small, limits.small, limits.large),
+        quota.reserve,
+        made,
+        holding.spoken,
+    );
+    taking_verdict(limits, quota.limit <= made, full, standing as usize)?;
+    Ok(place)
 }
 
 // A batch, with the blocks of its objects, where so many expirations stand.
@@ -95,28 +86,16 @@ pub fn plan_batch(
     kind: Kind,
     extension: u8,
     bytes: &[u8],
-) -> BatchPlan
+) -> Result<Batch, Refusal>
     requires { length handles.now ≡ block_entries }
     ensures { PlansBatch task kind extension bytes.now h handles.now standing result }
 {
     let count = bytes.len() / 4;
     let tasks = h.tasks;
-    match batch_call_verdict(h.limits, task, kind, extension, tasks, count) {
-        Verdict::Refused(why) => BatchPlan {
-            verdict: Verdict::Refused(why),
-            blocks: [0u8; LARGEST_BATCH],
-            count: count,
-        },
-        Verdict::Accepted => {
-            let found = find_batch(h.given, handles, bytes);
-            let blocks = found.blocks;
-            let after = standing as usize + count;
-            let verdict = batch_objects_verdict(h.limits, found.ungiven, found.gone, after);
-            BatchPlan {
-                verdict: verdict,
-                blocks: blocks,
-                count: count,
-            }
-        }
-    }
+    batch_call_verdict(h.limits, task, kind, extension, tasks, count)?;
+    let found = find_batch(h.given, handles, bytes);
+    let blocks = found.blocks;
+    let after = standing as usize + count;
+    batch_objects_verdict(h.limits, found.ungiven, found.gone, after)?;
+    Ok(Batch { blocks, count })
 }

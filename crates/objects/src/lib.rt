@@ -6,37 +6,21 @@ mod finding;
 mod report;
 
 pub use decide::{plan_batch, plan_make};
-pub use finding::{
-    find_for_read, find_for_refresh, find_for_release, find_for_write, find_standing,
-};
-use ledger::{LARGEST_BATCH, Life, Refusal, Verdict};
+pub use finding::{find_for_read, find_for_refresh, find_for_release, find_for_write, find_life};
+use ledger::LARGEST_BATCH;
 pub use report::usage;
 
-// The verdict of a make, and the block that it goes by.
+// The blocks of as many objects as a batch has; the others say nothing.
 #[derive(Clone, Copy)]
-pub struct Plan {
-    pub verdict: Verdict,
-    pub place: usize,
-}
-
-// The verdict of a batch, and the blocks of as many objects as it has; the others say nothing.
-#[derive(Clone, Copy)]
-pub struct BatchPlan {
-    pub verdict: Verdict,
+pub struct Batch {
     pub blocks: [u8; LARGEST_BATCH],
     pub count: usize,
 }
 
-// Where the object of a refresh or a release is, or that whose remaining life for the task that calls is asked for.
-#[derive(Clone, Copy)]
-pub enum Found {
-    Refused(Refusal),
-    At { block: usize, life: Life },
-}
-
 // Where the bytes of a read or a write are: the object's block, its length or what of it is shown, and the sum of the block's bytes.
 #[derive(Clone, Copy)]
-pub enum FoundBytes {
-    Refused(Refusal),
-    At { block: usize, length: u16, sum: u16 },
+pub struct Part {
+    pub block: usize,
+    pub length: u16,
+    pub sum: u16,
 }

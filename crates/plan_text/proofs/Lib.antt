@@ -1,4 +1,3 @@
-pub mod Steps
 pub mod Numerals
 pub mod Complete
 pub mod Sound

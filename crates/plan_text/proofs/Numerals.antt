@@ -1,10 +1,11 @@
--- A numeral grows by a digit.
+-- A numeral grows by a digit, and has as many as there are places at most.
 use Prim.Native.Nat.{ℕ, zero, suc, ◌+◌, ◌*◌, ◌/◌, ◌%◌, ◌≤◌, ◌<◌}
 use native.Mathlib.Omega.{arith}
 use mathlib.Core.List.{List, [], ◌∷◌, ◌++◌}
 use mathlib.Core.Path.{◌≡◌, ap, ◌∙◌}
 use borrow.Author.Tests.{lt-ltb, le-ltb, ltb-false}
 use lib.Dec.{ltb}
+use lib.ListN.{length, length-append}
 use Rattle.lists.proofs.Cases.{by_test}
 use Rattle.text.specs.Decimals.{numeral_of, numeral}
 
@@ -37,3 +38,9 @@ numeral_snoc v d l h k = grown v d l k ∙ ap (λ (xs : List ℕ). xs ++ ((48 + 
 pub numeral_digit : (d : ℕ) → d < 10 → numeral d ≡ (48 + d) ∷ []
 unfolding numeral_of
 numeral_digit d h = rw (lt-ltb d 10 h)
+
+pub numeral_length : (places n : ℕ) → length (numeral_of places n) ≤ places
+unfolding numeral_of
+numeral_length zero n = omega arith
+numeral_length (suc places) n =
+    by_test (ltb n 10) (λ e. rw e (omega arith)) (λ e. rw (e, length-append) (omega (arith, numeral_length places (n / 10))))

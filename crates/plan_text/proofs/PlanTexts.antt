@@ -1,9 +1,9 @@
 -- The claims of a plan's text.
+use Rattle.std.specs.Prelude.{Option, Some, None, is_none}
 use Prim.Native.Nat.{ℕ, ◌*◌, ◌/◌, ◌≤◌}
 use native.Mathlib.Omega.{arith}
-use mathlib.Core.Bool.{Bool, true, false, and-eq-true_iff}
+use mathlib.Core.Bool.{true, and-eq-true_iff}
 use mathlib.Core.List.{List, [], ◌∷◌}
-use mathlib.Core.Option.{Option, none, some}
 use mathlib.Core.Path.{◌≡◌, refl}
 use borrow.Author.Tests.{lt-ltb}
 use lib.Dec.{ltb, T}
@@ -14,10 +14,10 @@ use Rattle.lists.proofs.Tests.{all→All}
 use Rattle.ledger.specs.Limits.{task_count, is_within}
 use Rattle.ledger.specs.declared.plans.Channel.{Channel}
 use Rattle.text.specs.Decimals.{numeral_of, numeral, number_line}
-use Rattle.text.proofs.Numerals.{numeral_length}
 use Rattle.plan_text.specs.Texts.{numbers_of, text_of, is_channel, is_plan}
 use Rattle.plan_text.specs.Reading.{read_from, plan_of}
 use Rattle.plan_text.specs.PlanTexts.{bad_texts, PlanTexts}
+use Rattle.plan_text.proofs.Numerals.{numeral_length}
 use Rattle.plan_text.proofs.Complete.{within, ranges, complete}
 use Rattle.plan_text.proofs.Sound.{sound}
 
@@ -52,13 +52,9 @@ short plan h =
     let (sized, each) = (and-eq-true_iff (is_within 1 task_count (length plan)) (all is_channel plan)).0 h in
     omega (arith, text_length plan each, (within 1 task_count (length plan) sized).1)
 
-abbrev is_none : Option (List Channel) → Bool
-is_none none = true
-is_none (some plan) = false
-
-none_told : (o : Option (List Channel)) → T (is_none o) → o ≡ none
-none_told none t = refl
-none_told (some plan) t = absurd t
+none_told : (o : Option (List Channel)) → T (is_none o) → o ≡ None
+none_told None t = refl
+none_told (Some plan) t = absurd t
 
 all_bad : T (all (λ (text : List ℕ). is_none (plan_of text)) bad_texts)
 unfolding bad_texts plan_of read_from text_of number_line numeral_of

@@ -1,6 +1,6 @@
 -- The reader takes the texts of plans and no other.
 use Rattle.std.specs.Prelude.{ℕ, ◌≤◌, true, List, [], ◌∷◌, ◌++◌, ◌≡◌, length, take, drop, replicate}
-use Rattle.std.proofs.Math.Option.{none, some}
+use Rattle.std.specs.Prelude.{None, Some}
 use Rattle.lists.specs.Tests.{All}
 use Rattle.ledger.specs.declared.plans.Channel.{Channel}
 use Rattle.text.specs.Decimals.{line_feed, blank, numeral}
@@ -50,13 +50,13 @@ bad_texts =
     []
 
 pub record IsBad (text : List ℕ) : Type 0 where
-  pub told : plan_of text ≡ none
+  pub told : plan_of text ≡ None
 
 pub record PlanTexts : Type 0 where
   -- G2: the text of a plan is read as that plan,
-  pub read : (plan : List Channel) → is_plan plan ≡ true → plan_of (text_of plan) ≡ some plan
+  pub read : (plan : List Channel) → is_plan plan ≡ true → plan_of (text_of plan) ≡ Some plan
   -- what is read as a plan is its text,
-  pub only : (text : List ℕ) (plan : List Channel) → plan_of text ≡ some plan → (is_plan plan ≡ true) × (text ≡ text_of plan)
+  pub only : (text : List ℕ) (plan : List Channel) → plan_of text ≡ Some plan → (is_plan plan ≡ true) × (text ≡ text_of plan)
   -- and has at most 432 bytes: so 433 bytes of an input decide
   pub short : (plan : List Channel) → is_plan plan ≡ true → length (text_of plan) ≤ 432
   pub bad : All IsBad bad_texts

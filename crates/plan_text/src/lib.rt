@@ -1,58 +1,28 @@
 // The text of a cable plan (order 13 of document 02), read a byte at a time: one to sixteen lines of five numbers.
 #![tactic(auto)]
 
-ghost use Rattle.std.specs.Prelude.{◌<◌, ◌≤◌, ◌≡◌};
-ghost use Rattle.plan_text.specs.Reading.{bad_line, new_line, stops_digit, with_digit, stops_blank, with_blank, is_whole, channel_of, is_digit, moved, with_byte, started, is_at_end, plan_in, IsRead};
+ghost use Rattle.std.specs.Prelude.{◌<◌, ◌≡◌, option_map};
+ghost use Rattle.plan_text.specs.Reading.{new_line, with_digit, with_blank, channel_of, moved, plan_of};
 
+use arrayvec::ArrayVec;
 use ledger::TASK_COUNT;
 use ledger::plans::Channel;
 
-// G2: the largest number of a text, and the largest extension.
-const LARGEST: u32 = 65535;
-
+// G2: the largest extension. The largest number of a text is that of its type.
 const LONGEST_EXTENSION: u16 = 30;
+
+// G2: the channels of a plan.
+pub type Plan = ArrayVec<Channel, TASK_COUNT>;
 
 // A line under way: how many of its numbers have ended, the last four of these, and the number that is being read, if a digit of it was.
 #[derive(Clone, Copy)]
-pub struct Line {
-    pub ended: u8,
-    pub first: u16,
-    pub second: u16,
-    pub third: u16,
-    pub fourth: u16,
-    pub begun: bool,
-    pub value: u16,
-    pub bad: bool,
-}
-
-// The lines that have ended, and the one under way.
-#[derive(Clone, Copy)]
-pub struct Reading {
-    pub line: Line,
-    pub count: usize,
-    pub channels: [Channel; TASK_COUNT],
-}
-
-// G2: the channels of a plan; none where the text is bad.
-#[derive(Clone, Copy)]
-pub struct Plan {
-    pub count: usize,
-    pub channels: [Channel; TASK_COUNT],
-}
-
-fn bad_line() -> Line
-    ensures { result ≡ bad_line }
-{
-    Line {
-        ended: 0,
-        first: 0,
-        second: 0,
-        third: 0,
-        fourth: 0,
-        begun: false,
-        value: 0,
-        bad: true,
-    }
+struct Line {
+    ended: u8,
+    first: u16,
+    second: u16,
+    third: u16,
+    fourth: u16,
+    number: Option<u16>,
 }
 
 fn new_line() -> Line
@@ -64,177 +34,91 @@ fn new_line() -> Line
         second: 0,
         third: 0,
         fourth: 0,
-        begun: false,
-        value: 0,
-        bad: false,
+        number: None,
     }
 }
 
-// No digit stands after a leading zero, and no number is above the largest.
-fn stops_digit(line: Line, value: u32) -> bool
-    ensures { result ≡ stops_digit line value }
-{
-    line.bad | (line.begun & (line.value == 0)) | (LARGEST < value)
-}
-
-// One digit more.
-fn with_digit(line: Line, digit: u8) -> Line
+// One digit more: none stands after a leading zero, and no number is above the largest.
+fn with_digit(line: Line, digit: u8) -> Option<Line>
     requires { digit < 10 }
     ensures { result ≡ with_digit line digit }
 {
-    let value = 10 * (line.value as u32) + digit as u32;
-    if stops_digit(line, value) {
-        return bad_line();
-    }
-    Line {
-        ended: line.ended,
-        first: line.first,
-        second: line.second,
-        third: line.third,
-        fourth: line.fourth,
-        begun: true,
-        value: value as u16,
-        bad: false,
-    }
+    let digit = digit as u16;
+    let number = match line.number {
+        None => digit,
+        Some(0) => return None,
+        Some(number) => number.checked_mul(10)?.checked_add(digit)?,
+    };
+    Some(Line {
+        number: Some(number),
+        ..line
+    })
 }
 
 // A blank stands after one of the first four numbers; the first two are at least 1.
-fn stops_blank(line: Line) -> bool
-    ensures { result ≡ stops_blank line }
-{
-    line.bad | !line.begun | (4 <= line.ended) | ((line.ended < 2) & (line.value == 0))
-}
-
-fn with_blank(line: Line) -> Line
+fn with_blank(line: Line) -> Option<Line>
     ensures { result ≡ with_blank line }
 {
-    if stops_blank(line) {
-        return bad_line();
+    let number = line.number?;
+    if (4 <= line.ended) | ((line.ended < 2) & (number == 0)) {
+        return None;
     }
-    Line {
+    Some(Line {
         ended: line.ended + 1,
         first: line.second,
         second: line.third,
         third: line.fourth,
-        fourth: line.value,
-        begun: false,
-        value: 0,
-        bad: false,
-    }
+        fourth: number,
+        number: None,
+    })
 }
 
-// All five numbers are there, and the last is an extension.
-fn is_whole(line: Line) -> bool
-    ensures { result ≡ is_whole line }
-{
-    !line.bad & line.begun & (line.ended == 4) & (line.value <= LONGEST_EXTENSION)
-}
-
-fn channel_of(line: Line) -> Channel
-    requires { line.value ≤ 30 }
+// The channel of a line with all five numbers, the last of them an extension.
+fn channel_of(line: Line) -> Option<Channel>
     ensures { result ≡ channel_of line }
 {
-    Channel {
+    let extension = line.number?;
+    if (line.ended != 4) | (LONGEST_EXTENSION < extension) {
+        return None;
+    }
+    Some(Channel {
         period: line.first,
         reply: line.second,
         silent: line.third,
         wait: line.fourth,
-        extension: line.value as u8,
-    }
-}
-
-fn is_digit(byte: u8) -> bool
-    ensures { result ≡ is_digit byte }
-{
-    (b'0' <= byte) & (byte <= b'9')
+        extension: extension as u8,
+    })
 }
 
 // A byte more of a line that does not end with it.
-fn moved(line: Line, byte: u8) -> Line
+fn moved(line: Line, byte: u8) -> Option<Line>
     ensures { result ≡ moved line byte }
 {
-    if byte == b' ' {
-        return with_blank(line);
-    }
-    if is_digit(byte) {
-        return with_digit(line, byte - b'0');
-    }
-    bad_line()
-}
-
-// A byte more; with LF a channel more.
-fn with_byte(mut r: Reading, byte: u8) -> Reading
-    ensures { result ≡ with_byte r byte }
-{
-    let line = r.line;
-    if byte != b'\n' {
-        r.line = moved(line, byte);
-        return r;
-    }
-    if !is_whole(line) {
-        r.line = bad_line();
-        return r;
-    }
-    if TASK_COUNT <= r.count {
-        r.line = bad_line();
-        return r;
-    }
-    let at = r.count;
-    r.channels[at] = channel_of(line);
-    r.count = at + 1;
-    r.line = new_line();
-    r
-}
-
-fn start() -> Reading
-    ensures { result ≡ started }
-{
-    Reading {
-        line: new_line(),
-        count: 0,
-        channels: [Channel {
-            period: 0,
-            reply: 0,
-            silent: 0,
-            wait: 0,
-            extension: 0,
-        }; TASK_COUNT],
+    match byte {
+        b' ' => with_blank(line),
+        b'0'..=b'9' => with_digit(line, byte - b'0'),
+        _ => None,
     }
 }
 
-// No line is bad, and none is under way.
-fn is_at_end(line: Line) -> bool
-    ensures { result ≡ is_at_end line }
+// The plan of a text, if it is one.
+#[tactic(auto, unfolding(crate::specs::Reading::read_from, crate::specs::Reading::plan_of))]
+pub fn read(text: &[u8]) -> Option<Plan>
+    ensures { option_map (λ p. p.items) result ≡ plan_of text.now }
 {
-    !line.bad & !line.begun & (line.ended == 0)
-}
-
-fn plan_in(r: Reading) -> Plan
-    ensures { result ≡ plan_in r }
-{
-    let line = r.line;
-    let channels = r.channels;
-    if is_at_end(line) {
-        return Plan {
-            count: r.count,
-            channels: channels,
-        };
+    let mut plan = Plan::new();
+    let mut line = new_line();
+    for byte in text {
+        if *byte == b'\n' {
+            plan.try_push(channel_of(line)?).ok()?;
+            line = new_line();
+        } else {
+            line = moved(line, *byte)?;
+        }
     }
-    Plan {
-        count: 0,
-        channels: channels,
+    if (line.ended == 0) & line.number.is_none() & !plan.is_empty() {
+        Some(plan)
+    } else {
+        None
     }
-}
-
-// The plan of a text.
-pub fn read(text: &[u8]) -> Plan
-    ensures { IsRead text.now result }
-{
-    let mut reading = start();
-    let mut i = 0;
-    while i < text.len() {
-        reading = with_byte(reading, text[i]);
-        i += 1;
-    }
-    plan_in(reading)
 }

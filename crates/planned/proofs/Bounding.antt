@@ -1,7 +1,8 @@
 -- No count of a channel is larger than that of the steps, and no poll began after the last of them.
+use Rattle.std.specs.Prelude.{Option, Some, None, is_none}
 use Prim.Native.Nat.{ℕ, zero, suc, ◌≤◌}
 use native.Mathlib.Omega.{arith}
-use mathlib.Core.Bool.{true, and-eq-true_iff}
+use mathlib.Core.Bool.{true, cond, and-eq-true_iff}
 use mathlib.Core.List.{List, [], ◌∷◌, map}
 use mathlib.Core.Path.{◌≡◌}
 use lib.ListN.{length}
@@ -14,18 +15,20 @@ use Rattle.ledger.specs.declared.Answer.TheVariants.{Refused, Done, Advanced, Ha
 use Rattle.ledger.specs.declared.Limits.{Limits}
 use Rattle.ledger.specs.declared.plans.Channel.{Channel}
 use Rattle.ledger.specs.declared.plans.Poll.{Poll}
-use Rattle.ledger.specs.declared.plans.Poll.TheVariants.{Closed, Open}
 use Rattle.ledger.specs.declared.plans.Track.{Track}
 use Rattle.ledger.specs.declared.plans.Turn.{Turn}
 use Rattle.ledger.specs.declared.plans.Turn.TheVariants.{Rests, Begins, Replied, Quits}
 use Rattle.plan_text.specs.Texts.{is_channel, is_plan}
 use Rattle.plan_text.proofs.Complete.{ranges}
 use Rattle.planned.specs.Bounds.{PollBounded, Bounded}
-use Rattle.planned.proofs.Turning.{one_at_most}
 
-wider_poll : {k n : ℕ} → k ≤ n → (poll : Poll) → PollBounded k poll → PollBounded n poll
-wider_poll l Closed b = tt
-wider_poll l (Open begun handle) b = omega (arith, b, l)
+one_at_most : (poll : Option Poll) → cond (is_none poll) 1 0 ≤ 1
+one_at_most None = omega arith
+one_at_most (Some poll) = omega arith
+
+wider_poll : {k n : ℕ} → k ≤ n → (poll : Option Poll) → PollBounded k poll → PollBounded n poll
+wider_poll l None b = tt
+wider_poll l (Some poll) b = omega (arith, b, l)
 
 pub wider : {k n : ℕ} → k ≤ n → (t : Track) → Bounded k t → Bounded n t
 wider l t b =
@@ -47,7 +50,7 @@ opened_bounded step (Counted u) = tt
 opened_bounded step (Lasts life) = tt
 
 -- a turn adds one at most
-turn_bounded : (step : ℕ) (poll : Poll) → PollBounded (suc step) poll → (t : Track) → Bounded step t → (w : Turn)
+turn_bounded : (step : ℕ) (poll : Option Poll) → PollBounded (suc step) poll → (t : Track) → Bounded step t → (w : Turn)
     → Bounded (suc step) (track_after poll t w)
 unfolding track_after
 turn_bounded step poll o t b Rests = wider (omega arith) t b
@@ -65,8 +68,7 @@ turn_bounded step poll o t b (Replied handle) =
       poll = tt;
       replies = omega (arith, b.replies);
       quits = omega (arith, b.quits);
-      refusals = omega
-          (arith, b.refusals);
+      refusals = omega (arith, b.refusals);
     }
 turn_bounded step poll o t b Quits =
     record {
@@ -74,8 +76,7 @@ turn_bounded step poll o t b Quits =
       poll = tt;
       replies = omega (arith, b.replies);
       quits = omega (arith, b.quits);
-      refusals = omega
-          (arith, b.refusals);
+      refusals = omega (arith, b.refusals);
     }
 
 step_bounded : (ts : List Track) (L : Ledger) (step task : ℕ) → All (Bounded step) ts

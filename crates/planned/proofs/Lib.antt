@@ -1,7 +1,6 @@
-pub mod Acting
+pub mod Sending
 pub mod Turning
 pub mod Stepping
-pub mod Joining
 pub mod Bounding
 pub mod Running
 pub mod Printing

@@ -1,112 +1,94 @@
--- A run step by step: what holds before each step, what a step makes of it, and what is left at the end.
+-- A run: the channels join one after the other, and then a step leads to the next.
 use Prim.Native.Nat.{ℕ, zero, suc, ◌+◌, ◌≤◌, ◌<◌}
+use native.Mathlib.Nat.{not-suc-le-zero, le_of_suc-le-suc}
 use native.Mathlib.Numerals.{add-one}
 use native.Mathlib.Omega.{arith}
-use mathlib.Core.Bool.{true}
-use mathlib.Core.List.{List, [], ◌∷◌, map}
-use mathlib.Core.Path.{◌≡◌, refl, sym, ap, ◌∙◌}
-use borrow.Author.Tests.{eq-eqb}
-use lib.ListN.{length, take, replicate, length-map, length-take, length-replicate}
-use Rattle.lists.specs.Tests.{All}
+use mathlib.Core.Bool.{true, and-eq-true_iff}
+use mathlib.Core.List.{List, [], ◌∷◌, ◌++◌, map}
+use mathlib.Core.Path.{◌≡◌, refl, sym, ap, subst, ◌∙◌}
+use lib.ListN.{length, get_or, take, drop}
+use lib.Seq.{take-suc, take_all, take-length, take-append-le}
+use Rattle.std.specs.List.{refill}
+use Rattle.lists.specs.Tests.{all, All}
 use Rattle.lists.proofs.All.{all_imp}
-use Rattle.ledger.specs.Limits.{task_count, standard}
-use Rattle.ledger.specs.Ledger.{fresh}
-use Rattle.ledger.specs.Plans.{ready, after_step, stepped, run}
+use Rattle.ledger.specs.Limits.{task_count, is_within, standard}
+use Rattle.ledger.specs.Ledger.{Sent, fresh, after_all}
+use Rattle.ledger.specs.Rows.{join_with}
+use Rattle.ledger.specs.Plans.{plan_share, joins, ready, after_step, stepped, run}
+use Rattle.ledger.specs.declared.Answer.{Answer}
+use Rattle.ledger.specs.declared.Call.TheVariants.{Join}
 use Rattle.ledger.specs.declared.plans.Channel.{Channel}
 use Rattle.ledger.specs.declared.plans.Track.{Track}
-use Rattle.ledger.proofs.Figures.{standard_allowed}
-use Rattle.record.specs.Reading.{fresh_pool}
-use Rattle.record.specs.Pools.{Reads}
-use Rattle.record.specs.Tables.{Sized, blocks_of, head_of, pooled}
-use Rattle.record.specs.declared.Head.{Head}
-use Rattle.record.specs.declared.Pool.{Pool}
-use Rattle.record.proofs.FreshReads.{fresh_reads, fresh_well_formed}
-use Rattle.shares.specs.Holdings.{LengthsFit}
-use Rattle.plan_text.specs.Texts.{is_plan}
-use Rattle.plan_text.specs.declared.Plan.{Plan}
+use Rattle.ledger.proofs.Appended.{after_append}
+use Rattle.plan_text.specs.Texts.{is_channel, is_plan}
+use Rattle.plan_text.proofs.Complete.{within}
 use Rattle.planned.specs.Bounds.{step_count, Bounded}
-use Rattle.planned.specs.Planned.{Fits, Steps}
-use Rattle.planned.specs.Run.{Joins, channels_of, IsPlanned}
-use Rattle.planned.proofs.Acting.{placed}
+use Rattle.planned.specs.Planned.{ReadsAs, Sends, Steps}
+use Rattle.planned.specs.declared.site.Site.{Site}
 use Rattle.planned.proofs.Bounding.{wider, run_bounded}
 
--- a fresh record, with stores of 01's lengths
-fresh_fits : (small large : List ℕ) → length small ≡ 2048 → length large ≡ 8192 → Fits (fresh_pool standard) small large
-unfolding fresh_pool standard
-fresh_fits small large s l = record { fit = fresh_well_formed standard standard_allowed; whole = rw (eq-eqb _ _ s, eq-eqb _ _ l) }
+-- all is written over
+pub refilled : {A : Type 0} (xs ys : List A) → length ys ≡ length xs → refill (length xs) xs ys ≡ ys
+refilled xs ys e = rw (sym e) (take-append-le (length ys) ys (drop (length ys) xs) (omega arith) ∙ take-length ys)
 
-pub fresh_placed : {p : Pool} → p ≡ fresh_pool standard → LengthsFit (blocks_of p.handles p.extents)
-fresh_placed e = rw e (placed (fresh_fits (replicate 2048 0) (replicate 8192 0) (length-replicate {A = ℕ} 2048 0)
-    (length-replicate {A = ℕ} 8192 0)))
+-- a plan has a channel for each task at most
+pub plan_length : (plan : List Channel) → is_plan plan ≡ true → length plan ≤ 16
+unfolding is_plan
+plan_length plan e =
+    (within 1 task_count (length plan) ((and-eq-true_iff (is_within 1 task_count (length plan)) (all is_channel plan)).0 e).0).1
 
-pub fresh_sized : {p : Pool} → p ≡ fresh_pool standard → Sized p.handles p.extents p.clocks p.named p.dues
-unfolding fresh_pool
-fresh_sized e =
-    rw e (record {
-      blocks = record { of_handles = refl; of_extents = refl };
-      entries = record
-          { of_clocks = refl; of_named = refl; of_dues = refl };
-    })
+-- one more
+joins_more : (plan : List Channel) (task i : ℕ) → i < length plan
+    → joins task (take (suc i) plan) ≡ joins task (take i plan) ++ (join_with (task + i) plan_share ∷ [])
+unfolding joins
+joins_more [] task i l = absurd (not-suc-le-zero l)
+joins_more (c ∷ plan) task zero l = ap (λ (k : ℕ). join_with k plan_share ∷ []) (omega arith)
+joins_more (c ∷ plan) task (suc i) l =
+    ap (λ (ss : List Sent). join_with task plan_share ∷ ss)
+    (joins_more plan (suc task) i (le_of_suc-le-suc l)
+    ∙ ap (λ (k : ℕ). joins (suc task) (take i plan) ++ (join_with k plan_share ∷ [])) (omega arith))
 
--- the tracks with which a plan starts
-pub record Starts (plan : List Channel) (count : ℕ) (ts : List Track) : Type 0 where
-  pub plan_is : is_plan plan ≡ true
-  pub tracks : take count ts ≡ map ready plan
+pub joins_next : (plan : List Channel) (i : ℕ) → i < length plan → (s : Site) → {s' : Site} {answer : Answer}
+    → ReadsAs s (after_all (fresh standard) (joins 0 (take i plan))) → Sends (Join i plan_share) [] s answer s'
+    → ReadsAs s' (after_all (fresh standard) (joins 0 (take (i + 1) plan)))
+unfolding after_all
+joins_next plan i l s {s' = s'} reads o =
+    let more : joins 0 (take (i + 1) plan) ≡ joins 0 (take i plan) ++ (join_with i plan_share ∷ []) =
+    ap (λ (k : ℕ). joins 0 (take k plan)) (add-one i) ∙ joins_more plan 0 i l
+    ∙ ap (λ (k : ℕ). joins 0 (take i plan) ++ (join_with k plan_share ∷ [])) (omega arith) in
+    subst (ReadsAs s')
+    (sym (ap (after_all (fresh standard)) more ∙ after_append (joins 0 (take i plan)) (join_with i plan_share ∷ []) (fresh standard)))
+    (o.leaves _ reads)
 
-take_map : {A B : Type 0} (f : A → B) (n : ℕ) (xs : List A) → take n (map f xs) ≡ map f (take n xs)
-take_map f zero xs = refl
-take_map f (suc n) [] = refl
-take_map f (suc n) (x ∷ xs) = ap (λ ys. f x ∷ ys) (take_map f n xs)
+map_snoc {ℓ} : {A B : Type ℓ} (f : A → B) (xs : List A) (a : A) → map f (xs ++ (a ∷ [])) ≡ map f xs ++ (f a ∷ [])
+map_snoc f [] a = refl
+map_snoc f (x ∷ xs) a = ap (λ ys. f x ∷ ys) (map_snoc f xs a)
 
-pub starts : {p : Plan} {ts : List Track} → IsPlanned p → ts ≡ map ready p.channels → Starts (channels_of p) p.count ts
-starts {p} i e = record { plan_is = i.plan; tracks = rw e (take_map ready p.count p.channels) }
+pub ready_next : (plan : List Channel) (i : ℕ) (d : Channel) → i < length plan
+    → map ready (take i plan) ++ (ready (get_or plan i d) ∷ []) ≡ map ready (take (i + 1) plan)
+ready_next plan i d l =
+    sym (ap (λ (k : ℕ). map ready (take k plan)) (add-one i) ∙ ap (map ready) (take-suc plan i d l)
+    ∙ map_snoc ready (take i plan) (get_or plan i d))
 
--- before a step
-pub record Running (plan : List Channel) (count step : ℕ) (ts : List Track) (p : Pool) (small large : List ℕ) : Type 0 where
-  pub fits : Fits p small large
-  pub reads : Reads p small large (run standard plan step).ledger
-  pub tracks : take count ts ≡ (run standard plan step).tracks
-  pub size : length ts ≡ task_count
-  pub within : step ≤ step_count
-
-pub run_starts : {p : Pool} → p ≡ fresh_pool standard → {count : ℕ} {h h' : Head} → h ≡ head_of p
-    → Joins count h p.handles p.extents h'
-    → {small large : List ℕ} → length small ≡ 2048 → length large ≡ 8192 → {ts : List Track} → length ts ≡ task_count → count ≤ task_count
-    → (plan : List Channel) → Starts plan count ts
-    → Running plan count 0 ts (pooled h' p.handles p.extents p.clocks p.named p.dues) small large
+pub joined : (plan : List Channel) (i : ℕ) → length plan ≤ i → (s : Site)
+    → ReadsAs s (after_all (fresh standard) (joins 0 (take i plan))) → ReadsAs s (run standard plan 0).ledger
 unfolding run
-run_starts {p} fresh-is {count} same j {small} {large} small_size large_size {ts} size most plan st =
-    let sized : length plan ≡ count = sym (length-map plan ready) ∙ ap length (sym st.tracks) ∙ simp length-take
-    (omega (arith, most, size)) in
-    let fits : Fits (pooled (head_of p) p.handles p.extents p.clocks p.named p.dues) small large =
-    rw fresh-is (fresh_fits small large small_size large_size) in
-    let joined = j.acts plan sized p.clocks p.named p.dues small large (fresh_sized fresh-is) (rw same fits) in
-    record {
-      fits = joined.fits;
-      reads = joined.leaves (fresh standard) (rw (same, fresh-is) (fresh_reads standard small large));
-      tracks = st.tracks;
-      size = size;
-      within = omega arith;
-    }
+joined plan i l s reads = subst (λ (p : List Channel). ReadsAs s (after_all (fresh standard) (joins 0 p))) (take_all i plan l) reads
 
-module _ {plan : List Channel} {count step : ℕ} {ts : List Track} {p : Pool} {small large : List ℕ}
-    (g : Running plan count step ts p small large) where
-  pub still_bounded : is_plan plan ≡ true → All (Bounded step_count) (take count ts)
-  still_bounded e =
-      rw g.tracks (all_imp (wider g.within) (run standard plan step).tracks (run_bounded standard plan e step))
+pub all_ready : (plan : List Channel) (i : ℕ) → length plan ≤ i → map ready (take i plan) ≡ (run standard plan 0).tracks
+unfolding run
+all_ready plan i l = ap (map ready) (take_all i plan l)
 
-  pub run_turns : {ts' : List Track} {p' : Pool} {small' large' : List ℕ} → step < step_count
-      → Steps step count ts p small large ts' p' small' large' → Running plan count (step + 1) ts' p' small' large'
-  unfolding run stepped
-  run_turns l s =
-      let w = run standard plan step in
-      rw (add-one step) (record {
-        fits = s.acts.fits;
-        reads = rw g.tracks at (s.acts.leaves w.ledger g.reads);
-        tracks = s.tracks w.ledger g.reads ∙ ap (after_step w.ledger step 0) g.tracks;
-        size = s.size;
-        within = omega (arith, l);
-      })
+module _ (plan : List Channel) (step : ℕ) where
+  pub still_bounded : is_plan plan ≡ true → step ≤ step_count → All (Bounded step_count) (run standard plan step).tracks
+  still_bounded e l = all_imp (wider l) (run standard plan step).tracks (run_bounded standard plan e step)
 
-  pub run_ends : step_count ≤ step → (length ts ≡ task_count) × (take count ts ≡ (run standard plan step_count).tracks)
-  run_ends l = (g.size, g.tracks ∙ ap (λ (k : ℕ). (run standard plan k).tracks) (omega (arith, l, g.within)))
+  module _ {ts ts' : List Track} {s s' : Site} (same : ts ≡ (run standard plan step).tracks) (o : Steps step ts s ts' s')
+      (reads : ReadsAs s (run standard plan step).ledger) where
+    pub reads_next : ReadsAs s' (run standard plan (step + 1)).ledger
+    unfolding run stepped
+    reads_next = rw (add-one step) (rw same at (o.leaves _ reads))
+
+    pub tracks_next : ts' ≡ (run standard plan (step + 1)).tracks
+    unfolding run stepped
+    tracks_next = rw (add-one step) (o.told _ reads ∙ ap (after_step (run standard plan step).ledger step 0) same)

@@ -1,4 +1,3 @@
 pub mod Bounds
 pub mod Planned
-pub mod Run
 pub mod Output

@@ -3,5 +3,5 @@
 
 pub mod output;
 mod run;
-mod tracks;
+mod site;
 mod turns;

@@ -1,99 +1,38 @@
 // What is printed of a plan's text: `bad plan`, or a line for each channel (the rules G2 and G15).
-ghost use Rattle.std.specs.Prelude.{◌+◌, ◌*◌, ◌≤◌, cond, ◌≡◌, length, take};
-ghost use Rattle.ledger.specs.Limits.{task_count};
-ghost use Rattle.ledger.specs.Plans.{is_closed, figures};
-ghost use Rattle.text.specs.Decimals.{number_line};
-ghost use Rattle.text.specs.Hex.{Puts};
-ghost use Rattle.planned.specs.Output.{longest_line, lines_of, bad_plan, Shows, output_of};
+ghost use Rattle.std.specs.Prelude.{OnOk};
+ghost use Rattle.std.specs.Io.KnownBytes.{Appends};
+ghost use Rattle.lists.specs.Tests.{All};
+ghost use Rattle.planned.specs.Bounds.{step_count, Bounded};
+ghost use Rattle.planned.specs.Output.{lines_of, output_of};
 
 use crate::run::run;
-use crate::tracks::is_closed;
-use ledger::TASK_COUNT;
-use ledger::plans::{Poll, Track};
+use ledger::plans::Track;
 use plan_text::read;
-use text::decimals::put_number;
+use std::io;
+use std::io::Write;
 
-// The bytes of the longest output.
-pub const LONGEST_OUTPUT: usize = 384;
-
-// What is written: the first `count` bytes.
-#[derive(Clone, Copy)]
-pub struct Output {
-    pub bytes: [u8; LONGEST_OUTPUT],
-    pub count: usize,
-}
-
-fn open_polls(poll: Poll) -> u32
-    ensures { result ≡ cond (is_closed poll) 0 1 }
+// G10: the four figures of each channel.
+fn print_tracks<W: Write>(tracks: &[Track], output: &mut W) -> io::Result<()>
+    requires { All (Bounded step_count) tracks.now }
+    ensures { OnOk result (Appends (W.contents output.old) (W.contents output.new) (lines_of tracks.now)) }
 {
-    if is_closed(poll) {
-        return 0;
+    for track in tracks {
+        let open = u8::from(track.poll.is_some());
+        writeln!(
+            output,
+            "{} {} {} {open}",
+            track.replies, track.quits, track.refusals,
+        )?;
     }
-    1
-}
-
-// The line of a channel.
-fn put_track(t: Track, out: &mut [u8], at: usize) -> usize
-    requires { at + longest_line ≤ length out.old }
-    ensures { Puts at (number_line (figures t)) out.old out.new result }
-{
-    let poll = t.poll;
-    let first = put_number(t.replies, b' ', out, at);
-    let second = put_number(t.quits, b' ', out, first);
-    let third = put_number(t.refusals, b' ', out, second);
-    put_number(open_polls(poll), b'\n', out, third)
-}
-
-// The lines of the first so many channels.
-fn put_tracks(tracks: [Track; TASK_COUNT], count: usize, out: &mut [u8]) -> usize
-    requires { (count ≤ task_count)
-        × (length tracks ≡ task_count)
-        × (task_count * longest_line ≤ length out.old) }
-    ensures { Puts 0 (lines_of (take count tracks)) out.old out.new result }
-{
-    let mut at = 0;
-    let mut i = 0;
-    while i < count {
-        let t = tracks[i];
-        at = put_track(t, out, at);
-        i += 1;
-    }
-    at
-}
-
-fn bad_plan() -> Output
-    ensures { Shows bad_plan result }
-{
-    let mut bytes = [0u8; LONGEST_OUTPUT];
-    bytes[0] = b'b';
-    bytes[1] = b'a';
-    bytes[2] = b'd';
-    bytes[3] = b' ';
-    bytes[4] = b'p';
-    bytes[5] = b'l';
-    bytes[6] = b'a';
-    bytes[7] = b'n';
-    bytes[8] = b'\n';
-    Output {
-        bytes: bytes,
-        count: 9,
-    }
+    Ok(())
 }
 
 // What the program writes for a text.
-pub fn output_of(text: &[u8]) -> Output
-    ensures { Shows (output_of text.now) result }
+pub fn print_plan<W: Write>(text: &[u8], output: &mut W) -> io::Result<()>
+    ensures { OnOk result (Appends (W.contents output.old) (W.contents output.new) (output_of text.now)) }
 {
-    let plan = read(text);
-    let planned = plan.count;
-    if planned == 0 {
-        return bad_plan();
-    }
-    let tracks = run(plan);
-    let mut bytes = [0u8; LONGEST_OUTPUT];
-    let count = put_tracks(tracks, planned, &mut bytes);
-    Output {
-        bytes: bytes,
-        count: count,
+    match read(text) {
+        None => output.write_all(b"bad plan\n"),
+        Some(plan) => print_tracks(&run(&plan), output),
     }
 }

@@ -22,6 +22,7 @@ const LONGEST_SCRIPT: usize = 65536;
 const OUTPUT_BYTES: usize = 65536;
 
 // D5: from fresh, a buffer of answers at a time. A failed write ends it.
+#[tactic(auto, using(text::proofs::Puts::puts_within))]
 fn answer<W: Write>(script: &[u8], output: &mut W) -> io::Result<()>
     ensures { OnOk result (Appends (W.contents output.old) (W.contents output.new) (output_of standard script.now)) }
 {
@@ -30,12 +31,12 @@ fn answer<W: Write>(script: &[u8], output: &mut W) -> io::Result<()>
     let mut out = [0u8; OUTPUT_BYTES];
     let mut p = fresh(STANDARD);
     let mut at = 0;
+    // By place: a run of answers ends where its buffer does.
     while at < script.len() {
         let ran = run_on(p, &mut small, &mut large, script, at, &mut out);
-        let written = ran.written;
         p = ran.pool;
         at = ran.next;
-        output.write_all(&out[..written])?;
+        output.write_all(&out[..ran.written])?;
     }
     Ok(())
 }

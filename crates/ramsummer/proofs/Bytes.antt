@@ -6,9 +6,11 @@ use mathlib.Core.Path.{◌≡◌, refl, sym, ap, ◌∙◌}
 use borrow.Author.Tests.{eqb-true, eqb-false}
 use lib.Dec.{eqb}
 use lib.ListN.{length, get_or}
+use Rattle.std.specs.Prelude.{Ok, Err}
 use Rattle.lists.specs.Tests.{any}
 use Rattle.lists.proofs.Blocks.{get_or_overwritten}
 use Rattle.lists.proofs.Cases.{by_test}
+use Rattle.ledger.specs.Ledger.{Frame}
 use Rattle.ledger.specs.Numbers.{is_refusal}
 use Rattle.ledger.specs.Objects.{Reply}
 use Rattle.ledger.specs.declared.Call.TheVariants.{Join, Schedule, Make, Refresh, Read, Write, Batch, Release}
@@ -18,7 +20,6 @@ use Rattle.record.specs.Reading.{is_small_block}
 use Rattle.record.specs.declared.Pool.{Pool}
 use Rattle.stores.specs.Places.{start_of, small_after, large_after}
 use Rattle.calls.specs.Contract.{Same, LeavesMade, LeavesWritten}
-use Rattle.ledger.specs.declared.Frame.{Frame}
 use Rattle.calls.specs.Served.{IsReplyTo}
 use Rattle.by_value.specs.Told.{Loans, Told}
 use Rattle.ramsummer.specs.Steps.{Asked, frame_asked, bytes_asked, is_heard, Gives, Action, asks, renews, awaits, shares, Acts}
@@ -28,13 +29,13 @@ use Rattle.ramsummer.specs.Bytes.{PutsIn, clears, writes, StoresLeft, stay, put,
 module _ (asked : Asked) (loans : Loans) (t : Told) (p p' : Pool) (small large small' large' : List ℕ) where
   -- an answer's stores, where 0 is told, by the frame that was asked
   module _ (zero : t.number ≡ 0) where
-    made : {task : ℕ} {kind : Kind} {extension size prefix count : ℕ} → frame_asked asked ≡ Frame.Request (Use (Make task kind extension size prefix)) count
+    made : {task : ℕ} {kind : Kind} {extension size prefix count : ℕ} → frame_asked asked ≡ Ok (Use (Make task kind extension size prefix), count)
         → length small' ≡ length small → length large' ≡ length large
         → (refused : Bool) → LeavesMade refused p small large p' small' large' → StoresLeft (asks asked loans) t p small large p' small' large'
     made e m n true (a, (s, l)) = stay s l
     made e m n false (block, q) = put block 0 _ (clears e zero q.known q.free q.holds) q.small_cleared q.large_cleared m n
 
-    written : {task handle offset count : ℕ} → frame_asked asked ≡ Frame.Request (Use (Write task handle offset)) count
+    written : {task handle offset count : ℕ} → frame_asked asked ≡ Ok (Use (Write task handle offset), count)
         → length small' ≡ length small → length large' ≡ length large
         → (refused : Bool) → LeavesWritten refused handle offset (bytes_asked asked) p small large p' small' large'
         → StoresLeft (asks asked loans) t p small large p' small' large'
@@ -43,31 +44,31 @@ module _ (asked : Asked) (loans : Loans) (t : Told) (p p' : Pool) (small large s
 
     stored : (frame : Frame) → frame_asked asked ≡ frame → (y : Reply) → IsReplyTo frame (bytes_asked asked) p small large y p' small' large'
         → StoresLeft (asks asked loans) t p small large p' small' large'
-    stored (Frame.Request (Use (Join task share)) count) e y o = stay o.left.0 o.left.1
-    stored (Frame.Request (Use (Schedule event task)) count) e y o = stay o.left.0 o.left.1
-    stored (Frame.Request (Use (Make task kind extension size prefix)) count) e y o = made e o.sizes.0 o.sizes.1 (is_refusal y.answer) o.left
-    stored (Frame.Request (Use (Refresh task kind extension handle)) count) e y o = stay o.left.0 o.left.1
-    stored (Frame.Request (Use (Read task handle)) count) e y o = stay o.left.1.0 o.left.1.1
-    stored (Frame.Request (Use (Write task handle offset)) count) e y o = written e o.sizes.0 o.sizes.1 (is_refusal y.answer) o.left
-    stored (Frame.Request (Use (Batch task kind extension)) count) e y o = stay o.left.0 o.left.1
-    stored (Frame.Request (Use (Release task handle)) count) e y o = stay o.left.0 o.left.1
-    stored (Frame.Request Report count) e y o = stay o.left.1.0 o.left.1.1
-    stored (Frame.Request (Remaining task handle) count) e y o = stay o.left.1.0 o.left.1.1
-    stored (Frame.Refused why) e y r = stay r.same_small r.same_large
+    stored (Ok (Use (Join task share), count)) e y o = stay o.left.0 o.left.1
+    stored (Ok (Use (Schedule event task), count)) e y o = stay o.left.0 o.left.1
+    stored (Ok (Use (Make task kind extension size prefix), count)) e y o = made e o.sizes.0 o.sizes.1 (is_refusal y.answer) o.left
+    stored (Ok (Use (Refresh task kind extension handle), count)) e y o = stay o.left.0 o.left.1
+    stored (Ok (Use (Read task handle), count)) e y o = stay o.left.1.0 o.left.1.1
+    stored (Ok (Use (Write task handle offset), count)) e y o = written e o.sizes.0 o.sizes.1 (is_refusal y.answer) o.left
+    stored (Ok (Use (Batch task kind extension), count)) e y o = stay o.left.0 o.left.1
+    stored (Ok (Use (Release task handle), count)) e y o = stay o.left.0 o.left.1
+    stored (Ok (Report, count)) e y o = stay o.left.1.0 o.left.1.1
+    stored (Ok (Remaining task handle, count)) e y o = stay o.left.1.0 o.left.1.1
+    stored (Err why) e y r = stay r.same_small r.same_large
 
   -- a look
   looked : (frame : Frame) → is_look_of frame ≡ true → (y : Reply) → IsReplyTo frame (bytes_asked asked) p small large y p' small' large' → Same p small large p' small' large'
-  looked (Frame.Request (Use (Join task share)) count) k y o = absurd (false≢true k)
-  looked (Frame.Request (Use (Schedule event task)) count) k y o = absurd (false≢true k)
-  looked (Frame.Request (Use (Make task kind extension size prefix)) count) k y o = absurd (false≢true k)
-  looked (Frame.Request (Use (Refresh task kind extension handle)) count) k y o = absurd (false≢true k)
-  looked (Frame.Request (Use (Read task handle)) count) k y o = o.left
-  looked (Frame.Request (Use (Write task handle offset)) count) k y o = absurd (false≢true k)
-  looked (Frame.Request (Use (Batch task kind extension)) count) k y o = absurd (false≢true k)
-  looked (Frame.Request (Use (Release task handle)) count) k y o = absurd (false≢true k)
-  looked (Frame.Request Report count) k y o = o.left
-  looked (Frame.Request (Remaining task handle) count) k y o = o.left
-  looked (Frame.Refused why) k y r = (r.same_pool, (r.same_small, r.same_large))
+  looked (Ok (Use (Join task share), count)) k y o = absurd (false≢true k)
+  looked (Ok (Use (Schedule event task), count)) k y o = absurd (false≢true k)
+  looked (Ok (Use (Make task kind extension size prefix), count)) k y o = absurd (false≢true k)
+  looked (Ok (Use (Refresh task kind extension handle), count)) k y o = absurd (false≢true k)
+  looked (Ok (Use (Read task handle), count)) k y o = o.left
+  looked (Ok (Use (Write task handle offset), count)) k y o = absurd (false≢true k)
+  looked (Ok (Use (Batch task kind extension), count)) k y o = absurd (false≢true k)
+  looked (Ok (Use (Release task handle), count)) k y o = absurd (false≢true k)
+  looked (Ok (Report, count)) k y o = o.left
+  looked (Ok (Remaining task handle, count)) k y o = o.left
+  looked (Err why) k y r = (r.same_pool, (r.same_small, r.same_large))
 
   module _ (g : Gives asked loans p small large t p' small' large') where
     -- a number that is not 0

@@ -9,6 +9,7 @@ use mathlib.Core.Path.{◌≡◌, refl, ap, ap₂, ◌∙◌}
 use borrow.Author.Tests.{le-ltb, eq-eqb}
 use lib.Dec.{eqb, ltb}
 use lib.ListN.{length}
+use Rattle.std.specs.Prelude.{Ok, Err}
 use Rattle.lists.specs.Columns.{◌⊛◌}
 use Rattle.lists.proofs.Cases.{by_test}
 use Rattle.ledger.specs.Limits.{task_count, is_allowed}
@@ -16,7 +17,7 @@ use Rattle.ledger.specs.Numbers.{answer_number}
 use Rattle.ledger.specs.Tasks.{is_tested}
 use Rattle.ledger.specs.Objects.{Memory, Reply, plain, fresh_memory}
 use Rattle.ledger.specs.Rules.{reply_to}
-use Rattle.ledger.specs.Ledger.{Ledger, fresh, reply_by, next, replies}
+use Rattle.ledger.specs.Ledger.{Ledger, fresh, reply_by, next, replies, Frame}
 use Rattle.ledger.specs.Heap.{Used, sent, heap_next, heap_replies}
 use Rattle.ledger.specs.declared.Answer.TheVariants.{Refused}
 use Rattle.ledger.specs.declared.Call.{Call}
@@ -31,7 +32,6 @@ use Rattle.record.proofs.FreshReads.{fresh_reads, fresh_well_formed}
 use Rattle.record.specs.Reading.{fresh_pool, whole_small, whole_large}
 use Rattle.stores.specs.Lengths.{are_whole}
 use Rattle.steps.proofs.Staying.{limits_stay}
-use Rattle.ledger.specs.declared.Frame.{Frame}
 use Rattle.calls.specs.Served.{IsReplyTo}
 use Rattle.by_value.specs.Told.{too_short, Loans, lent_numbers, Told, with_number, told_by}
 use Rattle.by_value.specs.Entries.{Renews}
@@ -41,7 +41,7 @@ use Rattle.ramsummer.specs.Demands.{HostRuns, reply_in, after_in, told_of, after
 -- A well-formed record with whole stores that reads as a ledger;
 pub record Held (L : Ledger) (p : Pool) (small large : List ℕ) : Type 0 where
   pub fit : is_well_formed p ≡ true
-  pub whole : are_whole p.limits small large ≡ true
+  pub whole : are_whole p.head.limits small large ≡ true
   pub reads : Reads p small large L
 
 -- or a record that is not well-formed.
@@ -62,7 +62,7 @@ made limits may small large s l =
 -- what a frame makes of it
 pub framed : (beside : Option Ledger) (frame : Frame) (bytes : List ℕ) {p p' : Pool} {small large small' large' : List ℕ} {y : Reply} → Beside beside p small large
     → IsReplyTo frame bytes p small large y p' small' large' → (y ≡ reply_in beside frame bytes) × Beside (after_in beside frame bytes) p' small' large'
-framed (some L) (Frame.Request request count) bytes b o =
+framed (some L) (Ok (request, count)) bytes b o =
     let h = b.so in (
       o.answers (record { fit = h.fit; whole = λ s. h.whole }) L h.reads,
       record {
@@ -74,9 +74,9 @@ framed (some L) (Frame.Request request count) bytes b o =
             };
       },
     )
-framed (some L) (Frame.Refused why) bytes b r = (r.refused, rw (r.same_pool, r.same_small, r.same_large) b)
-framed none (Frame.Request request count) bytes b o = let r = o.unfit b.so in (r.refused, record { so = rw r.same_pool b.so })
-framed none (Frame.Refused why) bytes b r = (r.refused, record { so = rw r.same_pool b.so })
+framed (some L) (Err why) bytes b r = (r.refused, rw (r.same_pool, r.same_small, r.same_large) b)
+framed none (Ok (request, count)) bytes b o = let r = o.unfit b.so in (r.refused, record { so = rw r.same_pool b.so })
+framed none (Err why) bytes b r = (r.refused, record { so = rw r.same_pool b.so })
 
 asked_follows : (asked : Asked) (loans : Loans) (beside : Option Ledger) {t : Told} {p p' : Pool} {small large small' large' : List ℕ} → Beside beside p small large
     → Gives asked loans p small large t p' small' large'

@@ -8,6 +8,7 @@ use mathlib.Core.Path.{◌≡◌, refl, ap, ◌∙◌}
 use borrow.Author.Tests.{leb-true, leb-false}
 use lib.Dec.{leb}
 use lib.ListN.{length}
+use Rattle.std.specs.Prelude.{Result, Ok, Err}
 use Rattle.lists.specs.Blocks.{overwritten}
 use Rattle.lists.proofs.Cases.{by_test}
 use Rattle.ledger.specs.Numbers.{number_of, answer_number}
@@ -16,6 +17,7 @@ use Rattle.ledger.specs.declared.Answer.{Answer}
 use Rattle.ledger.specs.declared.Answer.TheVariants.{Refused}
 use Rattle.ledger.specs.declared.Call.TheVariants.{Make, Refresh, Batch}
 use Rattle.ledger.specs.declared.Kind.{Kind}
+use Rattle.ledger.specs.declared.Refusal.{Refusal}
 use Rattle.ledger.specs.declared.Refusal.TheVariants.{UnknownKind}
 use Rattle.ledger.specs.declared.Request.{Request}
 use Rattle.ledger.specs.declared.Request.TheVariants.{Use}
@@ -25,8 +27,6 @@ use Rattle.text.specs.Hex.{Puts}
 use Rattle.answers.specs.Answers.{answer_line, longest_answer}
 use Rattle.frames.specs.Frames.{with_kind}
 use Rattle.text.specs.HandleBytes.{handle_bytes}
-use Rattle.ledger.specs.declared.KindByte.{KindByte}
-use Rattle.ledger.specs.declared.KindByte.TheVariants.{Known, Unknown}
 use Rattle.execute.specs.Execution.{Answered}
 use Rattle.execute.proofs.Demand1.{demand_1}
 use Rattle.by_value.specs.Told.{too_short, lent_numbers, buffered, Told, with_number, told_by}
@@ -62,23 +62,23 @@ unknown n a b c d =
       kept = λ e. (a, b, c);
     }
 
-make_gives : (kind : KindByte) (task extension size prefix : ℕ) (p : Pool) (small large numbers : List ℕ) (number : ℕ) (p' : Pool) (small' large' numbers' : List ℕ)
+make_gives : (kind : Result Kind Refusal) (task extension size prefix : ℕ) (p : Pool) (small large numbers : List ℕ) (number : ℕ) (p' : Pool) (small' large' numbers' : List ℕ)
     → MakesBy kind task extension size prefix p small large numbers number p' small' large' numbers'
     → Gives (entry (with_kind kind (λ (k : Kind). Use (Make task k extension size prefix))) []) (lent_numbers numbers) p small large (with_number number (lent_numbers numbers')) p' small' large'
-make_gives (Known kind) task extension size prefix p small large numbers number p' small' large' numbers' m = called m.answer m.makes m.told
-make_gives Unknown task extension size prefix p small large numbers number p' small' large' numbers' (n, a, b, c, d) = unknown n a b c d
+make_gives (Ok kind) task extension size prefix p small large numbers number p' small' large' numbers' m = called m.answer m.makes m.told
+make_gives (Err why) task extension size prefix p small large numbers number p' small' large' numbers' (n, a, b, c, d) = unknown n a b c d
 
-refresh_gives : (kind : KindByte) (task extension handle : ℕ) (p : Pool) (number : ℕ) (p' : Pool) (small large : List ℕ)
+refresh_gives : (kind : Result Kind Refusal) (task extension handle : ℕ) (p : Pool) (number : ℕ) (p' : Pool) (small large : List ℕ)
     → RefreshesBy kind task extension handle p number p'
     → Gives (entry (with_kind kind (λ (k : Kind). Use (Refresh task k extension handle))) []) (lent_numbers []) p small large (with_number number (lent_numbers [])) p' small large
-refresh_gives (Known kind) task extension handle p number p' small large d = called d.answer (d.follows small large) d.told
-refresh_gives Unknown task extension handle p number p' small large (n, a) = unknown n a refl refl refl
+refresh_gives (Ok kind) task extension handle p number p' small large d = called d.answer (d.follows small large) d.told
+refresh_gives (Err why) task extension handle p number p' small large (n, a) = unknown n a refl refl refl
 
-batch_gives : (kind : KindByte) (task extension : ℕ) (handles : List ℕ) (p : Pool) (number : ℕ) (p' : Pool) (small large : List ℕ)
+batch_gives : (kind : Result Kind Refusal) (task extension : ℕ) (handles : List ℕ) (p : Pool) (number : ℕ) (p' : Pool) (small large : List ℕ)
     → RefreshesAllBy kind task extension handles p number p'
     → Gives (entry (with_kind kind (λ (k : Kind). Use (Batch task k extension))) (handle_bytes handles)) (lent_numbers []) p small large (with_number number (lent_numbers [])) p' small large
-batch_gives (Known kind) task extension handles p number p' small large d = called d.answer (d.follows small large) d.told
-batch_gives Unknown task extension handles p number p' small large (n, a) = unknown n a refl refl refl
+batch_gives (Ok kind) task extension handles p number p' small large d = called d.answer (d.follows small large) d.told
+batch_gives (Err why) task extension handles p number p' small large (n, a) = unknown n a refl refl refl
 
 as_line : (y : Reply) (old : ℕ) {number new : ℕ} {out out' : List ℕ} → number ≡ answer_number y.answer
     → Puts 0 (answer_line y.answer y.bytes) out out' new → with_number number (buffered new out') ≡ told_as_line y (buffered old out)

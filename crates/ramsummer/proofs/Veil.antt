@@ -9,6 +9,7 @@ use mathlib.Core.Path.{◌≡◌, refl, sym, ap, ap₂, ◌∙◌}
 use borrow.Author.Tests.{ltb-true}
 use lib.Dec.{ltb}
 use lib.ListN.{length}
+use Rattle.std.specs.Prelude.{Ok}
 use Rattle.lists.proofs.Cases.{by_test}
 use Rattle.ledger.specs.Objects.{Reply}
 use Rattle.ledger.specs.Rules.{reply_to}
@@ -26,7 +27,6 @@ use Rattle.record.specs.declared.Pool.{Pool}
 use Rattle.calls.specs.Contract.{Same, Obeys}
 use Rattle.demands.specs.Demands.{Runs}
 use Rattle.demands.proofs.Outlives.{every_list_from_fresh}
-use Rattle.ledger.specs.declared.Frame.{Frame}
 use Rattle.by_value.specs.Told.{Loans, lent_numbers, Told}
 use Rattle.ramsummer.specs.Steps.{Asked, entry, line, bytes_asked, tells, Gives}
 use Rattle.by_value.proofs.Replies.{refusal_in_lem}
@@ -119,7 +119,7 @@ acted : (cs : List HostCall) (L : Ledger) {p p' : Pool} {small small' large larg
 unfolding told_all
 acted [] L b Runs.done = HostRuns.done
 acted (c ∷ cs) L b (Runs.call o rest) =
-    let (same, after) = framed (some L) (Frame.Request c.request c.count) (bytes_asked c.asked) (record { so = b }) o in
+    let (same, after) = framed (some L) (Ok (c.request, c.count)) (bytes_asked c.asked) (record { so = b }) o in
     HostRuns.step (host_gives L c o same) (acted cs (after_request L c.request (bytes_asked c.asked)) after.so rest)
 
 -- a call by its own entry, with no loan

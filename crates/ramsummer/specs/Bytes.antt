@@ -1,11 +1,11 @@
 -- D12: which bytes of the stores a host's actions change while it makes no other pool, whatever lengths the stores have: those of the block
 -- that an accepted make takes, to zero, and those that an accepted write names, to what it names. No other byte of either store changes, in
 -- use or not; and a look changes nothing at all.
-use Rattle.std.specs.Prelude.{ℕ, ◌+◌, Bool, true, false, cond, not, ◌&&◌, List, ◌≡◌, leb, ltb, length, get_or, replicate}
+use Rattle.std.specs.Prelude.{ℕ, ◌+◌, Bool, true, false, cond, not, ◌&&◌, List, ◌≡◌, leb, ltb, length, get_or, replicate, Ok, Err}
 use Rattle.lists.specs.Tests.{any}
+use Rattle.ledger.specs.Ledger.{Frame}
 use Rattle.ledger.specs.declared.Call.TheVariants.{Join, Schedule, Make, Refresh, Read, Write, Batch, Release}
 use Rattle.ledger.specs.declared.Kind.{Kind}
-use Rattle.ledger.specs.declared.Request.{Request}
 use Rattle.ledger.specs.declared.Request.TheVariants.{Use, Report, Remaining}
 use Rattle.record.specs.Reading.{is_small_block, size_of}
 use Rattle.record.specs.WellFormed.{is_block}
@@ -13,7 +13,6 @@ use Rattle.record.specs.declared.Pool.{Pool}
 use Rattle.stores.specs.Places.{start_of, small_after, large_after}
 use Rattle.steps.specs.Objects.{place_in}
 use Rattle.calls.specs.Contract.{Same}
-use Rattle.ledger.specs.declared.Frame.{Frame}
 use Rattle.by_value.specs.Told.{Loans, Told}
 use Rattle.ramsummer.specs.Steps.{Asked, frame_asked, bytes_asked, Action, asks, renews, awaits, shares, Acts}
 use Rattle.ramsummer.specs.Demands.{HostRuns}
@@ -22,12 +21,12 @@ use Rattle.ramsummer.specs.Demands.{HostRuns}
 -- into the block of its object.
 pub data PutsIn : Action → Told → Pool → Pool → ℕ → ℕ → List ℕ → Type 0 where
   clears : {asked : Asked} {loans : Loans} {task : ℕ} {kind : Kind} {extension size prefix count : ℕ} {t : Told} {p p' : Pool} {block : ℕ}
-      → frame_asked asked ≡ Frame.Request (Use (Make task kind extension size prefix)) count → t.number ≡ 0
-      → is_block p.limits block ≡ true → get_or p.handles block 0 ≡ 0 → get_or p'.handles block 0 ≡ p.given + 1
+      → frame_asked asked ≡ Ok (Use (Make task kind extension size prefix), count) → t.number ≡ 0
+      → is_block p.head.limits block ≡ true → get_or p.blocks.handles block 0 ≡ 0 → get_or p'.blocks.handles block 0 ≡ p.head.given + 1
       → PutsIn (asks asked loans) t p p' block 0 (replicate (size_of block) 0)
   writes : {asked : Asked} {loans : Loans} {task handle offset count : ℕ} {t : Told} {p p' : Pool}
-      → frame_asked asked ≡ Frame.Request (Use (Write task handle offset)) count → t.number ≡ 0
-      → PutsIn (asks asked loans) t p p' (place_in handle p.handles) offset (bytes_asked asked)
+      → frame_asked asked ≡ Ok (Use (Write task handle offset), count) → t.number ≡ 0
+      → PutsIn (asks asked loans) t p p' (place_in handle p.blocks.handles) offset (bytes_asked asked)
 
 -- What an action makes of the stores: they stay, or have what it puts there, and their lengths.
 pub data StoresLeft (d : Action) (t : Told) (p : Pool) (small large : List ℕ) (p' : Pool) (small' large' : List ℕ) : Type 0 where
@@ -59,17 +58,17 @@ is_renewal (shares task old) = false
 
 -- a call that only looks; a frame that is refused
 abbrev pub is_look_of : Frame → Bool
-is_look_of (Frame.Request (Use (Join task share)) count) = false
-is_look_of (Frame.Request (Use (Schedule event task)) count) = false
-is_look_of (Frame.Request (Use (Make task kind extension size prefix)) count) = false
-is_look_of (Frame.Request (Use (Refresh task kind extension handle)) count) = false
-is_look_of (Frame.Request (Use (Read task handle)) count) = true
-is_look_of (Frame.Request (Use (Write task handle offset)) count) = false
-is_look_of (Frame.Request (Use (Batch task kind extension)) count) = false
-is_look_of (Frame.Request (Use (Release task handle)) count) = false
-is_look_of (Frame.Request Report count) = true
-is_look_of (Frame.Request (Remaining task handle) count) = true
-is_look_of (Frame.Refused why) = true
+is_look_of (Ok (Use (Join task share), count)) = false
+is_look_of (Ok (Use (Schedule event task), count)) = false
+is_look_of (Ok (Use (Make task kind extension size prefix), count)) = false
+is_look_of (Ok (Use (Refresh task kind extension handle), count)) = false
+is_look_of (Ok (Use (Read task handle), count)) = true
+is_look_of (Ok (Use (Write task handle offset), count)) = false
+is_look_of (Ok (Use (Batch task kind extension), count)) = false
+is_look_of (Ok (Use (Release task handle), count)) = false
+is_look_of (Ok (Report, count)) = true
+is_look_of (Ok (Remaining task handle, count)) = true
+is_look_of (Err why) = true
 
 abbrev pub is_look : Action → Bool
 is_look (asks asked loans) = is_look_of (frame_asked asked)

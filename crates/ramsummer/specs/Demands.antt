@@ -1,10 +1,10 @@
 -- Demands 2 and 3 for a host, over lists of what it does through the entries: everything that it is told is what the ledger tells; and over
 -- the twelve calls it is what the unbounded heap tells, exactly when all use was in time and in bounds.
-use Rattle.std.specs.Prelude.{ℕ, true, false, cond, List, [], ◌∷◌, map, ◌↔◌, ◌≡◌, ltb, length}
+use Rattle.std.specs.Prelude.{ℕ, true, false, cond, List, [], ◌∷◌, map, ◌↔◌, ◌≡◌, ltb, length, Ok, Err}
 use Rattle.std.proofs.Math.Option.{Option, none, some}
 use Rattle.ledger.specs.Numbers.{number_of}
 use Rattle.ledger.specs.Objects.{Memory, Reply, plain, fresh_memory}
-use Rattle.ledger.specs.Ledger.{Ledger, fresh, reply_to_frame, after_frame}
+use Rattle.ledger.specs.Ledger.{Ledger, fresh, reply_to_frame, after_frame, Frame}
 use Rattle.ledger.specs.Limits.{task_count, is_allowed}
 use Rattle.ledger.specs.Awaited.{awaited_bits}
 use Rattle.ledger.specs.Heap.{Used, heap_reply, heap_next, all_in_time_and_bounds}
@@ -17,7 +17,6 @@ use Rattle.ledger.specs.declared.Request.TheVariants.{Use}
 use Rattle.record.specs.Reading.{fresh_pool, whole_small, whole_large}
 use Rattle.record.specs.Pools.{is_well_formed, Reads}
 use Rattle.record.specs.declared.Pool.{Pool}
-use Rattle.ledger.specs.declared.Frame.{Frame}
 use Rattle.by_value.specs.Told.{too_short, Loans, lent_numbers, Told, with_number}
 use Rattle.by_value.specs.Entries.{share_shown}
 use Rattle.ramsummer.specs.Steps.{Asked, frame_asked, bytes_asked, is_heard, tells, Action, asks, renews, awaits, shares, Acts}
@@ -33,8 +32,8 @@ pub data HostRuns : Pool → List ℕ → List ℕ → List Action → List Told
 -- is made anew.
 abbrev pub reply_in : Option Ledger → Frame → List ℕ → Reply
 reply_in (some L) frame bytes = reply_to_frame L frame bytes
-reply_in none (Frame.Request request count) bytes = plain (Refused NotWellFormed)
-reply_in none (Frame.Refused why) bytes = plain (Refused why)
+reply_in none (Ok (request, count)) bytes = plain (Refused NotWellFormed)
+reply_in none (Err why) bytes = plain (Refused why)
 
 abbrev pub after_in : Option Ledger → Frame → List ℕ → Option Ledger
 after_in (some L) frame bytes = some (after_frame L frame bytes)
@@ -89,8 +88,8 @@ HostDemand2 =
 -- What a host asks in demand 3's lists: one of the twelve calls, by its own entry or by a line; a kind that is none, or a line that yields
 -- no call; and a line with no room for its answer.
 pub data Using : Type 0 where
-  calls : (asked : Asked) (loans : Loans) (call : Call) (count : ℕ) → is_heard asked loans ≡ true → frame_asked asked ≡ Frame.Request (Use call) count → Using
-  no_call : (asked : Asked) (loans : Loans) (why : Refusal) → is_heard asked loans ≡ true → frame_asked asked ≡ Frame.Refused why → Using
+  calls : (asked : Asked) (loans : Loans) (call : Call) (count : ℕ) → is_heard asked loans ≡ true → frame_asked asked ≡ Ok (Use call, count) → Using
+  no_call : (asked : Asked) (loans : Loans) (why : Refusal) → is_heard asked loans ≡ true → frame_asked asked ≡ Err why → Using
   unheard : (asked : Asked) (loans : Loans) → is_heard asked loans ≡ false → Using
 
 abbrev pub action_of : Using → Action

@@ -1,11 +1,13 @@
 -- One action of a host: what it does through an entry, what it is told, and what becomes of record and stores. Every entry's promise is
 -- such an action.
-use Rattle.std.specs.Prelude.{ℕ, Bool, true, false, List, [], ◌∷◌, ◌≢◌, ◌≡◌, leb, length}
+use Rattle.std.specs.Prelude.{ℕ, Bool, true, false, List, [], ◌∷◌, ◌≢◌, ◌≡◌, leb, length, Result}
 use Rattle.std.proofs.Math.Option.{Option, some}
+use Rattle.ledger.specs.Ledger.{Frame}
 use Rattle.ledger.specs.Numbers.{answer_number}
 use Rattle.ledger.specs.Objects.{Reply}
 use Rattle.ledger.specs.declared.Call.TheVariants.{Make, Refresh, Read, Write, Batch}
 use Rattle.ledger.specs.declared.Kind.{Kind}
+use Rattle.ledger.specs.declared.Refusal.{Refusal}
 use Rattle.ledger.specs.declared.Request.{Request}
 use Rattle.ledger.specs.declared.Request.TheVariants.{Use}
 use Rattle.ledger.specs.Limits.{is_allowed}
@@ -15,8 +17,6 @@ use Rattle.record.specs.declared.Pool.{Pool}
 use Rattle.answers.specs.Answers.{answer_line, longest_answer}
 use Rattle.frames.specs.Frames.{frame_of, payload_of, frame_with, with_kind}
 use Rattle.text.specs.HandleBytes.{handle_bytes}
-use Rattle.ledger.specs.declared.Frame.{Frame}
-use Rattle.ledger.specs.declared.KindByte.{KindByte}
 use Rattle.calls.specs.Served.{IsReplyTo}
 use Rattle.by_value.specs.Told.{too_short, Loans, lent_numbers, buffered, Told, with_number, filled, told_by}
 use Rattle.by_value_frame.specs.Carries.{Carries}
@@ -98,13 +98,13 @@ pub record EachGives : Type 0 where
   pub does : (request : Request) (new : List ℕ) (p : Pool) (numbers : List ℕ) (number : ℕ) (p' : Pool) (numbers' small large : List ℕ)
       → DoesWith request new p numbers number p' numbers'
       → Gives (entry (some request) new) (lent_numbers numbers) p small large (with_number number (lent_numbers numbers')) p' small large
-  pub makes : (kind : KindByte) (task extension size prefix : ℕ) (p : Pool) (small large numbers : List ℕ) (number : ℕ) (p' : Pool) (small' large' numbers' : List ℕ)
+  pub makes : (kind : Result Kind Refusal) (task extension size prefix : ℕ) (p : Pool) (small large numbers : List ℕ) (number : ℕ) (p' : Pool) (small' large' numbers' : List ℕ)
       → MakesBy kind task extension size prefix p small large numbers number p' small' large' numbers'
       → Gives (entry (with_kind kind (λ (k : Kind). Use (Make task k extension size prefix))) []) (lent_numbers numbers) p small large (with_number number (lent_numbers numbers')) p' small' large'
-  pub refreshes : (kind : KindByte) (task extension handle : ℕ) (p : Pool) (number : ℕ) (p' : Pool) (small large : List ℕ)
+  pub refreshes : (kind : Result Kind Refusal) (task extension handle : ℕ) (p : Pool) (number : ℕ) (p' : Pool) (small large : List ℕ)
       → RefreshesBy kind task extension handle p number p'
       → Gives (entry (with_kind kind (λ (k : Kind). Use (Refresh task k extension handle))) []) (lent_numbers []) p small large (with_number number (lent_numbers [])) p' small large
-  pub refreshes_all : (kind : KindByte) (task extension : ℕ) (handles : List ℕ) (p : Pool) (number : ℕ) (p' : Pool) (small large : List ℕ)
+  pub refreshes_all : (kind : Result Kind Refusal) (task extension : ℕ) (handles : List ℕ) (p : Pool) (number : ℕ) (p' : Pool) (small large : List ℕ)
       → RefreshesAllBy kind task extension handles p number p'
       → Gives (entry (with_kind kind (λ (k : Kind). Use (Batch task k extension))) (handle_bytes handles)) (lent_numbers []) p small large (with_number number (lent_numbers [])) p' small large
   pub writes : (task handle offset : ℕ) (bytes : List ℕ) (p : Pool) (small large : List ℕ) (number : ℕ) (p' : Pool) (small' large' : List ℕ)

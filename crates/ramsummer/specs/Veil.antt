@@ -1,6 +1,6 @@
 -- V11, order 10 for a host, over lists of display_calls through the entries or by lines: what is written beyond the prefix of an object (02:
 -- head) shows in no answer to a viewer.
-use Rattle.std.specs.Prelude.{ℕ, true, List, [], ◌∷◌, map, ◌≡◌, length}
+use Rattle.std.specs.Prelude.{ℕ, true, List, [], ◌∷◌, map, ◌≡◌, length, Ok}
 use Rattle.ledger.specs.Objects.{Reply}
 use Rattle.ledger.specs.Ledger.{Sent, fresh}
 use Rattle.ledger.specs.Limits.{is_allowed}
@@ -10,7 +10,6 @@ use Rattle.ledger.specs.declared.Limits.{Limits}
 use Rattle.ledger.specs.declared.Request.{Request}
 use Rattle.record.specs.Reading.{fresh_pool, whole_small, whole_large}
 use Rattle.record.specs.declared.Pool.{Pool}
-use Rattle.ledger.specs.declared.Frame.{Frame}
 use Rattle.by_value.specs.Told.{Loans, Told}
 use Rattle.ramsummer.specs.Steps.{Asked, frame_asked, bytes_asked, is_heard, tells, Action, asks}
 use Rattle.ramsummer.specs.Demands.{HostRuns}
@@ -22,7 +21,7 @@ pub record HostCall : Type 0 where
   pub request : Request
   pub count : ℕ
   pub heard : is_heard asked loans ≡ true
-  pub yields : frame_asked asked ≡ Frame.Request request count
+  pub yields : frame_asked asked ≡ Ok (request, count)
 
 abbrev pub action_for : HostCall → Action
 action_for c = asks c.asked c.loans

@@ -150,10 +150,10 @@ pub extern "C" fn ramsummer_release(p: &mut Pool, task: u8, handle: u32) -> u8
 
 // The object's bytes go to the start of a buffer, and how many to `count`. The record stays, and so it is not stored back.
 #[unsafe(no_mangle)]
-pub extern "C" fn ramsummer_read<'a>(
+pub extern "C" fn ramsummer_read(
     p: &mut Pool,
-    small: &'a [u8],
-    large: &'a [u8],
+    small: &[u8],
+    large: &[u8],
     task: u8,
     handle: u32,
     out: &mut [u8],

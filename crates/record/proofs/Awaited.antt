@@ -10,6 +10,6 @@ use Rattle.record.specs.Reading.{record_view}
 use Rattle.record.specs.Tables.{tables_by, tables_of}
 use Rattle.record.specs.declared.Pool.{Pool}
 
-pub awaited_read : (p : Pool) {small large : List ℕ} (L : Ledger) → Reads p small large L → awaited_of (map task_of p.tasks) ≡ awaited_bits L
+pub awaited_read : (p : Pool) {small large : List ℕ} (L : Ledger) → Reads p small large L → awaited_of (map task_of p.head.tasks) ≡ awaited_bits L
 unfolding record_view view_of tables_by tables_of
 awaited_read p L r = ap awaited_of r.alike.tasks ∙ bits_map is_awaited wrapped_task L.memory.clocks.tasks

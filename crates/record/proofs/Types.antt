@@ -8,9 +8,13 @@ use mir.Val.{Val}
 use Rattle.lists.specs.Tests.{All}
 use Rattle.ledger.specs.Limits.{counter_range}
 use Rattle.record.specs.Reading.{HeadTyped, Typed}
-use Rattle.record.specs.Tables.{block_entries, expiration_entries, BlockEntry, ExpirationEntry, tables_by, Sized, head_of}
+use Rattle.record.specs.Tables.{block_entries, expiration_entries, BlockEntry, ExpirationEntry, tables_by, BlocksSized, EntriesSized, Sized}
+use Rattle.record.specs.declared.BlockTable.{BlockTable}
+use Rattle.record.specs.declared.ExpirationTable.{ExpirationTable}
 use Rattle.record.specs.declared.Head.{Head}
 use Rattle.record.specs.declared.Pool.{Pool}
+use Rattle.record.specs.contracts.BlockTable.{the_row as the_blocks}
+use Rattle.record.specs.contracts.ExpirationTable.{the_row as the_expirations}
 use Rattle.record.specs.contracts.Head.{the_row as the_head}
 use Rattle.record.specs.contracts.Pool.{the_row}
 use Rattle.record.specs.contracts.TaskEntry.{the_row as the_entry}
@@ -34,31 +38,20 @@ head_typed h vs t =
       given = omega arith;
     }
 
--- the same of a whole record, and the lengths of its columns
-pub pool_head_typed : (p : Pool) (vs : List Val) → Is the_row p vs → HeadTyped (head_of p)
-unfolding counter_range
-pool_head_typed p vs t =
-    let (tasks, (global, (given, (limits, (shares, rest))))) = t.1.1 in
-    record {
-      tasks = tasks.1.0.1;
-      shares = shares.1.0.1;
-      clocks = each_all the_entry.own_val _ (λ x us s. omega arith) p.tasks _ tasks.1.1;
-      global = omega arith;
-      given = omega arith;
-    }
+-- the tables' own: the lengths of their columns
+pub blocks_sized : (blocks : BlockTable) (vs : List Val) → Is the_blocks blocks vs → BlocksSized blocks
+blocks_sized blocks vs t = let (handles, (extents, end)) = t.1.1 in record { of_handles = handles.1.0.1; of_extents = extents.1.0.1 }
 
-pub columns_sized : (p : Pool) (vs : List Val) → Is the_row p vs → Sized p.handles p.extents p.clocks p.named p.dues
-columns_sized p vs t =
-    let (tasks, (global, (given, (limits, (shares, (handles, (extents, (clocks, (named, (dues, end)))))))))) = t.1.1 in
-    record {
-      blocks = record { of_handles = handles.1.0.1; of_extents = extents.1.0.1 };
-      entries =
-          record {
-            of_clocks = clocks.1.0.1;
-            of_named = named.1.0.1;
-            of_dues = dues.1.0.1;
-          };
-    }
+pub entries_sized : (expirations : ExpirationTable) (vs : List Val) → Is the_expirations expirations vs → EntriesSized expirations
+entries_sized expirations vs t =
+    let (clocks, (named, (dues, end))) = t.1.1 in
+    record { of_clocks = clocks.1.0.1; of_named = named.1.0.1; of_dues = dues.1.0.1 }
+
+-- and all of a record by value
+pub pool_typed : (p : Pool) (vs : List Val) → Is the_row p vs → HeadTyped p.head × Sized p.blocks p.expirations
+pool_typed p vs t =
+    let (head, (blocks, (expirations, end))) = t.1.1 in
+    (head_typed p.head _ head, record { blocks = blocks_sized p.blocks _ blocks; entries = entries_sized p.expirations _ expirations })
 
 -- with tables of as many entries as the record's
 pub typed_by : {h : Head} (blocks : List BlockEntry) (xs : List ExpirationEntry) → HeadTyped h → length blocks ≡ block_entries → length xs ≡ expiration_entries

@@ -107,14 +107,19 @@ pub record Reads (p : Tables) (small large : List ℕ) (L : Ledger) : Type 0 whe
 unfoldable pub fresh_pool : Limits → Pool
 fresh_pool limits =
     record {
-      limits = limits;
-      tasks = replicate task_count absent_entry;
-      global = record { 0 = 0 };
-      given = 0;
-      shares = replicate task_count no_share;
-      handles = replicate block_entries 0;
-      extents = replicate block_entries 0;
-      clocks = replicate expiration_entries 0;
-      named = replicate expiration_entries 0;
-      dues = replicate expiration_entries 0;
+      head =
+          record {
+            tasks = replicate task_count absent_entry;
+            global = record { 0 = 0 };
+            given = 0;
+            limits = limits;
+            shares = replicate task_count no_share;
+          };
+      blocks = record { handles = replicate block_entries 0; extents = replicate block_entries 0 };
+      expirations =
+          record {
+            clocks = replicate expiration_entries 0;
+            named = replicate expiration_entries 0;
+            dues = replicate expiration_entries 0;
+          };
     }

@@ -7,6 +7,8 @@ use Rattle.ledger.specs.declared.Limits.{Limits}
 use Rattle.ledger.specs.declared.Share.{Share}
 use Rattle.record.specs.declared.TaskEntry.{TaskEntry}
 use Rattle.record.specs.declared.GlobalTime.{GlobalTime}
+use Rattle.record.specs.declared.BlockTable.{BlockTable}
+use Rattle.record.specs.declared.ExpirationTable.{ExpirationTable}
 use Rattle.record.specs.declared.Head.{Head}
 use Rattle.record.specs.declared.Pool.{Pool}
 
@@ -92,6 +94,13 @@ blocks_of handles extents = map block_entry handles ⊛ extents
 unfoldable pub entries_of : List ℕ → List ℕ → List ℕ → List ExpirationEntry
 entries_of clocks named dues = map expiration_entry clocks ⊛ named ⊛ dues
 
+-- those of a table
+abbrev pub block_list : BlockTable → List BlockEntry
+block_list blocks = blocks_of blocks.handles blocks.extents
+
+abbrev pub expiration_list : ExpirationTable → List ExpirationEntry
+expiration_list expirations = entries_of expirations.clocks expirations.named expirations.dues
+
 -- a record by its entries
 pub record Tables : Type 0 where
   pub limits : Limits
@@ -105,17 +114,15 @@ pub record Tables : Type 0 where
 unfoldable pub tables_by : Head → List BlockEntry → List ExpirationEntry → Tables
 tables_by h blocks xs = record { limits = h.limits; tasks = h.tasks; global = h.global; given = h.given; shares = h.shares; blocks = blocks; expirations = xs }
 
-abbrev pub head_of : Pool → Head
-head_of p = record { limits = p.limits; tasks = p.tasks; global = p.global; given = p.given; shares = p.shares }
+-- of what is lent
+abbrev pub lent : Head → BlockTable → ExpirationTable → Tables
+lent h blocks expirations = tables_by h (block_list blocks) (expiration_list expirations)
 
+-- and of a record by value
 unfoldable pub tables_of : Pool → Tables
-tables_of p = tables_by (head_of p) (blocks_of p.handles p.extents) (entries_of p.clocks p.named p.dues)
+tables_of p = lent p.head p.blocks p.expirations
 
--- the same of what is lent
-abbrev pub lent : Head → List ℕ → List ℕ → List ℕ → List ℕ → List ℕ → Tables
-lent h handles extents clocks named dues = tables_by h (blocks_of handles extents) (entries_of clocks named dues)
-
--- Columns of as many entries as the record's: of a lent array the length is not known by itself.
+-- Columns of as many entries as the record's tables have: of a table that is lent on this is not known by itself.
 pub record SizedBlocks (handles extents : List ℕ) : Type 0 where
   pub of_handles : length handles ≡ block_entries
   pub of_extents : length extents ≡ block_entries
@@ -125,27 +132,21 @@ pub record SizedEntries (clocks named dues : List ℕ) : Type 0 where
   pub of_named : length named ≡ expiration_entries
   pub of_dues : length dues ≡ expiration_entries
 
-pub record Sized (handles extents clocks named dues : List ℕ) : Type 0 where
-  pub blocks : SizedBlocks handles extents
-  pub entries : SizedEntries clocks named dues
+abbrev pub BlocksSized : BlockTable → Type 0
+BlocksSized blocks = SizedBlocks blocks.handles blocks.extents
+
+abbrev pub EntriesSized : ExpirationTable → Type 0
+EntriesSized expirations = SizedEntries expirations.clocks expirations.named expirations.dues
+
+pub record Sized (of_blocks : BlockTable) (of_expirations : ExpirationTable) : Type 0 where
+  pub blocks : BlocksSized of_blocks
+  pub entries : EntriesSized of_expirations
 
 -- what a call comes to: its answer, and the record that it leaves
 pub record Outcome : Type 0 where
   pub answer : Answer
   pub pool : Tables
 
--- the record that has this head and these columns
-abbrev pub pooled : Head → List ℕ → List ℕ → List ℕ → List ℕ → List ℕ → Pool
-pooled h handles extents clocks named dues =
-    record {
-      limits = h.limits;
-      tasks = h.tasks;
-      global = h.global;
-      given = h.given;
-      shares = h.shares;
-      handles = handles;
-      extents = extents;
-      clocks = clocks;
-      named = named;
-      dues = dues;
-    }
+-- the record that has this head and these tables
+abbrev pub pooled : Head → BlockTable → ExpirationTable → Pool
+pooled h blocks expirations = record { head = h; blocks = blocks; expirations = expirations }

@@ -1,9 +1,8 @@
-// What the numbers of an entry mean, and what remains of an expiration (01: units left) by counters that wrap (T8).
+// What the numbers of an entry mean.
 ghost use Rattle.std.specs.Prelude.{◌≡◌};
 ghost use Rattle.record.specs.Tables.{length_in, sum_in, maker_in, prefix_in, extent_of, with_sum, with_maker};
-ghost use Rattle.record.specs.Codes.{state_of, is_global_clock, units_left};
+ghost use Rattle.record.specs.Codes.{state_of, is_global_clock};
 
-use super::{GlobalTime, LocalTime};
 use ledger::{State, TASK_COUNT};
 
 // The state of a task entry.
@@ -90,16 +89,12 @@ pub fn with_maker(extent: u64, maker: u8) -> u64
 pub fn state_of(code: u16) -> State
     ensures { result ≡ state_of code }
 {
-    if code == RUNNING {
-        return State::Running;
+    match code {
+        RUNNING => State::Running,
+        WAITING => State::Waiting,
+        VIEWING => State::Viewing,
+        _ => State::Absent,
     }
-    if code == WAITING {
-        return State::Waiting;
-    }
-    if code == VIEWING {
-        return State::Viewing;
-    }
-    State::Absent
 }
 
 // The clock of an expiration that goes by the global time.
@@ -107,18 +102,4 @@ pub fn is_global(clock: u8) -> bool
     ensures { result ≡ is_global_clock clock }
 {
     (GLOBAL <= clock) & (clock <= DEPARTED)
-}
-
-// E6: what remains of a local expiration.
-pub fn local_left(at: LocalTime, now: LocalTime) -> u32
-    ensures { result ≡ units_left at.0 now.0 }
-{
-    std::num::wrapping_sub_u32(at.0, now.0)
-}
-
-// E6: what remains of a global one.
-pub fn global_left(at: GlobalTime, now: GlobalTime) -> u32
-    ensures { result ≡ units_left at.0 now.0 }
-{
-    std::num::wrapping_sub_u32(at.0, now.0)
 }

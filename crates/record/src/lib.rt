@@ -5,9 +5,8 @@
 
 ghost use Rattle.std.specs.Prelude.{◌≡◌};
 ghost use Rattle.record.specs.Reading.{fresh_pool};
-ghost use Rattle.record.specs.Tables.{head_of};
 
-pub mod by_value;
+pub mod clock_time;
 pub mod codes;
 pub mod running;
 
@@ -40,7 +39,8 @@ pub struct LocalTime(pub u32);
 #[derive(Clone, Copy)]
 pub struct GlobalTime(pub u32);
 
-// T3: a task entry. State 0 is absent, 1 running, 2 waiting, 3 viewing; ticked (01: mark) is 0 or 1.
+// T3: a task entry. State 0 is absent, 1 running, 2 waiting, 3 viewing: a number and no enum, since a host's memory may hold any. Ticked
+// (01: mark) is 0 or 1.
 #[repr(C)]
 #[derive(Clone, Copy)]
 pub struct TaskEntry {
@@ -49,30 +49,10 @@ pub struct TaskEntry {
     pub clock: LocalTime,
 }
 
-// Block i has the object `handles[i]` (01: number; 0 is a free block); its word `extents[i]` has from its low end the object's length (16
-// bits), its maker (8: a task, or 16 where that has left), 8 bits that are left for later, its prefix (16; 02: head length) and at the top
-// the sum of the block's bytes (16). The small store's blocks come first, then the large one's.
-// Expiration i (01: date) goes by the clock `clocks[i]`, a code of codes.rt in which 0 is a free entry, belongs to the object in the block
-// `named[i]`, and is due when that clock reads `dues[i]`.
-// The shares (Q1: reserves and limits) stand apart from the task entries: with them these would be 12 bytes long, and each test that goes
-// over them would cost more. The figures stand behind the counters, here and in a head: in front of the tasks they would make one piece of
-// 144 bytes with them, and the compiler, which moves 128 in place, would call a copy.
+// What of the record goes by value through a call. The shares (Q1: reserves and limits) stand apart from the task entries: with them these
+// would be 12 bytes long, and each test that goes over them would cost more. The figures stand behind the counters: in front of the tasks
+// they would make one piece of 144 bytes with them, and the compiler, which moves 128 in place, would call a copy.
 #[repr(C)]
-#[derive(Clone, Copy)]
-pub struct Pool {
-    pub tasks: [TaskEntry; TASK_COUNT],
-    pub global: GlobalTime,
-    pub given: u32,
-    pub limits: Limits,
-    pub shares: [Share; TASK_COUNT],
-    pub handles: [u32; BLOCK_COUNT],
-    pub extents: [u64; BLOCK_COUNT],
-    pub clocks: [u8; EXPIRATION_COUNT],
-    pub named: [u8; EXPIRATION_COUNT],
-    pub dues: [u32; EXPIRATION_COUNT],
-}
-
-// What of the record goes by value through a call; its tables are lent.
 #[derive(Clone, Copy)]
 pub struct Head {
     pub tasks: [TaskEntry; TASK_COUNT],
@@ -80,6 +60,35 @@ pub struct Head {
     pub given: u32,
     pub limits: Limits,
     pub shares: [Share; TASK_COUNT],
+}
+
+// Block i has the object `handles[i]` (01: number; 0 is a free block); its word `extents[i]` has from its low end the object's length (16
+// bits), its maker (8: a task, or 16 where that has left), 8 bits that are left for later, its prefix (16; 02: head length) and at the top
+// the sum of the block's bytes (16). The small store's blocks come first, then the large one's.
+#[repr(C)]
+#[derive(Clone, Copy)]
+pub struct BlockTable {
+    pub handles: [u32; BLOCK_COUNT],
+    pub extents: [u64; BLOCK_COUNT],
+}
+
+// Expiration i (01: date) goes by the clock `clocks[i]`, a code of codes.rt in which 0 is a free entry, belongs to the object in the block
+// `named[i]`, and is due when that clock reads `dues[i]`. A table has a column for each field, since a pass over one is vector code.
+#[repr(C)]
+#[derive(Clone, Copy)]
+pub struct ExpirationTable {
+    pub clocks: [u8; EXPIRATION_COUNT],
+    pub named: [u8; EXPIRATION_COUNT],
+    pub dues: [u32; EXPIRATION_COUNT],
+}
+
+// In memory its parts follow one another with nothing between.
+#[repr(C)]
+#[derive(Clone, Copy)]
+pub struct Pool {
+    pub head: Head,
+    pub blocks: BlockTable,
+    pub expirations: ExpirationTable,
 }
 
 // T6, E19, E22: what specifications read an entry as: when an expiration is due, and who set it. A time by one clock cannot be tested
@@ -111,36 +120,27 @@ pub const ABSENT_TASK: TaskEntry = TaskEntry {
     clock: LocalTime(0),
 };
 
-pub fn head_of(p: Pool) -> Head
-    ensures { result ≡ head_of p }
-{
-    let limits = p.limits;
-    let tasks = p.tasks;
-    let global = p.global;
-    let shares = p.shares;
-    Head {
-        limits: limits,
-        tasks: tasks,
-        global: global,
-        given: p.given,
-        shares: shares,
-    }
-}
-
 // T5, O9: a fresh pool of these figures, whatever they are: 29 (R29) is told where a host has a pool made.
+#[tactic(auto, unfolding(crate::specs::Reading::fresh_pool))]
 pub fn fresh(limits: Limits) -> Pool
     ensures { result ≡ fresh_pool limits }
 {
     Pool {
-        limits: limits,
-        tasks: [ABSENT_TASK; TASK_COUNT],
-        global: GlobalTime(0),
-        given: 0,
-        shares: [NO_SHARE; TASK_COUNT],
-        handles: [0; BLOCK_COUNT],
-        extents: [0; BLOCK_COUNT],
-        clocks: [FREE; EXPIRATION_COUNT],
-        named: [0; EXPIRATION_COUNT],
-        dues: [0; EXPIRATION_COUNT],
+        head: Head {
+            tasks: [ABSENT_TASK; TASK_COUNT],
+            global: GlobalTime(0),
+            given: 0,
+            limits,
+            shares: [NO_SHARE; TASK_COUNT],
+        },
+        blocks: BlockTable {
+            handles: [0; BLOCK_COUNT],
+            extents: [0; BLOCK_COUNT],
+        },
+        expirations: ExpirationTable {
+            clocks: [FREE; EXPIRATION_COUNT],
+            named: [0; EXPIRATION_COUNT],
+            dues: [0; EXPIRATION_COUNT],
+        },
     }
 }

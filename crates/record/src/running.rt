@@ -48,6 +48,7 @@ fn is_pending(e: TaskEntry) -> bool
     is_running(e) & (e.ticked != 1)
 }
 
+#[tactic(auto, unfolding(crate::specs::WellFormed::is_fit_task))]
 fn fits_task(e: TaskEntry) -> bool
     ensures { result ≡ is_fit_task e }
 {
@@ -62,9 +63,8 @@ pub fn all_fit_tasks(tasks: [TaskEntry; TASK_COUNT]) -> bool
     ensures { result ≡ all is_fit_task tasks }
 {
     let mut fit = true;
-    for i in 0..TASK_COUNT {
-        let e = tasks[i];
-        fit = fit & fits_task(e);
+    for task in tasks {
+        fit &= fits_task(task);
     }
     fit
 }
@@ -74,12 +74,11 @@ pub fn all_ticked(tasks: [TaskEntry; TASK_COUNT]) -> bool
     ensures { result ≡ all_ticked (map task_of tasks) }
 {
     let mut some = false;
-    for i in 0..TASK_COUNT {
-        let e = tasks[i];
-        if is_pending(e) {
+    for task in tasks {
+        if is_pending(task) {
             return false;
         }
-        some = some | is_running(e);
+        some |= is_running(task);
     }
     some
 }
@@ -89,9 +88,8 @@ pub fn awaited(tasks: [TaskEntry; TASK_COUNT]) -> u16
     ensures { result ≡ awaited_of (map task_of tasks) }
 {
     let mut bits: u16 = 0;
-    for i in 0..TASK_COUNT {
-        let e = tasks[TASK_COUNT - 1 - i];
-        bits = 2 * bits + is_pending(e) as u16;
+    for task in tasks.iter().rev() {
+        bits = 2 * bits + u16::from(is_pending(*task));
     }
     bits
 }

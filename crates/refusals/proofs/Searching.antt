@@ -1,21 +1,30 @@
 -- Loops for any element type: a search that goes past a group in which none passes, and a list filled by another.
-use Prim.Native.Nat.{ℕ, zero, suc, ◌+◌, ◌≤◌, ◌<◌}
+use Prim.Native.Nat.{ℕ, zero, suc, ◌+◌, ◌-◌, ◌≤◌, ◌<◌}
 use native.Mathlib.Nat.{add-zero}
 use native.Mathlib.Omega.{arith}
-use mathlib.Core.Bool.{Bool, true, false}
+use mathlib.Core.Bool.{Bool, true, false, ◌||◌}
 use mathlib.Core.List.{List, [], ◌∷◌, ◌++◌}
 use mathlib.Core.Path.{◌≡◌, sym, ap, ◌∙◌}
 use lib.Dec.{eqb}
 use lib.ListN.{length, take, drop, get_or, length-take, length-drop, take-append-drop}
 use lib.Seq.{take-take, drop-append-le}
+use Rattle.std.specs.List.{fold, slice_range}
 use Rattle.lists.specs.Tests.{any}
 use Rattle.lists.specs.Tables.{first_from}
+use Rattle.lists.proofs.Blocks.{drop_take}
 use Rattle.lists.proofs.Cases.{or_false_parts}
+use Rattle.lists.proofs.Folds.{fold_any}
 use Rattle.lists.proofs.Loops.{Scanned}
 
 -- this handle
 abbrev pub is_of : ℕ → ℕ → Bool
 is_of handle h = eqb h handle
+
+-- whether some of a range has it, asked of each
+pub some_of : (handle a b : ℕ) (hs : List ℕ) (r : Bool) → a ≤ b → r ≡ fold (λ found h. found || eqb h handle) false (slice_range hs a b) → r ≡ any (is_of handle) (drop a (take b hs))
+some_of handle a b hs r h e =
+    let end : a + (b - a) ≡ b = omega arith in
+    e ∙ fold_any (is_of handle) _ ∙ ap (any (is_of handle)) (sym (drop_take a (b - a) hs) ∙ ap (λ (n : ℕ). drop a (take n hs)) end)
 
 -- the elements from i up to n: those up to j, and those from there
 split_at {ℓ} : {A : Type ℓ} (xs : List A) (i j n : ℕ) → i ≤ j → j ≤ n → n ≤ length xs

@@ -1,32 +1,30 @@
 -- The rules R in the parts in which code makes their tests, each by the numbers that it has found.
-use Rattle.std.specs.Prelude.{ℕ, Bool, true, cond, ◌||◌, List, eqb, leb, ltb}
+use Rattle.std.specs.Prelude.{ℕ, Bool, true, cond, ◌||◌, List, eqb, leb, ltb, Result, Ok, Err}
 use Rattle.ledger.specs.Limits.{task_count, largest_batch, large_size, last_handle}
-use Rattle.ledger.specs.Refusals.{most_extension, is_pinning, is_not_given}
+use Rattle.ledger.specs.Refusals.{most_extension, is_pinning, is_not_given, Verdict}
 use Rattle.ledger.specs.declared.Kind.{Kind}
 use Rattle.ledger.specs.declared.Limits.{Limits}
 use Rattle.ledger.specs.declared.Refusal.{Refusal}
 use Rattle.ledger.specs.declared.Refusal.TheVariants.{NoSuchTask, TaskAbsent, TaskWaiting, ExtensionTooLong, LengthOutOfRange, HandlesSpent, NoFreeBlock, AtLimit, NoFreeExpiration, HandleNotGiven, ObjectGone, BatchOutOfRange, OnlyMakePins, OnlyViews, PrefixTooLong}
 use Rattle.ledger.specs.declared.State.{State}
 use Rattle.ledger.specs.declared.State.TheVariants.{Absent, Running, Waiting, Viewing}
-use Rattle.ledger.specs.declared.Verdict.{Verdict}
-use Rattle.ledger.specs.declared.Verdict.TheVariants.{Accepted, Refused}
 use Rattle.record.specs.declared.TaskEntry.{TaskEntry}
 use Rattle.steps.specs.Facts.{is_gone}
 use Rattle.steps.specs.Objects.{state_in}
 
--- one verdict, and where it accepts, the next
-abbrev pub and_then : Verdict → Verdict → Verdict
-and_then Accepted v = v
-and_then (Refused r) v = Refused r
+-- one verdict, and where it accepts, the next, or what is found then
+abbrev pub and_then : {A : Type 0} → Verdict → Result A Refusal → Result A Refusal
+and_then (Ok _) next = next
+and_then (Err r) next = Err r
 
 abbrev pub refuse_if : Bool → Refusal → Verdict
-refuse_if holds r = cond holds (Refused r) Accepted
+refuse_if holds r = cond holds (Err r) (Ok tt)
 
 -- 3, 4, and 27 where the task is to act, which a viewer may not
 abbrev pub by_state : Bool → State → Verdict
-by_state acts Absent = Refused TaskAbsent
-by_state acts Running = Accepted
-by_state acts Waiting = Refused TaskWaiting
+by_state acts Absent = Err TaskAbsent
+by_state acts Running = Ok tt
+by_state acts Waiting = Err TaskWaiting
 by_state acts Viewing = refuse_if acts OnlyViews
 
 -- 1 before them

@@ -2,7 +2,6 @@
 ghost use Rattle.std.specs.Prelude.{◌+◌, ◌*◌, ◌/◌, ◌≤◌, ◌<◌, ◌≡◌, length, get_or};
 ghost use Rattle.ledger.specs.Limits.{largest_batch};
 ghost use Rattle.ledger.specs.Objects.{handles_of};
-ghost use Rattle.record.specs.Tables.{block_entries};
 ghost use Rattle.refusals.specs.Batches.{FindsBatch};
 
 use super::is_ungiven;
@@ -11,6 +10,7 @@ use ledger::LARGEST_BATCH;
 use record::BLOCK_COUNT;
 
 // What a pass over a batch's handles finds: the block of each object, whether some handle was not given and whether some object is gone.
+// (Flags and no Result, since 11 of any handle comes before 12 of any.)
 #[derive(Clone, Copy)]
 pub struct BatchFound {
     pub blocks: [u8; LARGEST_BATCH],
@@ -36,14 +36,14 @@ pub fn handle_at(bytes: &[u8], i: usize) -> u32
 
 // All objects of a batch, where there is room for their blocks.
 pub fn find_batch(given: u32, handles: &[u32; BLOCK_COUNT], bytes: &[u8]) -> BatchFound
-    requires { (length handles.now ≡ block_entries)
-        × (length bytes.now / 4 ≤ largest_batch) }
+    requires { length bytes.now / 4 ≤ largest_batch }
     ensures { FindsBatch given handles.now (handles_of bytes.now) result }
 {
     let firsts = firsts(handles);
     let mut blocks = [0u8; LARGEST_BATCH];
     let mut ungiven = false;
     let mut gone = false;
+    // By index: a handle is four bytes, and its block goes to the place of the same number.
     for i in 0..bytes.len() / 4 {
         let handle = handle_at(bytes, i);
         let place = locate_by(&firsts, handles, handle);
@@ -52,8 +52,8 @@ pub fn find_batch(given: u32, handles: &[u32; BLOCK_COUNT], bytes: &[u8]) -> Bat
         gone = gone | (BLOCK_COUNT <= place);
     }
     BatchFound {
-        blocks: blocks,
-        ungiven: ungiven,
-        gone: gone,
+        blocks,
+        ungiven,
+        gone,
     }
 }

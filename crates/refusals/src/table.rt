@@ -1,7 +1,7 @@
 // A table of the blocks by the last byte of their handles, for many searches one after another: it tells the first block of each byte, and
 // the blocks are searched only where that one has another handle. Handles given one after another have last bytes of their own.
-ghost use Rattle.std.specs.Prelude.{◌%◌, ◌≡◌, length};
-ghost use Rattle.record.specs.Tables.{block_entries, byte_values};
+ghost use Rattle.std.specs.Prelude.{◌%◌, ◌≡◌};
+ghost use Rattle.record.specs.Tables.{byte_values};
 ghost use Rattle.steps.specs.Objects.{place_in};
 ghost use Rattle.refusals.specs.Firsts.{FirstBlocks};
 
@@ -17,26 +17,18 @@ fn byte_of(handle: u32) -> usize
 
 // From the last block to the first, so that the first one of each byte stays; a byte that no handle has tells block 0.
 pub fn firsts(handles: &[u32; BLOCK_COUNT]) -> [u8; BYTE_VALUES]
-    requires { length handles.now ≡ block_entries }
     ensures { FirstBlocks 0 handles.now result }
 {
     let mut out = [0u8; BYTE_VALUES];
-    for n in 0..BLOCK_COUNT {
-        let block = BLOCK_COUNT - 1 - n;
-        let at = byte_of(handles[block]);
-        out[at] = block as u8;
+    for block in (0..BLOCK_COUNT).rev() {
+        out[byte_of(handles[block])] = block as u8;
     }
     out
 }
 
 // What `locate` gives, by the table.
-pub fn locate_by<'a>(
-    firsts: &'a [u8; BYTE_VALUES],
-    handles: &'a [u32; BLOCK_COUNT],
-    handle: u32,
-) -> usize
-    requires { (length handles.now ≡ block_entries)
-        × FirstBlocks 0 handles.now firsts.now }
+pub fn locate_by(firsts: &[u8; BYTE_VALUES], handles: &[u32; BLOCK_COUNT], handle: u32) -> usize
+    requires { FirstBlocks 0 handles.now firsts.now }
     ensures { result ≡ place_in handle handles.now }
 {
     let at = byte_of(handle);

@@ -7,10 +7,11 @@ use mathlib.Core.Option.{Option, none, some}
 use mathlib.Core.Path.{◌≡◌, refl, sym, subst}
 use borrow.Author.Tests.{eq-eqb, not-true}
 use lib.ListN.{length, get_or}
+use Rattle.std.specs.Prelude.{Ok, Err}
 use Rattle.lists.specs.Tests.{All}
 use Rattle.lists.proofs.Cases.{by_test}
 use Rattle.ledger.specs.Objects.{Reply, plain}
-use Rattle.ledger.specs.Ledger.{Ledger, Sent, fresh, replies, reply_to_frame, after_frame}
+use Rattle.ledger.specs.Ledger.{Ledger, Sent, fresh, replies, reply_to_frame, after_frame, Frame}
 use Rattle.ledger.specs.Room.{is_room, peaks, Fits, HasRoom}
 use Rattle.ledger.specs.declared.Answer.TheVariants.{Refused}
 use Rattle.ledger.specs.declared.Request.{Request}
@@ -22,15 +23,14 @@ use Rattle.text.specs.Fields.{fields_at}
 use Rattle.text.specs.Lines.{lines_of}
 use Rattle.frames.specs.Frames.{Operation, operations, operation_in, is_size_of, request_of, widths_of, frame_with, frame_as, frame_by, frame_in, frame_of, payload_of}
 use Rattle.frames.specs.Scripts.{sent_by, calls_in, calls_of}
-use Rattle.ledger.specs.declared.Frame.{Frame}
 use Rattle.script.specs.Output.{after_line, replies_to_lines}
 use Rattle.script.specs.Room.{ScriptHasRoom}
 use Rattle.script.proofs.Lines.{lines_follow}
 
 -- no frame is refused for want of room
 abbrev is_spared : Frame → Bool
-is_spared (Frame.Request request count) = true
-is_spared (Frame.Refused why) = not (is_room why)
+is_spared (Ok (request, count)) = true
+is_spared (Err why) = not (is_room why)
 
 spared_with : (request : Option Request) (count : ℕ) → is_spared (frame_with request count) ≡ true
 spared_with none count = refl
@@ -50,8 +50,8 @@ by_frame : (L : Ledger) (f : Frame) (b : List ℕ) (lines : List (List ℕ)) →
     → (All HasRoom (replies_to_lines (after_frame L f b) lines) ↔ All HasRoom (replies (after_frame L f b) (calls_in lines)))
     → (HasRoom (reply_to_frame L f b) × All HasRoom (replies_to_lines (after_frame L f b) lines)) ↔ All HasRoom (replies L (sent_by f b ++ calls_in lines))
 unfolding replies
-by_frame L (Frame.Request request count) b lines e (to, fro) = (λ (y, ys). (y, to ys), λ (y, ys). (y, fro ys))
-by_frame L (Frame.Refused why) b lines e (to, fro) = (λ (y, ys). to ys, λ ys. (has_room (plain (Refused why)) (not-true _ e), fro ys))
+by_frame L (Ok (request, count)) b lines e (to, fro) = (λ (y, ys). (y, to ys), λ (y, ys). (y, fro ys))
+by_frame L (Err why) b lines e (to, fro) = (λ (y, ys). to ys, λ ys. (has_room (plain (Refused why)) (not-true _ e), fro ys))
 
 lines_room : (lines : List (List ℕ)) (L : Ledger) → All HasRoom (replies_to_lines L lines) ↔ All HasRoom (replies L (calls_in lines))
 unfolding replies_to_lines replies

@@ -47,8 +47,8 @@ output_of limits script = answers_to (fresh limits) (lines_of script)
 -- end.
 pub record Runnable (p : Pool) (small large script : List ℕ) (at : ℕ) : Type 0 where
   pub fit : is_well_formed p ≡ true
-  pub small_whole : length small ≡ whole_small p.limits
-  pub large_whole : length large ≡ whole_large p.limits
+  pub small_whole : length small ≡ whole_small p.head.limits
+  pub large_whole : length large ≡ whole_large p.head.limits
   pub within : at ≤ length script
 
 -- Lines are carried out one after the other: each gets record and stores as the last one left them, and has its reply.

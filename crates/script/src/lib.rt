@@ -7,10 +7,11 @@ ghost use Rattle.script.specs.Output.{Runnable, Continues};
 use answers::{LONGEST_ANSWER, put_answer, show};
 use dispatch::call;
 use dispatch::needs::holdings_for;
-use frames::{MOST_BYTES, next_frame, refusal_of};
-use ledger::{Answer, Frame};
-use record::{Pool, head_of};
+use frames::{MOST_BYTES, decode};
+use ledger::Answer;
+use record::Pool;
 use stores::no_part;
+use text::Reader;
 
 // The record after some lines of a script, where the next line starts, and how long the answers are.
 #[derive(Clone, Copy)]
@@ -34,35 +35,33 @@ pub fn run_on(
         large.new out.old out.new }
 {
     let mut bytes = [0u8; MOST_BYTES];
-    let mut at = start;
+    let mut lines = Reader {
+        script,
+        next: start,
+    };
     let mut written = 0;
-    let mut head = head_of(p);
-    let mut handles = p.handles;
-    let mut extents = p.extents;
-    let mut clocks = p.clocks;
-    let mut named = p.named;
-    let mut dues = p.dues;
-    while (at < script.len()) & (LONGEST_ANSWER <= out.len() - written) {
-        let step = next_frame(script, at, &mut bytes);
-        let frame = step.frame;
-        at = step.next;
-        let Frame::Request(request, count) = frame else {
+    let mut head = p.head;
+    let mut blocks = p.blocks;
+    let mut expirations = p.expirations;
+    while LONGEST_ANSWER <= out.len() - written {
+        let Some(line) = lines.step() else {
+            break;
+        };
+        let frame = decode(line, &mut bytes);
+        let Ok((request, count)) = frame else {
             written = put_answer(
-                Answer::Refused(refusal_of(frame)),
+                Answer::Refused(frame.unwrap_err()),
                 no_part(small),
                 out,
                 written,
             );
             continue;
         };
-        let holdings = holdings_for(head, &handles, &extents, request);
+        let holdings = holdings_for(head, &blocks, request);
         let done = call(
             head,
-            &mut handles,
-            &mut extents,
-            &mut clocks,
-            &mut named,
-            &mut dues,
+            &mut blocks,
+            &mut expirations,
             small,
             large,
             holdings,
@@ -73,23 +72,12 @@ pub fn run_on(
         let answer = done.answer;
         written = show(answer, small, large, done.block, done.length, out, written);
     }
-    p.handles = handles;
-    p.extents = extents;
-    p.clocks = clocks;
-    p.named = named;
-    p.dues = dues;
-    let limits = head.limits;
-    let tasks = head.tasks;
-    let shares = head.shares;
-    let global = head.global;
-    p.limits = limits;
-    p.tasks = tasks;
-    p.shares = shares;
-    p.global = global;
-    p.given = head.given;
+    p.head = head;
+    p.blocks = blocks;
+    p.expirations = expirations;
     Ran {
         pool: p,
-        next: at,
-        written: written,
+        next: lines.next,
+        written,
     }
 }

@@ -1,5 +1,5 @@
 -- Loops that count blocks from one place to another: the start, the turn and the end of their invariants.
-use Prim.Native.Nat.{ℕ, ◌+◌, ◌≤◌, ◌<◌}
+use Prim.Native.Nat.{ℕ, ◌+◌, ◌-◌, ◌≤◌, ◌<◌}
 use native.Mathlib.Numerals.{add-one}
 use native.Mathlib.Omega.{arith}
 use mathlib.Core.Bool.{Bool, true, false, cond, ◌&&◌}
@@ -7,16 +7,21 @@ use mathlib.Core.List.{List}
 use mathlib.Core.Path.{◌≡◌, refl, sym, ◌∙◌}
 use borrow.Author.Tests.{eqb-true, eqb-false}
 use lib.Dec.{eqb}
-use lib.ListN.{length, get_or, set, take, replicate, length-set, length-replicate, get_or-replicate}
-use lib.Seq.{take-suc, get_or-set_same, get_or-set_other}
-use mir.Val.{bool_byte}
+use lib.ListN.{length, get_or, set, take, drop, replicate, length-set, length-take, length-drop, length-replicate, get_or-replicate}
+use lib.Seq.{take-suc, get_or-take, get_or-drop, get_or-set_same, get_or-set_other}
+use mir.Val.{Fits, bool_byte}
+use mir.Syntax.{w8}
+use Rattle.std.specs.List.{slice_range, sum}
 use Rattle.lists.specs.Tests.{count}
+use Rattle.lists.proofs.All.{get_or_all}
 use Rattle.lists.proofs.Cases.{by_test}
 use Rattle.lists.proofs.Counts.{count_append}
+use Rattle.lists.proofs.Summing.{sum_total, total_below}
+use Rattle.lists.proofs.Sums.{total_within}
 use Rattle.record.specs.Codes.{free_block}
 use Rattle.record.specs.Tables.{BlockEntry, maker_in}
 use Rattle.record.specs.WellFormed.{is_used}
-use Rattle.shares.specs.Counting.{is_used_by, Few, Added, Tallied, CountedIn}
+use Rattle.shares.specs.Counting.{Span, is_used_by, Few, Added, Tallied, CountedIn, Totals}
 
 one_more : (p : BlockEntry → Bool) (i : ℕ) (blocks : List BlockEntry) → i < length blocks
     → count p (take (i + 1) blocks) ≡ count p (take i blocks) + bool_byte (p (get_or blocks i free_block))
@@ -95,3 +100,23 @@ counted_turn {used} {from} {i} {n} x within =
 
 pub counted_at : {used : List Bool} {from i n j : ℕ} → CountedIn used from i n → i ≡ j → CountedIn used from j n
 counted_at x e = rw e at x
+
+-- the same by a part of the flags
+pub counted_part : {used : List Bool} {from to i n : ℕ} → Span from to → length used ≡ 96 → i < length (slice_range used from to)
+    → CountedIn used from (from + i) n
+    → (from + (i + 1) ≤ to) × CountedIn used from (from + (i + 1)) (n + bool_byte (get_or (slice_range used from to) i false))
+counted_part {used} {from} {to} {i} {n} span size h x =
+    let within : i < to - from = omega (arith, length-take (to - from) (drop from used), length-drop from used) in
+    let same : get_or (slice_range used from to) i false ≡ get_or used (from + i) false = get_or-take (to - from) (drop from used) i false within ∙ get_or-drop from used i false in
+    let next = counted_turn x (omega (arith, span.within)) in
+    let place : from + i + 1 ≡ from + (i + 1) = omega arith in
+    (omega arith, rw (same, ← place) next)
+
+-- the sum of a byte of each task
+pub totals_of : {numbers : List ℕ} {r : ℕ} → length numbers ≡ 16 → ((k : ℕ) → Fits w8 (get_or numbers k 0)) → r ≡ sum numbers → Totals numbers r
+totals_of {numbers} size f e =
+    let same = sum_total numbers in
+    record {
+      so = e ∙ same ∙ rw (← size) (total_below numbers);
+      most = omega (arith, total_within 255 numbers (get_or_all (λ (x : ℕ). x ≤ 255) 0 numbers (λ k. omega (arith, f k))));
+    }

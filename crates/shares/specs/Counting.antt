@@ -24,11 +24,6 @@ pub record Span (from to : ℕ) : Type 0 where
   pub from_whole : from % 4 ≡ 0
   pub to_whole : to % 4 ≡ 0
 
--- columns of as many blocks as the record's
-pub record SizedColumns (used : List Bool) (extents : List ℕ) : Type 0 where
-  pub of_used : length used ≡ block_entries
-  pub of_extents : length extents ≡ block_entries
-
 -- blocks of which these columns tell whether they are in use, and who made them
 pub record InColumns (used : List Bool) (extents : List ℕ) (blocks : List BlockEntry) : Type 0 where
   pub size : length blocks ≡ block_entries
@@ -66,11 +61,6 @@ pub record CountedIn (used : List Bool) (from to n : ℕ) : Type 0 where
 
 abbrev pub First : List ℕ → List ℕ → Type 0
 First table r = Filled 0 (λ k x. x ≡ get_or table k 0) task_count task_count r
-
--- a byte as a wider number
-pub record Wide (number r : ℕ) : Type 0 where
-  pub so : r ≡ number
-  pub most : r ≤ 255
 
 -- the sum of the numbers of all tasks
 abbrev pub of_all : List ℕ → ℕ

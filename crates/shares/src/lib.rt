@@ -6,7 +6,7 @@ ghost use Rattle.std.specs.Prelude.{true, cond, ◌≡◌};
 ghost use Rattle.lists.specs.Tests.{all};
 ghost use Rattle.ledger.specs.Shares.{quota_in, blocks_in};
 ghost use Rattle.record.specs.WellFormed.{is_fit_task};
-ghost use Rattle.shares.specs.Counting.{first_block, end_block, SizedColumns};
+ghost use Rattle.shares.specs.Counting.{first_block, end_block};
 ghost use Rattle.shares.specs.Holdings.{HoldsIn, TellsSharing};
 ghost use Rattle.shares.specs.Quotas.{HeldBy, is_shared_by};
 
@@ -39,45 +39,11 @@ pub struct Sharing {
     pub holdings: Holdings,
 }
 
-pub fn quota_in(small: bool, share: Share) -> Quota
-    ensures { result ≡ quota_in small share }
+// Of what both stores have, what the one has that is asked for.
+pub fn of_store<T: Copy>(small: bool, of_small: T, of_large: T) -> T
+    ensures { result ≡ cond small of_small of_large }
 {
-    if small {
-        return share.small;
-    }
-    share.large
-}
-
-pub fn blocks_in(limits: Limits, small: bool) -> u32
-    ensures { result ≡ blocks_in limits small }
-{
-    if small {
-        return limits.small;
-    }
-    limits.large
-}
-
-pub fn holding_in(holdings: Holdings, small: bool) -> Holding
-    ensures { result ≡ cond small holdings.small holdings.large }
-{
-    if small {
-        return holdings.small;
-    }
-    holdings.large
-}
-
-// The places of a store's blocks: from the first,
-fn first_block(small: bool) -> usize
-    ensures { result ≡ first_block small }
-{
-    if small { 0 } else { SMALL_COUNT }
-}
-
-// to the one past the last.
-fn end_block(small: bool) -> usize
-    ensures { result ≡ end_block small }
-{
-    if small { SMALL_COUNT } else { BLOCK_COUNT }
+    if small { of_small } else { of_large }
 }
 
 // By what each task made and how many blocks are in use.
@@ -90,24 +56,20 @@ fn holding_by(
     ensures { HeldBy small shares made taken result }
 {
     let spoken = taken as u32 + total(unmets(shares, made, small));
-    Holding {
-        made: made,
-        spoken: spoken,
-    }
+    Holding { made, spoken }
 }
 
 // Of one store alone.
-pub fn holding_of<'a>(
+pub fn holding_of(
     shares: [Share; TASK_COUNT],
-    used: &'a [bool; BLOCK_COUNT],
-    extents: &'a [u64; BLOCK_COUNT],
+    used: &[bool; BLOCK_COUNT],
+    extents: &[u64; BLOCK_COUNT],
     small: bool,
 ) -> Holding
-    requires { SizedColumns used.now extents.now }
     ensures { HoldsIn small shares used.now extents.now result }
 {
-    let from = first_block(small);
-    let to = end_block(small);
+    let from = of_store(small, 0, SMALL_COUNT);
+    let to = of_store(small, SMALL_COUNT, BLOCK_COUNT);
     let made = first(tally(used, extents, from, to));
     holding_by(shares, made, count(used, from, to), small)
 }
@@ -117,18 +79,13 @@ fn is_shared_in(limits: Limits, shares: [Share; TASK_COUNT], holding: Holding, s
     ensures { result ≡ is_shared_by small limits shares holding }
 {
     let made = holding.made;
-    (holding.spoken <= blocks_in(limits, small))
+    (holding.spoken <= of_store(small, limits.small, limits.large))
         & all_within(shares, made, unmets(shares, made, small), small)
 }
 
 // Each part is asked of either store by a call of its own, whose constants the compiler sees.
-pub fn sharing_of<'a>(
-    h: Head,
-    used: &'a [bool; BLOCK_COUNT],
-    extents: &'a [u64; BLOCK_COUNT],
-) -> Sharing
-    requires { SizedColumns used.now extents.now
-        × (all is_fit_task h.tasks ≡ true) }
+pub fn sharing_of(h: Head, used: &[bool; BLOCK_COUNT], extents: &[u64; BLOCK_COUNT]) -> Sharing
+    requires { all is_fit_task h.tasks ≡ true }
     ensures { TellsSharing h used.now extents.now result }
 {
     let limits = h.limits;
@@ -149,9 +106,6 @@ pub fn sharing_of<'a>(
             & is_known(large_table, large_made, large_count)
             & is_shared_in(limits, shares, small, true)
             & is_shared_in(limits, shares, large, false),
-        holdings: Holdings {
-            small: small,
-            large: large,
-        },
+        holdings: Holdings { small, large },
     }
 }

@@ -3,37 +3,35 @@
 ghost use Rattle.std.specs.Prelude.{◌+◌, ◌≤◌, ◌<◌, ◌≡◌, eqb, length, get_or};
 ghost use Rattle.ledger.specs.Limits.{task_count};
 ghost use Rattle.record.specs.Tables.{block_entries};
-ghost use Rattle.shares.specs.Counting.{Span, SizedColumns, Few, Added, Tallied, TalliedBoth, CountedIn, First, Wide, of_all, Totals};
+ghost use Rattle.shares.specs.Counting.{Span, Few, Added, Tallied, TalliedBoth, CountedIn, First, of_all, Totals};
 
 use ledger::TASK_COUNT;
 use record::codes::maker_in;
 use record::{BLOCK_COUNT, BYTE_VALUES, SMALL_COUNT};
 
 // Adds a block,
-fn add<'a>(
+fn add(
     out: &mut [u8; BYTE_VALUES],
-    used: &'a [bool; BLOCK_COUNT],
-    extents: &'a [u64; BLOCK_COUNT],
+    used: &[bool; BLOCK_COUNT],
+    extents: &[u64; BLOCK_COUNT],
     i: usize,
 )
     requires { Few i out.old
-        × SizedColumns used.now extents.now
         × (i < block_entries) }
     ensures { Added used.now extents.now i (i + 1) out.old out.new }
 {
     let maker = maker_in(extents[i]) as usize;
-    out[maker] = out[maker] + used[i] as u8;
+    out[maker] += u8::from(used[i]);
 }
 
 // four,
-fn add_four<'a>(
+fn add_four(
     out: &mut [u8; BYTE_VALUES],
-    used: &'a [bool; BLOCK_COUNT],
-    extents: &'a [u64; BLOCK_COUNT],
+    used: &[bool; BLOCK_COUNT],
+    extents: &[u64; BLOCK_COUNT],
     i: usize,
 )
     requires { Few i out.old
-        × SizedColumns used.now extents.now
         × (i + 4 ≤ block_entries) }
     ensures { Added used.now extents.now i (i + 4) out.old out.new }
 {
@@ -44,17 +42,17 @@ fn add_four<'a>(
 }
 
 // and all from one place to another.
-pub fn tally<'a>(
-    used: &'a [bool; BLOCK_COUNT],
-    extents: &'a [u64; BLOCK_COUNT],
+pub fn tally(
+    used: &[bool; BLOCK_COUNT],
+    extents: &[u64; BLOCK_COUNT],
     from: usize,
     to: usize,
 ) -> [u8; BYTE_VALUES]
-    requires { SizedColumns used.now extents.now
-        × Span from to }
+    requires { Span from to }
     ensures { Tallied used.now extents.now from to result }
 {
     let mut out = [0; BYTE_VALUES];
+    // Four in a turn, as both stores are counted below.
     for g in from / 4..to / 4 {
         add_four(&mut out, used, extents, g * 4);
     }
@@ -73,8 +71,7 @@ pub struct Tallies {
 // them once more.)
 const TURNS: usize = SMALL_COUNT / 8;
 
-pub fn tally_both<'a>(used: &'a [bool; BLOCK_COUNT], extents: &'a [u64; BLOCK_COUNT]) -> Tallies
-    requires { SizedColumns used.now extents.now }
+pub fn tally_both(used: &[bool; BLOCK_COUNT], extents: &[u64; BLOCK_COUNT]) -> Tallies
     ensures { TalliedBoth used.now extents.now result }
 {
     let mut small = [0; BYTE_VALUES];
@@ -84,10 +81,7 @@ pub fn tally_both<'a>(used: &'a [bool; BLOCK_COUNT], extents: &'a [u64; BLOCK_CO
         add_four(&mut small, used, extents, g * 8 + 4);
         add_four(&mut large, used, extents, SMALL_COUNT + g * 4);
     }
-    Tallies {
-        small: small,
-        large: large,
-    }
+    Tallies { small, large }
 }
 
 // Q4: the counters of the tasks.
@@ -95,6 +89,7 @@ pub fn first(table: [u8; BYTE_VALUES]) -> [u8; TASK_COUNT]
     ensures { First table result }
 {
     let mut out = [0; TASK_COUNT];
+    // By index: by `copy_from_slice` a call takes 421 instructions more.
     for i in 0..TASK_COUNT {
         out[i] = table[i];
     }
@@ -103,36 +98,25 @@ pub fn first(table: [u8; BYTE_VALUES]) -> [u8; TASK_COUNT]
 
 // The blocks in use, from one place to another.
 pub fn count(used: &[bool; BLOCK_COUNT], from: usize, to: usize) -> u8
-    requires { (length used.now ≡ block_entries)
-        × Span from to }
+    requires { Span from to }
     ensures { CountedIn used.now from to result }
 {
     let mut sum = 0;
-    for i in from..to {
-        sum = sum + used[i] as u8;
+    for flag in &used[from..to] {
+        sum += u8::from(*flag);
     }
     sum
-}
-
-fn wide(number: u8) -> u32
-    ensures { Wide number result }
-{
-    number as u32
 }
 
 pub fn total(numbers: [u8; TASK_COUNT]) -> u32
     ensures { Totals numbers result }
 {
-    let mut sum: u32 = 0;
-    for i in 0..TASK_COUNT {
-        sum = sum + wide(numbers[i]);
-    }
-    sum
+    numbers.iter().map(|number| u32::from(*number)).sum()
 }
 
 // W22: tasks, and those that departed, made all that is in use.
 pub fn is_known(table: [u8; BYTE_VALUES], made: [u8; TASK_COUNT], taken: u8) -> bool
     ensures { result ≡ eqb (of_all made + get_or table task_count 0) taken }
 {
-    total(made) + wide(table[TASK_COUNT]) == wide(taken)
+    total(made) + u32::from(table[TASK_COUNT]) == u32::from(taken)
 }

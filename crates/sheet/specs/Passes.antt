@@ -1,7 +1,11 @@
 -- What each pass over the rows makes or asks, column by column.
-use Rattle.std.specs.Prelude.{ℕ, ◌+◌, ◌-◌, Bool, cond, ◌&&◌, List, eqb, leb, get_or}
+use Rattle.std.specs.Prelude.{◌≡◌, ℕ, ◌+◌, ◌-◌, ◌<◌, Bool, cond, ◌&&◌, List, eqb, leb, get_or}
 use Rattle.lists.specs.Tables.{map_from}
 use Rattle.sheet.specs.Rows.{global_code, departed_code, pinned_code, is_global_code}
+
+-- what a closure gives, as its calls say: f of a clock and the units
+abbrev pub Gives : (ℕ → ℕ → ℕ → Type 0) → (ℕ → ℕ → ℕ) → Type 0
+Gives post f = (clock units r : ℕ) → clock < 256 → units < 256 → post clock units r → r ≡ f clock units
 
 -- the units by the clock beside them
 abbrev pub units_by : (ℕ → ℕ → ℕ) → List ℕ → List ℕ → List ℕ

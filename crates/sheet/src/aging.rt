@@ -31,12 +31,10 @@ fn put_off_all(tasks: [TaskEntry; TASK_COUNT], clocks: &[u8], units: &mut [u8])
         × All (λ (u : ℕ). u ≤ most_units) units.old }
     ensures { units.new ≡ units_by (put_off_below task_count tasks) clocks.now units.old }
 {
-    for t in 0..TASK_COUNT {
-        let e = tasks[t];
-        if !is_waiting(e) {
-            continue;
+    for (task, e) in tasks.iter().enumerate() {
+        if is_waiting(*e) {
+            put_off(GLOBAL + task as u8, clocks, units);
         }
-        put_off(GLOBAL + t as u8, clocks, units);
     }
 }
 
@@ -46,11 +44,10 @@ fn advance_all(advanced: bool, tasks: [TaskEntry; TASK_COUNT], clocks: &[u8], un
         × All (λ (u : ℕ). u ≤ most_units) units.old }
     ensures { units.new ≡ advanced_units advanced tasks clocks.now units.old }
 {
-    if !advanced {
-        return;
+    if advanced {
+        put_off_all(tasks, clocks, units);
+        advance(clocks, units);
     }
-    put_off_all(tasks, clocks, units);
-    advance(clocks, units);
 }
 
 // E21: where the task leaves.
@@ -58,10 +55,9 @@ fn desert_all(leaves: bool, task: u8, clocks: &mut [u8])
     requires { task < task_count }
     ensures { clocks.new ≡ cond leaves (map (deserted_by task) clocks.old) clocks.old }
 {
-    if !leaves {
-        return;
+    if leaves {
+        desert(task, clocks);
     }
-    desert(task, clocks);
 }
 
 // An event of a task, by the tasks as it leaves them.
@@ -77,40 +73,20 @@ fn age(p: Passing, tasks: [TaskEntry; TASK_COUNT], clocks: &mut [u8], units: &mu
     advance_all(p.advanced, tasks, clocks, units);
 }
 
+#[tactic(auto, unfolding(crate::specs::Aged::passing_of))]
 fn passing_of(event: Event, task: u8, advanced: bool) -> Passing
     ensures { result ≡ passing_of event task advanced }
 {
-    match event {
-        Event::Leave => Passing {
-            task,
-            cost: 255,
-            leaves: true,
-            advanced,
-        },
-        Event::Block => Passing {
-            task,
-            cost: 0,
-            leaves: false,
-            advanced,
-        },
-        Event::Resume => Passing {
-            task,
-            cost: 0,
-            leaves: false,
-            advanced,
-        },
-        Event::Tick => Passing {
-            task,
-            cost: 1,
-            leaves: false,
-            advanced,
-        },
-        Event::View => Passing {
-            task,
-            cost: 0,
-            leaves: false,
-            advanced,
-        },
+    let (cost, leaves) = match event {
+        Event::Leave => (255, true),
+        Event::Tick => (1, false),
+        Event::Block | Event::Resume | Event::View => (0, false),
+    };
+    Passing {
+        task,
+        cost,
+        leaves,
+        advanced,
     }
 }
 

@@ -27,8 +27,7 @@ pub fn put(
     clocks[at] = clock;
     places[at] = place;
     units[at] = left;
-    let object = wide(place);
-    counts[object] += 1;
+    counts[wide(place)] += 1;
 }
 
 // O2: whether an object stands.
@@ -52,7 +51,7 @@ pub struct Objects {
     pub large: u32,
 }
 
-pub fn standing<'a>(smalls: &'a [bool], counts: &'a [u16]) -> Objects
+pub fn standing(smalls: &[bool], counts: &[u16]) -> Objects
     requires { (length smalls.now ≡ length counts.now)
         × (length counts.now ≤ object_count) }
     ensures { (result.small ≡ all_of (small_in smalls.now counts.now))
@@ -60,12 +59,10 @@ pub fn standing<'a>(smalls: &'a [bool], counts: &'a [u16]) -> Objects
 {
     let mut small: u32 = 0;
     let mut large: u32 = 0;
-    for i in 0..counts.len() {
-        small += (smalls[i] & (counts[i] != 0)) as u32;
-        large += (!smalls[i] & (counts[i] != 0)) as u32;
+    for (i, rows) in counts.iter().enumerate() {
+        let stands = *rows != 0;
+        small += (smalls[i] & stands) as u32;
+        large += (!smalls[i] & stands) as u32;
     }
-    Objects {
-        small: small,
-        large: large,
-    }
+    Objects { small, large }
 }

@@ -12,17 +12,15 @@ pub fn wide(place: u16) -> usize
 }
 
 // One row less is counted for each that is over.
-fn uncount<'a>(places: &'a [u16], units: &'a [u8], counts: &mut [u16])
+fn uncount(places: &[u16], units: &[u8], counts: &mut [u16])
     requires { (length places.now ≡ length units.now)
         × Counts places.now counts.old }
     ensures { Counts (kept units.now places.now) counts.new }
 {
-    for i in 0..places.len() {
-        if units[i] != 0 {
-            continue;
+    for (i, left) in units.iter().enumerate() {
+        if *left == 0 {
+            counts[wide(places[i])] -= 1;
         }
-        let place = wide(places[i]);
-        counts[place] -= 1;
     }
 }
 
@@ -33,17 +31,15 @@ fn compact(clocks: &mut [u8], places: &mut [u16], units: &mut [u8]) -> usize
     ensures { Compacts clocks.old places.old units.old result clocks.new places.new
         units.new }
 {
-    let n = units.len();
-    let mut from = n;
-    for k in 0..n {
-        let i = n - (k + 1);
-        if units[i] == 0 {
-            continue;
+    let mut from = units.len();
+    // By index: rows move to other places of three columns.
+    for i in (0..units.len()).rev() {
+        if units[i] != 0 {
+            from -= 1;
+            clocks[from] = clocks[i];
+            places[from] = places[i];
+            units[from] = units[i];
         }
-        from = from - 1;
-        clocks[from] = clocks[i];
-        places[from] = places[i];
-        units[from] = units[i];
     }
     from
 }

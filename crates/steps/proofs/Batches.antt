@@ -18,7 +18,6 @@ use Rattle.ledger.specs.Refusals.{is_pinning}
 use Rattle.ledger.specs.Rules.{memory_after, expirations_after, tests_of}
 use Rattle.ledger.specs.declared.Kind.{Kind}
 use Rattle.ledger.specs.declared.Call.TheVariants.{Refresh, Batch}
-use Rattle.ledger.specs.declared.Verdict.TheVariants.{Accepted}
 use Rattle.record.specs.Reading.{Typed, Reads}
 use Rattle.record.specs.WellFormed.{is_well_formed}
 use Rattle.record.specs.Tables.{Tables}
@@ -34,6 +33,7 @@ use Rattle.steps.proofs.Rooms.{entries_alike}
 use Rattle.steps.proofs.Finding.{every_object_stands}
 use Rattle.steps.proofs.Staying.{same_stays, stays_on, refresh_stays}
 use Rattle.steps.proofs.Taken.{MaySet}
+use Rattle.std.specs.Prelude.{Ok}
 
 -- what a batch has that is accepted: it is not too long, each of its objects stands, and there is room for all
 pub record Renewable (task : ℕ) (kind : Kind) (extension : ℕ) (handles : List ℕ) (p : Tables) : Type 0 where
@@ -44,7 +44,7 @@ pub record Renewable (task : ℕ) (kind : Kind) (extension : ℕ) (handles : Lis
   pub room : standing_in p.expirations + length handles ≤ p.limits.expirations
 
 pub batch_takes : (task : ℕ) (kind : Kind) (extension : ℕ) (new : List ℕ) (p : Tables) → Fit p
-    → verdict_by (tests_of (Batch task kind extension) new) p ≡ Accepted → Renewable task kind extension (handles_of new) p
+    → verdict_by (tests_of (Batch task kind extension) new) p ≡ Ok tt → Renewable task kind extension (handles_of new) p
 unfolding tests_of
 batch_takes task kind extension new p fit v =
     let (known, (present, (active, (acts, (count, (plain, (within, (given, (gone, (room, end)))))))))) = all_passed [] [] _ p v in
@@ -107,7 +107,7 @@ module _ (task : ℕ) (kind : Kind) (extension : ℕ) {small large : List ℕ} (
 
 -- the record after a batch that is accepted
 module _ {p : Tables} {small large : List ℕ} {L : Ledger} (w : is_well_formed p ≡ true) (types : Typed p) (reads : Reads p small large L)
-    (task : ℕ) (kind : Kind) (extension : ℕ) (new : List ℕ) (v : verdict_by (tests_of (Batch task kind extension) new) p ≡ Accepted) where
+    (task : ℕ) (kind : Kind) (extension : ℕ) (new : List ℕ) (v : verdict_by (tests_of (Batch task kind extension) new) p ≡ Ok tt) where
   after : (is_well_formed (batched_pool task kind extension (handles_of new) p) ≡ true)
       × Reads (batched_pool task kind extension (handles_of new) p) small large
       (ledger_of L.memory (on_each task kind extension L.memory (handles_of new) L.expirations))

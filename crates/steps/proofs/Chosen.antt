@@ -23,7 +23,6 @@ use Rattle.ledger.specs.Rules.{tests_of}
 use Rattle.ledger.specs.declared.Call.TheVariants.{Make, Refresh, Read, Write, Release}
 use Rattle.ledger.specs.declared.Kind.{Kind}
 use Rattle.ledger.specs.declared.Kind.TheVariants.{Local, Global, Pinned}
-use Rattle.ledger.specs.declared.Verdict.TheVariants.{Accepted}
 use Rattle.ledger.specs.declared.Limits.{Limits}
 use Rattle.stores.specs.Places.{sum_at}
 use Rattle.record.specs.Codes.{free_block, free_entry}
@@ -36,9 +35,10 @@ use Rattle.steps.specs.Facts.{is_here, is_filled, is_summed, facts_with, task_te
 use Rattle.steps.specs.Objects.{place_of, block_of, is_free_block, end_for, free_place, is_free_entry, standing_in, free_slot, state_in}
 use Rattle.steps.proofs.Rooms.{room_left}
 use Rattle.steps.proofs.Taken.{MaySet, SlotFree, PlaceFree}
+use Rattle.std.specs.Prelude.{Ok}
 
 -- every test by which a verdict accepts has passed
-pub all_passed : (small large : List ℕ) (tests : List Test) (p : Tables) → verdict_with small large tests p ≡ Accepted
+pub all_passed : (small large : List ℕ) (tests : List Test) (p : Tables) → verdict_with small large tests p ≡ Ok tt
     → AllPassed (facts_with small large p) tests
 unfolding verdict_with
 all_passed small large tests p v = passed (facts_with small large p) tests (accepted_none _ v)
@@ -137,7 +137,7 @@ pub record Taken (task extension size prefix : ℕ) (p : Tables) : Type 0 where
   pub entry : SlotFree p.limits (free_slot p.expirations) p.expirations
 
 pub make_takes : (task : ℕ) (kind : Kind) (extension size prefix : ℕ) (p : Tables) → Fit p → Typed p
-    → verdict_by (tests_of (Make task kind extension size prefix) []) p ≡ Accepted → Taken task extension size prefix p
+    → verdict_by (tests_of (Make task kind extension size prefix) []) p ≡ Ok tt → Taken task extension size prefix p
 unfolding tests_of
 make_takes task kind extension size prefix p fit types v =
     let (
@@ -171,7 +171,7 @@ pub record Renewed (task : ℕ) (kind : Kind) (extension handle : ℕ) (p : Tabl
   pub entry : SlotFree p.limits (free_slot p.expirations) p.expirations
 
 pub refresh_takes : (task : ℕ) (kind : Kind) (extension handle : ℕ) (p : Tables) → Fit p → Typed p
-    → verdict_by (tests_of (Refresh task kind extension handle) []) p ≡ Accepted → Renewed task kind extension handle p
+    → verdict_by (tests_of (Refresh task kind extension handle) []) p ≡ Ok tt → Renewed task kind extension handle p
 unfolding tests_of
 refresh_takes task kind extension handle p fit types v =
     let (known, (present, (active, (acts, (plain, (within, (given, (gone, (room, end))))))))) = all_passed [] [] _ p v in
@@ -197,7 +197,7 @@ pub record Known (task handle : ℕ) (p : Tables) : Type 0 where
   pub known : task < task_count
   pub here : is_here p.blocks handle ≡ true
 
-pub using_known : (acts : Bool) (task handle : ℕ) (p : Tables) → verdict_by (task_tests acts task (handle_tests handle)) p ≡ Accepted
+pub using_known : (acts : Bool) (task handle : ℕ) (p : Tables) → verdict_by (task_tests acts task (handle_tests handle)) p ≡ Ok tt
     → Known task handle p
 using_known true task handle p v =
     let (known, (present, (active, (acts, (given, (gone, end)))))) = all_passed [] [] (task_tests true task (handle_tests handle)) p v in
@@ -206,7 +206,7 @@ using_known false task handle p v =
     let (known, (present, (active, (given, (gone, end))))) = all_passed [] [] (task_tests false task (handle_tests handle)) p v in
     record { known = leb-false task_count task known; here = not-false _ gone }
 
-pub release_known : (task handle : ℕ) (p : Tables) → verdict_by (tests_of (Release task handle) []) p ≡ Accepted → Known task handle p
+pub release_known : (task handle : ℕ) (p : Tables) → verdict_by (tests_of (Release task handle) []) p ≡ Ok tt → Known task handle p
 unfolding tests_of
 release_known task handle p v =
     let (known, (present, (active, (acts, (given, (gone, (pinned, end))))))) = all_passed [] [] _ p v in
@@ -225,7 +225,7 @@ intact task handle small large p known gone differs =
     record { known = leb-false task_count task known; here = not-false _ gone; summed = eqb-true _ _ (not-false _ (rw gone at differs)) }
 
 pub read_intact : (task handle : ℕ) (small large : List ℕ) (p : Tables) → verdict_with small large (tests_of (Read task handle) []) p
-    ≡ Accepted
+    ≡ Ok tt
     → Intact task handle small large p
 unfolding tests_of
 read_intact task handle small large p v =
@@ -242,7 +242,7 @@ read_intact task handle small large p v =
 
 -- a write as many bytes as it asks for
 pub write_intact : (task handle offset : ℕ) (new small large : List ℕ) (p : Tables)
-    → verdict_with small large (tests_of (Write task handle offset) new) p ≡ Accepted
+    → verdict_with small large (tests_of (Write task handle offset) new) p ≡ Ok tt
     → Intact task handle small large p × (offset + length new ≤ (block_of handle p.blocks).length)
 unfolding tests_of
 write_intact task handle offset new small large p v =

@@ -13,8 +13,6 @@ use Rattle.ledger.specs.Limits.{counter_range, task_count}
 use Rattle.ledger.specs.Tasks.{is_tested, all_ticked}
 use Rattle.ledger.specs.declared.Event.{Event}
 use Rattle.ledger.specs.declared.Event.TheVariants.{Leave, Block, Resume, Tick, View}
-use Rattle.ledger.specs.declared.Verdict.{Verdict}
-use Rattle.ledger.specs.declared.Verdict.TheVariants.{Accepted, Refused}
 use Rattle.record.specs.Codes.{task_of, absent_entry}
 use Rattle.record.specs.Reading.{Typed}
 use Rattle.record.specs.declared.TaskEntry.{TaskEntry}
@@ -23,6 +21,8 @@ use Rattle.record.specs.Tables.{Tables}
 use Rattle.steps.specs.Events.{moved_entry, unticked_entry, moved_tasks, advanced_tasks, advanced_time, leaver_of, swept, orphaned_pool, moved_pool, pool_after, outcome_by, scheduled}
 use Rattle.steps.proofs.EventsFollow.{record_verdict}
 use Rattle.steps.proofs.Orphans.{typed_orphaned}
+use Rattle.ledger.specs.Refusals.{Verdict}
+use Rattle.std.specs.Prelude.{Ok, Err}
 
 -- the clock of an entry is in its range
 abbrev pub InRange : TaskEntry → Type 0
@@ -111,5 +111,5 @@ unfolding scheduled
 typed_scheduled event task p types = by (record_verdict event task p)
   where
     by : (v : Verdict) → Typed (outcome_by v event task p).pool
-    by Accepted = typed_after event task p types
-    by (Refused r) = types
+    by (Ok _) = typed_after event task p types
+    by (Err r) = types

@@ -14,7 +14,7 @@ use Rattle.ledger.specs.Limits.{task_count}
 use Rattle.ledger.specs.Tasks.{Clocks, task_at, clocks_after, is_absent, is_tested, all_ticked}
 use Rattle.ledger.specs.Objects.{with_clocks}
 use Rattle.ledger.specs.Rules.{reply_to, memory_after, expirations_after}
-use Rattle.ledger.specs.Refusals.{as_verdict}
+use Rattle.ledger.specs.Refusals.{as_verdict, Verdict}
 use Rattle.ledger.specs.Kept.{PinsKept}
 use Rattle.ledger.proofs.KeptPins.{pins_carried}
 use Rattle.ledger.proofs.KeptShares.{shares_filter, shares_after_lem}
@@ -36,8 +36,6 @@ use Rattle.record.proofs.Facts.{Fit, Shared, fit_parts, shared_part, fit_whole}
 use Rattle.record.proofs.Exists.{fit_tables_read}
 use Rattle.steps.specs.Events.{verdict_of, verdict_at, moved_tasks, advanced_tasks, advanced_time, leaver_of, passed_entry, kept_block, swept, orphaned_pool, moved_pool, pool_after, answer_after, outcome_by, scheduled}
 use Rattle.ledger.specs.declared.Refusal.{Refusal}
-use Rattle.ledger.specs.declared.Verdict.{Verdict}
-use Rattle.ledger.specs.declared.Verdict.TheVariants.{Accepted, Refused}
 use Rattle.steps.proofs.FitAfter.{fit_after}
 use Rattle.steps.proofs.Orphans.{shares_counted, with_makers, fit_orphaned, reads_orphaned}
 use Rattle.steps.proofs.Shares.{shared_kept, kept_shared}
@@ -46,6 +44,7 @@ use Rattle.steps.proofs.ReadTasks.{ClocksAlike, state_alike, event_verdict, adva
 use Rattle.steps.proofs.ReadExpirations.{expirations_alike, untested_expirations_alike}
 use Rattle.steps.proofs.ReadObjects.{freed_shown, objects_alike, standing_ascending}
 use Rattle.steps.proofs.Standing.{none_freed}
+use Rattle.std.specs.Prelude.{Ok, Err}
 
 -- entries, times and expirations on the same blocks that are alike: so is the whole, once what is not named is free
 pub reads_with : (p : Tables) (small large : List ℕ) (L : Ledger) → Fit p → Reads p small large L → (entries : List TaskEntry) (time : GlobalTime)
@@ -88,7 +87,7 @@ after event task L =
     settled (memory_after (Schedule event task) [] L.memory) (expirations_after (Schedule event task) [] L.memory L.expirations)
 
 module _ (event : Event) (task : ℕ) (p : Tables) (small large : List ℕ) (L : Ledger) (fit : Fit p) (reads : Reads p small large L)
-    (accepted : verdict_of event (state_of (get_or p.tasks task absent_entry).state) ≡ Accepted) where
+    (accepted : verdict_of event (state_of (get_or p.tasks task absent_entry).state) ≡ Ok tt) where
   clocks : ClocksAlike p.tasks p.global L.memory.clocks
   unfolding record_view view_of
   clocks = record { tasks = reads.alike.tasks; global = reads.alike.global }
@@ -125,7 +124,7 @@ shares_left_lem event task p =
     by_test (is_tested event) (λ t. rw t (shares_counted event task p.shares)) (λ t. rw t (shares_counted event task p.shares))
 
 module _ (event : Event) (task : ℕ) (p : Tables) (small large : List ℕ) (L : Ledger) (fit : Fit p) (reads : Reads p small large L)
-    (accepted : verdict_of event (state_of (get_or p.tasks task absent_entry).state) ≡ Accepted) where
+    (accepted : verdict_of event (state_of (get_or p.tasks task absent_entry).state) ≡ Ok tt) where
   pub reads_after : Reads (pool_after event task p) small large (after event task L)
   unfolding pool_after orphaned_pool memory_after expirations_after
   reads_after =
@@ -149,7 +148,7 @@ module _ (event : Event) (task : ℕ) (p : Tables) (small large : List ℕ) (L :
 -- what the record's verdict makes of both
 by_verdict : (v : Option Refusal) (event : Event) (task : ℕ) (p : Tables) (small large : List ℕ) (L : Ledger) → Fit p
     → Reads p small large L
-    → (as_verdict v ≡ Accepted → verdict_of event (state_of (get_or p.tasks task absent_entry).state) ≡ Accepted)
+    → (as_verdict v ≡ Ok tt → verdict_of event (state_of (get_or p.tasks task absent_entry).state) ≡ Ok tt)
     → ((outcome_by (as_verdict v) event task p).answer ≡ (reply_by v (reply_to (Schedule event task) L.memory)).answer)
     × Reads (outcome_by (as_verdict v) event task p).pool small large (after_by v (after event task L) L)
 by_verdict none event task p small large L fit reads accepted =
@@ -157,7 +156,7 @@ by_verdict none event task p small large L fit reads accepted =
 by_verdict (some r) event task p small large L fit reads accepted = (refl, reads)
 
 -- an event of a task that exists is accepted by its state
-pub accepted_by_state : (none : Bool) (v : Verdict) → cond none (Refused NoSuchTask) v ≡ Accepted → v ≡ Accepted
+pub accepted_by_state : (none : Bool) (v : Verdict) → cond none (Err NoSuchTask) v ≡ Ok tt → v ≡ Ok tt
 accepted_by_state true v e = cc
 accepted_by_state false v e = e
 
@@ -180,8 +179,8 @@ unfolding scheduled
 schedule_fits event task p types w = by_test (leb task_count task) (λ past. rw past w) (λ known. rw known (by (leb-false task_count task known) (verdict_of event (state_of (get_or p.tasks task absent_entry).state)) refl))
   where
     by : task < task_count → (v : Verdict) → verdict_of event (state_of (get_or p.tasks task absent_entry).state) ≡ v → is_well_formed (outcome_by v event task p).pool ≡ true
-    by known Accepted accepted =
+    by known (Ok _) accepted =
         let fit = fit_parts p w in
         let (L, reads) = fit_tables_read p types fit [] [] in
         fit_whole _ (fit_after event task p fit types accepted) (shared_after event task p [] [] L fit reads accepted types known (shared_part p w))
-    by known (Refused r) accepted = w
+    by known (Err r) accepted = w

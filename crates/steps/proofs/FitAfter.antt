@@ -28,11 +28,11 @@ use Rattle.record.specs.declared.Due.{Due}
 use Rattle.record.specs.declared.Due.TheVariants.{Free, Local, Global, Pinned, Unknown}
 use Rattle.record.proofs.Facts.{Fit}
 use Rattle.steps.specs.Events.{verdict_of, unticked_entry, advanced_tasks, advanced_time, swept, with_times, orphaned_pool, moved_pool, pool_after}
-use Rattle.ledger.specs.declared.Verdict.TheVariants.{Accepted}
 use Rattle.ledger.specs.declared.Limits.{Limits}
 use Rattle.steps.proofs.FitTasks.{Later, later_same, later_next, StaysPresent, OthersStayPresent, set_stays_present, tick_running, ticked_fits, unticked_fits, advanced_unticked, running_unticked, idle_unticked, view_absent}
 use Rattle.steps.proofs.FitSwept.{local_fits, fit_swept}
 use Rattle.steps.proofs.Orphans.{fit_orphaned, typed_orphaned}
+use Rattle.std.specs.Prelude.{Ok}
 
 -- an expiration stays fit while its task stays present with the same clock
 same_fits : (limits : Limits) (before after : TaskEntry) (global : GlobalTime) (used : Bool) (due : Due) → StaysPresent ◌≡◌ before after
@@ -107,7 +107,7 @@ module _ (p : Tables) (f : Fit p) (task : ℕ) (e : TaskEntry) (fits : is_fit_ta
 
 -- the five events
 fit_moved : (event : Event) (task : ℕ) (p : Tables) → Fit p → Typed p
-    → verdict_of event (state_of (get_or p.tasks task absent_entry).state) ≡ Accepted → Fit (moved_pool event task p)
+    → verdict_of event (state_of (get_or p.tasks task absent_entry).state) ≡ Ok tt → Fit (moved_pool event task p)
 unfolding moved_pool is_fit_task counter_range
 fit_moved Leave task p f r a =
     fit_tested p f task _ refl r task (λ other. absurd (eqb-false task task other refl))
@@ -122,6 +122,6 @@ fit_moved Tick task p f r a =
 
 -- W13: the step of an event, but for the shares
 pub fit_after : (event : Event) (task : ℕ) (p : Tables) → Fit p → Typed p
-    → verdict_of event (state_of (get_or p.tasks task absent_entry).state) ≡ Accepted → Fit (pool_after event task p)
+    → verdict_of event (state_of (get_or p.tasks task absent_entry).state) ≡ Ok tt → Fit (pool_after event task p)
 unfolding pool_after orphaned_pool
 fit_after event task p f r a = fit_moved event task (orphaned_pool event task p) (fit_orphaned event task p f) (typed_orphaned event task p r) a

@@ -24,7 +24,7 @@ use Rattle.record.specs.Codes.{state_of, task_of, units_left, absent_entry}
 use Rattle.record.specs.WellFormed.{is_fit_task}
 use Rattle.record.specs.declared.TaskEntry.{TaskEntry}
 use Rattle.steps.specs.Events.{verdict_of, next_time, moved_entry, unticked_entry, advanced_tasks}
-use Rattle.ledger.specs.declared.Verdict.TheVariants.{Accepted}
+use Rattle.std.specs.Prelude.{Ok}
 
 -- What is due at some time ahead of the one is no further ahead of the other.
 abbrev pub Later : ℕ → ℕ → Type 0
@@ -58,7 +58,7 @@ set_stays_present moves same tasks task e any f =
     (λ at. rw at (f at)) (λ present. (present, same _))
 
 -- the state of a task that may become a viewer,
-pub view_absent : (s : State) → verdict_of View s ≡ Accepted → s ≡ Absent
+pub view_absent : (s : State) → verdict_of View s ≡ Ok tt → s ≡ Absent
 unfolding verdict tests_of
 view_absent Absent a = refl
 view_absent Running a = cc
@@ -66,7 +66,7 @@ view_absent Waiting a = cc
 view_absent Viewing a = cc
 
 -- and of one that may tick
-pub tick_running : (s : State) → verdict_of Tick s ≡ Accepted → s ≡ Running
+pub tick_running : (s : State) → verdict_of Tick s ≡ Ok tt → s ≡ Running
 unfolding verdict tests_of
 tick_running Absent a = cc
 tick_running Running a = refl

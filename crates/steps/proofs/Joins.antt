@@ -17,7 +17,6 @@ use Rattle.ledger.specs.Compared.{view_of, wrapped_task}
 use Rattle.ledger.specs.Ledger.{Ledger, facts_in, verdict_on}
 use Rattle.ledger.specs.declared.Call.TheVariants.{Join}
 use Rattle.ledger.specs.declared.Share.{Share}
-use Rattle.ledger.specs.declared.Verdict.TheVariants.{Accepted}
 use Rattle.ledger.proofs.KeptPins.{pins_carried}
 use Rattle.ledger.proofs.KeptShares.{shares_filter, shares_joined}
 use Rattle.ledger.proofs.Passed.{passed, accepted_none}
@@ -40,6 +39,7 @@ use Rattle.steps.proofs.Shares.{shared_kept, kept_shared}
 use Rattle.steps.proofs.Standing.{none_freed}
 use Rattle.steps.proofs.Staying.{same_stays}
 use Rattle.steps.proofs.Verdicts.{verdict_alike}
+use Rattle.std.specs.Prelude.{Ok}
 
 -- what an accepted join shows
 pub record Joining (task : ℕ) (share : Share) (p : Tables) : Type 0 where
@@ -47,7 +47,7 @@ pub record Joining (task : ℕ) (share : Share) (p : Tables) : Type 0 where
   pub absent : is_absent (state_of (get_or p.tasks task absent_entry).state) ≡ true
   pub ordered : (is_upside_down share.small || is_upside_down share.large) ≡ false
 
-pub joining : (task : ℕ) (share : Share) (p : Tables) → verdict_by (tests_of (Join task share) []) p ≡ Accepted → Joining task share p
+pub joining : (task : ℕ) (share : Share) (p : Tables) → verdict_by (tests_of (Join task share) []) p ≡ Ok tt → Joining task share p
 unfolding tests_of
 joining task share p v =
     let (known, (absent, (ordered, (free, end)))) = all_passed [] [] _ p v in
@@ -106,7 +106,7 @@ clocks_counted {p} {small} {large} {L} reads n =
     sym (length-map L.memory.clocks.tasks wrapped_task) ∙ sym (ap (λ (ts : List Task). length ts) reads.alike.tasks) ∙ length-map p.tasks task_of ∙ n
 
 pub join_fits : (task : ℕ) (share : Share) (p : Tables) → Typed p → is_well_formed p ≡ true → verdict_by (tests_of (Join task share) []) p
-    ≡ Accepted → is_well_formed (joined_pool task share p) ≡ true
+    ≡ Ok tt → is_well_formed (joined_pool task share p) ≡ true
 unfolding joined_pool memory_after tests_of verdict
 join_fits task share p types w v =
     let fit = fit_parts p w in

@@ -19,7 +19,6 @@ use Rattle.ledger.specs.declared.State.{State}
 use Rattle.ledger.specs.declared.Kind.{Kind}
 use Rattle.ledger.specs.declared.Call.{Call}
 use Rattle.ledger.specs.declared.Call.TheVariants.{Make, Refresh, Write}
-use Rattle.ledger.specs.declared.Verdict.TheVariants.{Accepted}
 use Rattle.stores.specs.Places.{InBlock, small_after, large_after}
 use Rattle.record.specs.Codes.{free_block}
 use Rattle.record.specs.Reading.{is_whole_small, is_whole_large, block_bytes, record_view, Typed, Reads, size_of}
@@ -42,6 +41,7 @@ use Rattle.steps.proofs.ReadMade.{made_reads, refreshed_reads}
 use Rattle.steps.proofs.Summed.{fit_summed, shared_summed}
 use Rattle.steps.proofs.SharesMade.{shared_made}
 use Rattle.steps.proofs.ReadWritten.{written_place, written_sizes, written_reads}
+use Rattle.std.specs.Prelude.{Ok}
 
 -- the ledger after a call that it carries out
 abbrev pub carried : Call → List ℕ → Ledger → Ledger
@@ -69,7 +69,7 @@ module _ {p : Tables} {small large : List ℕ} {L : Ledger} (w : is_well_formed 
   same_given = reads.alike.given
 
   pub make_fits : (task : ℕ) (kind : Kind) (extension size prefix : ℕ) → verdict_by (tests_of (Make task kind extension size prefix) []) p
-      ≡ Accepted
+      ≡ Ok tt
       → is_well_formed (made_pool task kind extension size prefix p) ≡ true
   unfolding made_pool
   make_fits task kind extension size prefix v =
@@ -100,7 +100,7 @@ module _ {p : Tables} {small large : List ℕ} {L : Ledger} (w : is_well_formed 
   -- with both stores as long as the blocks need
   module _ (small_whole_lem : is_whole_small p.limits small ≡ true) (large_whole_lem : is_whole_large p.limits large ≡ true) where
     pub make_reads : (task : ℕ) (kind : Kind) (extension size prefix : ℕ) → verdict_by (tests_of (Make task kind extension size prefix) []) p
-        ≡ Accepted
+        ≡ Ok tt
         → (let place = free_place p.limits size p.blocks in
         let zeros : List ℕ = replicate (size_of place) 0 in
         Reads (made_pool task kind extension size prefix p) (small_after place 0 zeros small) (large_after place 0 zeros large)
@@ -147,7 +147,7 @@ module _ {p : Tables} {small large : List ℕ} {L : Ledger} (w : is_well_formed 
 
     -- a write that is accepted lies in a block in use
     module _ (task handle offset : ℕ) (new : List ℕ)
-        (v : verdict_with small large (tests_of (Write task handle offset) new) p ≡ Accepted) where
+        (v : verdict_with small large (tests_of (Write task handle offset) new) p ≡ Ok tt) where
       here : Found p.limits small large p.blocks handle (object_at handle L.memory.objects)
       here = place_found handle (write_intact task handle offset new small large p v).0.here
 

@@ -32,14 +32,14 @@ use Rattle.record.specs.declared.GlobalTime.{GlobalTime}
 use Rattle.record.specs.declared.Due.{Due}
 use Rattle.record.specs.declared.Due.TheVariants.{Free, Local, Global, Pinned, Unknown}
 use Rattle.steps.specs.Events.{verdict_of, leaver_of, passed_entry}
-use Rattle.ledger.specs.declared.Verdict.TheVariants.{Accepted}
 use Rattle.ledger.specs.declared.Limits.{Limits}
 use Rattle.steps.proofs.ReadTasks.{ClocksAlike, state_alike, clock_alike}
 use Rattle.ledger.proofs.Aging.{aged, clock_after_lem, ledger_ages}
 use Rattle.steps.proofs.Aging.{record_ages}
+use Rattle.std.specs.Prelude.{Ok}
 
 -- an event with an advance test is refused to an absent task
-tested_present : (event : Event) (s : State) → is_tested event ≡ true → verdict_of event s ≡ Accepted → is_absent s ≡ false
+tested_present : (event : Event) (s : State) → is_tested event ≡ true → verdict_of event s ≡ Ok tt → is_absent s ≡ false
 unfolding verdict tests_of
 tested_present Leave Absent tested accepted = cc
 tested_present Block Absent tested accepted = cc
@@ -51,7 +51,7 @@ tested_present event Waiting tested accepted = refl
 tested_present event Viewing tested accepted = refl
 
 -- and so to one that there is not
-accepted_listed : (event : Event) (task : ℕ) (c : Clocks) → is_tested event ≡ true → verdict_of event (task_at c task).state ≡ Accepted
+accepted_listed : (event : Event) (task : ℕ) (c : Clocks) → is_tested event ≡ true → verdict_of event (task_at c task).state ≡ Ok tt
     → task < length c.tasks
 accepted_listed event task c tested accepted =
     by_test (ltb task (length c.tasks)) (ltb-true task (length c.tasks))
@@ -68,7 +68,7 @@ lasting_all View task advanced c xs untested = refl
 lasting_all Tick task advanced c xs untested = absurd (true≢false untested)
 
 -- and leaves its task's clock, unless the task was absent
-moved_stays : (event : Event) (t : Task) (s : State) → is_tested event ≡ false → verdict_of event s ≡ Accepted → is_absent s ≡ false
+moved_stays : (event : Event) (t : Task) (s : State) → is_tested event ≡ false → verdict_of event s ≡ Ok tt → is_absent s ≡ false
     → (moved event t).clock ≡ t.clock
 unfolding moved verdict tests_of
 moved_stays Leave t s untested accepted present = absurd (true≢false untested)
@@ -148,10 +148,10 @@ module _ {tasks : List TaskEntry} {global : GlobalTime} {c : Clocks} (same : Clo
 -- after it.
 module _ (event : Event) (task : ℕ) {tasks entries : List TaskEntry} {global time : GlobalTime} {c : Clocks}
     (same : ClocksAlike tasks global c) (after : ClocksAlike entries time (clocks_after event task c))
-    (accepted : verdict_of event (state_of (get_or tasks task absent_entry).state) ≡ Accepted)
+    (accepted : verdict_of event (state_of (get_or tasks task absent_entry).state) ≡ Ok tt)
     (limits : Limits) (blocks : List BlockEntry) (xs : List ExpirationEntry) (fit : all (is_fit_entry limits tasks global blocks) xs ≡ true)
     (ys : List Expiration) (alike : Permᴰ (read_by (shown_entry tasks global blocks) xs) (map (shown c) ys)) where
-  accepts : verdict_of event (task_at c task).state ≡ Accepted
+  accepts : verdict_of event (task_at c task).state ≡ Ok tt
   accepts = rw (state_alike tasks c same.tasks task) at accepted
 
   -- with an advance test

@@ -24,7 +24,7 @@ use Rattle.record.specs.Codes.{state_of, task_of, absent_entry}
 use Rattle.record.specs.declared.TaskEntry.{TaskEntry}
 use Rattle.record.specs.declared.GlobalTime.{GlobalTime}
 use Rattle.steps.specs.Events.{verdict_of, verdict_at, next_time, moved_entry, unticked_entry, moved_tasks, advanced_tasks, advanced_time}
-use Rattle.ledger.specs.declared.Verdict.TheVariants.{Refused}
+use Rattle.std.specs.Prelude.{Err}
 
 -- the record's tasks read as the ledger's, one by one
 module _ (tasks : List TaskEntry) (c : Clocks) (same : map task_of tasks ≡ map wrapped_task c.tasks) (i : ℕ) where
@@ -43,7 +43,7 @@ module _ (tasks : List TaskEntry) (c : Clocks) (same : map task_of tasks ≡ map
 -- the ledger's verdict on an event is the record's: first 1, then the tests of the task's state
 state_tests : (m : Memory) (xs : List Expiration) (event : Event) (task : ℕ) (new : List ℕ)
     → as_verdict (verdict (facts_of m xs) (tests_of (Schedule event task) new))
-    ≡ cond (leb task_count task) (Refused NoSuchTask) (verdict_of event (task_at m.clocks task).state)
+    ≡ cond (leb task_count task) (Err NoSuchTask) (verdict_of event (task_at m.clocks task).state)
 unfolding verdict tests_of
 state_tests m xs Leave task new = by_test (leb task_count task) (λ e. rw e) (λ e. rw e)
 state_tests m xs Block task new = by_test (leb task_count task) (λ e. rw e) (λ e. rw e)

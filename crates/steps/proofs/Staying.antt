@@ -16,8 +16,6 @@ use Rattle.lists.proofs.Cases.{by_test}
 use Rattle.ledger.specs.Tasks.{is_tested}
 use Rattle.ledger.specs.declared.Event.{Event}
 use Rattle.ledger.specs.declared.Kind.{Kind}
-use Rattle.ledger.specs.declared.Verdict.{Verdict}
-use Rattle.ledger.specs.declared.Verdict.TheVariants.{Accepted, Refused}
 use Rattle.record.specs.Codes.{free_block}
 use Rattle.record.specs.WellFormed.{is_naming}
 use Rattle.record.specs.declared.TaskEntry.{TaskEntry}
@@ -32,13 +30,15 @@ use Rattle.steps.specs.Staying.{Stays, OneBlock}
 use Rattle.steps.proofs.KeptBlocks.{block_left}
 use Rattle.steps.proofs.Orphans.{stays_orphaned}
 use Rattle.steps.proofs.Summed.{summed_handle, summed_length}
+use Rattle.ledger.specs.Refusals.{Verdict}
+use Rattle.std.specs.Prelude.{Ok, Err}
 
 -- blocks that are the same, and no handle more
 pub same_stays : {p p' : Tables} → p'.limits ≡ p.limits → p'.blocks ≡ p.blocks → p'.given ≡ p.given → Stays p p'
 same_stays l e g = record { limits = l; given = omega (arith, g); same = λ block used given. rw e (refl, refl) }
 
 -- no call changes the figures
-pub limits_stay : (p p' : Pool) → Stays (tables_of p) (tables_of p') → p'.limits ≡ p.limits
+pub limits_stay : (p p' : Pool) → Stays (tables_of p) (tables_of p') → p'.head.limits ≡ p.head.limits
 unfolding tables_of tables_by
 limits_stay p p' s = s.limits
 
@@ -77,8 +77,8 @@ moved_stays event task p = by_test (is_tested event) (λ t. rw t (swept_stays _ 
 
 stays_by : (v : Verdict) (event : Event) (task : ℕ) (p : Tables) → Stays p (outcome_by v event task p).pool
 unfolding pool_after
-stays_by Accepted event task p = stays_on (stays_orphaned event task p) (moved_stays event task (orphaned_pool event task p))
-stays_by (Refused r) event task p = same_stays refl refl refl
+stays_by (Ok _) event task p = stays_on (stays_orphaned event task p) (moved_stays event task (orphaned_pool event task p))
+stays_by (Err r) event task p = same_stays refl refl refl
 
 pub event_stays : (event : Event) (task : ℕ) (p : Tables) → Stays p (scheduled event task p).pool
 unfolding scheduled

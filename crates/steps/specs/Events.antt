@@ -1,12 +1,12 @@
 -- What an event makes of a record, as a function of its entries.
-use Rattle.std.specs.Prelude.{ℕ, ◌+◌, ◌-◌, ◌%◌, Bool, true, false, cond, not, ◌&&◌, List, [], map, eqb, leb, ltb, get_or, set, drop}
+use Rattle.std.specs.Prelude.{ℕ, ◌+◌, ◌-◌, ◌%◌, Bool, true, false, cond, not, ◌&&◌, List, [], map, eqb, leb, ltb, get_or, set, drop, Ok, Err}
 use Rattle.lists.specs.Tests.{any}
 use Rattle.lists.specs.Tables.{map_from}
 use Rattle.ledger.specs.Limits.{capacity, task_count, counter_range}
 use Rattle.ledger.specs.Tasks.{is_waiting, is_tested, all_ticked}
 use Rattle.ledger.specs.Expirations.{departed}
 use Rattle.ledger.specs.Objects.{shares_after}
-use Rattle.ledger.specs.Refusals.{verdict, as_verdict}
+use Rattle.ledger.specs.Refusals.{verdict, as_verdict, Verdict}
 use Rattle.ledger.specs.Rules.{tests_of}
 use Rattle.ledger.specs.declared.State.{State}
 use Rattle.ledger.specs.declared.Call.TheVariants.{Schedule}
@@ -23,8 +23,6 @@ use Rattle.record.specs.Tables.{BlockEntry, ExpirationEntry, Tables, Outcome}
 use Rattle.record.specs.declared.GlobalTime.{GlobalTime}
 use Rattle.record.specs.declared.Due.{Due}
 use Rattle.record.specs.declared.Due.TheVariants.{Free, Local, Global, Pinned, Unknown}
-use Rattle.ledger.specs.declared.Verdict.{Verdict}
-use Rattle.ledger.specs.declared.Verdict.TheVariants.{Accepted, Refused}
 use Rattle.steps.specs.Parts.{part_facts}
 
 -- R37 to R39 and R49, after 1: the tests of the task's state
@@ -36,7 +34,7 @@ verdict_of event state =
 -- the verdict on an event: first 1, then the tests of the task's state
 abbrev pub verdict_at : Event → ℕ → List TaskEntry → Verdict
 verdict_at event task tasks =
-    cond (leb task_count task) (Refused NoSuchTask) (verdict_of event (state_of (get_or tasks task absent_entry).state))
+    cond (leb task_count task) (Err NoSuchTask) (verdict_of event (state_of (get_or tasks task absent_entry).state))
 
 -- T8: a counter's next value
 abbrev pub next_time : ℕ → ℕ
@@ -167,8 +165,8 @@ unfoldable pub answer_after : Event → ℕ → Tables → Answer
 answer_after event task p = cond (is_tested event) (Advanced (all_ticked (map task_of (moved_tasks event task p.tasks)))) Done
 
 abbrev pub outcome_by : Verdict → Event → ℕ → Tables → Outcome
-outcome_by Accepted event task p = record { answer = answer_after event task p; pool = pool_after event task p }
-outcome_by (Refused r) event task p = record { answer = RefusedAnswer r; pool = p }
+outcome_by (Ok _) event task p = record { answer = answer_after event task p; pool = pool_after event task p }
+outcome_by (Err r) event task p = record { answer = RefusedAnswer r; pool = p }
 
 -- any event on any record
 unfoldable pub scheduled : Event → ℕ → Tables → Outcome

@@ -1,11 +1,10 @@
 -- The facts of a record with its stores that the rules R look at: its verdict is that of the ledger's tests by these.
 use Rattle.std.specs.Prelude.{ℕ, ◌+◌, Bool, true, false, cond, not, ◌&&◌, ◌||◌, List, [], ◌∷◌, eqb, leb, ltb}
 use Rattle.lists.specs.Tests.{any}
-use Rattle.ledger.specs.Refusals.{Facts, Test, no_such_task, task_absent, task_waiting, only_views, handle_not_given, object_gone, verdict, as_verdict}
+use Rattle.ledger.specs.Refusals.{Facts, Test, no_such_task, task_absent, task_waiting, only_views, handle_not_given, object_gone, verdict, as_verdict, Verdict}
 use Rattle.ledger.specs.Shares.{blocks_in}
 use Rattle.ledger.specs.declared.Limits.{Limits}
 use Rattle.ledger.specs.declared.Share.{Share}
-use Rattle.ledger.specs.declared.Verdict.{Verdict}
 use Rattle.stores.specs.Places.{sum_at}
 use Rattle.record.specs.Shares.{taken_but, is_limited}
 use Rattle.record.specs.WellFormed.{is_pin_on}

@@ -12,7 +12,7 @@ use Rattle.lists.specs.Tests.{All}
 use Rattle.lists.proofs.All.{get_or_all, all_append, all_take, all_drop}
 use Rattle.lists.proofs.Blocks.{length_overwritten}
 use Rattle.lists.proofs.Cases.{by_test}
-use Rattle.lists.proofs.Sums.{total_next, total_past, total_within, total_parts, total_overwritten}
+use Rattle.lists.proofs.Sums.{total_within, total_parts, total_overwritten}
 use Rattle.ledger.specs.Limits.{large_size}
 use Rattle.record.specs.Reading.{is_small_block, block_bytes, size_of}
 use Rattle.stores.specs.Places.{store_of, start_of, InBlock, most_sum, sum_at, sum_after}
@@ -24,15 +24,6 @@ IsByte x = x ≤ 255
 -- what the type of a slice of bytes gives of each
 pub all_bytes : (xs : List ℕ) → ((i : ℕ) → Fits w8 (get_or xs i 0)) → All IsByte xs
 all_bytes xs f = get_or_all IsByte 0 xs (λ i. omega (arith, f i))
-
--- a turn's eight numbers are all of it
-abbrev pub eight_of : List ℕ → ℕ
-eight_of xs = get_or xs 0 0 + (get_or xs 1 0 + (get_or xs 2 0 + (get_or xs 3 0 + (get_or xs 4 0 + (get_or xs 5 0 + (get_or xs 6 0 + get_or xs 7 0))))))
-
-pub total_turn : (xs : List ℕ) → length xs ≤ 8 → total xs ≡ eight_of xs
-total_turn xs h =
-    omega
-    (arith, total_next 0 xs, total_next 1 xs, total_next 2 xs, total_next 3 xs, total_next 4 xs, total_next 5 xs, total_next 6 xs, total_next 7 xs, total_past 8 xs h)
 
 -- no more bytes than a block has
 pub bytes_total : (xs : List ℕ) → All IsByte xs → length xs ≤ large_size → total xs ≤ most_sum
@@ -52,14 +43,14 @@ pub record SumChanged (sum replaced new after : ℕ) : Type 0 where
   pub most : after ≤ most_sum
 
 module _ {small large : List ℕ} {block : ℕ} (offset : ℕ) (new : List ℕ) (p : InBlock small large block (offset + length new))
-    (small_bytes : All IsByte small) (large_bytes : All IsByte large) (new-bytes : All IsByte new) where
+    (of_small : (i : ℕ) → Fits w8 (get_or small i 0)) (of_large : (i : ℕ) → Fits w8 (get_or large i 0)) (of_new : (i : ℕ) → Fits w8 (get_or new i 0)) where
   abbrev old : List ℕ
   old = block_bytes small large block (size_of block)
 
   old_bytes : All IsByte old
   old_bytes =
       let store = store_of small large block in
-      let bytes : All IsByte store = by_test (is_small_block block) (λ e. rw e small_bytes) (λ e. rw e large_bytes) in
+      let bytes : All IsByte store = by_test (is_small_block block) (λ e. rw e (all_bytes small of_small)) (λ e. rw e (all_bytes large of_large)) in
       rw (← part_bytes (whole_block p)) (all_take IsByte (size_of block) (drop (start_of block) store) (all_drop IsByte (start_of block) store bytes))
 
   after_size : length (overwritten offset new old) ≤ large_size
@@ -72,5 +63,5 @@ module _ {small large : List ℕ} {block : ℕ} (offset : ℕ) (new : List ℕ) 
       record {
         part = omega (arith, total_parts offset (length new) old);
         so = total_overwritten offset new old;
-        most = bytes_total (overwritten offset new old) (all_overwritten offset new old new-bytes old_bytes) after_size;
+        most = bytes_total (overwritten offset new old) (all_overwritten offset new old (all_bytes new of_new) old_bytes) after_size;
       }

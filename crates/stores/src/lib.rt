@@ -19,85 +19,28 @@ pub const SMALL_SIZE: usize = ledger::SMALL_SIZE as usize;
 
 pub const LARGE_SIZE: usize = ledger::LARGE_SIZE as usize;
 
-// The bytes of one turn. All are read before the first is stored, so that a machine may move them as one word.
-const TURN: usize = 8;
-
-// A turn's bytes, read.
-fn read_turn(bytes: &[u8]) -> [u8; TURN]
-    requires { length bytes.now ≡ 8 }
-    ensures { result ≡ bytes.now }
-{
-    [
-        bytes[0], bytes[1], bytes[2], bytes[3], bytes[4], bytes[5], bytes[6], bytes[7],
-    ]
-}
-
-// A turn's bytes, stored.
-fn store_turn(part: &mut [u8], turn: [u8; TURN])
-    requires { length part.old ≡ 8 }
-    ensures { part.new ≡ turn }
-{
-    part[0] = turn[0];
-    part[1] = turn[1];
-    part[2] = turn[2];
-    part[3] = turn[3];
-    part[4] = turn[4];
-    part[5] = turn[5];
-    part[6] = turn[6];
-    part[7] = turn[7];
-}
-
-// All bytes zero: eight a turn, and the odd ones at the end singly.
-fn clear(part: &mut [u8])
-    ensures { part.new ≡ replicate (length part.old) 0 }
-{
-    let mut done = 0;
-    while TURN <= part.len() - done {
-        let end = done + TURN;
-        store_turn(&mut part[done..end], [0; TURN]);
-        done = end;
-    }
-    for i in done..part.len() {
-        part[i] = 0;
-    }
-}
-
-// The bytes over a part of as many: eight a turn, and the odd ones at the end singly.
-fn copy(part: &mut [u8], bytes: &[u8])
-    requires { length part.old ≡ length bytes.now }
-    ensures { part.new ≡ bytes.now }
-{
-    let mut done = 0;
-    while TURN <= bytes.len() - done {
-        let end = done + TURN;
-        let turn = read_turn(&bytes[done..end]);
-        store_turn(&mut part[done..end], turn);
-        done = end;
-    }
-    for i in done..bytes.len() {
-        part[i] = bytes[i];
-    }
-}
-
 // O11: all of the block zero, and the rest of the store as it was.
+#[tactic(auto, using(lists::proofs::Blocks::put_back_filled))]
 pub fn clear_block(store: &mut [u8], at: usize, size: usize)
     requires { at + size ≤ length store.old }
     ensures { store.new ≡ overwritten at (replicate size 0) store.old }
 {
     let end = at + size;
-    clear(&mut store[at..end]);
+    store[at..end].fill(0);
 }
 
 // O20, O21: new bytes in the block, and the rest of the store as it was.
+#[tactic(auto, using(lists::proofs::Blocks::put_back))]
 pub fn write_block(store: &mut [u8], at: usize, bytes: &[u8])
     requires { at + length bytes.now ≤ length store.old }
     ensures { store.new ≡ overwritten at bytes.now store.old }
 {
     let end = at + bytes.len();
-    copy(&mut store[at..end], bytes);
+    store[at..end].copy_from_slice(bytes);
 }
 
 // Where a block starts in its store.
+#[tactic(auto, using(record::proofs::Figures::small_block, record::proofs::Figures::large_block), unfolding(crate::specs::Places::index_of, crate::specs::Places::start_of, record::specs::Reading::size_of))]
 pub fn block_start(block: usize) -> usize
     requires { block < block_entries }
     ensures { result ≡ start_of block }
@@ -110,6 +53,7 @@ pub fn block_start(block: usize) -> usize
 }
 
 // How many bytes a block has.
+#[tactic(auto, using(record::proofs::Figures::small_block, record::proofs::Figures::large_block), unfolding(record::specs::Reading::size_of))]
 fn block_size(block: usize) -> usize
     ensures { result ≡ size_of block }
 {

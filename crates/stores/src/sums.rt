@@ -5,60 +5,15 @@ ghost use Rattle.ledger.specs.Limits.{large_size};
 ghost use Rattle.record.specs.Reading.{block_bytes, size_of};
 ghost use Rattle.stores.specs.Places.{InBlock, most_sum, sum_at, sum_after};
 
-use super::{TURN, block_size, block_start, part_of, read_turn};
+use super::{block_size, block_start, part_of};
 use record::SMALL_COUNT;
 
-// A turn's eight bytes, each added to the sum of its place among the eight: a machine may add them as one. No sum of a place is larger than
-// a block's.
-fn add_turn(sums: [u16; TURN], turn: [u8; TURN]) -> [u16; TURN]
-    requires { total sums + total turn ≤ most_sum }
-    ensures { total result ≡ total sums + total turn }
-{
-    [
-        sums[0] + turn[0] as u16,
-        sums[1] + turn[1] as u16,
-        sums[2] + turn[2] as u16,
-        sums[3] + turn[3] as u16,
-        sums[4] + turn[4] as u16,
-        sums[5] + turn[5] as u16,
-        sums[6] + turn[6] as u16,
-        sums[7] + turn[7] as u16,
-    ]
-}
-
-// The sums of all places together.
-fn places_sum(sums: [u16; TURN]) -> u32
-    ensures { result ≡ total sums }
-{
-    sums[0] as u32
-        + sums[1] as u32
-        + sums[2] as u32
-        + sums[3] as u32
-        + sums[4] as u32
-        + sums[5] as u32
-        + sums[6] as u32
-        + sums[7] as u32
-}
-
-// The sum of no more bytes than a block has: eight a turn, and the odd ones at the end singly.
+// The sum of no more bytes than a block has.
 fn sum_of(bytes: &[u8]) -> u32
     requires { length bytes.now ≤ large_size }
     ensures { result ≡ total bytes.now }
 {
-    let mut sums: [u16; TURN] = [0; TURN];
-    let mut done = 0;
-    while TURN <= bytes.len() - done {
-        let end = done + TURN;
-        let turn = read_turn(&bytes[done..end]);
-        let next = add_turn(sums, turn);
-        sums = next;
-        done = end;
-    }
-    let mut sum = places_sum(sums);
-    for i in done..bytes.len() {
-        sum = sum + bytes[i] as u32;
-    }
-    sum
+    bytes.iter().map(|byte| u32::from(*byte)).sum()
 }
 
 // The sum of bytes of a block from an offset on, in whichever store has it.

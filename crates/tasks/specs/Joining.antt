@@ -1,10 +1,9 @@
 -- What a join decides, by the head and by whether of either store too few blocks are left for its reserve.
 use Rattle.std.specs.Prelude.{ℕ, Bool, true, false, []}
-use Rattle.ledger.specs.Refusals.{verdict, as_verdict}
+use Rattle.ledger.specs.Refusals.{verdict, as_verdict, Verdict}
 use Rattle.ledger.specs.Rules.{tests_of}
 use Rattle.ledger.specs.declared.Call.TheVariants.{Join}
 use Rattle.ledger.specs.declared.Share.{Share}
-use Rattle.ledger.specs.declared.Verdict.{Verdict}
 use Rattle.record.specs.declared.Head.{Head}
 use Rattle.steps.specs.Objects.{state_in}
 use Rattle.steps.specs.Parts.{part_facts}

@@ -4,7 +4,7 @@ ghost use Rattle.ledger.specs.Refusals.{is_upside_down};
 ghost use Rattle.steps.specs.Joins.{joined_entry};
 ghost use Rattle.tasks.specs.Joining.{join_verdict};
 
-use ledger::{Quota, Refusal, Share, TASK_COUNT, Verdict};
+use ledger::{Quota, Refusal, Share, TASK_COUNT};
 use record::codes::RUNNING;
 use record::running::is_absent;
 use record::{Head, LocalTime, TaskEntry};
@@ -31,27 +31,28 @@ fn is_scant(blocks: u32, spoken: u32, reserve: u8) -> bool
 }
 
 // R36: 1, 2, 24, 25, where so many blocks of either store are spoken for
-pub fn judge_join(h: Head, small: u32, large: u32, task: u8, share: Share) -> Verdict
+#[tactic(auto, unfolding(crate::specs::Joining::join_verdict, ledger::specs::Rules::tests_of, ledger::specs::Refusals::verdict))]
+pub fn judge_join(h: Head, small: u32, large: u32, task: u8, share: Share) -> Result<(), Refusal>
     ensures { result ≡ join_verdict h task share
         (nat_lt h.limits.small (small + share.small.reserve) || nat_lt h.limits.large (large + share.large.reserve)) }
 {
     let at = task as usize;
     if TASK_COUNT <= at {
-        return Verdict::Refused(Refusal::NoSuchTask);
+        return Err(Refusal::NoSuchTask);
     }
     let limits = h.limits;
     let tasks = h.tasks;
     let e = tasks[at];
     if !is_absent(e.state) {
-        return Verdict::Refused(Refusal::TaskPresent);
+        return Err(Refusal::TaskPresent);
     }
     if is_upside_down(share.small) | is_upside_down(share.large) {
-        return Verdict::Refused(Refusal::ReserveAboveLimit);
+        return Err(Refusal::ReserveAboveLimit);
     }
     if is_scant(limits.small, small, share.small.reserve)
         | is_scant(limits.large, large, share.large.reserve)
     {
-        return Verdict::Refused(Refusal::ReserveNotFree);
+        return Err(Refusal::ReserveNotFree);
     }
-    Verdict::Accepted
+    Ok(())
 }

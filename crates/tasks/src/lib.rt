@@ -4,29 +4,46 @@
 ghost use Rattle.std.specs.Prelude.{◌≡◌, ◌<◌, false};
 ghost use Rattle.ledger.specs.Limits.{task_count};
 ghost use Rattle.ledger.specs.Tasks.{is_tested};
-ghost use Rattle.tasks.specs.Steps.{unmoved, planned_after, planned};
+ghost use Rattle.tasks.specs.Steps.{unmoved, ending_of, planned_after, planned};
 
 mod joining;
 mod moves;
 
 pub use joining::{JOINED_TASK, judge_join};
-use ledger::{Answer, Event, Refusal, TASK_COUNT, Verdict};
+use ledger::{Answer, Event, Refusal, TASK_COUNT};
 use moves::{advanced_tasks, advanced_time, is_leave, is_tested, judge, may_end, moved};
 use record::codes::state_of;
 use record::running::all_ticked;
 use record::{GlobalTime, LocalTime, TaskEntry};
 
-// What an event decides: its answer, the task entries and the time that it leaves, and whether it may end expirations: by the local time of
-// its task as it is then, and all of the task's own where it leaves.
+// What an event decides: its answer, the task entries and the time that it leaves, and what may end expirations, if anything does.
 #[derive(Clone, Copy)]
 pub struct Planned {
     pub answer: Answer,
     pub tasks: [TaskEntry; TASK_COUNT],
     pub global: GlobalTime,
-    pub local: LocalTime,
+    pub ending: Option<Ending>,
+}
+
+// What may end expirations: the task's local time, whether the task leaves for good, and whether the global time has advanced.
+#[derive(Clone, Copy)]
+pub struct Ending {
     pub leaves: bool,
+    pub local: LocalTime,
     pub advanced: bool,
-    pub ends: bool,
+}
+
+fn ending_of(event: Event, advanced: bool, local: LocalTime) -> Option<Ending>
+    ensures { result ≡ ending_of event advanced local }
+{
+    if !may_end(event, advanced) {
+        return None;
+    }
+    Some(Ending {
+        leaves: is_leave(event),
+        local,
+        advanced,
+    })
 }
 
 // What ends nothing.
@@ -34,17 +51,15 @@ fn unmoved(answer: Answer, tasks: [TaskEntry; TASK_COUNT], global: GlobalTime) -
     ensures { result ≡ unmoved answer tasks global }
 {
     Planned {
-        answer: answer,
-        tasks: tasks,
-        global: global,
-        local: LocalTime(0),
-        leaves: false,
-        advanced: false,
-        ends: false,
+        answer,
+        tasks,
+        global,
+        ending: None,
     }
 }
 
 // What an accepted event decides.
+#[tactic(auto, unfolding(crate::specs::Steps::planned_after))]
 fn accepted(tasks: [TaskEntry; TASK_COUNT], global: GlobalTime, event: Event, task: u8) -> Planned
     requires { task < task_count }
     ensures { result ≡ planned_after event task tasks global }
@@ -64,14 +79,12 @@ fn accepted(tasks: [TaskEntry; TASK_COUNT], global: GlobalTime, event: Event, ta
         answer: Answer::Advanced(advanced),
         tasks: advanced_tasks(advanced, next),
         global: time,
-        local: local,
-        leaves: is_leave(event),
-        advanced: advanced,
-        ends: may_end(event, advanced),
+        ending: ending_of(event, advanced, local),
     }
 }
 
 // Any event, by the task entries and the time alone: first 1, then the tests of the task's state.
+#[tactic(auto, unfolding(crate::specs::Steps::planned))]
 pub fn plan(tasks: [TaskEntry; TASK_COUNT], global: GlobalTime, event: Event, task: u8) -> Planned
     ensures { result ≡ planned event task tasks global }
 {
@@ -81,12 +94,13 @@ pub fn plan(tasks: [TaskEntry; TASK_COUNT], global: GlobalTime, event: Event, ta
     }
     let e = tasks[at];
     match judge(event, state_of(e.state)) {
-        Verdict::Accepted => accepted(tasks, global, event, task),
-        Verdict::Refused(r) => unmoved(Answer::Refused(r), tasks, global),
+        Ok(()) => accepted(tasks, global, event, task),
+        Err(why) => unmoved(Answer::Refused(why), tasks, global),
     }
 }
 
 // A resume or a view alone, which no advance test follows. (Plan has one caller then, and stands there without a call.)
+#[tactic(auto, unfolding(crate::specs::Steps::planned, crate::specs::Steps::planned_after))]
 pub fn plan_start(
     tasks: [TaskEntry; TASK_COUNT],
     global: GlobalTime,
@@ -102,11 +116,11 @@ pub fn plan_start(
     }
     let e = tasks[at];
     match judge(event, state_of(e.state)) {
-        Verdict::Accepted => {
+        Ok(()) => {
             let mut next = tasks;
             next[at] = moved(event, e);
             unmoved(Answer::Done, next, global)
         }
-        Verdict::Refused(r) => unmoved(Answer::Refused(r), tasks, global),
+        Err(why) => unmoved(Answer::Refused(why), tasks, global),
     }
 }

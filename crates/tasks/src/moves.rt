@@ -5,44 +5,45 @@ ghost use Rattle.ledger.specs.declared.Event.TheVariants.{Tick};
 ghost use Rattle.steps.specs.Events.{verdict_of, cleared_entry, moved_entry, unticked_entry, advanced_tasks, advanced_time};
 ghost use Rattle.tasks.specs.Steps.{is_leave, may_end};
 
-use ledger::{Event, Refusal, State, TASK_COUNT, Verdict};
+use ledger::{Event, Refusal, State, TASK_COUNT};
 use record::codes::{RUNNING, VIEWING, WAITING};
 use record::{ABSENT_TASK, GlobalTime, LocalTime, TaskEntry};
 
 // R37 to R39 and R49, after 1: leave 3; block and tick 3, 4, 27; resume 3, 5; view 2.
-pub fn judge(event: Event, state: State) -> Verdict
+#[tactic(auto, unfolding(ledger::specs::Rules::tests_of, ledger::specs::Refusals::verdict))]
+pub fn judge(event: Event, state: State) -> Result<(), Refusal>
     ensures { result ≡ verdict_of event state }
 {
     match event {
         Event::Leave => match state {
-            State::Absent => Verdict::Refused(Refusal::TaskAbsent),
-            State::Running => Verdict::Accepted,
-            State::Waiting => Verdict::Accepted,
-            State::Viewing => Verdict::Accepted,
+            State::Absent => Err(Refusal::TaskAbsent),
+            State::Running => Ok(()),
+            State::Waiting => Ok(()),
+            State::Viewing => Ok(()),
         },
         Event::Block => match state {
-            State::Absent => Verdict::Refused(Refusal::TaskAbsent),
-            State::Running => Verdict::Accepted,
-            State::Waiting => Verdict::Refused(Refusal::TaskWaiting),
-            State::Viewing => Verdict::Refused(Refusal::OnlyViews),
+            State::Absent => Err(Refusal::TaskAbsent),
+            State::Running => Ok(()),
+            State::Waiting => Err(Refusal::TaskWaiting),
+            State::Viewing => Err(Refusal::OnlyViews),
         },
         Event::Resume => match state {
-            State::Absent => Verdict::Refused(Refusal::TaskAbsent),
-            State::Running => Verdict::Refused(Refusal::TaskRunning),
-            State::Waiting => Verdict::Accepted,
-            State::Viewing => Verdict::Refused(Refusal::TaskRunning),
+            State::Absent => Err(Refusal::TaskAbsent),
+            State::Running => Err(Refusal::TaskRunning),
+            State::Waiting => Ok(()),
+            State::Viewing => Err(Refusal::TaskRunning),
         },
         Event::Tick => match state {
-            State::Absent => Verdict::Refused(Refusal::TaskAbsent),
-            State::Running => Verdict::Accepted,
-            State::Waiting => Verdict::Refused(Refusal::TaskWaiting),
-            State::Viewing => Verdict::Refused(Refusal::OnlyViews),
+            State::Absent => Err(Refusal::TaskAbsent),
+            State::Running => Ok(()),
+            State::Waiting => Err(Refusal::TaskWaiting),
+            State::Viewing => Err(Refusal::OnlyViews),
         },
         Event::View => match state {
-            State::Absent => Verdict::Accepted,
-            State::Running => Verdict::Refused(Refusal::TaskPresent),
-            State::Waiting => Verdict::Refused(Refusal::TaskPresent),
-            State::Viewing => Verdict::Refused(Refusal::TaskPresent),
+            State::Absent => Ok(()),
+            State::Running => Err(Refusal::TaskPresent),
+            State::Waiting => Err(Refusal::TaskPresent),
+            State::Viewing => Err(Refusal::TaskPresent),
         },
     }
 }
@@ -57,6 +58,7 @@ fn cleared(state: u16, mut e: TaskEntry) -> TaskEntry
 }
 
 // T13: one tick more, and ticked.
+#[tactic(auto, unfolding(ledger::specs::Limits::counter_range))]
 fn ticked(mut e: TaskEntry) -> TaskEntry
     ensures { result ≡ moved_entry Tick e }
 {
@@ -83,26 +85,14 @@ pub fn moved(event: Event, e: TaskEntry) -> TaskEntry
 pub fn is_tested(event: Event) -> bool
     ensures { result ≡ is_tested event }
 {
-    match event {
-        Event::Leave => true,
-        Event::Block => true,
-        Event::Resume => false,
-        Event::Tick => true,
-        Event::View => false,
-    }
+    matches!(event, Event::Leave | Event::Block | Event::Tick)
 }
 
 // E9: whether the task leaves, and all its local expirations end.
 pub fn is_leave(event: Event) -> bool
     ensures { result ≡ is_leave event }
 {
-    match event {
-        Event::Leave => true,
-        Event::Block => false,
-        Event::Resume => false,
-        Event::Tick => false,
-        Event::View => false,
-    }
+    matches!(event, Event::Leave)
 }
 
 // Whether an accepted event may end expirations of a well-formed record: a leave and a tick may, a block only where the global time
@@ -111,23 +101,19 @@ pub fn may_end(event: Event, advanced: bool) -> bool
     ensures { result ≡ may_end event advanced }
 {
     match event {
-        Event::Leave => true,
+        Event::Leave | Event::Tick => true,
         Event::Block => advanced,
-        Event::Resume => false,
-        Event::Tick => true,
-        Event::View => false,
+        Event::Resume | Event::View => false,
     }
 }
 
-fn all_unticked(tasks: [TaskEntry; TASK_COUNT]) -> [TaskEntry; TASK_COUNT]
+fn all_unticked(mut tasks: [TaskEntry; TASK_COUNT]) -> [TaskEntry; TASK_COUNT]
     ensures { result ≡ map unticked_entry tasks }
 {
-    let mut out = tasks;
-    for i in 0..TASK_COUNT {
-        let e = out[i];
-        out[i] = cleared(e.state, e);
+    for task in &mut tasks {
+        task.ticked = 0;
     }
-    out
+    tasks
 }
 
 // T18: no task is ticked any more.
@@ -141,6 +127,7 @@ pub fn advanced_tasks(advanced: bool, tasks: [TaskEntry; TASK_COUNT]) -> [TaskEn
 }
 
 // T17: one more.
+#[tactic(auto, unfolding(ledger::specs::Limits::counter_range))]
 pub fn advanced_time(advanced: bool, global: GlobalTime) -> GlobalTime
     ensures { result ≡ advanced_time advanced global }
 {

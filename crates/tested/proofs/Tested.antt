@@ -1,4 +1,6 @@
 -- The tests of 15 and 14 before a call, on the columns of a record by value or lent.
+use Rattle.record.specs.declared.ExpirationTable.{ExpirationTable}
+use Rattle.record.specs.declared.BlockTable.{BlockTable}
 use Prim.Native.Nat.{ℕ}
 use mathlib.Core.Bool.{Bool, true, false, true≢false, not}
 use mathlib.Core.List.{List}
@@ -11,7 +13,7 @@ use Rattle.ledger.specs.declared.Answer.TheVariants.{Refused}
 use Rattle.ledger.specs.declared.Kind.{Kind}
 use Rattle.ledger.specs.declared.Refusal.TheVariants.{NotWellFormed, WrongStoreLength}
 use Rattle.ledger.specs.declared.Request.{Request}
-use Rattle.record.specs.Tables.{BlockEntry, Sized, SizedEntries, blocks_of, lent, head_of, pooled, block_entries}
+use Rattle.record.specs.Tables.{BlockEntry, Sized, lent, pooled, block_list, BlocksSized, EntriesSized}
 use Rattle.record.specs.WellFormed as WellFormed
 use Rattle.record.specs.Pools.{is_well_formed}
 use Rattle.record.specs.declared.Head.{Head}
@@ -30,103 +32,100 @@ use Rattle.shares.specs.declared.Sharing.{Sharing}
 use Rattle.fitness.specs.Fitness.{Fitness}
 
 -- 15, by the test of the columns
-module _ (p : Pool) {h : Head} (e : h ≡ head_of p) {fit : Bool} (f : fit ≡ WellFormed.is_well_formed (lent h p.handles p.extents p.clocks p.named p.dues)) where
+module _ (p : Pool) {fit : Bool} (f : fit ≡ WellFormed.is_well_formed (lent p.head p.blocks p.expirations)) where
   pub unfit_by_value : {request : Request} {new : List ℕ} → not fit ≡ true → (small large : List ℕ) → Obeys request new p small large (plain (Refused NotWellFormed)) p small large
-  unfit_by_value refused small large = unfit_obeys _ _ _ small large (sym (fits_by_value p e f) ∙ not-true fit refused)
+  unfit_by_value refused small large = unfit_obeys _ _ _ small large (sym (fits_by_value p f) ∙ not-true fit refused)
 
   pub fit_by_value : not fit ≡ false → is_well_formed p ≡ true
-  fit_by_value passed = sym (fits_by_value p e f) ∙ not-false fit passed
+  fit_by_value passed = sym (fits_by_value p f) ∙ not-false fit passed
 
-  pub columns_fit : not fit ≡ false → is_well_formed (pooled h p.handles p.extents p.clocks p.named p.dues) ≡ true
-  columns_fit passed = rw e (fit_by_value passed)
-
-pub lent_fit : (h : Head) (hs ls cs ns ds : List ℕ) {fit : Bool} → fit ≡ WellFormed.is_well_formed (lent h hs ls cs ns ds) → not fit ≡ false
-    → is_well_formed (pooled h hs ls cs ns ds) ≡ true
-lent_fit h hs ls cs ns ds f passed = fit_by_value (pooled h hs ls cs ns ds) refl f passed
+pub lent_fit : (h : Head) (blocks : BlockTable) (expirations : ExpirationTable) {fit : Bool} → fit ≡ WellFormed.is_well_formed (lent h blocks expirations) → not fit ≡ false
+    → is_well_formed (pooled h blocks expirations) ≡ true
+lent_fit h blocks expirations f passed = fit_by_value (pooled h blocks expirations) f passed
 
 -- what the tasks have of the stores, by the same test
-pub held_lent : {h : Head} {hs ls cs ns ds : List ℕ} {sharing : Sharing} → Fitness h hs ls cs ns ds sharing → not sharing.fit ≡ false
-    → HoldsBoth h.shares (blocks_of hs ls) sharing.holdings
+pub held_lent : {h : Head} {blocks : BlockTable} {expirations : ExpirationTable} {sharing : Sharing} → Fitness h blocks expirations sharing → not sharing.fit ≡ false
+    → HoldsBoth h.shares (block_list blocks) sharing.holdings
 held_lent {sharing = sharing} told passed = told.held (sym told.fit ∙ not-false sharing.fit passed)
 
 -- on lent columns: 15,
-module _ {h : Head} {hs ls cs ns ds : List ℕ} (sized : Sized hs ls cs ns ds) {fit : Bool} (f : fit ≡ WellFormed.is_well_formed (lent h hs ls cs ns ds)) where
+module _ {h : Head} {blocks : BlockTable} {expirations : ExpirationTable} (sized : Sized blocks expirations) {fit : Bool} (f : fit ≡ WellFormed.is_well_formed (lent h blocks expirations)) where
   pub unfit_lent : {request : Request} {new : List ℕ} → not fit ≡ true
-      → Sized hs ls cs ns ds × FollowsWith request new (pooled h hs ls cs ns ds) (Refused NotWellFormed) (pooled h hs ls cs ns ds)
-  unfit_lent refused = (sized, unfit_by_value (pooled h hs ls cs ns ds) refl f refused)
+      → Sized blocks expirations × FollowsWith request new (pooled h blocks expirations) (Refused NotWellFormed) (pooled h blocks expirations)
+  unfit_lent refused = (sized, unfit_by_value (pooled h blocks expirations) f refused)
 
   pub unfit_entries : {request : Request} {new : List ℕ} → not fit ≡ true
-      → SizedEntries cs ns ds × FollowsWith request new (pooled h hs ls cs ns ds) (Refused NotWellFormed) (pooled h hs ls cs ns ds)
-  unfit_entries refused = (sized.entries, unfit_by_value (pooled h hs ls cs ns ds) refl f refused)
+      → EntriesSized expirations × FollowsWith request new (pooled h blocks expirations) (Refused NotWellFormed) (pooled h blocks expirations)
+  unfit_entries refused = (sized.entries, unfit_by_value (pooled h blocks expirations) f refused)
 
   pub unfit_made : {task : ℕ} {kind : Kind} {extension size prefix : ℕ} {small large : List ℕ} → not fit ≡ true
-      → Sized hs ls cs ns ds
-      × Makes task kind extension size prefix (pooled h hs ls cs ns ds) small large (Refused NotWellFormed) (pooled h hs ls cs ns ds) small large
-  unfit_made refused = (sized, unfit_by_value (pooled h hs ls cs ns ds) refl f refused _ _)
+      → Sized blocks expirations
+      × Makes task kind extension size prefix (pooled h blocks expirations) small large (Refused NotWellFormed) (pooled h blocks expirations) small large
+  unfit_made refused = (sized, unfit_by_value (pooled h blocks expirations) f refused _ _)
 
   pub unfit_written : {task handle offset : ℕ} {new small large : List ℕ} → not fit ≡ true
-      → (length ls ≡ block_entries)
-      × Writes task handle offset new (pooled h hs ls cs ns ds) small large (Refused NotWellFormed) (pooled h hs ls cs ns ds) small large
-  unfit_written refused = (sized.blocks.of_extents, unfit_by_value (pooled h hs ls cs ns ds) refl f refused _ _)
+      → BlocksSized blocks
+      × Writes task handle offset new (pooled h blocks expirations) small large (Refused NotWellFormed) (pooled h blocks expirations) small large
+  unfit_written refused = (sized.blocks, unfit_by_value (pooled h blocks expirations) f refused _ _)
 
   module _ (passed : not fit ≡ false) where
     -- an event
-    pub fit_lent : {request : Request} {answer : Answer} {h' : Head} {hs' ls' cs' ns' ds' : List ℕ} → FollowsBeside request h hs ls cs ns ds answer h' hs' ls' cs' ns' ds'
-        → Sized hs' ls' cs' ns' ds' × Follows request (pooled h hs ls cs ns ds) answer (pooled h' hs' ls' cs' ns' ds')
-    fit_lent done = (done.sized, done.follows (lent_fit h hs ls cs ns ds f passed))
+    pub fit_lent : {request : Request} {answer : Answer} {h' : Head} {blocks' : BlockTable} {expirations' : ExpirationTable} → FollowsBeside request h blocks expirations answer h' blocks' expirations'
+        → Sized blocks' expirations' × Follows request (pooled h blocks expirations) answer (pooled h' blocks' expirations')
+    fit_lent done = (done.sized, done.follows (lent_fit h blocks expirations f passed))
 
     -- a call that changes the head alone
     pub fit_alone : {Known : List BlockEntry → Type 0} {request : Request} {answer : Answer} {h' : Head} → FollowsAlone Known request h answer h'
-        → Known (blocks_of hs ls) → Follows request (pooled h hs ls cs ns ds) answer (pooled h' hs ls cs ns ds)
-    fit_alone done known = done.follows hs ls cs ns ds sized known (lent_fit h hs ls cs ns ds f passed)
+        → Known (block_list blocks) → Follows request (pooled h blocks expirations) answer (pooled h' blocks expirations)
+    fit_alone done known = done.follows blocks expirations sized known (lent_fit h blocks expirations f passed)
 
     -- 14, where a store is touched
     module _ {small large : List ℕ} {whole : Bool} (tells : TellsWhole h.limits (length small) (length large) whole) where
-      pub ready_lent : (request : Request) → true ≡ is_stored request → not whole ≡ false → Ready request (pooled h hs ls cs ns ds) small large
-      ready_lent request stored passed-too = ready (fits_by_value (pooled h hs ls cs ns ds) refl f) passed stored tells passed-too
+      pub ready_lent : (request : Request) → true ≡ is_stored request → not whole ≡ false → Ready request (pooled h blocks expirations) small large
+      ready_lent request stored passed-too = ready (fits_by_value (pooled h blocks expirations) f) passed stored tells passed-too
 
       pub wrong_lent : {request : Request} {new : List ℕ} → true ≡ is_stored request → not whole ≡ true
-          → Obeys request new (pooled h hs ls cs ns ds) small large (plain (Refused WrongStoreLength)) (pooled h hs ls cs ns ds) small large
-      wrong_lent stored refused = wrong_obeys (fits_by_value (pooled h hs ls cs ns ds) refl f) passed stored tells refused
+          → Obeys request new (pooled h blocks expirations) small large (plain (Refused WrongStoreLength)) (pooled h blocks expirations) small large
+      wrong_lent stored refused = wrong_obeys (fits_by_value (pooled h blocks expirations) f) passed stored tells refused
 
       pub wrong_made : {task : ℕ} {kind : Kind} {extension size prefix : ℕ} → not whole ≡ true
-          → Sized hs ls cs ns ds
-          × Makes task kind extension size prefix (pooled h hs ls cs ns ds) small large (Refused WrongStoreLength) (pooled h hs ls cs ns ds) small large
+          → Sized blocks expirations
+          × Makes task kind extension size prefix (pooled h blocks expirations) small large (Refused WrongStoreLength) (pooled h blocks expirations) small large
       wrong_made refused = (sized, wrong_lent refl refused)
 
       pub wrong_written : {task handle offset : ℕ} {new : List ℕ} → not whole ≡ true
-          → (length ls ≡ block_entries)
-          × Writes task handle offset new (pooled h hs ls cs ns ds) small large (Refused WrongStoreLength) (pooled h hs ls cs ns ds) small large
-      wrong_written refused = (sized.blocks.of_extents, wrong_lent refl refused)
+          → BlocksSized blocks
+          × Writes task handle offset new (pooled h blocks expirations) small large (Refused WrongStoreLength) (pooled h blocks expirations) small large
+      wrong_written refused = (sized.blocks, wrong_lent refl refused)
 
 -- any call, by its request
-module _ {h : Head} {hs ls cs ns ds : List ℕ} (sized : Sized hs ls cs ns ds) {sharing : Sharing} (f : Fitness h hs ls cs ns ds sharing)
+module _ {h : Head} {blocks : BlockTable} {expirations : ExpirationTable} (sized : Sized blocks expirations) {sharing : Sharing} (f : Fitness h blocks expirations sharing)
     {request : Request} {small large : List ℕ} where
   pub unfit_served : {new : List ℕ} → not sharing.fit ≡ true
-      → Sized hs ls cs ns ds
-      × Serves request new (pooled h hs ls cs ns ds) small large (without_bytes (Refused NotWellFormed) (pooled h hs ls cs ns ds)) small large
+      → Sized blocks expirations
+      × Serves request new (pooled h blocks expirations) small large (without_bytes (Refused NotWellFormed) (pooled h blocks expirations)) small large
   unfit_served refused = (sized, refused_serves ((unfit_lent sized f.fit refused).1 small large))
 
   module _ (passed : not sharing.fit ≡ false) {stored : Bool} (s : stored ≡ is_stored request) where
     -- one that touches no store
-    pub bare_ready : not stored ≡ true → Ready request (pooled h hs ls cs ns ds) small large
+    pub bare_ready : not stored ≡ true → Ready request (pooled h blocks expirations) small large
     bare_ready bare =
         record {
-          fit = lent_fit h hs ls cs ns ds f.fit passed;
+          fit = lent_fit h blocks expirations f.fit passed;
           whole = λ touches. absurd (true≢false (sym touches ∙ sym s ∙ not-true stored bare));
         }
 
     -- one that does
     module _ (touches : not stored ≡ false) {whole : Bool} (tells : TellsWhole h.limits (length small) (length large) whole) where
       pub wrong_served : {new : List ℕ} → not whole ≡ true
-          → Sized hs ls cs ns ds
-          × Serves request new (pooled h hs ls cs ns ds) small large (without_bytes (Refused WrongStoreLength) (pooled h hs ls cs ns ds)) small large
+          → Sized blocks expirations
+          × Serves request new (pooled h blocks expirations) small large (without_bytes (Refused WrongStoreLength) (pooled h blocks expirations)) small large
       wrong_served wrong = (sized, refused_serves (wrong_lent sized f.fit passed tells (sym (not-false stored touches) ∙ s) wrong))
 
-      pub stored_ready : not whole ≡ false → Ready request (pooled h hs ls cs ns ds) small large
+      pub stored_ready : not whole ≡ false → Ready request (pooled h blocks expirations) small large
       stored_ready right = ready_lent sized f.fit passed tells request (sym (not-false stored touches) ∙ s) right
 
 -- past 15, the holdings are what any call asks for
-pub lent_holds : {h : Head} {hs ls cs ns ds : List ℕ} {sharing : Sharing} → Fitness h hs ls cs ns ds sharing → not sharing.fit ≡ false → (request : Request)
-    → HoldsFor request h.shares (blocks_of hs ls) sharing.holdings
+pub lent_holds : {h : Head} {blocks : BlockTable} {expirations : ExpirationTable} {sharing : Sharing} → Fitness h blocks expirations sharing → not sharing.fit ≡ false → (request : Request)
+    → HoldsFor request h.shares (block_list blocks) sharing.holdings
 lent_holds f passed request = holds_for (held_lent f passed) request

@@ -1,52 +1,40 @@
-// The two tests before a call, on lent columns: 15 first, then 14 where a store is touched, and then the call itself: each call that
-// changes the record by its own function, and any call by its request. Who lends the columns never looks at the record again.
+// The two tests before a call, on lent tables: 15 first, then 14 where a store is touched, and then the call itself: each call that
+// changes the record by its own function, and any call by its request. Who lends the tables never looks at the record again.
 #![tactic(auto)]
 
 ghost use Rattle.std.specs.Prelude.{false, ◌≡◌, length};
 ghost use Rattle.ledger.specs.declared.Call.TheVariants.{Join, Schedule, Refresh, Batch, Release};
 ghost use Rattle.ledger.specs.Tasks.{is_tested};
 ghost use Rattle.ledger.specs.declared.Request.TheVariants.{Use};
-ghost use Rattle.record.specs.Tables.{pooled, Sized, SizedEntries, block_entries};
+ghost use Rattle.record.specs.Tables.{pooled, Sized, BlocksSized, EntriesSized};
 ghost use Rattle.calls.specs.Contract.{FollowsWith, Follows, Makes, Writes};
-ghost use Rattle.calls.specs.Engine.{refused_by};
-ghost use Rattle.ledger.specs.declared.Verdict.TheVariants.{Refused};
 
 use calls;
-use calls::{Step, answered};
+use calls::{Step, answered, refused};
 use fitness::{fitness_of, is_well_formed};
-use ledger::{Answer, Event, Kind, Refusal, SMALL_SIZE, Share};
-use record::{BLOCK_COUNT, EXPIRATION_COUNT, Head};
-use shares::holding_in;
+use ledger::{Event, Kind, Refusal, SMALL_SIZE, Share};
+use record::{BlockTable, ExpirationTable, Head};
+use shares::of_store;
 use stores::are_whole;
 
 mod requests;
 
 pub use requests::call;
 
-// A call that is refused before its own tests.
-fn refused(why: Refusal, h: Head) -> Step
-    ensures { result ≡ refused_by (Refused why) h }
-{
-    answered(Answer::Refused(why), h)
-}
-
 // Join, with what the task asks for.
-pub fn join<'a>(
+pub fn join(
     h: Head,
-    handles: &'a [u32; BLOCK_COUNT],
-    extents: &'a [u64; BLOCK_COUNT],
-    clocks: &'a [u8; EXPIRATION_COUNT],
-    named: &'a [u8; EXPIRATION_COUNT],
-    dues: &'a [u32; EXPIRATION_COUNT],
+    blocks: &BlockTable,
+    expirations: &ExpirationTable,
     task: u8,
     share: Share,
 ) -> Step
-    requires { Sized handles.now extents.now clocks.now named.now dues.now }
+    requires { Sized blocks.now expirations.now }
     ensures { Follows (Use (Join task share))
-        (pooled h handles.now extents.now clocks.now named.now dues.now) result.answer
-        (pooled result.head handles.now extents.now clocks.now named.now dues.now) }
+        (pooled h blocks.now expirations.now) result.answer
+        (pooled result.head blocks.now expirations.now) }
 {
-    let sharing = fitness_of(h, handles, extents, clocks, named, dues);
+    let sharing = fitness_of(h, blocks, expirations);
     if !sharing.fit {
         return refused(Refusal::NotWellFormed, h);
     }
@@ -54,23 +42,20 @@ pub fn join<'a>(
 }
 
 // A resume or a view.
-pub fn start<'a>(
+pub fn start(
     h: Head,
-    handles: &'a [u32; BLOCK_COUNT],
-    extents: &'a [u64; BLOCK_COUNT],
-    clocks: &'a [u8; EXPIRATION_COUNT],
-    named: &'a [u8; EXPIRATION_COUNT],
-    dues: &'a [u32; EXPIRATION_COUNT],
+    blocks: &BlockTable,
+    expirations: &ExpirationTable,
     event: Event,
     task: u8,
 ) -> Step
-    requires { Sized handles.now extents.now clocks.now named.now dues.now
+    requires { Sized blocks.now expirations.now
         × (is_tested event ≡ false) }
     ensures { Follows (Use (Schedule event task))
-        (pooled h handles.now extents.now clocks.now named.now dues.now) result.answer
-        (pooled result.head handles.now extents.now clocks.now named.now dues.now) }
+        (pooled h blocks.now expirations.now) result.answer
+        (pooled result.head blocks.now expirations.now) }
 {
-    if !is_well_formed(h, handles, extents, clocks, named, dues) {
+    if !is_well_formed(h, blocks, expirations) {
         return refused(Refusal::NotWellFormed, h);
     }
     calls::start(h, event, task)
@@ -79,33 +64,28 @@ pub fn start<'a>(
 // Leave, block, resume, tick and view.
 pub fn schedule(
     h: Head,
-    handles: &mut [u32; BLOCK_COUNT],
-    extents: &mut [u64; BLOCK_COUNT],
-    clocks: &mut [u8; EXPIRATION_COUNT],
-    named: &[u8; EXPIRATION_COUNT],
-    dues: &mut [u32; EXPIRATION_COUNT],
+    blocks: &mut BlockTable,
+    expirations: &mut ExpirationTable,
     event: Event,
     task: u8,
 ) -> Step
-    requires { Sized handles.old extents.old clocks.old named.now dues.old }
-    ensures { Sized handles.new extents.new clocks.new named.now dues.new
+    requires { Sized blocks.old expirations.old }
+    ensures { Sized blocks.new expirations.new
         × Follows (Use (Schedule event task))
-        (pooled h handles.old extents.old clocks.old named.now dues.old) result.answer
-        (pooled result.head handles.new extents.new clocks.new named.now dues.new) }
+        (pooled h blocks.old expirations.old) result.answer
+        (pooled result.head blocks.new expirations.new)
+        × (expirations.new.named ≡ expirations.old.named) }
 {
-    if !is_well_formed(h, handles, extents, clocks, named, dues) {
+    if !is_well_formed(h, blocks, expirations) {
         return refused(Refusal::NotWellFormed, h);
     }
-    calls::schedule(h, handles, extents, clocks, named, dues, event, task)
+    calls::schedule(h, blocks, expirations, event, task)
 }
 
 pub fn make(
     h: Head,
-    handles: &mut [u32; BLOCK_COUNT],
-    extents: &mut [u64; BLOCK_COUNT],
-    clocks: &mut [u8; EXPIRATION_COUNT],
-    named: &mut [u8; EXPIRATION_COUNT],
-    dues: &mut [u32; EXPIRATION_COUNT],
+    blocks: &mut BlockTable,
+    expirations: &mut ExpirationTable,
     small: &mut [u8],
     large: &mut [u8],
     task: u8,
@@ -114,109 +94,109 @@ pub fn make(
     size: u16,
     prefix: u16,
 ) -> Step
-    requires { Sized handles.old extents.old clocks.old named.old dues.old }
-    ensures { Sized handles.new extents.new clocks.new named.new dues.new
+    requires { Sized blocks.old expirations.old }
+    ensures { Sized blocks.new expirations.new
         × Makes task kind extension size prefix
-        (pooled h handles.old extents.old clocks.old named.old dues.old)
+        (pooled h blocks.old expirations.old)
         small.old large.old result.answer
-        (pooled result.head handles.new extents.new clocks.new named.new dues.new)
+        (pooled result.head blocks.new expirations.new)
         small.new large.new }
 {
-    let sharing = fitness_of(h, handles, extents, clocks, named, dues);
+    let sharing = fitness_of(h, blocks, expirations);
     if !sharing.fit {
         return refused(Refusal::NotWellFormed, h);
     }
     if !are_whole(h.limits, small.len(), large.len()) {
         return refused(Refusal::WrongStoreLength, h);
     }
-    let holding = holding_in(sharing.holdings, size as u32 <= SMALL_SIZE);
+    let holding = of_store(
+        size as u32 <= SMALL_SIZE,
+        sharing.holdings.small,
+        sharing.holdings.large,
+    );
     calls::make(
-        h, handles, extents, clocks, named, dues, small, large, holding, task, kind, extension,
-        size, prefix,
+        h,
+        blocks,
+        expirations,
+        small,
+        large,
+        holding,
+        task,
+        kind,
+        extension,
+        size,
+        prefix,
     )
 }
 
-pub fn release<'a>(
+pub fn release(
     h: Head,
-    handles: &mut [u32; BLOCK_COUNT],
-    extents: &'a [u64; BLOCK_COUNT],
-    clocks: &mut [u8; EXPIRATION_COUNT],
-    named: &'a [u8; EXPIRATION_COUNT],
-    dues: &'a [u32; EXPIRATION_COUNT],
+    blocks: &mut BlockTable,
+    expirations: &mut ExpirationTable,
     task: u8,
     handle: u32,
 ) -> Step
-    requires { Sized handles.old extents.now clocks.old named.now dues.now }
-    ensures { Sized handles.new extents.now clocks.new named.now dues.now
+    requires { Sized blocks.old expirations.old }
+    ensures { Sized blocks.new expirations.new
         × Follows (Use (Release task handle))
-        (pooled h handles.old extents.now clocks.old named.now dues.now) result.answer
-        (pooled result.head handles.new extents.now clocks.new named.now dues.now) }
+        (pooled h blocks.old expirations.old) result.answer
+        (pooled result.head blocks.new expirations.new)
+        × (blocks.new.extents ≡ blocks.old.extents)
+        × (expirations.new.named ≡ expirations.old.named)
+        × (expirations.new.dues ≡ expirations.old.dues) }
 {
-    if !is_well_formed(h, handles, extents, clocks, named, dues) {
+    if !is_well_formed(h, blocks, expirations) {
         return refused(Refusal::NotWellFormed, h);
     }
-    calls::release(h, handles, extents, clocks, named, dues, task, handle)
+    calls::release(h, blocks, expirations, task, handle)
 }
 
-pub fn refresh<'a>(
+pub fn refresh(
     h: Head,
-    handles: &'a [u32; BLOCK_COUNT],
-    extents: &'a [u64; BLOCK_COUNT],
-    clocks: &mut [u8; EXPIRATION_COUNT],
-    named: &mut [u8; EXPIRATION_COUNT],
-    dues: &mut [u32; EXPIRATION_COUNT],
+    blocks: &BlockTable,
+    expirations: &mut ExpirationTable,
     task: u8,
     kind: Kind,
     extension: u8,
     handle: u32,
 ) -> Step
-    requires { Sized handles.now extents.now clocks.old named.old dues.old }
-    ensures { SizedEntries clocks.new named.new dues.new
+    requires { Sized blocks.now expirations.old }
+    ensures { EntriesSized expirations.new
         × Follows (Use (Refresh task kind extension handle))
-        (pooled h handles.now extents.now clocks.old named.old dues.old) result.answer
-        (pooled result.head handles.now extents.now clocks.new named.new dues.new) }
+        (pooled h blocks.now expirations.old) result.answer
+        (pooled result.head blocks.now expirations.new) }
 {
-    if !is_well_formed(h, handles, extents, clocks, named, dues) {
+    if !is_well_formed(h, blocks, expirations) {
         return refused(Refusal::NotWellFormed, h);
     }
-    calls::refresh(
-        h, handles, extents, clocks, named, dues, task, kind, extension, handle,
-    )
+    calls::refresh(h, blocks, expirations, task, kind, extension, handle)
 }
 
-pub fn batch<'a>(
+pub fn batch(
     h: Head,
-    handles: &'a [u32; BLOCK_COUNT],
-    extents: &'a [u64; BLOCK_COUNT],
-    clocks: &mut [u8; EXPIRATION_COUNT],
-    named: &mut [u8; EXPIRATION_COUNT],
-    dues: &mut [u32; EXPIRATION_COUNT],
+    blocks: &BlockTable,
+    expirations: &mut ExpirationTable,
     task: u8,
     kind: Kind,
     extension: u8,
     bytes: &[u8],
 ) -> Step
-    requires { Sized handles.now extents.now clocks.old named.old dues.old }
-    ensures { SizedEntries clocks.new named.new dues.new
+    requires { Sized blocks.now expirations.old }
+    ensures { EntriesSized expirations.new
         × FollowsWith (Use (Batch task kind extension)) bytes.now
-        (pooled h handles.now extents.now clocks.old named.old dues.old) result.answer
-        (pooled result.head handles.now extents.now clocks.new named.new dues.new) }
+        (pooled h blocks.now expirations.old) result.answer
+        (pooled result.head blocks.now expirations.new) }
 {
-    if !is_well_formed(h, handles, extents, clocks, named, dues) {
+    if !is_well_formed(h, blocks, expirations) {
         return refused(Refusal::NotWellFormed, h);
     }
-    calls::batch(
-        h, handles, extents, clocks, named, dues, task, kind, extension, bytes,
-    )
+    calls::batch(h, blocks, expirations, task, kind, extension, bytes)
 }
 
-pub fn write<'a>(
+pub fn write(
     h: Head,
-    handles: &'a [u32; BLOCK_COUNT],
-    extents: &mut [u64; BLOCK_COUNT],
-    clocks: &'a [u8; EXPIRATION_COUNT],
-    named: &'a [u8; EXPIRATION_COUNT],
-    dues: &'a [u32; EXPIRATION_COUNT],
+    blocks: &mut BlockTable,
+    expirations: &ExpirationTable,
     small: &mut [u8],
     large: &mut [u8],
     task: u8,
@@ -224,22 +204,30 @@ pub fn write<'a>(
     offset: u8,
     bytes: &[u8],
 ) -> Step
-    requires { Sized handles.now extents.old clocks.now named.now dues.now }
-    ensures { (length extents.new ≡ block_entries)
+    requires { Sized blocks.old expirations.now }
+    ensures { BlocksSized blocks.new
         × Writes task handle offset bytes.now
-        (pooled h handles.now extents.old clocks.now named.now dues.now)
+        (pooled h blocks.old expirations.now)
         small.old large.old result.answer
-        (pooled result.head handles.now extents.new clocks.now named.now dues.now)
+        (pooled result.head blocks.new expirations.now)
         small.new large.new }
 {
-    if !is_well_formed(h, handles, extents, clocks, named, dues) {
+    if !is_well_formed(h, blocks, expirations) {
         return refused(Refusal::NotWellFormed, h);
     }
     if !are_whole(h.limits, small.len(), large.len()) {
         return refused(Refusal::WrongStoreLength, h);
     }
     let answer = calls::write(
-        h, handles, extents, clocks, named, dues, small, large, task, handle, offset, bytes,
+        h,
+        blocks,
+        expirations,
+        small,
+        large,
+        task,
+        handle,
+        offset,
+        bytes,
     );
     answered(answer, h)
 }

@@ -1,4 +1,4 @@
-// Any call by its request, on lent columns: 15 first, then 14 where the request touches a store, then the dispatch.
+// Any call by its request, on lent tables: 15 first, then 14 where the request touches a store, then the dispatch.
 ghost use Rattle.std.specs.Prelude.{◌≡◌, eqb};
 ghost use Rattle.calls.specs.Contract.{is_stored};
 ghost use Rattle.record.specs.Tables.{pooled, Sized};
@@ -6,12 +6,11 @@ ghost use Rattle.calls.specs.Served.{Serves};
 ghost use Rattle.dispatch.specs.Found.{given_back};
 ghost use Rattle.tested.specs.Stored.{stored_as};
 
-use super::refused;
-use calls::Step;
+use calls::{Step, refused};
 use dispatch;
 use fitness::fitness_of;
 use ledger::{Call, Refusal, Request};
-use record::{BLOCK_COUNT, EXPIRATION_COUNT, Head};
+use record::{BlockTable, ExpirationTable, Head};
 use stores::are_whole;
 
 // R35: the three calls that test 14.
@@ -67,38 +66,49 @@ fn is_stored(request: Request) -> bool
 // One call of the fourteen, by its request. The bytes are those of a write or a batch; other calls leave them aside.
 pub fn call(
     h: Head,
-    handles: &mut [u32; BLOCK_COUNT],
-    extents: &mut [u64; BLOCK_COUNT],
-    clocks: &mut [u8; EXPIRATION_COUNT],
-    named: &mut [u8; EXPIRATION_COUNT],
-    dues: &mut [u32; EXPIRATION_COUNT],
+    blocks: &mut BlockTable,
+    expirations: &mut ExpirationTable,
     small: &mut [u8],
     large: &mut [u8],
     request: Request,
     bytes: &[u8],
 ) -> Step
-    requires { Sized handles.old extents.old clocks.old named.old dues.old }
-    ensures { Sized handles.new extents.new clocks.new named.new dues.new
+    requires { Sized blocks.old expirations.old }
+    ensures { Sized blocks.new expirations.new
         × Serves request bytes.now
-        (pooled h handles.old extents.old clocks.old named.old dues.old)
+        (pooled h blocks.old expirations.old)
         small.old large.old
-        (given_back result handles.new extents.new clocks.new named.new dues.new)
+        (given_back result blocks.new expirations.new)
         small.new large.new }
 {
-    let sharing = fitness_of(h, handles, extents, clocks, named, dues);
+    let sharing = fitness_of(h, blocks, expirations);
     if !sharing.fit {
         return refused(Refusal::NotWellFormed, h);
     }
     let holdings = sharing.holdings;
     if !is_stored(request) {
         return dispatch::call(
-            h, handles, extents, clocks, named, dues, small, large, holdings, request, bytes,
+            h,
+            blocks,
+            expirations,
+            small,
+            large,
+            holdings,
+            request,
+            bytes,
         );
     }
     if !are_whole(h.limits, small.len(), large.len()) {
         return refused(Refusal::WrongStoreLength, h);
     }
     dispatch::call(
-        h, handles, extents, clocks, named, dues, small, large, holdings, request, bytes,
+        h,
+        blocks,
+        expirations,
+        small,
+        large,
+        holdings,
+        request,
+        bytes,
     )
 }

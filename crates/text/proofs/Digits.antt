@@ -2,12 +2,13 @@
 use Prim.Native.Nat.{ℕ, zero, suc, ◌+◌, ◌-◌, ◌*◌, ◌/◌, ◌%◌, ◌≤◌, ◌<◌}
 use native.Mathlib.Nat.{suc-add}
 use native.Mathlib.Omega.{arith}
-use mathlib.Core.Bool.{true, false, ◌||◌, and-eq-true_iff, and-false}
+use mathlib.Core.Bool.{Bool, true, false, ◌&&◌, ◌||◌, and-eq-true_iff, and-false, and-true, and_assoc}
 use mathlib.Core.List.{List, [], ◌∷◌, ◌++◌}
-use mathlib.Core.Path.{◌≡◌, refl, ap}
+use mathlib.Core.Path.{◌≡◌, refl, sym, ap, ◌∙◌}
 use borrow.Author.Tests.{eqb-true, eq-eqb, leb-true, ltb-true, ltb-false, lt-ltb, le-leb, lt-leb}
 use lib.Dec.{eqb, leb, ltb}
 use lib.ListN.{length, get_or}
+use Rattle.std.specs.Prelude.{fold}
 use Rattle.lists.specs.Tests.{all, All}
 use Rattle.lists.proofs.Cases.{by_test}
 use Rattle.lists.proofs.Searches.{passes_within}
@@ -27,6 +28,11 @@ bounds : (low high n : ℕ) → is_within low high n ≡ true → (low ≤ n) ×
 bounds low high n e =
     let (l, h) = (and-eq-true_iff (leb low n) (leb n high)).0 e in
     (leb-true low n l, leb-true n high h)
+
+-- a test of digits one after the other
+pub tested_digits : (ok : Bool) (line : List ℕ) → fold (λ ok c. ok && is_digit c) ok line ≡ (ok && all is_digit line)
+tested_digits ok [] = sym (and-true ok)
+tested_digits ok (c ∷ line) = tested_digits (ok && is_digit c) line ∙ and_assoc ok (is_digit c) (all is_digit line)
 
 -- a digit is in one of the two ranges
 pub digit_test : (c : ℕ) → (is_within 48 57 c || is_within 65 70 c) ≡ is_digit c

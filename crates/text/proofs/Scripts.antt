@@ -1,22 +1,44 @@
 -- The line finder goes through exactly the lines of a script.
 use Prim.Native.Nat.{ℕ, suc, ◌+◌, ◌-◌, ◌≤◌, ◌<◌}
-use native.Mathlib.Nat.{sub_self}
+use native.Mathlib.Nat.{sub_self, zero-add, add-zero}
+use native.Mathlib.Numerals.{add-one}
 use native.Mathlib.Omega.{arith}
 use borrow.Author.Tests.{ltb-true, ltb-false}
 use mathlib.Core.List.{List, [], ◌∷◌}
-use mathlib.Core.Path.{◌≡◌}
+use mathlib.Core.Bool.{Bool}
+use mathlib.Core.Path.{◌≡◌, ap}
 use lib.Dec.{ltb}
 use lib.ListN.{length, take, drop, length-drop, drop_of_length-le}
 use lib.Seq.{drop-drop}
+use Rattle.std.specs.Prelude.{position, unwrap_or}
+use Rattle.std.specs.List.{position_from}
+use Rattle.std.proofs.lemmas.Iterator.Adapters.{position_from-zero}
 use Rattle.lists.specs.Tables.{first_from}
 use Rattle.lists.proofs.Cases.{by_test}
+use Rattle.lists.proofs.First.{first_counted}
 use Rattle.lists.proofs.Searches.{first_least, first_most}
 use Rattle.text.specs.Lines.{is_lf, lines_of, line_end, line_after, line_at}
+use Rattle.text.specs.declared.lines.Line.{Line}
+
+-- the place that a search finds, or the length, is where the first that passes stands
+found_from : (p : ℕ → Bool) (i : ℕ) (xs : List ℕ) → unwrap_or (position_from p i xs) (i + length xs) ≡ first_from i p xs
+found_from p i [] = add-zero i
+found_from p i (x ∷ xs) =
+    let next : i + suc (length xs) ≡ suc i + length xs = omega arith in
+    by_test (p x) (λ e. rw e) (λ e. rw (e, next, add-one) (found_from p (suc i) xs))
+
+pub found_line : (script : List ℕ) (at : ℕ) → let rest = drop at script in at + unwrap_or (position is_lf rest) (length rest) ≡ line_end script at
+found_line script at =
+    let rest = drop at script in
+    rw (position_from-zero is_lf rest, first_counted is_lf at rest) (ap (λ (n : ℕ). at + n) (rw zero-add at (found_from is_lf 0 rest)))
 
 -- a line ends in the script
 pub end_within : (script : List ℕ) (at : ℕ) → at ≤ length script → (at ≤ line_end script at) × (line_end script at ≤ length script)
 end_within script at h =
     (first_least is_lf at (drop at script), omega (arith, first_most is_lf at (drop at script), length-drop at script))
+
+pub line_lies : (script : List ℕ) (at : ℕ) {line : Line} → line ≡ line_at script at → at ≤ length script → (line.start ≤ line.end) × (line.end ≤ length script)
+line_lies script at e h = rw e (end_within script at h)
 
 one_on : (i : ℕ) → suc i - i ≡ 1
 one_on i = omega arith

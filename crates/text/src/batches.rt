@@ -1,5 +1,5 @@
 // A batch's handles as bytes, for a host that has them as numbers.
-ghost use Rattle.std.specs.Prelude.{◌+◌, ◌≤◌, min, ◌≡◌, length};
+ghost use Rattle.std.specs.Prelude.{◌+◌, ◌≤◌, ◌≡◌, length};
 ghost use Rattle.text.specs.HandleBytes.{HandsOn};
 ghost use Rattle.text.specs.Fields.{in_bytes};
 ghost use Rattle.text.specs.Hex.{Puts};
@@ -14,13 +14,6 @@ pub const HANDLE_WIDTH: usize = 4;
 const MOST_HANDLES: usize = LARGEST_BATCH + 1;
 
 pub const MOST_HANDLE_BYTES: usize = HANDLE_WIDTH * MOST_HANDLES;
-
-// How many are handed on: all, but no more than are enough.
-pub fn capped(count: usize, most: usize) -> usize
-    ensures { result ≡ min count most }
-{
-    if most < count { most } else { count }
-}
 
 // The bytes of handles that are handed on: the first `count` here.
 #[derive(Clone, Copy)]
@@ -48,11 +41,9 @@ pub fn handle_bytes(handles: &[u32]) -> Handed
 {
     let mut bytes = [0u8; MOST_HANDLE_BYTES];
     let mut count = 0;
-    for i in 0..capped(handles.len(), MOST_HANDLES) {
-        count = store_handle(&mut bytes, count, handles[i]);
+    let enough = &handles[..handles.len().min(MOST_HANDLES)];
+    for handle in enough {
+        count = store_handle(&mut bytes, count, *handle);
     }
-    Handed {
-        bytes: bytes,
-        count: count,
-    }
+    Handed { bytes, count }
 }

@@ -20,11 +20,8 @@ fn is_digit(c: u8) -> bool
 pub fn is_hex(line: &[u8]) -> bool
     ensures { result ≡ is_hex line.now }
 {
-    let mut ok = line.len() % 2 == 0;
-    for i in 0..line.len() {
-        ok = ok & is_digit(line[i]);
-    }
-    ok
+    line.iter()
+        .fold(line.len() % 2 == 0, |ok, c| ok & is_digit(*c))
 }
 
 // Two characters as one number, as they stand in memory, so that to join many of them is one copy.
@@ -88,6 +85,7 @@ fn pairs(digits: &[u8]) -> [u16; MOST_BYTES]
     ensures { Pairs digits.now result }
 {
     let mut out = [0; MOST_BYTES];
+    // By index: of the pairs that `chunks_exact` gives a proof knows too little.
     for i in 0..digits.len() / 2 {
         out[i] = paired(digits[2 * i], digits[2 * i + 1]);
     }
@@ -99,8 +97,8 @@ fn spell(part: &mut [u8], pairs: &[u16; MOST_BYTES])
     requires { DigitPairs (length part.old) pairs.now }
     ensures { Spelled pairs.now (length part.old) part.new }
 {
-    for i in 0..part.len() {
-        part[i] = spelled(pairs[i]);
+    for (i, byte) in part.iter_mut().enumerate() {
+        *byte = spelled(pairs[i]);
     }
 }
 
@@ -110,7 +108,7 @@ pub fn spell_last(part: &mut [u8], line: &[u8])
         × (length part.old ≤ large_size) }
     ensures { part.new ≡ drop (length line.now / 2 - length part.old) (bytes_of line.now) }
 {
-    if part.len() == 0 {
+    if part.is_empty() {
         return;
     }
     let first = line.len() / 2 - part.len();
@@ -135,10 +133,9 @@ fn spell_out(part: &mut [u8], bytes: &[u8])
     requires { length part.old ≡ 2 * length bytes.now }
     ensures { part.new ≡ hex_of bytes.now }
 {
-    for i in 0..bytes.len() {
-        let b = bytes[i];
-        part[2 * i] = digit_for(b / 16);
-        part[2 * i + 1] = digit_for(b % 16);
+    for (i, byte) in bytes.iter().enumerate() {
+        part[2 * i] = digit_for(*byte / 16);
+        part[2 * i + 1] = digit_for(*byte % 16);
     }
 }
 

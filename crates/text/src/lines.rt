@@ -1,5 +1,5 @@
 // F24: the lines of a script.
-ghost use Rattle.std.specs.Prelude.{◌≡◌};
+ghost use Rattle.std.specs.Prelude.{◌≤◌, ◌≡◌, length};
 ghost use Rattle.text.specs.Lines.{line_end, line_at};
 
 // A line: where it starts, where it ends, and where the next one starts.
@@ -11,34 +11,25 @@ pub struct Line {
 }
 
 // Where the line that starts at a place ends: at its LF, or at the script's end.
-pub fn line_end(script: &[u8], at: usize) -> usize
+fn line_end(script: &[u8], at: usize) -> usize
+    requires { at ≤ length script.now }
     ensures { result ≡ line_end script.now at }
 {
-    let mut end = at;
-    while end < script.len() {
-        if script[end] == b'\n' {
-            return end;
-        }
-        end += 1;
-    }
-    end
+    let rest = &script[at..];
+    let length = rest.iter().position(|c| *c == b'\n');
+    at + length.unwrap_or(rest.len())
 }
 
 // The line that starts at a place. The next one starts after its LF.
 pub fn line_at(script: &[u8], at: usize) -> Line
+    requires { at ≤ length script.now }
     ensures { result ≡ line_at script.now at }
 {
     let end = line_end(script, at);
-    if end < script.len() {
-        return Line {
-            start: at,
-            end,
-            next: end + 1,
-        };
-    }
+    let next = if end < script.len() { end + 1 } else { end };
     Line {
         start: at,
         end,
-        next: end,
+        next,
     }
 }

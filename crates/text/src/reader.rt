@@ -1,9 +1,7 @@
 // The reader of a script.
-ghost use Rattle.std.specs.Prelude.{◌≡◌};
-ghost use Rattle.text.specs.Lines.{line_at};
-ghost use Rattle.text.specs.Reader.{next_line};
+ghost use Rattle.text.specs.Reader.{Steps};
 
-use super::lines::{Line, line_at};
+use super::lines::line_at;
 
 // P1: a script, and where its next line starts.
 #[derive(Clone, Copy)]
@@ -12,19 +10,16 @@ pub struct Reader<'a> {
     pub next: usize,
 }
 
-// The reader's next line, which says where the one after it starts.
-pub fn step<'a>(reader: Reader<'a>) -> Line
-    ensures { result ≡ next_line reader.entry }
-{
-    line_at(reader.script, reader.next)
-}
-
-// A reader at a place of a script, and its step: for callers that hold no reader.
-pub fn read_line(script: &[u8], at: usize) -> Line
-    ensures { result ≡ line_at script.now at }
-{
-    step(Reader {
-        script: script,
-        next: at,
-    })
+impl<'a> Reader<'a> {
+    // The next line, without its LF, and the reader goes on to the one after it; none at the script's end.
+    pub fn step(&mut self) -> Option<&'a [u8]>
+        ensures { Steps self.old result self.new }
+    {
+        if self.script.len() <= self.next {
+            return None;
+        }
+        let line = line_at(self.script, self.next);
+        self.next = line.next;
+        Some(&self.script[line.start..line.end])
+    }
 }

@@ -6,10 +6,5 @@ ghost use Rattle.text.specs.Fields.{in_bytes};
 pub fn word(value: u32) -> [u8; 4]
     ensures { result ≡ in_bytes 4 value }
 {
-    [
-        (value / 16777216 % 256) as u8,
-        (value / 65536 % 256) as u8,
-        (value / 256 % 256) as u8,
-        (value % 256) as u8,
-    ]
+    value.to_be_bytes()
 }

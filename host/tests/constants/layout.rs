@@ -37,9 +37,22 @@ pub fn size_of(kind: &str) -> u64 {
     }
 }
 
-/// How many bytes stand before a field.
+/// How many bytes stand before a field, of a struct's own or of a struct in it.
 pub fn place_of(name: &str, field: &str) -> u64 {
-    let fields = fields(name);
-    assert!(fields.iter().any(|(other, _)| other == field), "{name} has no {field}");
-    fields.iter().take_while(|(other, _)| other != field).map(|(_, kind)| size_of(kind)).sum()
+    place_in(name, field).unwrap_or_else(|| panic!("{name} has no {field}"))
+}
+
+fn place_in(name: &str, field: &str) -> Option<u64> {
+    let mut before = 0;
+    for (other, kind) in fields(name) {
+        if other == field {
+            return Some(before);
+        }
+        let has_fields = text().contains(&format!("\npub struct {kind} {{\n"));
+        if let Some(place) = has_fields.then(|| place_in(&kind, field)).flatten() {
+            return Some(before + place);
+        }
+        before += size_of(&kind);
+    }
+    None
 }

@@ -5,7 +5,7 @@ mod layout;
 mod source;
 
 use ramsummer::{Limits, Quota};
-use source::{arms, is_here, value};
+use source::{arms, is_here, value, variants};
 use std::collections::BTreeMap;
 
 /// Names in capitals and without underscores, since the source has other letters for some.
@@ -53,18 +53,19 @@ fn proved() -> Numbers {
     ]
     .map(|(name, number)| (plain(name), number))
     .into();
-    numbers.extend(arms("ledger", "kind_of").into_iter().filter_map(|(number, kind)| {
-        let kind = kind.strip_prefix("KindByte::Known(Kind::")?.strip_suffix(')')?;
+    numbers.extend(arms("ledger", "try_from(number").into_iter().filter_map(|(number, kind)| {
+        let kind = kind.strip_prefix("Ok(Kind::")?.strip_suffix(')')?;
         Some((plain(kind), number.parse().ok()?))
     }));
     numbers.extend(
-        arms("ledger", "number_of")
-            .into_iter()
-            .filter_map(|(refusal, number)| Some((plain(refusal.strip_prefix("Refusal::")?), number.parse().ok()?))),
+        variants("ledger", "Refusal").into_iter().map(|(refusal, number)| (plain(&refusal), number.parse().unwrap())),
     );
-    numbers.extend(arms("ledger", "answer_number").into_iter().filter_map(|(answer, number)| {
-        Some((plain(answer.strip_prefix("Answer::").filter(|answer| *answer == "Done")?), number.parse().ok()?))
-    }));
+    // All answers but a refusal have one number.
+    numbers.extend(
+        arms("ledger", "from(answer")
+            .into_iter()
+            .filter_map(|(answer, number)| (answer == "_").then(|| (plain("DONE"), number.parse().unwrap()))),
+    );
     numbers
 }
 

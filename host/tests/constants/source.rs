@@ -29,12 +29,20 @@ pub fn between<'a>(text: &'a str, opening: &str, closing: &str) -> Option<&'a st
     Some(rest.split_once(closing)?.0)
 }
 
-/// Both sides of each arm of the match that this function is.
+/// Both sides of each arm of the match that this function is, which its name and first parameter find.
 pub fn arms(krate: &str, function: &str) -> Vec<(String, String)> {
     let text = text_of(krate);
-    let body = between(&text, &format!("fn {function}("), "\n}\n").unwrap();
+    let body = between(&text, &format!("fn {function}:"), "\n}\n").unwrap();
     let arms = body.lines().filter_map(|line| line.trim().trim_end_matches(',').split_once(" => "));
     arms.map(|(left, right)| (left.into(), right.into())).collect()
+}
+
+/// Each variant of an enum that gives it a number, with the number.
+pub fn variants(krate: &str, name: &str) -> Vec<(String, String)> {
+    let text = text_of(krate);
+    let body = between(&text, &format!("pub enum {name} {{\n"), "\n}\n").unwrap();
+    let variants = body.lines().filter_map(|line| line.trim().trim_end_matches(',').split_once(" = "));
+    variants.map(|(variant, number)| (variant.into(), number.into())).collect()
 }
 
 /// What an expression comes to in a file of this crate.

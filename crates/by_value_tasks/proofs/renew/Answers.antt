@@ -1,5 +1,4 @@
 -- 01's figures may be chosen.
-use borrow.Author.Rules.{rules}
 use Rattle.ledger.specs.Limits.{standard}
 use Rattle.ledger.proofs.Figures.{standard_allowed}
 use Rattle.record.proofs.FreshReads.{fresh_fit}

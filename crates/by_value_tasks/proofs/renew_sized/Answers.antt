@@ -1,6 +1,5 @@
 -- By the test of the figures.
 use mathlib.Core.Path.{sym, ◌∙◌}
-use borrow.Author.Rules.{rules}
 use Rattle.record.proofs.FreshReads.{fresh_fit}
 use Rattle.by_value_tasks.proofs.renew_sized.Goals as goal
 
@@ -13,7 +12,7 @@ returns-then-is_allowed c = record {
 
 pub returns : goal.returns
 returns c = record {
-  told = rw (sym c.is_allowed.ensures ∙ c.if-is_allowed.false, c.number_of.ensures);
+  told = rw (sym c.is_allowed.ensures ∙ c.if-is_allowed.false, c.from.ensures);
   left = c.fresh-2.ensures;
   fit = rw c.fresh-2.ensures (fresh_fit _);
 }

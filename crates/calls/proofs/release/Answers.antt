@@ -7,17 +7,17 @@ use Rattle.calls.proofs.ReleaseLent.{release_kept, release_known, release_carrie
 use Rattle.calls.proofs.release.Goals as goal
 
 pub find_for_release-requires : goal.find_for_release-requires
-find_for_release-requires c = (c.requires.0, lent_fits _ _ _ _ _ _ c.requires.1)
+find_for_release-requires c = (c.requires.0, lent_fits _ _ _ c.requires.1)
 
 pub release-requires : goal.release-requires
 release-requires c = let sized = c.requires.0 in
-    let known = release_known (head_typed _ _ c.well_formed.0) sized c.args.task c.args.handle _ c.find_for_release.ensures c.in-At.is in
-    (known, sized.blocks.of_handles, sized.entries.of_clocks, sized.entries.of_named, well_named _ sized (lent_fits _ _ _ _ _ _ c.requires.1))
+    let known = release_known (head_typed _ _ c.well_formed.0) sized c.args.task c.args.handle _ c.find_for_release.ensures c.in-Ok.is in
+    (known, well_named _ sized (lent_fits _ _ _ c.requires.1))
 
-pub returns-in-Refused : goal.returns-in-Refused
-returns-in-Refused c = let kept = release_kept (head_typed _ _ c.well_formed.0) c.requires.0 c.args.task c.args.handle _ c.find_for_release.ensures c.requires.1 c.in-Refused.is in
-    rw c.answered.ensures (kept.0, kept.1, refl)
+pub returns-in-Err : goal.returns-in-Err
+returns-in-Err c = let kept = release_kept (head_typed _ _ c.well_formed.0) c.requires.0 c.args.task c.args.handle _ c.find_for_release.ensures c.requires.1 c.in-Err.is in
+    rw c.refused.ensures (kept.0, kept.1, refl, refl, refl, refl)
 
-pub returns-in-At : goal.returns-in-At
-returns-in-At c = let carried = release_carried (head_typed _ _ c.well_formed.0) c.requires.0 c.args.task c.args.handle _ c.find_for_release.ensures c.in-At.is c.requires.1 c.release.ensures in
-    rw c.answered-in-At.ensures (carried.0, carried.1, refl)
+pub returns : goal.returns
+returns c = let carried = release_carried (head_typed _ _ c.well_formed.0) c.requires.0 c.args.task c.args.handle _ c.find_for_release.ensures c.in-Ok.is c.requires.1 c.release.ensures in
+    rw c.answered.ensures (carried.0, carried.1, refl, refl, refl, refl)

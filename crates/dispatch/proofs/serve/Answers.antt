@@ -10,7 +10,7 @@ use Rattle.dispatch.proofs.serve.Goals as goal
 pub find_for_read-requires : goal.find_for_read-requires
 find_for_read-requires c =
     let (small_whole, large_whole) = halves c.args.h.limits c.args.small.now c.args.large.now ((ready_for c.requires.1 (ap Use c.in-Read.is)).whole refl) in
-    (c.requires.0, lent_fits _ _ _ _ _ _ c.requires.1.fit, small_whole, large_whole)
+    (c.requires.0, lent_fits _ _ _ c.requires.1.fit, small_whole, large_whole)
 
 pub returns-in-Schedule : goal.returns-in-Schedule
 returns-in-Schedule c =

@@ -12,14 +12,14 @@ put_answer-requires c = short_line _ _ c.args.out.now 0 c.no_part.ensures c.requ
 pub returns-in_default : goal.returns-in_default
 returns-in_default c = (
   c.requires.0,
-  refused_executes c.decode-frame.ensures _ _ _ _ _ _ c.refusal_of.ensures c.no_part.ensures c.answer_number.ensures c.put_answer.ensures,
+  refused_executes c.decode-frame.ensures _ _ _ _ _ _ c.unwrap_err.ensures c.no_part.ensures c.from.ensures c.put_answer.ensures,
 )
 
 pub slice_bounds-bytes-end : goal.slice_bounds-bytes-end
-slice_bounds-bytes-end c = bytes_in_lem c.decode-frame.ensures c.in-Request.is
+slice_bounds-bytes-end c = bytes_in_lem c.decode-frame.ensures c.in-Ok.is
 
 pub slice_bounds-call-end : goal.slice_bounds-call-end
-slice_bounds-call-end c = sym (length-take-le _ _ (bytes_in_lem c.decode-frame.ensures c.in-Request.is))
+slice_bounds-call-end c = sym (length-take-le _ _ (bytes_in_lem c.decode-frame.ensures c.in-Ok.is))
 
 pub show-length-requires : goal.show-length-requires
 show-length-requires c = block_showable _ c.call-done.ensures.1.inside c.args.out.now 0 c.requires.1
@@ -27,5 +27,5 @@ show-length-requires c = block_showable _ c.call-done.ensures.1.inside c.args.ou
 pub returns : goal.returns
 returns c = (
   c.call-done.ensures.0,
-  served_executes c.decode-frame.ensures _ _ _ _ _ _ c.in-Request.is c.call-done.ensures.1 c.answer_number-2.ensures c.show-length.ensures,
+  served_executes c.decode-frame.ensures _ _ _ _ _ _ c.in-Ok.is c.call-done.ensures.1 c.from-2.ensures c.show-length.ensures,
 )

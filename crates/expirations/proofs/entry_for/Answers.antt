@@ -1,11 +1,8 @@
--- Kind by kind, with what the wrapping sum ensures.
-use Rattle.ledger.specs.Limits.{counter_range}
+-- Kind by kind, with what the time so many units later is.
 use Rattle.expirations.proofs.entry_for.Goals as goal
 
 pub returns-in-Local : goal.returns-in-Local
-unfolding counter_range
-returns-in-Local c = rw (c.in-Local.is, c.wrapping_add_u32.ensures.value)
+returns-in-Local c = rw (c.in-Local.is, c.after.ensures)
 
 pub returns-in-Global : goal.returns-in-Global
-unfolding counter_range
-returns-in-Global c = rw (c.in-Global.is, c.wrapping_add_u32-in-Global.ensures.value)
+returns-in-Global c = rw (c.in-Global.is, c.after-in-Global.ensures)

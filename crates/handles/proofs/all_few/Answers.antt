@@ -1,16 +1,13 @@
 -- A test of all counts.
-use mathlib.Core.Path.{refl}
-use borrow.Author.Rules.{rules}
-use Rattle.lists.specs.Tests.{all}
-use Rattle.lists.proofs.Loops.{scanned_start, all_kept, all_kept_end}
+use Rattle.std.proofs.Common.{true, ◌&&◌, ◌∙◌, rules, tests}
+use Rattle.std.proofs.lemmas.Iterator.{YieldsList-from_slice}
+use Rattle.std.proofs.lemmas.Iterator.Consumers.{fold_from_yields_List}
+use Rattle.lists.proofs.Folds.{fold_all}
 use Rattle.handles.specs.Handles.{is_few}
 use Rattle.handles.proofs.all_few.Goals as goal
 
-pub loop-i-init : goal.loop-i-init
-loop-i-init c = scanned_start (all is_few) _ 256 (search rules)
-
-pub loop-i-preserved : goal.loop-i-preserved
-loop-i-preserved c = all_kept is_few 0 c.loop-i.few c.loop-i.invariant (search rules) refl
-
 pub returns : goal.returns
-returns c = all_kept_end is_few _ c.loop-i.invariant (search rules)
+returns c =
+    fold_from_yields_List _ (λ few n. few && is_few n) true c.fold.result c.fold.ensures.ran (YieldsList-from_slice c.args.counts cc)
+    (λ a x b q k. search (rules, tests))
+    ∙ fold_all is_few c.args.counts

@@ -2,5 +2,5 @@
 use Rattle.handles.proofs.Counting.{CountedTo}
 use Rattle.handles.proofs.counts.Given as goal
 
-abbrev pub invariant-loop-i : goal.invariant-loop-i
-invariant-loop-i l = CountedTo l.handles l.i l.out
+abbrev pub invariant-loop-handle : goal.invariant-loop-handle
+invariant-loop-handle l = CountedTo l.handles l.handle-index l.out

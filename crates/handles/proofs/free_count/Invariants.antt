@@ -5,5 +5,5 @@ use Rattle.lists.specs.Tests.{count}
 use Rattle.lists.proofs.Loops.{Scanned}
 use Rattle.handles.proofs.free_count.Given as goal
 
-abbrev pub invariant-loop-i : goal.invariant-loop-i
-invariant-loop-i l = Scanned (0 + count not l.used) l.used 96 l.i (λ ys. l.out + count not ys)
+abbrev pub invariant-loop-used : goal.invariant-loop-used
+invariant-loop-used l = Scanned (0 + count not l.used) l.used 96 l.used-index (λ ys. l.out + count not ys)

@@ -1,12 +1,7 @@
 -- What is read of the whole is what is read of the rest.
-use Prim.Native.Nat.{◌-◌}
-use lib.ListN.{length}
-use Rattle.lists.proofs.Loops.{Scanned}
-use Rattle.plan_text.specs.Reading.{read_from, started}
+use Rattle.std.proofs.Common.{◌≡◌, drop}
+use Rattle.plan_text.specs.Reading.{read_from, plan_of}
 use Rattle.plan_text.proofs.read.Given as goal
 
-abbrev pub invariant-loop-i : goal.invariant-loop-i
-invariant-loop-i l = Scanned (read_from started l.text) l.text (length l.text) l.i (read_from l.reading)
-
-abbrev pub decreases-loop-i : goal.decreases-loop-i
-decreases-loop-i l = length l.text - l.i
+abbrev pub invariant-loop-byte : goal.invariant-loop-byte
+invariant-loop-byte l = plan_of l.text ≡ read_from l.line l.plan.items (drop l.byte-index l.text)

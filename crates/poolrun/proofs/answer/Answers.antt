@@ -1,4 +1,4 @@
-use Rattle.std.proofs.Common.{rules, arith, sym, subst, ◌∙◌, ◌++◌, []}
+use Rattle.std.proofs.Common.{rules, sym, subst, ◌∙◌, ◌++◌, []}
 use Rattle.std.proofs.lemmas.List.{length-take-le}
 use Rattle.std.specs.Io.KnownBytes.{Appends}
 use Rattle.std.proofs.KnownBytes.{Appends-nil, Appends-trans}
@@ -13,19 +13,8 @@ unfolding standard
 loop-at-init g c =
     (begins _ _ _ _ c.fresh-p.ensures (search rules) (search rules), search rules, [], goes_from_fresh _ _ _ _ c.fresh-p.ensures, Appends-nil _)
 
-pub slice_bounds-out-end : goal.slice_bounds-out-end
-slice_bounds-out-end g c = puts_within c.run_on-ran.ensures.put
-
 pub slice_bounds-write_all-end : goal.slice_bounds-write_all-end
-slice_bounds-write_all-end g c =
-    sym (length-take-le _ _ (puts_within c.run_on-ran.ensures.put))
-
-pub loop-at-smaller : goal.loop-at-smaller
-loop-at-smaller g c =
-    let r = c.run_on-ran.ensures in
-    let more = c.loop-at-test.true in
-    let room = c.loop-at.invariant.1 in
-    omega (arith, more, r.moves more (omega (arith, room)), r.runnable.within)
+slice_bounds-write_all-end g c = sym (length-take-le _ _ (puts_within c.run_on-ran.ensures.put))
 
 pub loop-at-preserved : goal.loop-at-preserved
 loop-at-preserved g c =

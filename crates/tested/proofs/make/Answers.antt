@@ -18,5 +18,5 @@ make-requires c = let told = c.fitness_of-sharing.ensures in
     let left = c.if-not-sharing.false in (
       c.requires,
       ready_lent c.requires told.fit left c.are_whole.ensures (Use (Make _ _ _ _ _)) refl (rw c.if-not-are_whole.false),
-      rw c.holding_in-holding.ensures (held_in (held_lent told left) (is_small c.args.size)),
+      rw c.of_store-holding.ensures (held_in (held_lent told left) (is_small c.args.size)),
     )

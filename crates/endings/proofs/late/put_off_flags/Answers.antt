@@ -5,4 +5,4 @@ use Rattle.endings.proofs.PutOff.{put_off_flags}
 use Rattle.endings.proofs.late.put_off_flags.Goals as goal
 
 pub returns : goal.returns
-returns c = put_off_flags _ (search rules) (changed_end c.loop-i.invariant.1 (omega arith) (omega arith))
+returns c = put_off_flags _ (search rules) (changed_end c.loop-task.invariant.1 (omega arith) (omega arith))

@@ -7,5 +7,5 @@ use Rattle.expirations.specs.Places.{Changed}
 use Rattle.endings.proofs.PutOff.{waiting_flag}
 use Rattle.endings.proofs.late.put_off_flags.Given as goal
 
-abbrev pub invariant-loop-i : goal.invariant-loop-i
-invariant-loop-i l = (l.i ≤ task_count) × Changed false (waiting_flag l.tasks) global_code (global_code + l.i) (replicate byte_values false) l.flags
+abbrev pub invariant-loop-task : goal.invariant-loop-task
+invariant-loop-task l = (l.task ≤ task_count) × Changed false (waiting_flag l.e-items) global_code (global_code + l.task) (replicate byte_values false) l.flags

@@ -5,5 +5,5 @@ use Rattle.expirations.specs.Places.{Changed}
 use Rattle.endings.specs.Releasing.{kept_by_flag}
 use Rattle.endings.proofs.releasing.keep_named.Given as goal
 
-abbrev pub invariant-loop-i : goal.invariant-loop-i
-invariant-loop-i l = (l.i ≤ block_entries) × Changed 0 (kept_by_flag l.flags) 0 l.i l.initial.handles l.handles
+abbrev pub invariant-loop-block : goal.invariant-loop-block
+invariant-loop-block l = (l.block ≤ block_entries) × Changed 0 (kept_by_flag l.flags) 0 l.block l.initial.handles l.handles

@@ -11,7 +11,7 @@ pub loop-n-init : goal.loop-n-init
 loop-n-init c = scanned_start (first_from 0 is_free) _ expiration_entries (search rules)
 
 pub loop-n-preserved : goal.loop-n-preserved
-loop-n-preserved c = first_past is_free 0 16 _ c.loop-n.invariant (search rules) (c.has_byte.ensures.none c.if-has_byte.false)
+loop-n-preserved c = first_past is_free 0 16 _ c.loop-n.invariant (search rules) (c.has_byte.ensures.none c.if-not-has_byte.true)
 
 pub free_from-requires : goal.free_from-requires
-free_from-requires c = (c.requires, first_beyond is_free c.loop-n.invariant)
+free_from-requires c = first_beyond is_free c.loop-n.invariant

@@ -6,7 +6,7 @@ use Rattle.expirations.proofs.Places.{first_from_lem}
 use Rattle.expirations.proofs.asking.free_from.Goals as goal
 
 pub loop-i-init : goal.loop-i-init
-loop-i-init c = first_from_lem is_free 0 _ c.requires.0 c.requires.1
+loop-i-init c = first_from_lem is_free 0 _ (search rules) c.requires
 
 pub returns-then-clocks-i-eq-FREE : goal.returns-then-clocks-i-eq-FREE
 returns-then-clocks-i-eq-FREE c = first_stop is_free 0 c.loop-i.invariant (search rules) (eq-eqb _ _ c.if-clocks-i-eq-FREE.true)

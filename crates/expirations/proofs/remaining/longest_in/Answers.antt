@@ -14,5 +14,5 @@ pub loop-i-preserved : goal.loop-i-preserved
 loop-i-preserved c = let i = c.loop-i.i in
     let more : i < group_size = c.loop-i-test.true in
     longest_turn c.requires.0 c.requires.2 c.loop-i.invariant more
-    (c.local_lefts-locals.ensures.so i more) c.counted.ensures c.larger-local.ensures
-    (c.global_lefts-globals.ensures.so i more) c.is_global.ensures c.counted-in-loop-i.ensures c.larger-global.ensures
+    (c.lefts-locals.ensures.so i more) c.counted.ensures c.max-local.ensures
+    (c.lefts-globals.ensures.so i more) c.is_global.ensures c.counted-in-loop-i.ensures c.max-global.ensures

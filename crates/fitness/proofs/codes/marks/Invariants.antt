@@ -1,7 +1,15 @@
--- The flags of the first bytes, eight more in a turn.
-use Rattle.std.proofs.Common.{◌*◌, ◌≤◌}
-use Rattle.fitness.specs.Checks.{MarksTo}
+-- The flags of the bytes before the rest, and of the first ones of a group.
+use Rattle.std.proofs.Common.{◌≡◌, ◌%◌, ◌++◌, length, drop}
+use Rattle.fitness.proofs.Marks.{MarksLeft}
 use Rattle.fitness.proofs.codes.marks.Given as goal
 
-abbrev pub invariant-loop-q : goal.invariant-loop-q
-invariant-loop-q l = (l.q ≤ 32) × MarksTo l.bytes (8 * l.q) l.out
+abbrev pub invariant-loop-eight : goal.invariant-loop-eight
+invariant-loop-eight l = let rest = l.eight-iterator.rest.now in
+    (l.eight-iterator.size ≡ 8) × (length rest % 8 ≡ 0) × MarksLeft l.bytes rest l.out
+
+abbrev pub decreases-loop-eight : goal.decreases-loop-eight
+decreases-loop-eight l = length l.eight-iterator.rest.now
+
+abbrev pub invariant-loop-byte : goal.invariant-loop-byte
+invariant-loop-byte l = let rest = l.eight-iterator.rest.now in
+    (l.eight-iterator.size ≡ 8) × (length rest % 8 ≡ 0) × MarksLeft l.bytes (drop l.byte-index l.eight ++ rest) l.out

@@ -1,7 +1,5 @@
--- By what the wrapping sum is.
-use Rattle.ledger.specs.Limits.{counter_range}
+-- By what the time one unit later is.
 use Rattle.fitness.proofs.times.next_global.Goals as goal
 
 pub returns : goal.returns
-unfolding counter_range
-returns c = rw c.wrapping_add_u32.ensures.value
+returns c = rw c.after.ensures

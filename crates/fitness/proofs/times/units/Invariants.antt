@@ -3,4 +3,4 @@ use Rattle.fitness.proofs.Within.{UnitsTo}
 use Rattle.fitness.proofs.times.units.Given as goal
 
 abbrev pub invariant-loop-i : goal.invariant-loop-i
-invariant-loop-i l = UnitsTo l.local l.global l.tasks l.i l.out
+invariant-loop-i l = UnitsTo l.local l.global l.task-items l.i l.out

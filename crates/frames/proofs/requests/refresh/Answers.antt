@@ -1,16 +1,21 @@
 -- By the size, then the kind.
-use mathlib.Core.Path.{refl}
+use mathlib.Core.Path.{◌≡◌, refl}
+use borrow.Author.Rules.{rules}
+use Rattle.std.specs.Prelude.{Ok, Err}
+use Rattle.ledger.specs.Numbers.{kind_of}
 use Rattle.frames.specs.Frames.{refresh}
-use Rattle.frames.proofs.Frames.{other_size, wrong_kind, own_size}
+use Rattle.frames.proofs.Frames.{other_size, wrong_kind, own, own_size}
 use Rattle.frames.proofs.requests.refresh.Goals as goal
 
-pub returns-then-line-ne8 : goal.returns-then-line-ne8
-returns-then-line-ne8 c = other_size refresh c.args.line.now refl c.if-line-ne8.true
+pub returns-in_err-sized : goal.returns-in_err-sized
+returns-in_err-sized c = other_size refresh c.args.line.now refl (search rules) (search rules)
 
-pub returns-in_default : goal.returns-in_default
-returns-in_default c = wrong_kind refresh c.args.line.now refl c.if-line-ne8.false (rw (← c.byte_at.ensures, ← c.kind_of.ensures, c.in_default.is))
+pub returns-in_err-kind : goal.returns-in_err-kind
+returns-in_err-kind c = let line = c.args.line.now in
+    let wrong : kind_of c.byte_at.result ≡ Err c.in_err-kind.field-0.0 = search rules in
+    wrong_kind refresh line (own refresh line refl (search rules)) c.byte_at.result wrong (search rules) (rw (← c.byte_at.ensures, wrong))
 
 pub returns : goal.returns
 returns c =
-    own_size refresh c.args.line.now refl c.if-line-ne8.false
-    (rw (← c.byte_at.ensures, ← c.kind_of.ensures, c.in-Known.is, c.byte_at-task.ensures, c.byte_at-extension.ensures, c.word_at-handle.ensures))
+    let known : kind_of c.byte_at.result ≡ Ok c.in_ok-kind.kind = search rules in
+    own_size refresh c.args.line.now refl (search rules) (rw (← c.byte_at.ensures, known, c.byte_at-task.ensures, c.byte_at-extension.ensures, c.word_at-handle.ensures))

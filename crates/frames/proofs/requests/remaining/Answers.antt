@@ -1,13 +1,12 @@
 -- By the size.
 use mathlib.Core.Path.{refl}
+use borrow.Author.Rules.{rules}
 use Rattle.frames.specs.Frames.{remaining}
 use Rattle.frames.proofs.Frames.{other_size, own_size}
 use Rattle.frames.proofs.requests.remaining.Goals as goal
 
-pub returns-then-line-ne6 : goal.returns-then-line-ne6
-returns-then-line-ne6 c = other_size remaining c.args.line.now refl c.if-line-ne6.true
+pub returns-in_err-sized : goal.returns-in_err-sized
+returns-in_err-sized c = other_size remaining c.args.line.now refl (search rules) (search rules)
 
 pub returns : goal.returns
-returns c = let start = c.before.before.before.before in
-    own_size remaining start.args.line.now refl c.if-line-ne6.false
-    (rw (c.byte_at-task.ensures, c.word_at-handle.ensures))
+returns c = own_size remaining c.args.line.now refl (search rules) (rw (c.byte_at-task.ensures, c.word_at-handle.ensures))

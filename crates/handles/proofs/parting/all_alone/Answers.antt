@@ -1,16 +1,15 @@
 -- A test of all blocks with their places.
-use borrow.Author.Rules.{rules}
-use Rattle.lists.specs.Tables.{all_from}
-use Rattle.lists.proofs.Loops.{scanned_start, kept_turn, kept_end}
-use Rattle.handles.specs.Handles.{is_alone_in}
+use Rattle.std.proofs.Common.{◌≡◌, true, length, ◌∙◌, rules, tests}
+use Rattle.std.proofs.lemmas.Iterator.{YieldsList-from_slice, YieldsList-from_zip}
+use Rattle.std.proofs.lemmas.Iterator.Consumers.{YieldsList-from_enumerate, fold_from_yields_List}
+use Rattle.handles.proofs.Alone.{alone_after, alone_folded}
 use Rattle.handles.proofs.parting.all_alone.Goals as goal
 
-pub loop-i-init : goal.loop-i-init
-loop-i-init c = scanned_start (all_from 0 (is_alone_in c.args.used.now)) c.args.parts.now 96 c.requires.1
-
-pub loop-i-preserved : goal.loop-i-preserved
-loop-i-preserved c = let l = c.before.before.before.before in
-    kept_turn (is_alone_in l.args.used.now) 0 l.loop-i.alone l.loop-i.invariant (search rules) (rw c.is_at.ensures)
-
 pub returns : goal.returns
-returns c = kept_end (is_alone_in c.args.used.now) _ c.loop-i.invariant (search rules)
+returns c =
+    let size : length c.args.used.now ≡ length c.args.parts.now = search rules in
+    fold_from_yields_List _ alone_after true c.fold.result c.fold.ensures.ran
+    (YieldsList-from_enumerate
+    (YieldsList-from_zip (YieldsList-from_slice c.args.used.now cc) (YieldsList-from_slice c.args.parts.now cc)) cc)
+    (λ a x b q k. search (rules, tests))
+    ∙ alone_folded c.args.used.now c.args.parts.now size

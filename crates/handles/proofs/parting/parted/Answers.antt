@@ -13,7 +13,7 @@ returns-then-all_alone c = let refined = c.refined-finer in
     let s = l.before.before in
     let m = parted_turn l.loop-digit.invariant.0 refined.ensures in
     sym
-    (alone_distinct s.args.handles.now refined.result s.requires.size m.size s.requires.so m.same
+    (alone_distinct s.args.handles.now refined.result (search rules) m.size s.requires m.same
     (sym c.all_alone.ensures ∙ c.if-all_alone.true))
 
 pub loop-digit-preserved : goal.loop-digit-preserved
@@ -27,4 +27,4 @@ returns c = let l = c.before.before.before in
     let m = l.loop-digit.invariant.0 in
     let last : l.loop-digit.digit ≡ digit_count = omega arith in
     c.all_alone-2.ensures
-    ∙ parted_end s.args.handles.now l.loop-digit.parts s.requires.size m.size s.requires.so (rw last at m)
+    ∙ parted_end s.args.handles.now l.loop-digit.parts (search rules) m.size s.requires (rw last at m)

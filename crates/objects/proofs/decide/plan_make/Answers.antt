@@ -1,12 +1,15 @@
 -- By what the search and the tests ensure, in their two parts.
-use Rattle.objects.proofs.Makes.{planned_refused, planned_taken}
+use borrow.Author.Rules.{rules}
+use Rattle.objects.proofs.Makes.{planned}
 use Rattle.objects.proofs.decide.plan_make.Goals as goal
 
-pub returns-in-Refused : goal.returns-in-Refused
-returns-in-Refused c = planned_refused _ _ _ _ _ _ _ _ c.make_call_verdict.ensures c.in-Refused.is c.free_place-place.ensures
+pub returns-in_err-make_call_verdict : goal.returns-in_err-make_call_verdict
+returns-in_err-make_call_verdict c = rw (planned, ← c.make_call_verdict.ensures, c.in_err-make_call_verdict.was) (search rules)
 
-pub returns-in-Accepted : goal.returns-in-Accepted
-returns-in-Accepted c =
-    planned_taken _ _ _ _ _ _ _ _ c.make_call_verdict.ensures c.in-Accepted.is
-    (rw (c.taking_verdict-verdict.ensures, c.is_filled-full.ensures, c.blocks_in.ensures, c.quota_in-quota.ensures))
-    c.free_place-place.ensures
+pub returns-in_err-taking_verdict : goal.returns-in_err-taking_verdict
+returns-in_err-taking_verdict c =
+    rw (planned, ← c.make_call_verdict.ensures, c.in_ok-make_call_verdict.was, ← c.of_store-quota.ensures, ← c.of_store.ensures, ← c.is_filled-full.ensures, ← c.taking_verdict.ensures, c.in_err-taking_verdict.was) (search rules)
+
+pub returns : goal.returns
+returns c =
+    rw (planned, ← c.make_call_verdict.ensures, c.in_ok-make_call_verdict.was, ← c.of_store-quota.ensures, ← c.of_store.ensures, ← c.is_filled-full.ensures, ← c.taking_verdict.ensures, c.in_ok-taking_verdict.was, c.free_place-place.ensures)

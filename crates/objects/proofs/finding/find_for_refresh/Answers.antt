@@ -1,27 +1,37 @@
 -- By the tests before the finding, what is found, and the test after it.
-use mathlib.Core.Bool.{true}
-use mathlib.Core.Path.{◌≡◌, sym, ◌∙◌}
-use Rattle.refusals.specs.Verdicts.{task_verdict}
-use Rattle.refusals.proofs.Verdicts.{both_accept, task_known}
-use Rattle.objects.proofs.Outcomes.{first_verdict, refresh_refused, refresh_found}
+use borrow.Author.Rules.{rules}
+use mathlib.Core.Path.{sym, ◌∙◌}
+use Rattle.record.specs.Tables.{lent}
+use Rattle.objects.proofs.Outcomes.{refresh_found, found_refused, found_accepted}
 use Rattle.objects.proofs.finding.find_for_refresh.Goals as goal
 
-pub find-requires : goal.find-requires
-find-requires c =
+pub returns-in_err-task_verdict : goal.returns-in_err-task_verdict
+returns-in_err-task_verdict c =
     let a = c.args in
-    let first : c.and_then.result ≡ first_verdict a.task a.kind a.extension a.h = rw (c.and_then.ensures, c.set_verdict.ensures, c.task_verdict.ensures) in
-    let (task, kind) = both_accept (task_verdict true a.task a.h.tasks) _ (sym first ∙ c.in-Accepted.is) in
-    (c.requires.0, c.requires.1, task_known true a.task a.h.tasks task)
+    rw (refresh_found a.task a.kind a.extension a.handle a.h _ _ c.requires.0.entries, ← c.task_verdict.ensures, c.in_err-task_verdict.was) (search rules)
 
-pub returns-in-Refused : goal.returns-in-Refused
-returns-in-Refused c =
+pub returns-in_err-set_verdict : goal.returns-in_err-set_verdict
+returns-in_err-set_verdict c =
     let a = c.args in
-    let first : c.and_then.result ≡ first_verdict a.task a.kind a.extension a.h = rw (c.and_then.ensures, c.set_verdict.ensures, c.task_verdict.ensures) in
-    refresh_refused a.task a.kind a.extension a.handle a.h _ _ _ _ _ (sym first ∙ c.in-Refused.is)
+    rw (refresh_found a.task a.kind a.extension a.handle a.h _ _ c.requires.0.entries, ← c.task_verdict.ensures, c.in_ok-task_verdict.was, ← c.set_verdict.ensures, c.in_err-set_verdict.was) (search rules)
 
-pub returns-in-Accepted : goal.returns-in-Accepted
-returns-in-Accepted c =
+pub returns-in_err-block : goal.returns-in_err-block
+returns-in_err-block c =
     let a = c.args in
-    let first : c.and_then.result ≡ first_verdict a.task a.kind a.extension a.h = rw (c.and_then.ensures, c.set_verdict.ensures, c.task_verdict.ensures) in
-    rw (c.found_if.ensures, c.room_verdict.ensures, c.standing.ensures, c.find.ensures)
-    (refresh_found a.task a.kind a.extension a.handle a.h _ _ _ _ _ c.requires.0.entries (sym first ∙ c.in-Accepted.is))
+    let p = lent a.h a.blocks.now a.expirations.now in
+    let refused = found_refused a.handle p _ (sym c.find.ensures ∙ c.in_err-block.was) in
+    rw (refresh_found a.task a.kind a.extension a.handle a.h _ _ c.requires.0.entries, ← c.task_verdict.ensures, c.in_ok-task_verdict.was, ← c.set_verdict.ensures, c.in_ok-set_verdict.was, refused) (search rules)
+
+pub returns-in_err-room_verdict : goal.returns-in_err-room_verdict
+returns-in_err-room_verdict c =
+    let a = c.args in
+    let p = lent a.h a.blocks.now a.expirations.now in
+    let (accepted, place) = found_accepted a.handle p _ (sym c.find.ensures ∙ c.in_ok-block.was) in
+    rw (refresh_found a.task a.kind a.extension a.handle a.h _ _ c.requires.0.entries, ← c.task_verdict.ensures, c.in_ok-task_verdict.was, ← c.set_verdict.ensures, c.in_ok-set_verdict.was, accepted, ← c.standing.ensures, ← c.room_verdict.ensures, c.in_err-room_verdict.was) (search rules)
+
+pub returns : goal.returns
+returns c =
+    let a = c.args in
+    let p = lent a.h a.blocks.now a.expirations.now in
+    let (accepted, place) = found_accepted a.handle p _ (sym c.find.ensures ∙ c.in_ok-block.was) in
+    rw (refresh_found a.task a.kind a.extension a.handle a.h _ _ c.requires.0.entries, ← c.task_verdict.ensures, c.in_ok-task_verdict.was, ← c.set_verdict.ensures, c.in_ok-set_verdict.was, accepted, ← c.standing.ensures, ← c.room_verdict.ensures, c.in_ok-room_verdict.was, place)

@@ -3,40 +3,39 @@ use Prim.Native.Nat.{ℕ, ◌+◌}
 use mathlib.Core.Bool.{true, cond}
 use mathlib.Core.List.{List, [], ◌∷◌, ◌++◌}
 use mathlib.Core.Path.{◌≡◌, refl}
+use borrow.Author.Rules.{rules}
 use borrow.Author.Tests.{not-false}
 use lib.Dec.{ltb}
 use lib.ListN.{length}
+use Rattle.std.specs.Prelude.{Result, Ok, Err}
 use Rattle.lists.proofs.Cases.{by_test}
-use Rattle.ledger.specs.Refusals.{sum_differs, outside_object, verdict}
+use Rattle.ledger.specs.Refusals.{sum_differs, outside_object, verdict, Verdict}
 use Rattle.ledger.specs.Rules.{tests_of}
 use Rattle.ledger.specs.declared.Call.TheVariants.{Write}
 use Rattle.ledger.specs.declared.Refusal.TheVariants.{OutsideObject}
-use Rattle.ledger.specs.declared.Verdict.{Verdict}
-use Rattle.ledger.specs.declared.Verdict.TheVariants.{Accepted, Refused}
+use Rattle.ledger.specs.declared.Refusal.{Refusal}
 use Rattle.record.specs.Tables.{Tables, lent}
 use Rattle.steps.specs.Facts.{is_here, task_tests, handle_tests, verdict_with}
 use Rattle.steps.specs.Objects.{block_of}
 use Rattle.steps.proofs.Chosen.{all_passed}
 use Rattle.refusals.specs.Verdicts.{and_then}
 use Rattle.objects.specs.Outcomes.{bytes_by, bytes_in}
-use Rattle.objects.specs.declared.FoundBytes.{FoundBytes}
-use Rattle.objects.specs.declared.FoundBytes.TheVariants.{At}
-use Rattle.objects.specs.declared.FoundBytes.TheVariants.{Refused as RefusedBytes}
+use Rattle.objects.specs.declared.Part.{Part}
 use Rattle.objects.proofs.Outcomes.{with_test}
 use Rattle.objects.proofs.finding.find_for_write.Goals as goal
 
 -- what is found where the bytes lie within it
-abbrev reached : ℕ → FoundBytes → FoundBytes
-reached end (RefusedBytes r) = RefusedBytes r
-reached end (At block length sum) = cond (ltb length end) (RefusedBytes OutsideObject) (At block length sum)
+abbrev reached : ℕ → Result Part Refusal → Result Part Refusal
+reached end (Ok part) = cond (ltb part.length end) (Err OutsideObject) (Ok part)
+reached end (Err r) = Err r
 
-by_read : (small large : List ℕ) (v : Verdict) (handle offset count : ℕ) (p : Tables) → (v ≡ Accepted → is_here p.blocks handle ≡ true)
+by_read : (small large : List ℕ) (v : Verdict) (handle offset count : ℕ) (p : Tables) → (v ≡ Ok tt → is_here p.blocks handle ≡ true)
     → bytes_by (and_then v (verdict_with small large (outside_object handle offset count ∷ []) p)) handle p
     ≡ reached (offset + count) (bytes_by v handle p)
 unfolding verdict_with verdict
-by_read small large Accepted handle offset count p here =
+by_read small large (Ok _) handle offset count p here =
     by_test (ltb (block_of handle p.blocks).length (offset + count)) (λ e. rw (here refl, e)) (λ e. rw (here refl, e))
-by_read small large (Refused r) handle offset count p here = refl
+by_read small large (Err r) handle offset count p here = refl
 
 -- the verdict's outcome, by what has its bytes
 found : (task handle offset count : ℕ) (small large : List ℕ) (p : Tables) (new : List ℕ) → length new ≡ count
@@ -49,20 +48,20 @@ found task handle offset count small large p new all =
     (by_read small large (verdict_with small large tests p) handle offset count p
     (λ e. let (known, (present, (active, (acts, (given, (gone, end)))))) = all_passed small large tests p e in not-false _ gone))
 
-pub returns-in-Refused : goal.returns-in-Refused
-returns-in-Refused c new all =
+pub returns-in_err-part : goal.returns-in_err-part
+returns-in_err-part c new all =
     let a = c.args in
-    let p = lent a.h a.handles.now a.extents.now a.clocks.now a.named.now a.dues.now in
-    rw (found a.task a.handle a.offset a.count a.small.now a.large.now p new all, ← c.find_bytes.ensures, c.in-Refused.is)
+    let p = lent a.h a.blocks.now a.expirations.now in
+    rw (found a.task a.handle a.offset a.count a.small.now a.large.now p new all, ← c.find_bytes.ensures, c.in_err-part.was) (search rules)
 
 pub returns-then-reaches_past : goal.returns-then-reaches_past
 returns-then-reaches_past c new all =
     let a = c.args in
-    let p = lent a.h a.handles.now a.extents.now a.clocks.now a.named.now a.dues.now in
-    rw (found a.task a.handle a.offset a.count a.small.now a.large.now p new all, ← c.find_bytes.ensures, c.in-At.is, ← c.reaches_past.ensures, c.if-reaches_past.true)
+    let p = lent a.h a.blocks.now a.expirations.now in
+    rw (found a.task a.handle a.offset a.count a.small.now a.large.now p new all, ← c.find_bytes.ensures, c.in_ok-part.was, ← c.reaches_past.ensures, c.if-reaches_past.true)
 
-pub returns-else-reaches_past : goal.returns-else-reaches_past
-returns-else-reaches_past c new all =
+pub returns : goal.returns
+returns c new all =
     let a = c.args in
-    let p = lent a.h a.handles.now a.extents.now a.clocks.now a.named.now a.dues.now in
-    rw (found a.task a.handle a.offset a.count a.small.now a.large.now p new all, ← c.find_bytes.ensures, c.in-At.is, ← c.reaches_past.ensures, c.if-reaches_past.false)
+    let p = lent a.h a.blocks.now a.expirations.now in
+    rw (found a.task a.handle a.offset a.count a.small.now a.large.now p new all, ← c.find_bytes.ensures, c.in_ok-part.was, ← c.reaches_past.ensures, c.if-reaches_past.false)

@@ -1,10 +1,9 @@
 -- A count of the blocks from one place to before another.
-use Prim.Native.Nat.{◌+◌}
-use lib.ListN.{take, drop}
+use Rattle.std.proofs.Common.{◌+◌, length}
 use Rattle.lists.specs.Tests.{count}
 use Rattle.lists.proofs.Loops.{Scanned}
 use Rattle.objects.specs.Usage.{is_given}
 use Rattle.objects.proofs.report.used_blocks.Given as goal
 
-abbrev pub invariant-loop-i : goal.invariant-loop-i
-invariant-loop-i l = Scanned (count is_given (drop l.start (take l.end l.handles))) l.handles l.end l.i (λ ys. l.n + count is_given ys)
+abbrev pub invariant-loop-handle : goal.invariant-loop-handle
+invariant-loop-handle l = Scanned (count is_given l.handle-items) l.handle-items (length l.handle-items) l.handle-index (λ ys. l.n + count is_given ys)

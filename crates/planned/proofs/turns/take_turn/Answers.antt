@@ -1,19 +1,20 @@
--- Nothing, or the first calls and the last one.
-use mathlib.Core.Path.{sym, ◌∙◌}
-use Rattle.planned.proofs.Turning.{takes_none, takes}
+-- Each arm by its own calls.
+use Rattle.std.proofs.Common.{arith}
+use Rattle.std.proofs.lemmas.Grind.{common_steps}
+use Rattle.planned.proofs.Turning.{rests, begins, replies, quits}
 use Rattle.planned.proofs.turns.take_turn.Goals as goal
 
-pub returns-then-rests : goal.returns-then-rests
-returns-then-rests c = (
-  c.requires.1.0,
-  takes_none c.args.step c.args.task c.args.t c.turn_of-turn.ensures (sym c.rests.ensures ∙ c.if-rests.true)
-      c.requires.1.1,
-)
+pub returns-in-Rests : goal.returns-in-Rests
+returns-in-Rests c = rests _ _ _ c.turn_of.ensures _ c.in-Rests.is
 
-pub returns : goal.returns
-returns c = let (sized, last) = c.send-last.ensures in
-    let (first-sized, first) = c.first_calls-opened.ensures in (
-      sized,
-      takes c.args.step c.args.task c.args.t c.turn_of-turn.ensures (sym c.rests.ensures ∙ c.if-rests.false) first
-          c.closing-event.ensures last c.track_after-track.ensures,
-    )
+pub returns-in-Begins : goal.returns-in-Begins
+returns-in-Begins c =
+    begins _ _ _ c.turn_of.ensures c.in-Begins.is c.made_by.ensures c.send-answer.ensures c.opened_by-track.ensures c.closing.ensures
+    c.schedule.ensures (grind (arith, common_steps))
+
+pub returns-in-Replied : goal.returns-in-Replied
+returns-in-Replied c =
+    replies _ _ _ c.turn_of.ensures c.in-Replied.is c.schedule-in-Replied.ensures c.send.ensures c.schedule-in-Replied-2.ensures
+
+pub returns-in-Quits : goal.returns-in-Quits
+returns-in-Quits c = quits _ _ _ c.turn_of.ensures c.in-Quits.is c.schedule-in-Quits.ensures c.schedule-in-Quits-2.ensures

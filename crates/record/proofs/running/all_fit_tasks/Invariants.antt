@@ -6,5 +6,5 @@ use Rattle.ledger.specs.Limits.{task_count}
 use Rattle.record.specs.WellFormed.{is_fit_task}
 use Rattle.record.proofs.running.all_fit_tasks.Given as goal
 
-abbrev pub invariant-loop-i : goal.invariant-loop-i
-invariant-loop-i l = Scanned (all is_fit_task l.tasks) l.tasks task_count l.i (λ ys. l.fit && all is_fit_task ys)
+abbrev pub invariant-loop-task : goal.invariant-loop-task
+invariant-loop-task l = Scanned (all is_fit_task l.task-items) l.task-items task_count l.task-index (λ ys. l.fit && all is_fit_task ys)

@@ -7,13 +7,13 @@ use Rattle.record.proofs.running.all_ticked.Goals as goal
 
 pub returns-then-is_pending : goal.returns-then-is_pending
 returns-then-is_pending c = let l = c.before.before.before.before in
-    scanned_stop _ absent_entry l.loop-i.invariant (search rules) (λ ys. ticked_stop _ _ ys c.is_pending.ensures c.if-is_pending.true)
+    scanned_stop _ absent_entry l.loop-task.invariant (search rules) (λ ys. ticked_stop _ _ ys c.is_pending.ensures c.if-is_pending.true)
     ∙ ticked_start l.args.tasks
 
-pub loop-i-preserved : goal.loop-i-preserved
-loop-i-preserved c = let pending = c.is_pending.ensures in
-    scanned_turn _ absent_entry c.loop-i.invariant (search rules)
+pub loop-task-preserved : goal.loop-task-preserved
+loop-task-preserved c = let pending = c.is_pending.ensures in
+    scanned_turn _ absent_entry c.loop-task.invariant (search rules)
     (λ ys. ticked_turn _ _ ys c.is_running-some.ensures pending c.if-is_pending.false)
 
 pub returns : goal.returns
-returns c = sym (ticked_end _) ∙ scanned_end c.loop-i.invariant (search rules) ∙ ticked_start c.args.tasks
+returns c = sym (ticked_end _) ∙ scanned_end c.loop-task.invariant (search rules) ∙ ticked_start c.args.tasks

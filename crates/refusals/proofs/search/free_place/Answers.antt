@@ -11,12 +11,12 @@ use Rattle.refusals.proofs.search.free_place.Goals as goal
 pub first_with-requires : goal.first_with-requires
 first_with-requires c =
     let e : c.end_for-end.result ≡ c.args.limits.small = c.end_for-end.ensures ∙ rw (le-leb _ _ c.if-size-le-SMALL_SIZE.true) in
-    (c.requires.0, omega arith, omega (arith, e, (allowed c.args.limits c.requires.1).most_small))
+    (omega arith, omega (arith, e, (allowed c.args.limits c.requires).most_small))
 
 pub first_with-requires-else-size-le-SMALL_SIZE : goal.first_with-requires-else-size-le-SMALL_SIZE
 first_with-requires-else-size-le-SMALL_SIZE c =
     let e : c.end_for-end.result ≡ capacity.small + c.args.limits.large = c.end_for-end.ensures ∙ rw (lt-leb _ _ c.if-size-le-SMALL_SIZE.false) in
-    (c.requires.0, omega (arith, e), omega (arith, e, (allowed c.args.limits c.requires.1).most_large))
+    (omega (arith, e), omega (arith, e, (allowed c.args.limits c.requires).most_large))
 
 pub returns-then-size-le-SMALL_SIZE : goal.returns-then-size-le-SMALL_SIZE
 unfolding free_place_in

@@ -2,5 +2,5 @@
 use Rattle.refusals.proofs.Firsts.{firsts_start}
 use Rattle.refusals.proofs.table.firsts.Goals as goal
 
-pub loop-n-init : goal.loop-n-init
-loop-n-init c = firsts_start _
+pub loop-block-init : goal.loop-block-init
+loop-block-init c = firsts_start _

@@ -1,8 +1,6 @@
 -- From the last block to the first.
-use Prim.Native.Nat.{◌-◌}
-use Rattle.record.specs.Tables.{block_entries}
 use Rattle.refusals.specs.Firsts.{FirstBlocks}
 use Rattle.refusals.proofs.table.firsts.Given as goal
 
-abbrev pub invariant-loop-n : goal.invariant-loop-n
-invariant-loop-n l = FirstBlocks (block_entries - l.n) l.handles l.out
+abbrev pub invariant-loop-block : goal.invariant-loop-block
+invariant-loop-block l = FirstBlocks l.block l.handles l.out

@@ -1,7 +1,7 @@
 -- Those of the first blocks.
-use native.Mathlib.Omega.{arith}
-use Rattle.shares.proofs.Counting.{counted_turn}
+use borrow.Author.Rules.{rules}
+use Rattle.shares.proofs.Counting.{counted_part}
 use Rattle.shares.proofs.makers.count.Goals as goal
 
-pub loop-i-preserved : goal.loop-i-preserved
-loop-i-preserved c = (omega arith, counted_turn c.loop-i.invariant.1 (omega arith))
+pub loop-flag-preserved : goal.loop-flag-preserved
+loop-flag-preserved c = rw c.from-sum.ensures (counted_part c.requires (search rules) c.loop-flag-test.true c.loop-flag.invariant.1)

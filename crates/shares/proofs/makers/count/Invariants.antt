@@ -1,7 +1,7 @@
 -- Those of the first blocks.
-use Prim.Native.Nat.{◌≤◌}
+use Prim.Native.Nat.{◌+◌, ◌≤◌}
 use Rattle.shares.specs.Counting.{CountedIn}
 use Rattle.shares.proofs.makers.count.Given as goal
 
-abbrev pub invariant-loop-i : goal.invariant-loop-i
-invariant-loop-i l = (l.i ≤ l.to) × CountedIn l.used l.from l.i l.sum
+abbrev pub invariant-loop-flag : goal.invariant-loop-flag
+invariant-loop-flag l = (l.from + l.flag-index ≤ l.to) × CountedIn l.used l.from (l.from + l.flag-index) l.sum

@@ -1,10 +1,12 @@
--- The sum of the first numbers.
-use borrow.Author.Rules.{rules}
-use Rattle.lists.proofs.Tallies.{added_start, added_turn}
+-- The sum of the bytes.
+use Rattle.std.proofs.Common.{rules}
+use Rattle.std.proofs.iter.runs.Made.{chains}
+use Rattle.std.proofs.iter.runs.Sources.{sums}
+use Rattle.shares.proofs.Counting.{totals_of}
 use Rattle.shares.proofs.makers.total.Goals as goal
 
-pub loop-i-init : goal.loop-i-init
-loop-i-init c = added_start _ 16 255
+pub sum-requires-clause-fits : goal.sum-requires-clause-fits
+sum-requires-clause-fits c = search (rules, sums)
 
-pub loop-i-preserved : goal.loop-i-preserved
-loop-i-preserved c = added_turn c.loop-i.invariant (search rules) c.wide-sum.ensures.so c.wide-sum.ensures.most
+pub returns : goal.returns
+returns c = totals_of {numbers = c.args.numbers} (search rules) (search rules) (search (rules, chains))

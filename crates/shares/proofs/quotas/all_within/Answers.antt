@@ -18,7 +18,7 @@ loop-i-init c = scanned_start (all_from 0 (is_quota_kept c.args.small c.args.mad
 pub loop-i-preserved : goal.loop-i-preserved
 loop-i-preserved c =
     kept_turn (is_quota_kept c.args.small c.args.made) no_share c.loop-i.fit c.loop-i.invariant (search rules)
-    (c.is_within-fit.ensures ∙ ap (λ (q : Quota). is_ordered q && leb (get_or c.args.made c.loop-i.i 0) q.limit) c.quota_in-quota.ensures)
+    (c.is_within-fit.ensures ∙ ap (λ (q : Quota). is_ordered q && leb (get_or c.args.made c.loop-i.i 0) q.limit) c.of_store.ensures)
 
 pub returns : goal.returns
 returns c = kept_end (is_quota_kept c.args.small c.args.made) _ c.loop-i.invariant (search rules)

@@ -6,4 +6,4 @@ use Rattle.shares.specs.Quotas.{is_quota_kept}
 use Rattle.shares.proofs.quotas.all_within.Given as goal
 
 abbrev pub invariant-loop-i : goal.invariant-loop-i
-invariant-loop-i l = Scanned (all_from 0 (is_quota_kept l.small l.made) l.shares) l.shares 16 l.i (λ ys. l.fit && all_from l.i (is_quota_kept l.small l.made) ys)
+invariant-loop-i l = Scanned (all_from 0 (is_quota_kept l.small l.made) l.share-items) l.share-items 16 l.i (λ ys. l.fit && all_from l.i (is_quota_kept l.small l.made) ys)

@@ -2,5 +2,5 @@
 use Rattle.sheet.proofs.PutOff.{PutOff}
 use Rattle.sheet.proofs.aging.put_off_all.Given as goal
 
-abbrev pub invariant-loop-t : goal.invariant-loop-t
-invariant-loop-t l = PutOff l.tasks l.clocks l.initial.units l.t l.units
+abbrev pub invariant-loop-task : goal.invariant-loop-task
+invariant-loop-task l = PutOff l.e-items l.clocks l.initial.units l.task l.units

@@ -1,7 +1,7 @@
--- Row by row.
-use borrow.Author.Rules.{rules}
-use Rattle.lists.proofs.Loops.{mapped_turn}
+-- What the closure computes.
+use Rattle.std.proofs.Common.{rules}
+use Rattle.sheet.specs.Passes.{put_off_of}
 use Rattle.sheet.proofs.passes.put_off.Goals as goal
 
-pub loop-i-preserved : goal.loop-i-preserved
-loop-i-preserved c = mapped_turn 0 _ c.loop-i.invariant (search rules) c.added.ensures
+pub returns : goal.returns
+returns c = c.remake.ensures (put_off_of c.args.code) (λ clock units r h k e. search rules)

@@ -2,5 +2,5 @@
 use Rattle.text.proofs.HandleBytes.{Stored}
 use Rattle.text.proofs.batches.handle_bytes.Given as goal
 
-abbrev pub invariant-loop-i : goal.invariant-loop-i
-invariant-loop-i l = Stored l.handles l.initial.bytes l.i-end l.i l.bytes l.count
+abbrev pub invariant-loop-handle : goal.invariant-loop-handle
+invariant-loop-handle l = Stored l.enough l.initial.bytes l.handle-index l.bytes l.count
