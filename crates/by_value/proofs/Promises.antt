@@ -1,4 +1,4 @@
--- From what the calls on lent_numbers columns promise to what the entries promise: the record put together, and the reply told.
+-- From what the calls on lent tables promise to what the entries promise: the record put together, and the reply told.
 use Prim.Native.Nat.{ℕ}
 use mathlib.Core.List.{List, [], ◌∷◌}
 use mathlib.Core.Path.{◌≡◌, refl, ap, ◌∙◌}
@@ -23,11 +23,11 @@ use Rattle.by_value.specs.Entries.{DoesWith, Does, MakesOne}
 use Rattle.by_value.specs.declared.Numbered.{Numbered}
 use Rattle.by_value.proofs.Replies.{carried_out, by_reply}
 
--- an answer by its number, and the record that is left: what `give_back` and `refused` give
+-- an answer by its number, and the record that is left: what `store` and `refused` leave
 abbrev pub Gave : Answer → Pool → Numbered → Type 0
 Gave answer p' r = (r.number ≡ answer_number answer) × (r.pool ≡ p')
 
--- what the lent_numbers numbers come to after an answer
+-- what the lent numbers come to after an answer
 pub record Tells (answer : Answer) (numbers numbers' : List ℕ) : Type 0 where
   pub now : numbers' ≡ overwritten 0 (numbers_of answer []) numbers
 

@@ -2,8 +2,9 @@
 use Prim.Native.Nat.{ℕ, ◌≤◌, ◌<◌}
 use mathlib.Core.Bool.{Bool, true, false, true≢false, not}
 use mathlib.Core.List.{List, [], ◌∷◌}
-use mathlib.Core.Path.{◌≡◌, refl, sym, ◌∙◌}
-use borrow.Author.Tests.{not-true, not-false, le-ltb, lt-ltb}
+use mathlib.Core.Path.{◌≡◌, refl, sym, ◌∙◌, ap}
+use Rattle.std.specs.Prelude.{Option, None, Some, is_some}
+use borrow.Author.Tests.{le-ltb, lt-ltb}
 use lib.Dec.{ltb}
 use lib.ListN.{get_or}
 use Rattle.ledger.specs.Limits.{task_count}
@@ -21,8 +22,8 @@ use Rattle.steps.proofs.Shares.{shares_alike, made_alike}
 use Rattle.shares.specs.Holdings.{Holds, HoldsBoth}
 use Rattle.shares.specs.declared.Holding.{Holding}
 use Rattle.shares.specs.declared.Holdings.{Holdings}
-use Rattle.shares.specs.declared.Sharing.{Sharing}
 use Rattle.fitness.specs.Fitness.{Fitness}
+use Rattle.fitness.proofs.Found.{held_found}
 use Rattle.record.proofs.ByValue.{fits_by_value}
 use Rattle.by_value.specs.Entries.{share_shown, TellsShare}
 
@@ -40,13 +41,13 @@ shown_by : {t : Tables} {small large : List ℕ} {L : Ledger} → Reading.Reads 
     → numbers_of (get_or t.shares task no_share) (get_or holdings.small.made task 0) (get_or holdings.large.made task 0) ≡ share_shown L.memory task
 shown_by reads held task l = rw (made_read reads true held.small task l, made_read reads false held.large task l, shares_alike reads)
 
-module _ (p : Pool) {sharing : Sharing} (told : Fitness p.head p.blocks p.expirations sharing) where
-  fits : sharing.fit ≡ is_well_formed p
+module _ (p : Pool) {found : Option Holdings} (told : Fitness p.head p.blocks p.expirations found) where
+  fits : is_some found ≡ is_well_formed p
   fits = fits_by_value p told.fit
 
-  pub none_shared : not sharing.fit ≡ true → {task : ℕ} {old : List ℕ} {number : ℕ} → number ≡ number_of NotWellFormed → TellsShare p task old number old
+  pub none_shared : found ≡ None → {task : ℕ} {old : List ℕ} {number : ℕ} → number ≡ number_of NotWellFormed → TellsShare p task old number old
   none_shared t n =
-      let unfit : is_well_formed p ≡ false = sym fits ∙ not-true sharing.fit t in
+      let unfit : is_well_formed p ≡ false = sym fits ∙ ap is_some t in
       record {
         unfit = λ f. (n, refl);
         unknown = λ f k. absurd (true≢false (sym f ∙ unfit));
@@ -54,9 +55,9 @@ module _ (p : Pool) {sharing : Sharing} (told : Fitness p.head p.blocks p.expira
         tells = λ f k small large L r. absurd (true≢false (sym f ∙ unfit));
       }
 
-  module _ (t : not sharing.fit ≡ false) where
+  module _ {holdings : Holdings} (some : found ≡ Some holdings) where
     fit : is_well_formed p ≡ true
-    fit = sym fits ∙ not-false sharing.fit t
+    fit = sym fits ∙ ap is_some some
 
     pub unknown_shared : {task : ℕ} → task_count ≤ task → {old : List ℕ} {number : ℕ} → number ≡ number_of NoSuchTask → TellsShare p task old number old
     unknown_shared {task} k n =
@@ -69,10 +70,10 @@ module _ (p : Pool) {sharing : Sharing} (told : Fitness p.head p.blocks p.expira
         }
 
     pub known_shared : {task : ℕ} → task < task_count → {old : List ℕ}
-        → TellsShare p task old 0 (numbers_of (get_or p.head.shares task no_share) (get_or sharing.holdings.small.made task 0) (get_or sharing.holdings.large.made task 0))
+        → TellsShare p task old 0 (numbers_of (get_or p.head.shares task no_share) (get_or holdings.small.made task 0) (get_or holdings.large.made task 0))
     unfolding tables_of tables_by
     known_shared {task} k =
-        let held = told.held (sym told.fit ∙ not-false sharing.fit t) in
+        let held = held_found told some in
         record {
           unfit = λ f. absurd (true≢false (sym fit ∙ f));
           unknown = λ f q. absurd (true≢false (sym (lt-ltb task task_count k) ∙ q));

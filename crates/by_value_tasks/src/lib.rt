@@ -223,17 +223,16 @@ pub fn share(
         (made.new ∷ reserve.new ∷ limit.new ∷ largemade.new ∷ largereserve.new
         ∷ largelimit.new ∷ []) }
 {
-    let sharing = fitness_of(p.head, &p.blocks, &p.expirations);
-    if !sharing.fit {
+    let Some(holdings) = fitness_of(p.head, &p.blocks, &p.expirations) else {
         return u8::from(Refusal::NotWellFormed);
-    }
+    };
     if TASK_COUNT <= task as usize {
         return u8::from(Refusal::NoSuchTask);
     }
     let shares = p.head.shares;
     let own = shares[task as usize];
-    let small = sharing.holdings.small.made;
-    let large = sharing.holdings.large.made;
+    let small = holdings.small.made;
+    let large = holdings.large.made;
     *made = small[task as usize];
     *reserve = own.small.reserve;
     *limit = own.small.limit;

@@ -1,4 +1,4 @@
--- What the calls on lent tables promise, by the record that has this head and these columns.
+-- What the calls on lent tables promise, by the record that has this head and these tables.
 use Rattle.record.specs.declared.ExpirationTable.{ExpirationTable}
 use Rattle.record.specs.declared.BlockTable.{BlockTable}
 use Rattle.record.specs.declared.GlobalTime.{GlobalTime}
@@ -58,7 +58,7 @@ pub record FollowsBeside (request : Request) (h : Head) (blocks : BlockTable) (e
   pub follows : is_well_formed (pooled h blocks expirations) ≡ true
       → Follows request (pooled h blocks expirations) answer (pooled h' blocks' expirations')
 
--- A call that changes the head alone, whatever columns stand beside it, of whose blocks so much is known.
+-- A call that changes the head alone, whatever tables stand beside it, of whose blocks so much is known.
 pub record FollowsAlone (Known : List BlockEntry → Type 0) (request : Request) (h : Head) (answer : Answer) (h' : Head) : Type 0 where
   pub follows : (blocks : BlockTable) (expirations : ExpirationTable) → Sized blocks expirations → Known (block_list blocks)
       → is_well_formed (pooled h blocks expirations) ≡ true

@@ -222,7 +222,7 @@ pub fn make(
     answered(Answer::Handle(handle), with_given(h, handle))
 }
 
-// Sets one more expiration. (What it gives back is written out: by `answered` the compiler copies two columns once more than it has to.)
+// Sets one more expiration.
 pub fn refresh(
     h: Head,
     blocks: &BlockTable,

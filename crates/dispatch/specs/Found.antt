@@ -16,7 +16,7 @@ abbrev pub where_found : Result Part Refusal → Head → Step
 where_found (Ok part) h = record { head = h; answer = Bytes; block = part.block; length = part.length }
 where_found (Err why) h = refused_by why h
 
--- what a caller by value is given, with the columns that were left
+-- what a caller by value is given, with the tables that were left
 abbrev pub given_back : Step → BlockTable → ExpirationTable → Called
 given_back r blocks expirations =
     record { answer = r.answer; pool = pooled r.head blocks expirations; block = r.block; length = r.length }

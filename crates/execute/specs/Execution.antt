@@ -32,7 +32,7 @@ pub record Executes (line : List ℕ) (p : Pool) (small large out : List ℕ) (r
   pub numbered : r.number ≡ answer_number called.answer
   pub shown : Puts 0 (answer_line called.answer (reply_of called small' large').bytes) out out' r.length
 
--- what a caller by value is given, with the columns that were left
+-- what a caller by value is given, with the tables that were left
 abbrev pub executed_of : Carried → BlockTable → ExpirationTable → Executed
 executed_of r blocks expirations = record { pool = pooled r.head blocks expirations; number = r.number; length = r.length }
 

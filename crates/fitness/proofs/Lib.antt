@@ -7,3 +7,4 @@ pub mod Once
 pub mod PastFigures
 pub mod Whole
 pub mod Judged
+pub mod Found

@@ -19,26 +19,12 @@ use blocks::check_blocks;
 use bounds::is_bounded;
 use codes::{all_coded, flags_of};
 use handles::{distinct, used_of};
-use ledger::{TASK_COUNT, is_allowed};
+use ledger::is_allowed;
 use pins::pinned_once;
 use record::running::{all_fit_tasks, all_ticked};
 use record::{BLOCK_COUNT, BlockTable, ExpirationTable, Head};
-use shares::{Holding, Holdings, Sharing, sharing_of};
+use shares::{Holdings, sharing_of};
 use times::all_timely;
-
-// What a record that is not well-formed is said to hold: nothing.
-const NOTHING: Holding = Holding {
-    made: [0; TASK_COUNT],
-    spoken: 0,
-};
-
-const UNFIT: Sharing = Sharing {
-    fit: false,
-    holdings: Holdings {
-        small: NOTHING,
-        large: NOTHING,
-    },
-};
 
 // The rules W, of the whole record but for its figures and shares.
 fn is_consistent(
@@ -73,26 +59,23 @@ fn is_consistent(
     distinct(&blocks.handles, &used) & pinned_once(&expirations.clocks, &expirations.named)
 }
 
-// The rules W, of the whole record; and what of either store its tasks have.
-pub fn fitness_of(h: Head, blocks: &BlockTable, expirations: &ExpirationTable) -> Sharing
+// What of either store its tasks have, where the record is well-formed: the rules W.
+pub fn fitness_of(h: Head, blocks: &BlockTable, expirations: &ExpirationTable) -> Option<Holdings>
     requires { Sized blocks.now expirations.now }
     ensures { Fitness h blocks.now expirations.now
         result }
 {
     let limits = h.limits;
     if !is_allowed(limits) {
-        return UNFIT;
+        return None;
     }
     let used = used_of(&blocks.handles);
     if !is_consistent(h, used, blocks, expirations) {
-        return UNFIT;
+        return None;
     }
     let sharing = sharing_of(h, &used, &blocks.extents);
-    let holdings = sharing.holdings;
-    Sharing {
-        fit: is_bounded(limits, &blocks.handles, &expirations.clocks) & sharing.fit,
-        holdings,
-    }
+    let fit = is_bounded(limits, &blocks.handles, &expirations.clocks) & sharing.fit;
+    if fit { Some(sharing.holdings) } else { None }
 }
 
 pub fn is_well_formed(h: Head, blocks: &BlockTable, expirations: &ExpirationTable) -> bool
@@ -100,6 +83,5 @@ pub fn is_well_formed(h: Head, blocks: &BlockTable, expirations: &ExpirationTabl
     ensures { result ≡ is_well_formed
         (lent h blocks.now expirations.now) }
 {
-    let sharing = fitness_of(h, blocks, expirations);
-    sharing.fit
+    fitness_of(h, blocks, expirations).is_some()
 }

@@ -16,18 +16,11 @@ use refusals::{
 };
 use shares::{Holding, of_store};
 
-// Q5: by how much a reserve is unmet.
-fn unmet(reserve: u8, made: u8) -> u8
-    ensures { result ≡ reserve - made }
-{
-    if made < reserve { reserve - made } else { 0 }
-}
-
 // 9, by what of a store is spoken for: of that, the task's own unmet reserve is held back for nobody else.
 fn is_filled(blocks: u32, reserve: u8, made: u8, spoken: u32) -> bool
     ensures { result ≡ leb (blocks + (reserve - made)) spoken }
 {
-    blocks as u64 + unmet(reserve, made) as u64 <= spoken as u64
+    u64::from(blocks) + u64::from(reserve.saturating_sub(made)) <= u64::from(spoken)
 }
 
 // A make, with the first free block, where so many expirations stand and the tasks have this of its store.

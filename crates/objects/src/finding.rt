@@ -1,5 +1,5 @@
 // Where an object is: one finding (O30), which remaining life, refresh, release, read and write make after the tests that go before it. The
-// record is well-formed, or its figures would not fit; `extents` are lent for that alone where no length is asked.
+// record is well-formed, or its figures would not fit.
 ghost use Rattle.std.specs.Prelude.{ℕ, true, false, ◌≡◌, length, List, [], ◌∷◌, ◌++◌};
 ghost use Rattle.record.specs.Reading.{is_whole_small, is_whole_large};
 ghost use Rattle.record.specs.Tables.{Sized, lent};

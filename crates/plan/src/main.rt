@@ -6,7 +6,7 @@ ghost use Rattle.std.specs.Io.KnownBytes.{Appends};
 ghost use Rattle.plan.specs.Program.{written_for};
 
 use input::fill;
-use planned::output::print_plan;
+use planned::output::output_of;
 use std::io;
 use std::io::{Read, Write};
 
@@ -20,7 +20,8 @@ fn run<R: Read + Drop, W: Write>(mut input: R, output: &mut W) -> io::Result<()>
 {
     let mut buffer = [0u8; LONGEST_PLAN + 1];
     let count = fill(&mut input, &mut buffer)?;
-    print_plan(&buffer[..count], output)
+    let shown = output_of(&buffer[..count]);
+    output.write_all(&shown.bytes[..shown.count])
 }
 
 fn main(rt: HostRuntime) -> io::Result<()> {

@@ -1,53 +1,101 @@
--- Lines of numbers, printed one after the other.
-use Rattle.std.specs.Prelude.{Option, Some, None, is_some, is_none}
-use Rattle.std.specs.Io.KnownBytes.{Appends}
-use Rattle.std.proofs.KnownBytes.{Appends-nil, Appends-trans}
-use Prim.Native.Nat.{ℕ, zero, suc, ◌+◌, ◌/◌, ◌%◌, ◌≤◌, ◌<◌, ◌^◌}
+-- Lines of numbers put into a buffer.
+use Rattle.std.specs.Prelude.{Option, Some, None, is_some, is_none, true}
+use Prim.Native.Nat.{ℕ, ◌+◌, ◌*◌, ◌≤◌, ◌<◌}
 use native.Mathlib.Numerals.{add-one}
 use native.Mathlib.Omega.{arith}
-use mathlib.Core.Bool.{Bool, true, cond}
 use mathlib.Core.List.{List, [], ◌∷◌, ◌++◌, append_assoc, append-nil}
-use mathlib.Core.Path.{◌≡◌, sym, ap, subst, ◌∙◌}
-use borrow.Author.Tests.{lt-ltb, le-ltb}
+use mathlib.Core.Path.{◌≡◌, refl, sym, ap, subst, ◌∙◌}
+use mathlib.Core.Bool.{Bool, cond}
 use mir.Val.{bool_byte}
-use lib.ListN.{length, get_or, take}
-use lib.Seq.{take-suc}
-use Rattle.std.specs.Fmt.{decimal}
-use Rattle.std.proofs.lemmas.Fmt.{decimal_by_steps}
-use Rattle.lists.specs.Tests.{All}
-use Rattle.ledger.specs.Limits.{standard}
+use lib.ListN.{length, get_or, take, length-append}
+use lib.Seq.{take-suc, take_all}
+use Rattle.lists.proofs.Blocks.{length_overwritten, overwritten_nothing, take_new}
+use Rattle.ledger.specs.Limits.{task_count, standard}
 use Rattle.ledger.specs.Plans.{run, figures}
 use Rattle.ledger.specs.declared.plans.Channel.{Channel}
 use Rattle.ledger.specs.declared.plans.Poll.{Poll}
 use Rattle.ledger.specs.declared.plans.Track.{Track}
-use Rattle.text.specs.Decimals.{numeral_of, numeral, number_line}
+use Rattle.text.specs.Decimals.{places, numeral, number_line}
+use Rattle.text.specs.Hex.{Puts}
+use Rattle.text.proofs.Numerals.{numeral_length}
+use Rattle.text.proofs.Puts.{puts_on}
 use Rattle.plan_text.specs.Texts.{is_plan}
 use Rattle.plan_text.specs.Reading.{plan_of}
-use Rattle.plan_text.proofs.Numerals.{ten}
 use Rattle.plan_text.proofs.Sound.{sound}
-use Rattle.planned.specs.Bounds.{step_count, Bounded}
-use Rattle.planned.specs.Output.{lines_of, output_by, output_of}
-use Rattle.planned.proofs.Bounding.{run_bounded}
-use Rattle.planned.proofs.Stepping.{all_at}
+use Rattle.planned.specs.Bounds.{step_count}
+use Rattle.planned.specs.Output.{longest_line, lines_of, output_by, output_of, Shows}
 
--- `{}` writes the numeral of a number of five digits at most
-printed_of : (n : ℕ) → n < 2 ^ 64 → (k : ℕ) → n < ten (suc k) → decimal n ≡ numeral_of (suc k) n
-unfolding ten numeral_of
-printed_of = decimal_by_steps (λ m ds. (k : ℕ) → m < ten (suc k) → ds ≡ numeral_of (suc k) m) (λ m l k h. rw (lt-ltb m 10 l)) more
-  where
-    more : (m : ℕ) (ds : List ℕ) → 10 ≤ m → ((k : ℕ) → m / 10 < ten (suc k) → ds ≡ numeral_of (suc k) (m / 10)) → (k : ℕ)
-        → m < ten (suc k) → ds ++ ((48 + m % 10) ∷ []) ≡ numeral_of (suc k) m
-    more m ds l h zero b = absurd (omega (arith, l, b))
-    more m ds l h (suc k) b = rw (le-ltb m 10 l) (ap (λ (xs : List ℕ). xs ++ ((48 + m % 10) ∷ [])) (h k (omega (arith, b))))
+-- what is put moves the place on by its length, and the buffer stays as long
+pub room_after : {at end : ℕ} {new old after : List ℕ} (most : ℕ) → Puts at new old after end → length new ≤ most → at + most ≤ length old
+    → (end ≤ at + most) × (length after ≡ length old)
+room_after {at} {new = new} {old} most p short room =
+    (omega (arith, p.next, short), rw p.bytes (length_overwritten at new old (omega (arith, short, room))))
 
-printed : (n : ℕ) → n ≤ 10000 → decimal n ≡ numeral n
-unfolding ten
-printed n l = printed_of n (omega (arith, l)) 4 (omega (arith, l))
+-- a number with the character after it
+word_length : (n after : ℕ) → length (numeral n ++ (after ∷ [])) ≤ places + 1
+word_length n after = rw length-append (omega (arith, numeral_length places n))
 
-line_printed : (a b c d : ℕ) → a ≤ 10000 → b ≤ 10000 → c ≤ 10000 → d ≤ 10000
-    → decimal a ++ (32 ∷ (decimal b ++ (32 ∷ (decimal c ++ (32 ∷ (decimal d ++ (10 ∷ []))))))) ≡ number_line (a ∷ b ∷ c ∷ d ∷ [])
+pub word_room : {at end : ℕ} (n after : ℕ) {old new : List ℕ} → Puts at (numeral n ++ (after ∷ [])) old new end
+    → at + (places + 1) ≤ length old
+    → (end ≤ at + (places + 1)) × (length new ≡ length old)
+word_room n after p room = room_after (places + 1) p (word_length n after) room
+
+four_words : (a b c d : List ℕ) → (a ++ (32 ∷ [])) ++ ((b ++ (32 ∷ [])) ++ ((c ++ (32 ∷ [])) ++ (d ++ (10 ∷ []))))
+    ≡ a ++ (32 ∷ (b ++ (32 ∷ (c ++ (32 ∷ (d ++ (10 ∷ [])))))))
+four_words a b c d = simp append_assoc
+
+line_length : (a b c d : ℕ) → length (number_line (a ∷ b ∷ c ∷ d ∷ [])) ≤ longest_line
 unfolding number_line
-line_printed a b c d ha hb hc hd = rw (printed a ha, printed b hb, printed c hc, printed d hd)
+line_length a b c d =
+    rw (length-append, length-append, length-append, length-append)
+    (omega (arith, numeral_length places a, numeral_length places b, numeral_length places c, numeral_length places d))
+
+-- and there is room for the rest
+pub word_next : {at end : ℕ} (n after rest : ℕ) {old new : List ℕ} → Puts at (numeral n ++ (after ∷ [])) old new end
+    → at + (places + 1 + rest) ≤ length old → end + rest ≤ length new
+word_next n after rest p room =
+    let (on, same) = word_room n after p (omega (arith, room)) in
+    omega (arith, on, same, room)
+
+pub line_put : (a b c d m : ℕ) {at p₁ p₂ p₃ end : ℕ} {o₀ o₁ o₂ o₃ o₄ : List ℕ} → at + longest_line ≤ length o₀
+    → Puts at (numeral a ++ (32 ∷ [])) o₀ o₁ p₁ → Puts p₁ (numeral b ++ (32 ∷ [])) o₁ o₂ p₂ → Puts p₂ (numeral c ++ (32 ∷ [])) o₂ o₃ p₃
+    → m ≡ d → Puts p₃ (numeral m ++ (10 ∷ [])) o₃ o₄ end → Puts at (number_line (a ∷ b ∷ c ∷ d ∷ [])) o₀ o₄ end
+unfolding number_line
+line_put a b c d m {at} {p₁} {p₂} {p₃} {end} {o₀} {o₁} {o₂} {o₃} {o₄} room w x y e v =
+    let z : Puts p₃ (numeral d ++ (10 ∷ [])) o₃ o₄ end = rw (← e) v in
+    let (l₁, s₁) = word_room a 32 w (omega (arith, room)) in
+    let (l₂, s₂) = word_room b 32 x (omega (arith, room, l₁, s₁)) in
+    let k = word_length d 10 in
+    let last = puts_on y z (omega (arith, room, l₁, l₂, s₁, s₂, word_length c 32, k)) in
+    let more = puts_on x last (rw (length-append (numeral c ++ (32 ∷ [])) (numeral d ++ (10 ∷ [])))
+    (omega (arith, room, l₁, s₁, word_length b 32, word_length c 32, k))) in
+    let sum : length ((numeral b ++ (32 ∷ [])) ++ ((numeral c ++ (32 ∷ [])) ++ (numeral d ++ (10 ∷ [])))) ≤ 18 =
+    rw (
+      length-append (numeral b ++ (32 ∷ [])) ((numeral c ++ (32 ∷ [])) ++ (numeral d ++ (10 ∷ []))),
+      length-append
+          (numeral c ++ (32 ∷ [])) (numeral d ++ (10 ∷ [])),
+    )
+    (omega (arith, word_length b 32, word_length c 32, k)) in
+    subst (λ (new : List ℕ). Puts at new o₀ o₄ end) (four_words (numeral a) (numeral b) (numeral c) (numeral d))
+    (puts_on w more (omega (arith, room, word_length a 32, sum)))
+
+track_length : (t : Track) → length (number_line (figures t)) ≤ longest_line
+track_length t = line_length t.replies t.quits t.refusals _
+
+-- whether a poll is open, as a figure
+pub open_figure : (poll : Option Poll) {b : Bool} → b ≡ is_some poll → {n : ℕ} → n ≡ bool_byte b → n ≡ cond (is_none poll) 0 1
+open_figure None e f = f ∙ ap bool_byte e
+open_figure (Some poll) e f = f ∙ ap bool_byte e
+
+-- the lines of the first i channels
+pub record Printed (ts : List Track) (old : List ℕ) (i at : ℕ) (out : List ℕ) : Type 0 where
+  put : Puts 0 (lines_of (take i ts)) old out at
+  pub far : at ≤ i * longest_line
+  pub size : length out ≡ length old
+
+pub print_starts : (ts : List Track) (old : List ℕ) → Printed ts old 0 0 old
+unfolding lines_of
+print_starts ts old = record { put = record { bytes = sym (overwritten_nothing 0 old); next = refl }; far = omega arith; size = refl }
 
 lines_more : (ts : List Track) (t : Track) → lines_of (ts ++ (t ∷ [])) ≡ lines_of ts ++ number_line (figures t)
 unfolding lines_of
@@ -56,46 +104,46 @@ lines_more (s ∷ ts) t =
     ap (λ (xs : List ℕ). number_line (figures s) ++ xs) (lines_more ts t)
     ∙ sym (append_assoc (number_line (figures s)) (lines_of ts) (number_line (figures t)))
 
-pub print_starts : (a : Option (List ℕ)) → Appends a a (lines_of [])
-unfolding lines_of
-print_starts a = Appends-nil a
+pub print_room : {ts : List Track} {old : List ℕ} {i at : ℕ} {out : List ℕ} → Printed ts old i at out → i < task_count
+    → task_count * longest_line ≤ length old → at + longest_line ≤ length out
+print_room g k room = omega (arith, g.far, g.size, k, room)
 
--- whether a poll is open, as a figure
-open_figure : (poll : Option Poll) {b : Bool} → b ≡ is_some poll → {n : ℕ} → n ≡ bool_byte b → n ≡ cond (is_none poll) 0 1
-open_figure None e f = f ∙ ap bool_byte e
-open_figure (Some poll) e f = f ∙ ap bool_byte e
-
-open_most : (poll : Option Poll) → cond (is_none poll) 0 1 ≤ 10000
-open_most None = omega arith
-open_most (Some poll) = omega arith
-
-track_printed : (t : Track) → Bounded step_count t → (n : ℕ) → n ≡ cond (is_none t.poll) 0 1
-    → decimal t.replies ++ (32 ∷ (decimal t.quits ++ (32 ∷ (decimal t.refusals ++ (32 ∷ (decimal n ++ (10 ∷ [])))))))
-    ≡ number_line (figures t)
-track_printed t most n is = rw is (line_printed t.replies t.quits t.refusals _ most.replies most.quits most.refusals (open_most t.poll))
-
-pub print_turns : (ts : List Track) (i : ℕ) (d : Track) → All (Bounded step_count) ts → i < length ts → (a b c : Option (List ℕ))
-    → Appends a b (lines_of (take i ts)) → let t = get_or ts i d in
-    (some_open : Bool) → some_open ≡ is_some t.poll → (n : ℕ) → n ≡ bool_byte some_open
-    → Appends b c
-    (decimal t.replies ++ (32 ∷ (decimal t.quits ++ (32 ∷ (decimal t.refusals ++ (32 ∷ (decimal n ++ (10 ∷ []))))))))
-    → Appends a c (lines_of (take (i + 1) ts))
-print_turns ts i d bounded l a b c before some_open open_is n is now =
+pub print_turns : {ts : List Track} {old : List ℕ} {i at next : ℕ} {out after : List ℕ} (d : Track) → Printed ts old i at out
+    → i < length ts
+    → i < task_count → task_count * longest_line ≤ length old → Puts at (number_line (figures (get_or ts i d))) out after next
+    → Printed ts old (i + 1) next after
+print_turns {ts} {old} {i} {at} {next} {out} {after} d g l k room p =
     let t = get_or ts i d in
-    let most = all_at (Bounded step_count) d ts bounded i l in
-    let line = track_printed t most n (open_figure t.poll open_is is) in
-    subst (Appends a c)
-    (ap (λ (xs : List ℕ). lines_of (take i ts) ++ xs) line ∙ sym
-    (ap (λ (n : ℕ). lines_of (take n ts)) (add-one i) ∙ ap lines_of (take-suc ts i d l) ∙ lines_more (take i ts) t))
-    (Appends-trans a b c (lines_of (take i ts)) _ before now)
+    let short = track_length t in
+    let (on, same) = room_after longest_line p short (omega (arith, g.far, g.size, k, room)) in
+    let first : lines_of (take (i + 1) ts) ≡ lines_of (take i ts) ++ number_line (figures t) =
+    ap (λ (n : ℕ). lines_of (take n ts)) (add-one i) ∙ ap lines_of (take-suc ts i d l) ∙ lines_more (take i ts) t in
+    record {
+      put = rw first (puts_on g.put p (omega (arith, g.put.next, g.far, short, k, room)));
+      far = omega (arith, on, g.far);
+      size = same ∙ g.size;
+    }
 
--- a text that is a plan
+pub print_ends : {ts : List Track} {old : List ℕ} {i at : ℕ} {out : List ℕ} → Printed ts old i at out → length ts ≤ i → length ts ≤ task_count
+    → i ≤ length ts → task_count * longest_line ≤ length old → Puts 0 (lines_of ts) old out at × (at ≤ length out)
+print_ends {ts} {old} {i} {at} {out} g l most m room = (
+  subst (λ (xs : List Track). Puts 0 (lines_of xs) old out at) (take_all i ts l) g.put,
+  omega (arith, g.far, g.size, m, most, room),
+)
+
+-- a text that is a plan, and what is shown of it
 module _ (text : List ℕ) {plan : List Channel} (e : Some plan ≡ plan_of text) where
   pub planned : is_plan plan ≡ true
   planned = (sound text plan (sym e)).0
 
-  pub tracks_bounded : {ts : List Track} → ts ≡ (run standard plan step_count).tracks → All (Bounded step_count) ts
-  tracks_bounded same = rw same (run_bounded standard plan planned step_count)
-
-  pub output_is : {ts : List Track} → ts ≡ (run standard plan step_count).tracks → lines_of ts ≡ output_of text
-  output_is same = ap lines_of same ∙ ap output_by e
+  pub shows_lines : {ts : List Track} {old new : List ℕ} {end : ℕ} → ts ≡ (run standard plan step_count).tracks
+      → Puts 0 (lines_of ts) old new end × (end ≤ length new) → Shows (output_of text) (record { bytes = new; count = end })
+  shows_lines {ts} {old} {new} {end} same put =
+      let lines = lines_of ts in
+      let at_end : end ≡ length lines = omega (arith, put.0.next) in
+      record {
+        bytes =
+            rw (put.0.bytes, at_end) (take_new (length lines) lines old (omega arith) ∙ take_all (length lines) lines (omega arith))
+            ∙ ap lines_of same ∙ ap output_by e;
+        most = put.1;
+      }

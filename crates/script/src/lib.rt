@@ -43,6 +43,7 @@ pub fn run_on(
     let mut head = p.head;
     let mut blocks = p.blocks;
     let mut expirations = p.expirations;
+    // By place: a run of answers ends where its buffer does.
     while LONGEST_ANSWER <= out.len() - written {
         let Some(line) = lines.step() else {
             break;

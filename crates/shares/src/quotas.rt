@@ -12,19 +12,14 @@ use super::of_store;
 use ledger::{Quota, Share, TASK_COUNT};
 use record::TaskEntry;
 
-fn unmet(reserve: u8, made: u8) -> u8
-    ensures { result ≡ reserve - made }
-{
-    if made < reserve { reserve - made } else { 0 }
-}
-
-// Q5
+// Q5: by how much each task's reserve is unmet.
 pub fn unmets(shares: [Share; TASK_COUNT], made: [u8; TASK_COUNT], small: bool) -> [u8; TASK_COUNT]
     ensures { Unmets small shares made result }
 {
     let mut out = [0; TASK_COUNT];
     for (i, share) in shares.iter().enumerate() {
-        out[i] = unmet(of_store(small, share.small, share.large).reserve, made[i]);
+        let quota = of_store(small, share.small, share.large);
+        out[i] = quota.reserve.saturating_sub(made[i]);
     }
     out
 }

@@ -2,8 +2,6 @@
 ghost use Rattle.std.specs.Prelude.{◌≤◌, ◌≡◌, length};
 ghost use Rattle.sheet.specs.Setting.{object_count, Settable, Sets, is_counted, small_in, large_in, all_of};
 
-use super::sweeping::wide;
-
 // No script of 65,536 bytes sets more rows, or makes more objects.
 pub const ENTRY_COUNT: usize = 8192;
 
@@ -27,7 +25,7 @@ pub fn put(
     clocks[at] = clock;
     places[at] = place;
     units[at] = left;
-    counts[wide(place)] += 1;
+    counts[usize::from(place)] += 1;
 }
 
 // O2: whether an object stands.

@@ -4,13 +4,6 @@ ghost use Rattle.sheet.specs.Kept.{kept, Counts, Compacts, Sweepable, Sweeps};
 
 use super::passes::any_over;
 
-pub fn wide(place: u16) -> usize
-    ensures { (result ≡ place)
-        × (result < 65536) }
-{
-    place as usize
-}
-
 // One row less is counted for each that is over.
 fn uncount(places: &[u16], units: &[u8], counts: &mut [u16])
     requires { (length places.now ≡ length units.now)
@@ -19,7 +12,7 @@ fn uncount(places: &[u16], units: &[u8], counts: &mut [u16])
 {
     for (i, left) in units.iter().enumerate() {
         if *left == 0 {
-            counts[wide(places[i])] -= 1;
+            counts[usize::from(places[i])] -= 1;
         }
     }
 }

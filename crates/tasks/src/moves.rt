@@ -6,8 +6,9 @@ ghost use Rattle.steps.specs.Events.{verdict_of, cleared_entry, moved_entry, unt
 ghost use Rattle.tasks.specs.Steps.{is_leave, may_end};
 
 use ledger::{Event, Refusal, State, TASK_COUNT};
+use record::clock_time::ClockTime;
 use record::codes::{RUNNING, VIEWING, WAITING};
-use record::{ABSENT_TASK, GlobalTime, LocalTime, TaskEntry};
+use record::{ABSENT_TASK, GlobalTime, TaskEntry};
 
 // R37 to R39 and R49, after 1: leave 3; block and tick 3, 4, 27; resume 3, 5; view 2.
 #[tactic(auto, unfolding(ledger::specs::Rules::tests_of, ledger::specs::Refusals::verdict))]
@@ -62,9 +63,8 @@ fn cleared(state: u16, mut e: TaskEntry) -> TaskEntry
 fn ticked(mut e: TaskEntry) -> TaskEntry
     ensures { result ≡ moved_entry Tick e }
 {
-    let next = LocalTime(std::num::wrapping_add_u32(e.clock.0, 1));
     e.ticked = 1;
-    e.clock = next;
+    e.clock = e.clock.after(1);
     e
 }
 
@@ -131,8 +131,5 @@ pub fn advanced_tasks(advanced: bool, tasks: [TaskEntry; TASK_COUNT]) -> [TaskEn
 pub fn advanced_time(advanced: bool, global: GlobalTime) -> GlobalTime
     ensures { result ≡ advanced_time advanced global }
 {
-    if advanced {
-        return GlobalTime(std::num::wrapping_add_u32(global.0, 1));
-    }
-    global
+    if advanced { global.after(1) } else { global }
 }

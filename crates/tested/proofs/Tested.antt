@@ -2,6 +2,7 @@
 use Rattle.record.specs.declared.ExpirationTable.{ExpirationTable}
 use Rattle.record.specs.declared.BlockTable.{BlockTable}
 use Prim.Native.Nat.{ℕ}
+use Rattle.std.specs.Prelude.{Option, None, Some, is_some}
 use mathlib.Core.Bool.{Bool, true, false, true≢false, not}
 use mathlib.Core.List.{List}
 use mathlib.Core.Path.{◌≡◌, refl, sym, ◌∙◌}
@@ -27,9 +28,9 @@ use Rattle.calls.proofs.Served.{refused_serves}
 use Rattle.dispatch.specs.Needs.{HoldsFor}
 use Rattle.dispatch.proofs.Asking.{holds_for}
 use Rattle.record.proofs.ByValue.{fits_by_value}
-use Rattle.shares.specs.Holdings.{HoldsBoth}
-use Rattle.shares.specs.declared.Sharing.{Sharing}
+use Rattle.shares.specs.declared.Holdings.{Holdings}
 use Rattle.fitness.specs.Fitness.{Fitness}
+use Rattle.fitness.proofs.Found.{held_found}
 
 -- 15, by the test of the columns
 module _ (p : Pool) {fit : Bool} (f : fit ≡ WellFormed.is_well_formed (lent p.head p.blocks p.expirations)) where
@@ -43,10 +44,12 @@ pub lent_fit : (h : Head) (blocks : BlockTable) (expirations : ExpirationTable) 
     → is_well_formed (pooled h blocks expirations) ≡ true
 lent_fit h blocks expirations f passed = fit_by_value (pooled h blocks expirations) f passed
 
--- what the tasks have of the stores, by the same test
-pub held_lent : {h : Head} {blocks : BlockTable} {expirations : ExpirationTable} {sharing : Sharing} → Fitness h blocks expirations sharing → not sharing.fit ≡ false
-    → HoldsBoth h.shares (block_list blocks) sharing.holdings
-held_lent {sharing = sharing} told passed = told.held (sym told.fit ∙ not-false sharing.fit passed)
+-- whether holdings were found
+pub none_found : {found : Option Holdings} → found ≡ None → not (is_some found) ≡ true
+none_found e = rw e
+
+pub some_found : {found : Option Holdings} {holdings : Holdings} → found ≡ Some holdings → not (is_some found) ≡ false
+some_found e = rw e
 
 -- on lent columns: 15,
 module _ {h : Head} {blocks : BlockTable} {expirations : ExpirationTable} (sized : Sized blocks expirations) {fit : Bool} (f : fit ≡ WellFormed.is_well_formed (lent h blocks expirations)) where
@@ -99,19 +102,19 @@ module _ {h : Head} {blocks : BlockTable} {expirations : ExpirationTable} (sized
       wrong_written refused = (sized.blocks, wrong_lent refl refused)
 
 -- any call, by its request
-module _ {h : Head} {blocks : BlockTable} {expirations : ExpirationTable} (sized : Sized blocks expirations) {sharing : Sharing} (f : Fitness h blocks expirations sharing)
+module _ {h : Head} {blocks : BlockTable} {expirations : ExpirationTable} (sized : Sized blocks expirations) {found : Option Holdings} (f : Fitness h blocks expirations found)
     {request : Request} {small large : List ℕ} where
-  pub unfit_served : {new : List ℕ} → not sharing.fit ≡ true
+  pub unfit_served : {new : List ℕ} → found ≡ None
       → Sized blocks expirations
       × Serves request new (pooled h blocks expirations) small large (without_bytes (Refused NotWellFormed) (pooled h blocks expirations)) small large
-  unfit_served refused = (sized, refused_serves ((unfit_lent sized f.fit refused).1 small large))
+  unfit_served refused = (sized, refused_serves ((unfit_lent sized f.fit (none_found refused)).1 small large))
 
-  module _ (passed : not sharing.fit ≡ false) {stored : Bool} (s : stored ≡ is_stored request) where
+  module _ {holdings : Holdings} (some : found ≡ Some holdings) {stored : Bool} (s : stored ≡ is_stored request) where
     -- one that touches no store
     pub bare_ready : not stored ≡ true → Ready request (pooled h blocks expirations) small large
     bare_ready bare =
         record {
-          fit = lent_fit h blocks expirations f.fit passed;
+          fit = lent_fit h blocks expirations f.fit (some_found some);
           whole = λ touches. absurd (true≢false (sym touches ∙ sym s ∙ not-true stored bare));
         }
 
@@ -120,12 +123,12 @@ module _ {h : Head} {blocks : BlockTable} {expirations : ExpirationTable} (sized
       pub wrong_served : {new : List ℕ} → not whole ≡ true
           → Sized blocks expirations
           × Serves request new (pooled h blocks expirations) small large (without_bytes (Refused WrongStoreLength) (pooled h blocks expirations)) small large
-      wrong_served wrong = (sized, refused_serves (wrong_lent sized f.fit passed tells (sym (not-false stored touches) ∙ s) wrong))
+      wrong_served wrong = (sized, refused_serves (wrong_lent sized f.fit (some_found some) tells (sym (not-false stored touches) ∙ s) wrong))
 
       pub stored_ready : not whole ≡ false → Ready request (pooled h blocks expirations) small large
-      stored_ready right = ready_lent sized f.fit passed tells request (sym (not-false stored touches) ∙ s) right
+      stored_ready right = ready_lent sized f.fit (some_found some) tells request (sym (not-false stored touches) ∙ s) right
 
 -- past 15, the holdings are what any call asks for
-pub lent_holds : {h : Head} {blocks : BlockTable} {expirations : ExpirationTable} {sharing : Sharing} → Fitness h blocks expirations sharing → not sharing.fit ≡ false → (request : Request)
-    → HoldsFor request h.shares (block_list blocks) sharing.holdings
-lent_holds f passed request = holds_for (held_lent f passed) request
+pub lent_holds : {h : Head} {blocks : BlockTable} {expirations : ExpirationTable} {found : Option Holdings} {holdings : Holdings} → Fitness h blocks expirations found → found ≡ Some holdings
+    → (request : Request) → HoldsFor request h.shares (block_list blocks) holdings
+lent_holds f some request = holds_for (held_found f some) request

@@ -34,11 +34,10 @@ pub fn join(
         (pooled h blocks.now expirations.now) result.answer
         (pooled result.head blocks.now expirations.now) }
 {
-    let sharing = fitness_of(h, blocks, expirations);
-    if !sharing.fit {
+    let Some(holdings) = fitness_of(h, blocks, expirations) else {
         return refused(Refusal::NotWellFormed, h);
-    }
-    calls::join(h, sharing.holdings, task, share)
+    };
+    calls::join(h, holdings, task, share)
 }
 
 // A resume or a view.
@@ -102,18 +101,13 @@ pub fn make(
         (pooled result.head blocks.new expirations.new)
         small.new large.new }
 {
-    let sharing = fitness_of(h, blocks, expirations);
-    if !sharing.fit {
+    let Some(holdings) = fitness_of(h, blocks, expirations) else {
         return refused(Refusal::NotWellFormed, h);
-    }
+    };
     if !are_whole(h.limits, small.len(), large.len()) {
         return refused(Refusal::WrongStoreLength, h);
     }
-    let holding = of_store(
-        size as u32 <= SMALL_SIZE,
-        sharing.holdings.small,
-        sharing.holdings.large,
-    );
+    let holding = of_store(size as u32 <= SMALL_SIZE, holdings.small, holdings.large);
     calls::make(
         h,
         blocks,

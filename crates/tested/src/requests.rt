@@ -81,11 +81,9 @@ pub fn call(
         (given_back result blocks.new expirations.new)
         small.new large.new }
 {
-    let sharing = fitness_of(h, blocks, expirations);
-    if !sharing.fit {
+    let Some(holdings) = fitness_of(h, blocks, expirations) else {
         return refused(Refusal::NotWellFormed, h);
-    }
-    let holdings = sharing.holdings;
+    };
     if !is_stored(request) {
         return dispatch::call(
             h,
