@@ -19,6 +19,40 @@ pub const SMALL_SIZE: usize = ledger::SMALL_SIZE as usize;
 
 pub const LARGE_SIZE: usize = ledger::LARGE_SIZE as usize;
 
+// The bytes of one turn, which a machine moves as one word.
+const TURN: usize = 8;
+
+// All bytes zero: eight a turn, and the odd ones at the end singly.
+fn clear(part: &mut [u8])
+    ensures { part.new ≡ replicate (length part.old) 0 }
+{
+    let mut done = 0;
+    while TURN <= part.len() - done {
+        let end = done + TURN;
+        part[done..end].copy_from_slice(&[0; TURN]);
+        done = end;
+    }
+    for i in done..part.len() {
+        part[i] = 0;
+    }
+}
+
+// The bytes over a part of as many: eight a turn, and the odd ones at the end singly.
+fn copy(part: &mut [u8], bytes: &[u8])
+    requires { length part.old ≡ length bytes.now }
+    ensures { part.new ≡ bytes.now }
+{
+    let mut done = 0;
+    while TURN <= bytes.len() - done {
+        let end = done + TURN;
+        part[done..end].copy_from_slice(&bytes[done..end]);
+        done = end;
+    }
+    for i in done..bytes.len() {
+        part[i] = bytes[i];
+    }
+}
+
 // O11: all of the block zero, and the rest of the store as it was.
 #[tactic(auto, using(lists::proofs::Blocks::put_back_filled))]
 pub fn clear_block(store: &mut [u8], at: usize, size: usize)
@@ -26,7 +60,7 @@ pub fn clear_block(store: &mut [u8], at: usize, size: usize)
     ensures { store.new ≡ overwritten at (replicate size 0) store.old }
 {
     let end = at + size;
-    store[at..end].fill(0);
+    clear(&mut store[at..end]);
 }
 
 // O20, O21: new bytes in the block, and the rest of the store as it was.
@@ -36,7 +70,7 @@ pub fn write_block(store: &mut [u8], at: usize, bytes: &[u8])
     ensures { store.new ≡ overwritten at bytes.now store.old }
 {
     let end = at + bytes.len();
-    store[at..end].copy_from_slice(bytes);
+    copy(&mut store[at..end], bytes);
 }
 
 // Where a block starts in its store.
