@@ -23,7 +23,7 @@ use Rattle.by_value.specs.Entries.{DoesWith, Does, MakesOne}
 use Rattle.by_value.specs.declared.Numbered.{Numbered}
 use Rattle.by_value.proofs.Replies.{carried_out, by_reply}
 
--- an answer by its number, and the record that is left: what `store` and `refused` leave
+-- an answer by its number, and the record that is left: what `store_head` and `refused` leave
 abbrev pub Gave : Answer → Pool → Numbered → Type 0
 Gave answer p' r = (r.number ≡ answer_number answer) × (r.pool ≡ p')
 

@@ -7,7 +7,7 @@ ghost use Rattle.by_value.specs.Told.{handle_or};
 ghost use Rattle.by_value.specs.Entries.{Does, DoesWith, MakesOne};
 
 use super::Numbered;
-use super::taking::store;
+use super::taking::store_head;
 use ledger::{Answer, Kind};
 use record::Pool;
 use tested;
@@ -58,7 +58,7 @@ pub fn make_one_into(
     );
     let answer = step.answer;
     *handle = handle_or(*handle, answer);
-    store(step, left)
+    store_head(step, left)
 }
 
 // The same, given back.
@@ -103,7 +103,7 @@ pub fn refresh_one_into(
         extension,
         handle,
     );
-    store(step, left)
+    store_head(step, left)
 }
 
 // The same, given back.
@@ -139,7 +139,7 @@ pub fn refresh_each_into(
         extension,
         &bytes[..count],
     );
-    store(step, left)
+    store_head(step, left)
 }
 
 // The same, given back.

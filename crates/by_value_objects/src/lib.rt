@@ -10,7 +10,7 @@ ghost use Rattle.by_value.specs.Entries.{Does, CopiesOut, WritesTo};
 
 mod reading;
 
-use by_value::taking::store;
+use by_value::taking::store_head;
 use by_value::{Numbered, TOO_SHORT};
 use calls;
 use expirations::standing;
@@ -73,7 +73,7 @@ pub fn write_into(
         offset,
         bytes,
     );
-    store(step, left)
+    store_head(step, left)
 }
 
 // The same, given back.
@@ -105,7 +105,7 @@ pub fn release_into(p: Pool, task: u8, handle: u32, left: &mut Pool) -> u8
         task,
         handle,
     );
-    store(step, left)
+    store_head(step, left)
 }
 
 // The same, given back.

@@ -14,7 +14,7 @@ mod advancing;
 
 use advancing::advance_or;
 use by_value::Numbered;
-use by_value::taking::store;
+use by_value::taking::store_head;
 use fitness::{fitness_of, is_well_formed};
 use ledger::{Event, Limits, Quota, Refusal, STANDARD, Share, TASK_COUNT, is_allowed};
 use record::{Pool, fresh, running};
@@ -73,7 +73,7 @@ pub fn join_into(
     };
     let share = Share { small, large };
     let step = tested::join(left.head, &left.blocks, &left.expirations, task, share);
-    store(step, left)
+    store_head(step, left)
 }
 
 // The same, given back.
@@ -99,7 +99,7 @@ fn event_into(p: Pool, event: Event, task: u8, advanced: &mut u8, left: &mut Poo
     );
     let answer = step.answer;
     *advanced = advance_or(*advanced, answer);
-    store(step, left)
+    store_head(step, left)
 }
 
 pub fn leave_into(p: Pool, task: u8, advanced: &mut u8, left: &mut Pool) -> u8
@@ -143,7 +143,7 @@ pub fn resume_into(p: Pool, task: u8, left: &mut Pool) -> u8
         Event::Resume,
         task,
     );
-    store(step, left)
+    store_head(step, left)
 }
 
 // The same, given back.
@@ -182,7 +182,7 @@ pub fn view_into(p: Pool, task: u8, left: &mut Pool) -> u8
         Event::View,
         task,
     );
-    store(step, left)
+    store_head(step, left)
 }
 
 // The same, given back.

@@ -4,4 +4,4 @@ use Rattle.by_value_tasks.proofs.Events.{join_silent}
 use Rattle.by_value_tasks.proofs.join_into.Goals as goal
 
 pub returns : goal.returns
-returns c = join_silent c.well_formed.0 refl {r = record { number = c.store.result; pool = c.store.new.left }} c.store.ensures c.join-step.ensures
+returns c = join_silent c.well_formed.0 refl {r = record { number = c.store_head.result; pool = c.store_head.new.left }} c.store_head.ensures c.join-step.ensures

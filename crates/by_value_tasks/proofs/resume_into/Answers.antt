@@ -4,4 +4,4 @@ use Rattle.by_value_tasks.proofs.Events.{event_silent}
 use Rattle.by_value_tasks.proofs.resume_into.Goals as goal
 
 pub returns : goal.returns
-returns c = event_silent c.well_formed.0 refl {r = record { number = c.store.result; pool = c.store.new.left }} c.store.ensures c.start-step.ensures refl
+returns c = event_silent c.well_formed.0 refl {r = record { number = c.store_head.result; pool = c.store_head.new.left }} c.store_head.ensures c.start-step.ensures refl
