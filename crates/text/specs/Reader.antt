@@ -2,7 +2,12 @@
 use Rattle.std.specs.Prelude.{ℕ, ◌-◌, ◌≤◌, ◌<◌, List, ◌≡◌, length, take, drop, Option, Some, None}
 use denote.Ref.{Bor}
 use Rattle.text.specs.Lines.{line_end, line_at}
+use Rattle.text.specs.declared.lines.Line.{Line}
 use Rattle.text.specs.declared.reader.Reader.{Reader}
+
+-- the line at the reader's offset
+abbrev pub next_line : Reader → Line
+next_line reader = line_at reader.script.now reader.next
 
 -- the line that starts at a place of a script
 abbrev pub line_in : List ℕ → ℕ → List ℕ

@@ -9,4 +9,5 @@ mod lines;
 mod reader;
 pub mod words;
 
-pub use reader::Reader;
+pub use lines::Line;
+pub use reader::{Reader, read_line, step};

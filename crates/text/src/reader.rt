@@ -1,7 +1,9 @@
 // The reader of a script.
-ghost use Rattle.text.specs.Reader.{Steps};
+ghost use Rattle.std.specs.Prelude.{◌≡◌};
+ghost use Rattle.text.specs.Lines.{line_at};
+ghost use Rattle.text.specs.Reader.{next_line, Steps};
 
-use super::lines::line_at;
+use super::lines::{Line, line_at};
 
 // P1: a script, and where its next line starts.
 #[derive(Clone, Copy)]
@@ -22,4 +24,18 @@ impl<'a> Reader<'a> {
         self.next = line.next;
         Some(&self.script[line.start..line.end])
     }
+}
+
+// The line at a reader's place, which says where the one after it starts.
+pub fn step<'a>(reader: Reader<'a>) -> Line
+    ensures { result ≡ next_line reader.entry }
+{
+    line_at(reader.script, reader.next)
+}
+
+// The line at a place of a script: for callers that hold no reader.
+pub fn read_line(script: &[u8], at: usize) -> Line
+    ensures { result ≡ line_at script.now at }
+{
+    line_at(script, at)
 }
