@@ -1,9 +1,10 @@
 -- What the reader makes of a text, a byte at a time: None as soon as no plan begins as the text does.
-use Rattle.std.specs.Prelude.{ℕ, ◌+◌, ◌-◌, ◌*◌, Bool, cond, ◌&&◌, ◌||◌, List, [], ◌∷◌, ◌++◌, eqb, leb, ltb, length, Option, Some, None, is_none, option_map, option_and_then}
+use Rattle.std.specs.Prelude.{ℕ, ◌+◌, ◌-◌, ◌*◌, ◌≤◌, Bool, cond, ◌&&◌, ◌||◌, List, [], ◌∷◌, ◌++◌, ◌≡◌, eqb, leb, ltb, length, take, Option, Some, None, is_none, option_map, option_and_then}
 use Rattle.ledger.specs.Limits.{task_count}
 use Rattle.ledger.specs.declared.plans.Channel.{Channel}
 use Rattle.text.specs.Decimals.{blank, line_feed}
 use Rattle.plan_text.specs.declared.Line.{Line}
+use Rattle.plan_text.specs.declared.Plan.{Plan}
 
 abbrev pub new_line : Line
 new_line = record { ended = 0; first = 0; second = 0; third = 0; fourth = 0; number = None }
@@ -60,3 +61,12 @@ read_from line plan (byte ∷ text) =
 -- G2: the plan of a text, if it is one
 unfoldable pub plan_of : List ℕ → Option (List Channel)
 plan_of text = read_from new_line [] text
+
+-- the channels that a plan has
+abbrev pub channels_of : Plan → List Channel
+channels_of p = take p.count p.channels
+
+-- A plan has no more channels than there are tasks, and an array of as many.
+pub record Sized (p : Plan) : Type 0 where
+  pub most : p.count ≤ task_count
+  pub room : length p.channels ≡ task_count

@@ -1,28 +1,31 @@
 // The text of a cable plan (order 13 of document 02), read a byte at a time: one to sixteen lines of five numbers.
 #![tactic(auto)]
 
-ghost use Rattle.std.specs.Prelude.{◌<◌, ◌≡◌, option_map};
-ghost use Rattle.plan_text.specs.Reading.{new_line, with_digit, with_blank, channel_of, moved, plan_of};
+ghost use Rattle.std.specs.Prelude.{◌<◌, ◌≡◌, option_map, IfSome};
+ghost use Rattle.plan_text.specs.Reading.{new_line, with_digit, with_blank, channel_of, moved, plan_of, channels_of, Sized};
 
-use arrayvec::ArrayVec;
 use ledger::TASK_COUNT;
 use ledger::plans::Channel;
 
 // G2: the largest extension. The largest number of a text is that of its type.
 const LONGEST_EXTENSION: u16 = 30;
 
-// G2: the channels of a plan.
-pub type Plan = ArrayVec<Channel, TASK_COUNT>;
+// G2: the channels of a plan: the first `count` here.
+#[derive(Clone, Copy)]
+pub struct Plan {
+    pub count: usize,
+    pub channels: [Channel; TASK_COUNT],
+}
 
 // A line under way: how many of its numbers have ended, the last four of these, and the number that is being read, if a digit of it was.
 #[derive(Clone, Copy)]
-struct Line {
-    ended: u8,
-    first: u16,
-    second: u16,
-    third: u16,
-    fourth: u16,
-    number: Option<u16>,
+pub struct Line {
+    pub ended: u8,
+    pub first: u16,
+    pub second: u16,
+    pub third: u16,
+    pub fourth: u16,
+    pub number: Option<u16>,
 }
 
 fn new_line() -> Line
@@ -104,19 +107,28 @@ fn moved(line: Line, byte: u8) -> Option<Line>
 // The plan of a text, if it is one.
 #[tactic(auto, unfolding(crate::specs::Reading::read_from, crate::specs::Reading::plan_of))]
 pub fn read(text: &[u8]) -> Option<Plan>
-    ensures { option_map (λ p. p.items) result ≡ plan_of text.now }
+    ensures told { option_map channels_of result ≡ plan_of text.now }
+    ensures sized { IfSome result Sized }
 {
-    let mut plan = Plan::new();
+    let mut plan = Plan {
+        count: 0,
+        channels: [Channel::default(); TASK_COUNT],
+    };
     let mut line = new_line();
     for byte in text {
         if *byte == b'\n' {
-            plan.try_push(channel_of(line)?).ok()?;
+            let channel = channel_of(line)?;
+            if plan.count == TASK_COUNT {
+                return None;
+            }
+            plan.channels[plan.count] = channel;
+            plan.count += 1;
             line = new_line();
         } else {
             line = moved(line, *byte)?;
         }
     }
-    if (line.ended == 0) & line.number.is_none() & !plan.is_empty() {
+    if (line.ended == 0) & line.number.is_none() & (plan.count != 0) {
         Some(plan)
     } else {
         None

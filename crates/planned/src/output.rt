@@ -62,6 +62,6 @@ pub fn output_of(text: &[u8]) -> Output
         return bad_plan();
     };
     let mut bytes = [0u8; LONGEST_OUTPUT];
-    let count = put_tracks(&run(&plan), &mut bytes);
+    let count = put_tracks(&run(&plan.channels[..plan.count]), &mut bytes);
     Output { bytes, count }
 }
