@@ -3,7 +3,7 @@ use Rattle.record.specs.declared.ExpirationTable.{ExpirationTable}
 use Rattle.record.specs.declared.BlockTable.{BlockTable}
 use Prim.Native.Nat.{ℕ, ◌<◌}
 use native.Mathlib.Omega.{arith}
-use mathlib.Core.Bool.{true, false≢true}
+use mathlib.Core.Bool.{true, false, false≢true}
 use mathlib.Core.List.{[]}
 use mathlib.Core.Path.{◌≡◌, refl, sym, ◌∙◌}
 use Rattle.ledger.specs.Refusals.{verdict}
@@ -26,6 +26,7 @@ use Rattle.steps.specs.Facts.{verdict_by}
 use Rattle.steps.specs.Objects.{place_of}
 use Rattle.steps.proofs.Chosen.{refresh_takes, here_listed}
 use Rattle.objects.specs.Outcomes.{found_in}
+use Rattle.objects.specs.declared.Found.{Found}
 use Rattle.objects.proofs.Outcomes.{found_refused, found_accepted}
 use Rattle.expirations.specs.Setting.{Sets}
 use Rattle.expirations.specs.Setting.{entry_now as new_entry}
@@ -41,8 +42,8 @@ use Rattle.std.specs.Prelude.{Ok, Result, Err}
 pub room_left : (limits : Limits) → is_allowed limits ≡ true → (n : ℕ) → n < limits.expirations → n < expiration_entries
 room_left limits may n few = omega (arith, few, (allowed limits may).most_expirations)
 
-module _ {h : Head} {blocks : BlockTable} {expirations : ExpirationTable} (types : HeadTyped h) (sized : Sized blocks expirations) (task : ℕ) (kind : Kind) (extension handle : ℕ) (f : Result ℕ Refusal)
-    (so : f ≡ found_in (tests_of (Refresh task kind extension handle) []) handle (lent h blocks expirations)) where
+module _ {h : Head} {blocks : BlockTable} {expirations : ExpirationTable} (types : HeadTyped h) (sized : Sized blocks expirations) (task : ℕ) (kind : Kind) (extension handle : ℕ) (f : Result Found Refusal)
+    (so : f ≡ found_in false (tests_of (Refresh task kind extension handle) []) task handle (lent h blocks expirations)) where
   of_entries : Typed (tables_of (pooled h blocks expirations))
   of_entries = lent_typed h blocks expirations types sized.blocks sized.entries
 
@@ -51,25 +52,25 @@ module _ {h : Head} {blocks : BlockTable} {expirations : ExpirationTable} (types
   unfolding tests_of verdict
   refresh_kept w e small large =
       blind_refused _ of_entries w small large (Refresh task kind extension handle) [] (λ i j. refl) (λ s. absurd (false≢true s))
-      (rw (tables_of_lem h blocks expirations) (found_refused handle (lent h blocks expirations) _ (sym so ∙ e)))
+      (rw (tables_of_lem h blocks expirations) (found_refused false task handle (lent h blocks expirations) _ (sym so ∙ e)))
 
-  module _ {block : ℕ} (at : f ≡ Ok block) where
+  module _ {found : Found} (at : f ≡ Ok found) where
     accepted : (verdict_by (tests_of (Refresh task kind extension handle) []) (lent h blocks expirations) ≡ Ok tt)
-        × (place_of handle (lent h blocks expirations).blocks ≡ block)
-    accepted = found_accepted handle (lent h blocks expirations) _ (sym so ∙ at)
+        × (place_of handle (lent h blocks expirations).blocks ≡ found.block)
+    accepted = found_accepted false task handle (lent h blocks expirations) _ (sym so ∙ at)
 
     pub refresh_set : is_well_formed (pooled h blocks expirations) ≡ true → {expirations' : ExpirationTable}
-        → Sets (new_entry h.tasks h.global kind task extension block) expirations expirations'
+        → Sets (new_entry h.tasks h.global kind task extension found.block) expirations expirations'
         → Follows (Use (Refresh task kind extension handle)) (pooled h blocks expirations) Done (pooled h blocks expirations')
     unfolding tables_by
     refresh_set w sets small large =
         refresh_done _ of_entries w small large task kind extension handle
-        (refreshed_left h blocks expirations kind task extension block sets handle (sym accepted.1))
+        (refreshed_left h blocks expirations kind task extension found.block sets handle (sym accepted.1))
         (rw (tables_of_lem h blocks expirations) accepted.0)
 
     -- what the setting asks
     pub refresh_may_set : is_well_formed (pooled h blocks expirations) ≡ true
-        → (standing_of expirations.clocks < expiration_entries) × (task < task_count) × (block < block_entries)
+        → (standing_of expirations.clocks < expiration_entries) × (task < task_count) × (found.block < block_entries)
     unfolding tables_of tables_by
     refresh_may_set w =
         let p = lent h blocks expirations in

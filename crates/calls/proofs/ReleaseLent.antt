@@ -2,7 +2,7 @@
 use Rattle.record.specs.declared.ExpirationTable.{ExpirationTable}
 use Rattle.record.specs.declared.BlockTable.{BlockTable}
 use Prim.Native.Nat.{ℕ, ◌<◌}
-use mathlib.Core.Bool.{true, false≢true}
+use mathlib.Core.Bool.{true, false, false≢true}
 use mathlib.Core.List.{List, []}
 use mathlib.Core.Path.{◌≡◌, refl, sym, ◌∙◌}
 use Rattle.ledger.specs.Refusals.{verdict}
@@ -20,6 +20,7 @@ use Rattle.steps.specs.Facts.{verdict_by}
 use Rattle.steps.specs.Objects.{place_of, released_pool}
 use Rattle.steps.proofs.Chosen.{here_listed, release_known as known}
 use Rattle.objects.specs.Outcomes.{found_in}
+use Rattle.objects.specs.declared.Found.{Found}
 use Rattle.objects.proofs.Outcomes.{found_refused, found_accepted}
 use Rattle.endings.specs.Unpinning.{Releases}
 use Rattle.calls.specs.Contract.{Follows}
@@ -27,8 +28,8 @@ use Rattle.calls.proofs.Lent.{tables_of_lem, lent_typed}
 use Rattle.calls.proofs.Outcomes.{blind_refused, release_done}
 use Rattle.std.specs.Prelude.{Ok, Result, Err}
 
-module _ {h : Head} {blocks : BlockTable} {expirations : ExpirationTable} (types : HeadTyped h) (sized : Sized blocks expirations) (task handle : ℕ) (f : Result ℕ Refusal)
-    (so : f ≡ found_in (tests_of (Release task handle) []) handle (lent h blocks expirations)) where
+module _ {h : Head} {blocks : BlockTable} {expirations : ExpirationTable} (types : HeadTyped h) (sized : Sized blocks expirations) (task handle : ℕ) (f : Result Found Refusal)
+    (so : f ≡ found_in false (tests_of (Release task handle) []) task handle (lent h blocks expirations)) where
   of_entries : Typed (tables_of (pooled h blocks expirations))
   of_entries = lent_typed h blocks expirations types sized.blocks sized.entries
 
@@ -38,27 +39,27 @@ module _ {h : Head} {blocks : BlockTable} {expirations : ExpirationTable} (types
   release_kept w e = (
     sized,
     λ small large. blind_refused _ of_entries w small large (Release task handle) [] (λ i j. refl) (λ s. absurd (false≢true s))
-        (rw (tables_of_lem h blocks expirations) (found_refused handle (lent h blocks expirations) _ (sym so ∙ e))),
+        (rw (tables_of_lem h blocks expirations) (found_refused false task handle (lent h blocks expirations) _ (sym so ∙ e))),
   )
 
-  module _ {block : ℕ} (at : f ≡ Ok block) where
+  module _ {found : Found} (at : f ≡ Ok found) where
     accepted : (verdict_by (tests_of (Release task handle) []) (lent h blocks expirations) ≡ Ok tt)
-        × (place_of handle (lent h blocks expirations).blocks ≡ block)
-    accepted = found_accepted handle (lent h blocks expirations) _ (sym so ∙ at)
+        × (place_of handle (lent h blocks expirations).blocks ≡ found.block)
+    accepted = found_accepted false task handle (lent h blocks expirations) _ (sym so ∙ at)
 
     -- the block is one that there is
-    pub release_known : block < block_entries
+    pub release_known : found.block < block_entries
     release_known =
         let p = lent h blocks expirations in
         rw (← accepted.1) (here_listed handle p.blocks (known task handle p accepted.0).here)
 
     -- the tables that are left are those of the released record
-    released_left : {hs' cs' : List ℕ} → Releases block expirations.named blocks.handles expirations.clocks hs' cs'
+    released_left : {hs' cs' : List ℕ} → Releases found.block expirations.named blocks.handles expirations.clocks hs' cs'
         → tables_of (pooled h (record { handles = hs'; extents = blocks.extents }) (record { clocks = cs'; named = expirations.named; dues = expirations.dues })) ≡ released_pool handle (tables_of (pooled h blocks expirations))
     unfolding tables_of tables_by released_pool
     released_left r = rw (r.blocks blocks.extents expirations.dues sized.blocks.of_extents sized.entries.of_dues, r.entries expirations.dues sized.entries.of_dues, accepted.1)
 
-    pub release_carried : is_well_formed (pooled h blocks expirations) ≡ true → {hs' cs' : List ℕ} → Releases block expirations.named blocks.handles expirations.clocks hs' cs'
+    pub release_carried : is_well_formed (pooled h blocks expirations) ≡ true → {hs' cs' : List ℕ} → Releases found.block expirations.named blocks.handles expirations.clocks hs' cs'
         → Sized (record { handles = hs'; extents = blocks.extents }) (record { clocks = cs'; named = expirations.named; dues = expirations.dues }) × Follows (Use (Release task handle)) (pooled h blocks expirations) Done (pooled h (record { handles = hs'; extents = blocks.extents }) (record { clocks = cs'; named = expirations.named; dues = expirations.dues }))
     release_carried w r = (
       record {

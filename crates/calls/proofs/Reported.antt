@@ -43,7 +43,7 @@ module _ (task handle : ℕ) (p : Pool) (types : Typed (tables_of p)) (w : is_we
   alike reads = verdict_alike types (fit_parts (tables_of p) w) reads (standing_tests task handle) (λ i j. refl)
 
   life_by : (v : Verdict) → verdict_by (standing_tests task handle) (tables_of p) ≡ v
-      → Follows (Remaining task handle) p (life_found (life_of task (tables_of p) (found_by v handle (tables_of p)))) p
+      → Follows (Remaining task handle) p (life_found (life_of (found_by true v task handle (tables_of p)))) p
   life_by (Ok _) e =
       tells_obeys (Remaining task handle) p w refl (λ L. refl) _
       (λ small large L reads.
@@ -55,7 +55,7 @@ module _ (task handle : ℕ) (p : Pool) (types : Typed (tables_of p)) (w : is_we
       (λ small large L reads. rw (refused_some (standing_verdict_on L task handle) (alike reads ∙ e))) (λ small large. (refl, (refl, refl)))
 
 pub life_obeys : {h : Head} {blocks : BlockTable} {expirations : ExpirationTable} → HeadTyped h → Sized blocks expirations → is_well_formed (pooled h blocks expirations) ≡ true → (task handle : ℕ) {f : Result Life Refusal}
-    → f ≡ life_of task (lent h blocks expirations) (found_in (standing_tests task handle) handle (lent h blocks expirations))
+    → f ≡ life_of (found_in true (standing_tests task handle) task handle (lent h blocks expirations))
     → Follows (Remaining task handle) (pooled h blocks expirations) (life_found f) (pooled h blocks expirations)
 life_obeys {h} {blocks} {expirations} types sized w task handle so =
     rw (so, ← tables_of_lem h blocks expirations)

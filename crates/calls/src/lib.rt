@@ -240,11 +240,11 @@ pub fn refresh(
         (pooled result.head blocks.now expirations.new)
         × Bare result }
 {
-    let block = match find_for_refresh(h, blocks, expirations, task, kind, extension, handle) {
+    let found = match find_for_refresh(h, blocks, expirations, task, kind, extension, handle) {
         Err(why) => return refused(why, h),
-        Ok(block) => block,
+        Ok(found) => found,
     };
-    set(h, kind, task, extension, block, expirations);
+    set(h, kind, task, extension, found.block, expirations);
     answered(Answer::Done, h)
 }
 
@@ -267,12 +267,12 @@ pub fn release(
         × (expirations.new.named ≡ expirations.old.named)
         × (expirations.new.dues ≡ expirations.old.dues) }
 {
-    let block = match find_for_release(h, blocks, expirations, task, handle) {
+    let found = match find_for_release(h, blocks, expirations, task, handle) {
         Err(why) => return refused(why, h),
-        Ok(block) => block,
+        Ok(found) => found,
     };
     endings::release(
-        block,
+        found.block,
         &mut blocks.handles,
         &mut expirations.clocks,
         &expirations.named,

@@ -6,7 +6,7 @@ use native.Mathlib.Nat.{zero-add}
 use native.Mathlib.Omega.{arith}
 use mathlib.Core.Bool.{Bool, true, false, not-not}
 use mathlib.Core.List.{List, [], ◌++◌}
-use mathlib.Core.Path.{◌≡◌, refl, sym, ◌∙◌}
+use mathlib.Core.Path.{◌≡◌, refl, sym, ap, ◌∙◌}
 use borrow.Author.Tests.{eqb-true}
 use lib.Dec.{eqb}
 use lib.ListN.{length, get_or}
@@ -34,20 +34,28 @@ use Rattle.expirations.specs.Standing.{standing_of}
 use Rattle.expirations.proofs.Counting.{standing_of_lem}
 use Rattle.refusals.specs.Verdicts.{and_then, task_verdict, set_verdict, found_verdict, room_verdict}
 use Rattle.refusals.proofs.Verdicts.{then_assoc, then_accepted, test_then, no_test, tests_then, task_tests_lem, next_refused, next_found}
-use Rattle.objects.specs.Outcomes.{found_by, found_in, bytes_by}
+use Rattle.objects.specs.Outcomes.{found_by, found_in, found_if, life_if, bytes_by}
+use Rattle.objects.specs.declared.Found.{Found}
 use Rattle.objects.specs.declared.Part.{Part}
 use Rattle.objects.proofs.Laws.{place_of_lem}
 use Rattle.std.specs.Prelude.{Ok, Err}
 
--- what the finding tells of the verdict
+module _ (asks : Bool) (task handle : ℕ) (p : Tables) where
+  -- a test after it
+  pub tested_after_lem : (v w : Verdict) → found_if (found_by asks v task handle p) w ≡ found_by asks (and_then v w) task handle p
+  tested_after_lem (Ok _) w = refl
+  tested_after_lem (Err r) w = refl
+
+  -- what the finding tells of the verdict
+  pub found_refused : (v : Verdict) {why : Refusal} → found_by asks v task handle p ≡ Err why → v ≡ Err why
+  found_refused v = next_refused v _
+
+  pub found_accepted : (v : Verdict) {found : Found} → found_by asks v task handle p ≡ Ok found
+      → (v ≡ Ok tt) × (place_of handle p.blocks ≡ found.block)
+  found_accepted v e = let (accepted, same) = next_found v _ e in (accepted, ap (λ (found : Found). found.block) same)
+
+-- the same of a read or a write
 module _ (handle : ℕ) (p : Tables) where
-  pub found_refused : (v : Verdict) {why : Refusal} → found_by v handle p ≡ Err why → v ≡ Err why
-  found_refused v = next_refused v (place_of handle p.blocks)
-
-  pub found_accepted : (v : Verdict) {block : ℕ} → found_by v handle p ≡ Ok block → (v ≡ Ok tt) × (place_of handle p.blocks ≡ block)
-  found_accepted v = next_found v (place_of handle p.blocks)
-
-  -- the same of a read or a write
   pub bytes_refused : (v : Verdict) {why : Refusal} → bytes_by v handle p ≡ Err why → v ≡ Err why
   bytes_refused (Ok _) e = cc
   bytes_refused (Err r) e = cc
@@ -109,14 +117,16 @@ module _ (task : ℕ) (kind : Kind) (extension handle : ℕ) (h : Head) (blocks 
 
   -- by which it finds its object
   pub refresh_found : EntriesSized expirations
-      → found_in (tests_of (Refresh task kind extension handle) []) handle (lent h blocks expirations)
+      → found_in false (tests_of (Refresh task kind extension handle) []) task handle (lent h blocks expirations)
       ≡ and_then (task_verdict true task h.tasks)
       (and_then (set_verdict h.limits kind extension)
-      (and_then (verdict_by (handle_tests handle) (lent h blocks expirations))
-      (and_then (room_verdict h.limits (standing_of expirations.clocks)) (Ok (place_of handle (lent h blocks expirations).blocks)))))
-  refresh_found sized = rw (standing_of_lem sized, refresh_tests) (simp then_assoc)
+      (found_if (found_in false (handle_tests handle) task handle (lent h blocks expirations))
+      (room_verdict h.limits (standing_of expirations.clocks))))
+  refresh_found sized =
+      let p = lent h blocks expirations in
+      rw (standing_of_lem sized, tested_after_lem false task handle p (verdict_by (handle_tests handle) p), refresh_tests) (simp then_assoc)
 
-module _ (h : Head) {blocks : BlockTable} {expirations : ExpirationTable} (sized : Sized blocks expirations) (handle : ℕ) where
+module _ (h : Head) {blocks : BlockTable} {expirations : ExpirationTable} (sized : Sized blocks expirations) (asks : Bool) (task handle : ℕ) where
   -- 11 and 12 by the handles
   pub verdict_at_lem : found_verdict handle h.given (place_in handle blocks.handles) ≡ verdict_by (handle_tests handle) (lent h blocks expirations)
   unfolding verdict_with tables_by
@@ -125,8 +135,10 @@ module _ (h : Head) {blocks : BlockTable} {expirations : ExpirationTable} (sized
       (simp (test_then, no_test, then_accepted, not-not))
 
   -- what stands is at the handle's place
-  pub found_at : and_then (found_verdict handle h.given (place_in handle blocks.handles)) (Ok (place_in handle blocks.handles))
-      ≡ found_in (handle_tests handle) handle (lent h blocks expirations)
+  pub found_at : (let block = place_in handle blocks.handles in
+      and_then {A = Found} (found_verdict handle h.given block)
+      (Ok (record { block = block; life = life_if asks (life_in task block h.tasks h.global (expiration_list expirations)) }))
+      ≡ found_in asks (handle_tests handle) task handle (lent h blocks expirations))
   unfolding tables_by
   found_at = rw (verdict_at_lem, place_of_lem blocks.handles blocks.extents sized.blocks.of_handles sized.blocks.of_extents handle)
 

@@ -19,30 +19,45 @@ use Rattle.steps.specs.Objects.{place_of, state_in, shown_length}
 use Rattle.steps.specs.Parts.{part_facts}
 use Rattle.steps.specs.Remaining.{life_in}
 use Rattle.refusals.specs.Verdicts.{and_then}
+use Rattle.objects.specs.declared.Found.{Found}
 use Rattle.objects.specs.declared.Part.{Part}
 use Rattle.ledger.specs.declared.Refusal.{Refusal}
 
--- the one finding, by the verdict of the call that asks: the object's block
-abbrev pub found_by : Verdict → ℕ → Tables → Result ℕ Refusal
-found_by verdict handle p = and_then verdict (Ok (place_of handle p.blocks))
+-- a remaining life where it is asked for, else no figures
+abbrev pub life_if : Bool → Life → Life
+life_if true life = life
+life_if false life = record { local = 0; global = 0 }
+
+-- the one finding, by the verdict of the call that asks: the object's block and, where asked for, its remaining life for the task
+abbrev pub found_by : Bool → Verdict → ℕ → ℕ → Tables → Result Found Refusal
+found_by asks verdict task handle p =
+    let place = place_of handle p.blocks in
+    and_then verdict (Ok (record { block = place; life = life_if asks (life_in task place p.tasks p.global p.expirations) }))
 
 -- by the tests of a call
-abbrev pub found_in : List Test → ℕ → Tables → Result ℕ Refusal
-found_in tests handle p = found_by (verdict_by tests p) handle p
+abbrev pub found_in : Bool → List Test → ℕ → ℕ → Tables → Result Found Refusal
+found_in asks tests task handle p = found_by asks (verdict_by tests p) task handle p
 
--- the remaining life, for a task, of what was found
-abbrev pub life_of : ℕ → Tables → Result ℕ Refusal → Result Life Refusal
-life_of task p (Ok block) = Ok (life_in task block p.tasks p.global p.expirations)
-life_of task p (Err r) = Err r
+-- what was found, if one test more accepts
+abbrev pub found_if : Result Found Refusal → Verdict → Result Found Refusal
+found_if (Ok found) v = and_then v (Ok found)
+found_if (Err r) v = Err r
+
+-- the life of what was found
+abbrev pub life_of : Result Found Refusal → Result Life Refusal
+life_of (Ok found) = Ok found.life
+life_of (Err r) = Err r
 
 -- O30: a read and a write make the same finding, and go on by the length and the sum that the block has
-abbrev pub part_of : Tables → Result ℕ Refusal → Result Part Refusal
-part_of p (Ok block) =
-    Ok (record { block = block; length = (get_or p.blocks block free_block).length; sum = (get_or p.blocks block free_block).sum })
+abbrev pub part_of : Tables → Result Found Refusal → Result Part Refusal
+part_of p (Ok found) =
+    let b = get_or p.blocks found.block free_block in
+    Ok (record { block = found.block; length = b.length; sum = b.sum })
 part_of p (Err r) = Err r
 
+-- no life is asked for, and so it is no task's
 abbrev pub bytes_by : Verdict → ℕ → Tables → Result Part Refusal
-bytes_by verdict handle p = part_of p (found_by verdict handle p)
+bytes_by verdict handle p = part_of p (found_by false verdict 0 handle p)
 
 abbrev pub bytes_in : List ℕ → List ℕ → List Test → ℕ → Tables → Result Part Refusal
 bytes_in small large tests handle p = bytes_by (verdict_with small large tests p) handle p

@@ -1,16 +1,18 @@
 // Where an object is: one finding (O30), which remaining life, refresh, release, read and write make after the tests that go before it. The
 // record is well-formed, or its figures would not fit.
-ghost use Rattle.std.specs.Prelude.{ℕ, true, false, ◌≡◌, length, List, [], ◌∷◌, ◌++◌};
+ghost use Rattle.std.specs.Prelude.{ℕ, ◌<◌, true, false, ◌≡◌, length, List, [], ◌∷◌, ◌++◌};
+ghost use Rattle.ledger.specs.Limits.{task_count};
 ghost use Rattle.record.specs.Reading.{is_whole_small, is_whole_large};
-ghost use Rattle.record.specs.Tables.{Sized, lent};
+ghost use Rattle.record.specs.Tables.{Sized, EntriesSized, expiration_list, block_entries, lent};
 ghost use Rattle.record.specs.WellFormed.{is_well_formed};
+ghost use Rattle.steps.specs.Remaining.{life_in, LifeWithin};
 ghost use Rattle.ledger.specs.Refusals.{sum_differs};
 ghost use Rattle.ledger.specs.Rules.{tests_of};
 ghost use Rattle.ledger.specs.declared.Call.TheVariants.{Read, Refresh, Release, Write};
 ghost use Rattle.steps.specs.Facts.{task_tests, handle_tests};
-ghost use Rattle.objects.specs.Outcomes.{found_in, life_of, bytes_in, shown_in};
+ghost use Rattle.objects.specs.Outcomes.{found_in, life_if, life_of, bytes_in, shown_in};
 
-use super::Part;
+use super::{Found, Part};
 use expirations::{is_pinned, remaining_life, standing};
 use ledger::{Kind, Life, Refusal};
 use record::codes::{length_in, prefix_in, sum_in};
@@ -19,39 +21,65 @@ use record::{BlockTable, ExpirationTable, Head};
 use refusals::{found_verdict, locate, reaches_past, room_verdict, set_verdict, task_verdict};
 use stores::block_sum;
 
-// The object's block, after 11 and 12.
+// The remaining life, where it is asked for.
+fn life_if(h: Head, expirations: &ExpirationTable, task: u8, block: usize, asks: bool) -> Life
+    requires { EntriesSized expirations.now
+        × (task < task_count)
+        × (block < block_entries)
+        × LifeWithin (life_in task block h.tasks h.global (expiration_list expirations.now)) }
+    ensures { result ≡ life_if asks
+        (life_in task block h.tasks h.global (expiration_list expirations.now)) }
+{
+    if asks {
+        remaining_life(h, expirations, task, block)
+    } else {
+        Life {
+            local: 0,
+            global: 0,
+        }
+    }
+}
+
+// 11, 12, or where the object is.
 fn find(
     h: Head,
     blocks: &BlockTable,
     expirations: &ExpirationTable,
+    task: u8,
     handle: u32,
-) -> Result<usize, Refusal>
-    requires { Sized blocks.now expirations.now }
-    ensures { result ≡ found_in (handle_tests handle) handle
+    asks: bool,
+) -> Result<Found, Refusal>
+    requires { Sized blocks.now expirations.now
+        × (is_well_formed (lent h blocks.now expirations.now) ≡ true)
+        × (task < task_count) }
+    ensures { result ≡ found_in asks (handle_tests handle) task handle
         (lent h blocks.now expirations.now) }
 {
     let block = locate(&blocks.handles, handle);
     found_verdict(handle, h.given, block)?;
-    Ok(block)
+    let life = life_if(h, expirations, task, block, asks);
+    Ok(Found { block, life })
 }
 
-// The object of a task. Remaining life, read, write and release begin with the same tests; the last two act, which a viewer may not.
-fn find_standing(
+// The object whose life is asked for; only then are its figures worked out. Read, write and release begin with the same tests; the last two
+// act, which a viewer may not.
+pub fn find_standing(
     h: Head,
     blocks: &BlockTable,
     expirations: &ExpirationTable,
     task: u8,
     handle: u32,
     acts: bool,
-) -> Result<usize, Refusal>
+    asks: bool,
+) -> Result<Found, Refusal>
     requires { Sized blocks.now expirations.now
         × (is_well_formed (lent h blocks.now expirations.now) ≡ true) }
-    ensures { result ≡ found_in (task_tests acts task (handle_tests handle)) handle
+    ensures { result ≡ found_in asks (task_tests acts task (handle_tests handle)) task handle
         (lent h blocks.now expirations.now) }
 {
     let tasks = h.tasks;
     task_verdict(acts, task, tasks)?;
-    find(h, blocks, expirations, handle)
+    find(h, blocks, expirations, task, handle, asks)
 }
 
 // The remaining life of an object for the task that asks.
@@ -64,13 +92,10 @@ pub fn find_life(
 ) -> Result<Life, Refusal>
     requires { Sized blocks.now expirations.now
         × (is_well_formed (lent h blocks.now expirations.now) ≡ true) }
-    ensures { result ≡ life_of task
-        (lent h blocks.now expirations.now)
-        (found_in (task_tests false task (handle_tests handle)) handle
+    ensures { result ≡ life_of (found_in true (task_tests false task (handle_tests handle)) task handle
         (lent h blocks.now expirations.now)) }
 {
-    let block = find_standing(h, blocks, expirations, task, handle, false)?;
-    Ok(remaining_life(h, expirations, task, block))
+    Ok(find_standing(h, blocks, expirations, task, handle, false, true)?.life)
 }
 
 // The object whose bytes are asked for: those of its block add up to its sum.
@@ -92,7 +117,8 @@ fn find_bytes(
         (task_tests acts task (handle_tests handle) ++ (sum_differs handle ∷ [])) handle
         (lent h blocks.now expirations.now) }
 {
-    let block = find_standing(h, blocks, expirations, task, handle, acts)?;
+    let found = find_standing(h, blocks, expirations, task, handle, acts, false)?;
+    let block = found.block;
     let extent = blocks.extents[block];
     let sum = sum_in(extent);
     if block_sum(small, large, block) != sum as u32 {
@@ -163,18 +189,18 @@ pub fn find_for_refresh(
     kind: Kind,
     extension: u8,
     handle: u32,
-) -> Result<usize, Refusal>
+) -> Result<Found, Refusal>
     requires { Sized blocks.now expirations.now
         × (is_well_formed (lent h blocks.now expirations.now) ≡ true) }
-    ensures { result ≡ found_in (tests_of (Refresh task kind extension handle) []) handle
+    ensures { result ≡ found_in false (tests_of (Refresh task kind extension handle) []) task handle
         (lent h blocks.now expirations.now) }
 {
     let tasks = h.tasks;
     task_verdict(true, task, tasks)?;
     set_verdict(h.limits, kind, extension)?;
-    let block = find(h, blocks, expirations, handle)?;
+    let found = find(h, blocks, expirations, task, handle, false)?;
     room_verdict(h.limits, standing(&expirations.clocks) as usize)?;
-    Ok(block)
+    Ok(found)
 }
 
 // The object that is released: it has a pinned expiration.
@@ -184,15 +210,15 @@ pub fn find_for_release(
     expirations: &ExpirationTable,
     task: u8,
     handle: u32,
-) -> Result<usize, Refusal>
+) -> Result<Found, Refusal>
     requires { Sized blocks.now expirations.now
         × (is_well_formed (lent h blocks.now expirations.now) ≡ true) }
-    ensures { result ≡ found_in (tests_of (Release task handle) []) handle
+    ensures { result ≡ found_in false (tests_of (Release task handle) []) task handle
         (lent h blocks.now expirations.now) }
 {
-    let block = find_standing(h, blocks, expirations, task, handle, true)?;
-    if !is_pinned(&expirations.clocks, &expirations.named, block) {
+    let found = find_standing(h, blocks, expirations, task, handle, true, false)?;
+    if !is_pinned(&expirations.clocks, &expirations.named, found.block) {
         return Err(Refusal::NotPinned);
     }
-    Ok(block)
+    Ok(found)
 }

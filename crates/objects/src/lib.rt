@@ -6,8 +6,10 @@ mod finding;
 mod report;
 
 pub use decide::{plan_batch, plan_make};
-pub use finding::{find_for_read, find_for_refresh, find_for_release, find_for_write, find_life};
-use ledger::LARGEST_BATCH;
+pub use finding::{
+    find_for_read, find_for_refresh, find_for_release, find_for_write, find_life, find_standing,
+};
+use ledger::{LARGEST_BATCH, Life};
 pub use report::usage;
 
 // The blocks of as many objects as a batch has; the others say nothing.
@@ -15,6 +17,13 @@ pub use report::usage;
 pub struct Batch {
     pub blocks: [u8; LARGEST_BATCH],
     pub count: usize,
+}
+
+// Where an object is, and what remains of its life for the task that asks; no figures where it is not asked for.
+#[derive(Clone, Copy)]
+pub struct Found {
+    pub block: usize,
+    pub life: Life,
 }
 
 // Where the bytes of a read or a write are: the object's block, its length or what of it is shown, and the sum of the block's bytes.
