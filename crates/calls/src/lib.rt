@@ -200,7 +200,7 @@ pub fn make(
         × Bare result }
 {
     let standing = standing(&expirations.clocks);
-    let place = match plan_make(
+    let plan = plan_make(
         h,
         &blocks.handles,
         holding,
@@ -210,10 +210,11 @@ pub fn make(
         extension,
         size,
         prefix,
-    ) {
-        Err(why) => return refused(why, h),
-        Ok(place) => place,
-    };
+    );
+    if let Err(why) = plan.verdict {
+        return refused(why, h);
+    }
+    let place = plan.place;
     set(h, kind, task, extension, place, expirations);
     clear_place(small, large, place);
     let handle = h.given + 1;
@@ -299,17 +300,17 @@ pub fn batch(
         × Bare result }
 {
     let standing = standing(&expirations.clocks);
-    let batch = match plan_batch(h, &blocks.handles, standing, task, kind, extension, bytes) {
-        Err(why) => return refused(why, h),
-        Ok(batch) => batch,
-    };
+    let plan = plan_batch(h, &blocks.handles, standing, task, kind, extension, bytes);
+    if let Err(why) = plan.verdict {
+        return refused(why, h);
+    }
     set_all(
         h,
         kind,
         task,
         extension,
-        &batch.blocks,
-        batch.count,
+        &plan.blocks,
+        plan.count,
         expirations,
     );
     answered(Answer::Done, h)

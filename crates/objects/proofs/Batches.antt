@@ -14,7 +14,7 @@ use Rattle.ledger.specs.Limits.{largest_batch}
 use Rattle.ledger.specs.Objects.{handles_of}
 use Rattle.ledger.specs.Refusals.{is_not_given, verdict, as_verdict, Verdict}
 use Rattle.ledger.specs.Rules.{tests_of}
-use Rattle.ledger.specs.declared.Call.TheVariants.{Batch as BatchCall}
+use Rattle.ledger.specs.declared.Call.TheVariants.{Batch}
 use Rattle.ledger.specs.declared.Kind.{Kind}
 use Rattle.ledger.specs.declared.Refusal.{Refusal}
 use Rattle.ledger.specs.declared.Refusal.TheVariants.{HandleNotGiven, ObjectGone}
@@ -27,7 +27,7 @@ use Rattle.refusals.specs.Batches.{is_missing_in, FindsBatch}
 use Rattle.refusals.specs.Verdicts.{and_then, refuse_if, task_verdict, set_verdict, batch_call_verdict, batch_objects_verdict}
 use Rattle.refusals.proofs.Verdicts.{then_assoc, then_accepted, both_accept, not_refused, test_then, no_test, task_tests_lem}
 use Rattle.refusals.specs.declared.batch.BatchFound.{BatchFound}
-use Rattle.objects.specs.Batches.{batch_facts, BlocksOf}
+use Rattle.objects.specs.Batches.{batch_facts, PlansBatch}
 use Rattle.std.specs.Prelude.{Ok, Err}
 
 -- the first tests accept no more handles than a plan has room for
@@ -57,24 +57,20 @@ module _ (task : ℕ) (kind : Kind) (extension : ℕ) (new : List ℕ) (h : Head
   batch_tests : and_then (batch_call_verdict h.limits task kind extension h.tasks (length (handles_of new)))
       (batch_objects_verdict h.limits (any (is_not_given h.given) (handles_of new)) (any (is_missing_in handles) (handles_of new))
       (standing + length (handles_of new)))
-      ≡ as_verdict (verdict (batch_facts h handles standing) (tests_of (BatchCall task kind extension) new))
+      ≡ as_verdict (verdict (batch_facts h handles standing) (tests_of (Batch task kind extension) new))
   unfolding tests_of
   batch_tests = rw by_places (sym (task_tests_lem (batch_facts h handles standing) true task _ ∙ simp (test_then, no_test, then_accepted, then_assoc)))
 
   module _ {count : ℕ} (all : length (handles_of new) ≡ count) where
-    abbrev told : Verdict
-    told = as_verdict (verdict (batch_facts h handles standing) (tests_of (BatchCall task kind extension) new))
-
     -- refused before the pass
-    pub plan_refused : {why : Refusal} → batch_call_verdict h.limits task kind extension h.tasks count ≡ Err why → told ≡ Err why
-    plan_refused e = rw (← batch_tests, all, e)
+    pub plan_refused : {why : Refusal} {blocks : List ℕ} → batch_call_verdict h.limits task kind extension h.tasks count ≡ Err why
+        → PlansBatch task kind extension new h handles standing (record { verdict = Err why; blocks = blocks; count = count })
+    plan_refused e = record { verdict = rw (← batch_tests, all, e); count = sym all; sized = λ a. cc; blocks = λ a. cc }
 
     -- decided after it, by what it found
-    module _ {found : BatchFound} (e : batch_call_verdict h.limits task kind extension h.tasks count ≡ Ok tt)
-        (f : FindsBatch h.given handles (handles_of new) found) where
-      pub plan_told : told ≡ batch_objects_verdict h.limits found.ungiven found.gone (standing + count)
-      plan_told = rw (← batch_tests, all, e, f.ungiven, f.gone)
-
-      pub plan_found : batch_objects_verdict h.limits found.ungiven found.gone (standing + count) ≡ Ok tt
-          → (told ≡ Ok tt) × BlocksOf handles (handles_of new) (record { blocks = found.blocks; count = count })
-      plan_found g = (plan_told ∙ g, record { count = sym all; sized = f.sized; blocks = f.blocks })
+    pub plan_found : {found : BatchFound} {v : Verdict} → batch_call_verdict h.limits task kind extension h.tasks count ≡ Ok tt
+        → FindsBatch h.given handles (handles_of new) found → v
+        ≡ batch_objects_verdict h.limits found.ungiven found.gone (standing + count)
+        → PlansBatch task kind extension new h handles standing (record { verdict = v; blocks = found.blocks; count = count })
+    plan_found e f g =
+        record { verdict = rw (← batch_tests, all, e, g, f.ungiven, f.gone); count = sym all; sized = λ a. f.sized; blocks = λ a. f.blocks }

@@ -1,13 +1,10 @@
 -- What was decided on columns, as the definitions on entries have it.
-use Rattle.refusals.proofs.Verdicts.{next_refused, next_found}
-use Rattle.ledger.specs.declared.Refusal.{Refusal}
 use Prim.Native.Nat.{ℕ, zero, suc}
 use mathlib.Core.List.{List, [], ◌∷◌, map}
 use mathlib.Core.Path.{◌≡◌, refl, sym, ap, ◌∙◌}
 use borrow.Author.Tests.{leb-false}
 use lib.Dec.{leb}
 use lib.ListN.{length, take, drop}
-use Rattle.std.specs.Prelude.{Ok, Err}
 use Rattle.lists.proofs.Cases.{by_test}
 use Rattle.lists.proofs.Counts.{count_map}
 use Rattle.lists.proofs.First.{first_map}
@@ -25,7 +22,6 @@ use Rattle.shares.specs.declared.Holding.{Holding}
 use Rattle.steps.specs.Objects.{place_of, place_in, free_place, free_place_in, standing_in}
 use Rattle.steps.specs.Facts.{verdict_with, verdict_by}
 use Rattle.steps.specs.Usage.{usage_of}
-use Rattle.refusals.specs.Verdicts.{and_then}
 use Rattle.objects.specs.Outcomes.{make_plan}
 use Rattle.objects.specs.Usage.{usage_in}
 use Rattle.objects.proofs.Makes.{limited_by, filled_by}
@@ -66,28 +62,13 @@ module _ (hs ls : List ℕ) (a : length hs ≡ block_entries) (b : length ls ≡
     pub usage_of_lem : usage_in h.given hs (standing_in xs) ≡ usage_of (tables_by h (blocks_of hs ls) xs)
     usage_of_lem = ap (λ hs'. usage_in h.given hs' (standing_in xs)) (sym (handles_of_lem hs ls a b)) ∙ usage_in_lem h (blocks_of hs ls) xs
 
-    make_planned : (task : ℕ) (kind : Kind) (extension size prefix : ℕ) (holding : Holding) → Holds (is_small size) h.shares (blocks_of hs ls) holding
-        → make_plan task kind extension size prefix h (free_place_in h.limits size hs) holding (standing_in xs)
-        ≡ and_then (verdict_by (tests_of (Make task kind extension size prefix) []) (tables_by h (blocks_of hs ls) xs))
-        (Ok (free_place h.limits size (blocks_of hs ls)))
+    pub make_planned : (task : ℕ) (kind : Kind) (extension size prefix : ℕ) (holding : Holding) → Holds (is_small size) h.shares (blocks_of hs ls) holding
+        → (make_plan task kind extension size prefix h (free_place_in h.limits size hs) holding (standing_in xs)).verdict
+        ≡ verdict_by (tests_of (Make task kind extension size prefix) []) (tables_by h (blocks_of hs ls) xs)
     unfolding make_plan verdict_with verdict tests_of tables_by
     make_planned task kind extension size prefix holding holds =
         by_test (leb task_count task)
         (λ e. rw e)
         (λ e.
         let known = leb-false task_count task e in
-        rw (free_place_of h.limits size, limited_by (is_small size) h.limits h.shares (blocks_of hs ls) holding holds task known, filled_by (is_small size) h.limits h.shares (blocks_of hs ls) holding holds task known))
-
-    -- so it is refused by the record's verdict, or finds the first free block
-    pub make_refused : (task : ℕ) (kind : Kind) (extension size prefix : ℕ) (holding : Holding) → Holds (is_small size) h.shares (blocks_of hs ls) holding → {why : Refusal}
-        → make_plan task kind extension size prefix h (free_place_in h.limits size hs) holding (standing_in xs) ≡ Err why
-        → verdict_by (tests_of (Make task kind extension size prefix) []) (tables_by h (blocks_of hs ls) xs) ≡ Err why
-    make_refused task kind extension size prefix holding holds e =
-        next_refused _ _ (sym (make_planned task kind extension size prefix holding holds) ∙ e)
-
-    pub make_found : (task : ℕ) (kind : Kind) (extension size prefix : ℕ) (holding : Holding) → Holds (is_small size) h.shares (blocks_of hs ls) holding → {place : ℕ}
-        → make_plan task kind extension size prefix h (free_place_in h.limits size hs) holding (standing_in xs) ≡ Ok place
-        → (verdict_by (tests_of (Make task kind extension size prefix) []) (tables_by h (blocks_of hs ls) xs) ≡ Ok tt)
-        × (free_place h.limits size (blocks_of hs ls) ≡ place)
-    make_found task kind extension size prefix holding holds e =
-        next_found _ _ (sym (make_planned task kind extension size prefix holding holds) ∙ e)
+        rw (limited_by (is_small size) h.limits h.shares (blocks_of hs ls) holding holds task known, filled_by (is_small size) h.limits h.shares (blocks_of hs ls) holding holds task known))

@@ -3,7 +3,7 @@ use Prim.Native.Nat.{ℕ, ◌+◌, ◌-◌, ◌≤◌, ◌<◌}
 use native.Mathlib.Omega.{arith}
 use mathlib.Core.Bool.{Bool, true, false}
 use mathlib.Core.List.{List, []}
-use mathlib.Core.Path.{◌≡◌, sym, ◌∙◌}
+use mathlib.Core.Path.{◌≡◌, sym, ap, ◌∙◌}
 use borrow.Author.Tests.{le-leb, leb-true}
 use lib.Dec.{leb}
 use Rattle.lists.proofs.Cases.{same_test}
@@ -28,6 +28,7 @@ use Rattle.steps.specs.Parts.{part_facts}
 use Rattle.refusals.specs.Verdicts.{and_then, task_verdict, make_call_verdict, taking_verdict}
 use Rattle.refusals.proofs.Verdicts.{then_assoc, then_accepted, both_accept, test_then, no_test, task_tests_lem, task_known}
 use Rattle.objects.specs.Outcomes.{is_limited_by, is_filled_by, make_plan}
+use Rattle.objects.specs.declared.Plan.{Plan}
 use Rattle.std.specs.Prelude.{Ok}
 
 module _ (limits : Limits) (task : ℕ) (kind : Kind) (extension size prefix : ℕ) (tasks : List TaskEntry) (given : ℕ) where
@@ -50,12 +51,16 @@ module _ (task : ℕ) (kind : Kind) (extension size prefix : ℕ) (h : Head) (ho
   abbrev last : Verdict
   last = taking_verdict h.limits (is_limited_by (is_small size) h.shares holding task) (is_filled_by (is_small size) h.limits h.shares holding task) standing
 
-  -- the block is found where both parts accept
-  pub planned : (place : ℕ) → make_plan task kind extension size prefix h place holding standing ≡ and_then first (and_then last (Ok place))
+  -- the verdict is that of both parts
+  pub planned_by_lem : {v w : Verdict} {place at : ℕ} → v ≡ first → and_then v last ≡ w → place ≡ at
+      → ◌≡◌ {A = Plan} (record { verdict = w; place = place }) (make_plan task kind extension size prefix h at holding standing)
   unfolding make_plan
-  planned place =
-      rw (← make_tests h.limits task kind extension size prefix h.tasks h.given (is_limited_by (is_small size) h.shares holding task) (is_filled_by (is_small size) h.limits h.shares holding task) standing)
-      (then_assoc first last (Ok place))
+  planned_by_lem so e same =
+      rw (
+        same,
+        sym e ∙ ap (λ (u : Verdict). and_then u last) so
+            ∙ make_tests h.limits task kind extension size prefix h.tasks h.given (is_limited_by (is_small size) h.shares holding task) (is_filled_by (is_small size) h.limits h.shares holding task) standing,
+      )
 
 -- What the holding of a store says is what its blocks say.
 module _ (store : Bool) (limits : Limits) (shares : List Share) (blocks : List BlockEntry) (holding : Holding) (holds : Holds store shares blocks holding) (task : ℕ) (known : task < task_count) where

@@ -21,6 +21,7 @@ use Rattle.steps.specs.Remaining.{life_in}
 use Rattle.refusals.specs.Verdicts.{and_then}
 use Rattle.objects.specs.declared.Found.{Found}
 use Rattle.objects.specs.declared.Part.{Part}
+use Rattle.objects.specs.declared.Plan.{Plan}
 use Rattle.ledger.specs.declared.Refusal.{Refusal}
 
 -- a remaining life where it is asked for, else no figures
@@ -79,14 +80,16 @@ abbrev pub is_filled_by : Bool → Limits → List Share → Holding → ℕ →
 is_filled_by store limits shares holding task =
     leb (blocks_in limits store + ((quota_in store (get_or shares task no_share)).reserve - get_or holding.made task 0)) holding.spoken
 
--- a make, by these and how many expirations stand: the block that was found, where no test refuses
-unfoldable pub make_plan : ℕ → Kind → ℕ → ℕ → ℕ → Head → ℕ → Holding → ℕ → Result ℕ Refusal
+-- the verdict of a make, by these and how many expirations stand; and the block that was found
+unfoldable pub make_plan : ℕ → Kind → ℕ → ℕ → ℕ → Head → ℕ → Holding → ℕ → Plan
 make_plan task kind extension size prefix h place holding standing =
-    and_then
-    (as_verdict
-    (verdict
-    (part_facts h.limits (state_in h.tasks) h.given (λ (handle : ℕ). true) standing
-    (is_limited_by (is_small size) h.shares holding task)
-    (is_filled_by (is_small size) h.limits h.shares holding task) false)
-    (tests_of (Make task kind extension size prefix) [])))
-    (Ok place)
+    record {
+      verdict =
+          as_verdict
+          (verdict
+          (part_facts h.limits (state_in h.tasks) h.given (λ (handle : ℕ). true) standing
+          (is_limited_by (is_small size) h.shares holding task)
+          (is_filled_by (is_small size) h.limits h.shares holding task) false)
+          (tests_of (Make task kind extension size prefix) []));
+      place = place;
+    }

@@ -9,12 +9,20 @@ pub use decide::{plan_batch, plan_make};
 pub use finding::{
     find_for_read, find_for_refresh, find_for_release, find_for_write, find_life, find_standing,
 };
-use ledger::{LARGEST_BATCH, Life};
+use ledger::{LARGEST_BATCH, Life, Refusal};
 pub use report::usage;
 
-// The blocks of as many objects as a batch has; the others say nothing.
+// The verdict of a make, and the block that it goes by.
 #[derive(Clone, Copy)]
-pub struct Batch {
+pub struct Plan {
+    pub verdict: Result<(), Refusal>,
+    pub place: usize,
+}
+
+// The verdict of a batch, and the blocks of as many objects as it has; the others say nothing.
+#[derive(Clone, Copy)]
+pub struct BatchPlan {
+    pub verdict: Result<(), Refusal>,
     pub blocks: [u8; LARGEST_BATCH],
     pub count: usize,
 }

@@ -1,15 +1,9 @@
--- By what the search and the tests ensure, in their two parts.
-use borrow.Author.Rules.{rules}
-use Rattle.objects.proofs.Makes.{planned}
+-- By its verdict, and what the search ensures.
+use mathlib.Core.Path.{refl, sym}
+use Rattle.objects.proofs.Makes.{planned_by_lem}
 use Rattle.objects.proofs.decide.plan_make.Goals as goal
-
-pub returns-in_err-make_call_verdict : goal.returns-in_err-make_call_verdict
-returns-in_err-make_call_verdict c = rw (planned, ← c.make_call_verdict.ensures, c.in_err-make_call_verdict.was) (search rules)
-
-pub returns-in_err-taking_verdict : goal.returns-in_err-taking_verdict
-returns-in_err-taking_verdict c =
-    rw (planned, ← c.make_call_verdict.ensures, c.in_ok-make_call_verdict.was, ← c.of_store-quota.ensures, ← c.of_store.ensures, ← c.is_filled-full.ensures, ← c.taking_verdict.ensures, c.in_err-taking_verdict.was) (search rules)
 
 pub returns : goal.returns
 returns c =
-    rw (planned, ← c.make_call_verdict.ensures, c.in_ok-make_call_verdict.was, ← c.of_store-quota.ensures, ← c.of_store.ensures, ← c.is_filled-full.ensures, ← c.taking_verdict.ensures, c.in_ok-taking_verdict.was, c.free_place-place.ensures)
+    let a = c.args in
+    planned_by_lem a.task a.kind a.extension a.size a.prefix a.h a.holding a.standing refl (sym c.judge_make-verdict.ensures) c.free_place-place.ensures
