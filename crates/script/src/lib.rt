@@ -41,8 +41,6 @@ pub fn run_on(
     };
     let mut written = 0;
     let mut head = p.head;
-    let mut blocks = p.blocks;
-    let mut expirations = p.expirations;
     // By place: a run of answers ends where its buffer does.
     while LONGEST_ANSWER <= out.len() - written {
         let Some(line) = lines.step() else {
@@ -58,11 +56,11 @@ pub fn run_on(
             );
             continue;
         };
-        let holdings = holdings_for(head, &blocks, request);
+        let holdings = holdings_for(head, &p.blocks, request);
         let done = call(
             head,
-            &mut blocks,
-            &mut expirations,
+            &mut p.blocks,
+            &mut p.expirations,
             small,
             large,
             holdings,
@@ -74,8 +72,6 @@ pub fn run_on(
         written = show(answer, small, large, done.block, done.length, out, written);
     }
     p.head = head;
-    p.blocks = blocks;
-    p.expirations = expirations;
     Ran {
         pool: p,
         next: lines.next,

@@ -8,8 +8,8 @@ use Rattle.script.proofs.run_on.Given as goal
 -- Each line turns the run on: refused with nothing changed, or carried out by the one dispatch.
 abbrev pub invariant-loop-out : goal.invariant-loop-out
 invariant-loop-out l = record {
-  run : Running l.p l.initial.small l.initial.large l.script l.start l.initial.out (pooled l.head l.blocks l.expirations) l.small l.large l.out l.bytes l.lines.next l.written;
-  sized : Sized l.blocks l.expirations;
+  run : Running l.initial.p l.initial.small l.initial.large l.script l.start l.initial.out (pooled l.head l.p.blocks l.p.expirations) l.small l.large l.out l.bytes l.lines.next l.written;
+  sized : Sized l.p.blocks l.p.expirations;
   whole : l.lines.script.now ≡ l.script;
 }
 
