@@ -40,7 +40,8 @@ use Rattle.calls.proofs.Outcomes.{blind_refused, batch_done}
 use Rattle.std.specs.Prelude.{Ok, Err}
 
 module _ {h : Head} {blocks : BlockTable} {expirations : ExpirationTable} (types : HeadTyped h) (sized : Sized blocks expirations) (task : ℕ) (kind : Kind) (extension : ℕ) (new : List ℕ)
-    (standing : ℕ) (stands : standing ≡ standing_of expirations.clocks) (plan : BatchPlan) (so : PlansBatch task kind extension new h blocks.handles standing plan) where
+    (standing : ℕ) (stands : standing ≡ standing_of expirations.clocks) (plan : BatchPlan)
+    (so : PlansBatch task kind extension new h blocks.handles standing plan) where
   of_entries : Typed (tables_of (pooled h blocks expirations))
   of_entries = lent_typed h blocks expirations types sized.blocks sized.entries
 
