@@ -1,3 +1,4 @@
+pub mod Acting
 pub mod Sending
 pub mod Turning
 pub mod Stepping

@@ -12,7 +12,7 @@ use Rattle.std.specs.List.{refill}
 use Rattle.lists.specs.Tests.{all, All}
 use Rattle.lists.proofs.All.{all_imp}
 use Rattle.ledger.specs.Limits.{task_count, is_within, standard}
-use Rattle.ledger.specs.Ledger.{Sent, fresh, after_all}
+use Rattle.ledger.specs.Ledger.{Ledger, Sent, fresh, after_all}
 use Rattle.ledger.specs.Rows.{join_with}
 use Rattle.ledger.specs.Plans.{plan_share, joins, ready, after_step, stepped, run}
 use Rattle.ledger.specs.declared.Answer.{Answer}
@@ -48,16 +48,17 @@ joins_more (c ∷ plan) task (suc i) l =
     (joins_more plan (suc task) i (le_of_suc-le-suc l)
     ∙ ap (λ (k : ℕ). joins (suc task) (take i plan) ++ (join_with k plan_share ∷ [])) (omega arith))
 
-pub joins_next : (plan : List Channel) (i : ℕ) → i < length plan → (s : Site) → {s' : Site} {answer : Answer}
-    → ReadsAs s (after_all (fresh standard) (joins 0 (take i plan))) → Sends (Join i plan_share) [] s answer s'
-    → ReadsAs s' (after_all (fresh standard) (joins 0 (take (i + 1) plan)))
+-- from any ledger on
+pub joins_next : (L : Ledger) (plan : List Channel) (i : ℕ) → i < length plan → (s : Site) → {s' : Site} {answer : Answer}
+    → ReadsAs s (after_all L (joins 0 (take i plan))) → Sends (Join i plan_share) [] s answer s'
+    → ReadsAs s' (after_all L (joins 0 (take (i + 1) plan)))
 unfolding after_all
-joins_next plan i l s {s' = s'} reads o =
+joins_next L plan i l s {s' = s'} reads o =
     let more : joins 0 (take (i + 1) plan) ≡ joins 0 (take i plan) ++ (join_with i plan_share ∷ []) =
     ap (λ (k : ℕ). joins 0 (take k plan)) (add-one i) ∙ joins_more plan 0 i l
     ∙ ap (λ (k : ℕ). joins 0 (take i plan) ++ (join_with k plan_share ∷ [])) (omega arith) in
     subst (ReadsAs s')
-    (sym (ap (after_all (fresh standard)) more ∙ after_append (joins 0 (take i plan)) (join_with i plan_share ∷ []) (fresh standard)))
+    (sym (ap (after_all L) more ∙ after_append (joins 0 (take i plan)) (join_with i plan_share ∷ []) L))
     (o.leaves _ reads)
 
 map_snoc {ℓ} : {A B : Type ℓ} (f : A → B) (xs : List A) (a : A) → map f (xs ++ (a ∷ [])) ≡ map f xs ++ (f a ∷ [])

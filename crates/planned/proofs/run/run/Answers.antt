@@ -22,7 +22,7 @@ push-requires c = let most = plan_length c.args.plan.now c.requires in
 
 pub loop-task-preserved : goal.loop-task-preserved
 loop-task-preserved c = record {
-  joined = joins_next _ _ c.loop-task-test.true _ c.loop-task.invariant.joined c.send.ensures;
+  joined = joins_next _ _ _ c.loop-task-test.true _ c.loop-task.invariant.joined c.send.ensures;
   tracks =
       c.push.ensures.items ∙ rw (c.loop-task.invariant.tracks, c.ready.ensures) (ready_next _ _ _ c.loop-task-test.true);
 }
