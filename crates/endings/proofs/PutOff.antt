@@ -7,9 +7,9 @@ use Rattle.ledger.specs.Limits.{task_count}
 use Rattle.record.specs.Codes.{absent_entry, free_entry, is_global_clock, global_code, departed_code}
 use Rattle.record.specs.Tables.{entries_of, SizedEntries, expiration_entries, byte_values}
 use Rattle.record.specs.declared.TaskEntry.{TaskEntry}
-use Rattle.steps.specs.Events.{late_entry}
+use Rattle.steps.specs.Events.{is_put_off, late_entry}
 use Rattle.endings.specs.Late.{leaver_in, late_in, deserted_at, put_off_at, is_waiting_at, PutOff, GlobalFlags}
-use Rattle.expirations.specs.Places.{Changed}
+use Rattle.expirations.specs.Places.{SomeBetween, Changed}
 use Rattle.endings.specs.declared.Passing.{Passing}
 use Rattle.expirations.proofs.Places.{split}
 use Rattle.expirations.proofs.Tables.{size_of, entry_of}
@@ -39,6 +39,18 @@ module _ (tasks : List TaskEntry) (size : length tasks ≡ task_count) where
   -- one that departed does not wait
   departed_waits : is_waiting_at tasks task_count ≡ false
   departed_waits = rw (get_or-eq_default tasks absent_entry {n = task_count} (omega arith))
+
+  -- where no task waits, nothing is put off
+  pub none_put_off : {r : Bool} → SomeBetween (is_waiting_at tasks) 0 task_count r → r ≡ false → (clock : ℕ) → is_put_off tasks clock ≡ false
+  none_put_off s e clock =
+      by_test (is_global_clock clock)
+      (λ g.
+      let (least, most) = global_range clock g in
+      rw g
+      (split (clock - global_code) task_count
+      (λ l. s.none e (clock - global_code) (omega arith) l)
+      (λ l. let same : clock - global_code ≡ task_count = omega arith in rw same departed_waits)))
+      (λ g. rw g)
 
   -- the flags, after all tasks
   pub put_off_flags : {flags : List Bool} → Changed false (waiting_flag tasks) global_code departed_code (replicate byte_values false) flags → PutOff tasks flags
