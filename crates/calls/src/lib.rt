@@ -268,17 +268,18 @@ pub fn release(
         × (expirations.new.named ≡ expirations.old.named)
         × (expirations.new.dues ≡ expirations.old.dues) }
 {
-    let found = match find_for_release(h, blocks, expirations, task, handle) {
-        Err(why) => return refused(why, h),
-        Ok(found) => found,
-    };
-    endings::release(
-        found.block,
-        &mut blocks.handles,
-        &mut expirations.clocks,
-        &expirations.named,
-    );
-    answered(Answer::Done, h)
+    match find_for_release(h, blocks, expirations, task, handle) {
+        Err(why) => refused(why, h),
+        Ok(found) => {
+            endings::release(
+                found.block,
+                &mut blocks.handles,
+                &mut expirations.clocks,
+                &expirations.named,
+            );
+            answered(Answer::Done, h)
+        }
+    }
 }
 
 // Sets one more expiration on each object that the bytes name, or on none.

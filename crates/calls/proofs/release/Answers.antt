@@ -18,6 +18,6 @@ pub returns-in-Err : goal.returns-in-Err
 returns-in-Err c = let kept = release_kept (head_typed _ _ c.well_formed.0) c.requires.0 c.args.task c.args.handle _ c.find_for_release.ensures c.requires.1 c.in-Err.is in
     rw c.refused.ensures (kept.0, kept.1, refl, refl, refl, refl)
 
-pub returns : goal.returns
-returns c = let carried = release_carried (head_typed _ _ c.well_formed.0) c.requires.0 c.args.task c.args.handle _ c.find_for_release.ensures c.in-Ok.is c.requires.1 c.release.ensures in
+pub returns-in-Ok : goal.returns-in-Ok
+returns-in-Ok c = let carried = release_carried (head_typed _ _ c.well_formed.0) c.requires.0 c.args.task c.args.handle _ c.find_for_release.ensures c.in-Ok.is c.requires.1 c.release.ensures in
     rw c.answered.ensures (carried.0, carried.1, refl, refl, refl, refl)
